@@ -1,0 +1,9 @@
+use Rattle.std.proofs.Common.{◌∙◌, sym, w32}
+use Rattle.speedy_base.specs.DigitsLemmas.{swapped-swap_bytes, swapped-little, little_from_not_big}
+use Rattle.speedy_base.proofs.endianness.Endianness.swap_u32.Goals as goal
+
+pub returns-then-conversion_necessary : goal.returns-then-conversion_necessary
+returns-then-conversion_necessary c = c.swap_bytes.ensures ∙ swapped-swap_bytes w32 c.args.self c.args.value.now (c.conversion_necessary.ensures.0 c.if-conversion_necessary.true)
+
+pub returns-else-conversion_necessary : goal.returns-else-conversion_necessary
+returns-else-conversion_necessary c = sym (swapped-little c.args.self 4 c.args.value.now (little_from_not_big c.args.self _ c.conversion_necessary.ensures c.if-conversion_necessary.false))

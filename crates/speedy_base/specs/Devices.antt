@@ -1,0 +1,40 @@
+-- What contracts see of the devices that this crate has.
+use Rattle.std.specs.Prelude.{ℕ, ◌+◌, ◌-◌, ◌^◌, min, true, false, List, []}
+use Rattle.speedy_base.specs.declared.device.VecSink.{VecSink}
+use Rattle.speedy_base.specs.declared.device.Counted.{Counted}
+use Rattle.speedy_base.specs.Device.{SourceState, SinkState}
+
+-- a list of bytes that is read to its end
+abbrev pub bytes_source : List ℕ → SourceState
+bytes_source bytes = record { tells = true; to_come = bytes; faults = 0 }
+
+-- the bytes that a `VecSink` took
+abbrev pub vec_sink_bytes : VecSink → List ℕ
+vec_sink_bytes sink = sink.bytes.items
+
+-- how many of its calls failed
+abbrev pub vec_sink_faults : VecSink → ℕ
+vec_sink_faults sink = sink.faults
+
+-- the same, as a sink that tells
+abbrev pub vec_sink_state : VecSink → SinkState
+vec_sink_state sink = record { tells = true; taken = sink.bytes.items; faults = sink.faults }
+
+-- what a `Counted` counts the calls of
+abbrev pub counted_inner : {S : Type 0} → Counted S → S
+counted_inner counted = counted.inner
+
+-- how many of those calls failed
+abbrev pub counted_faults : {S : Type 0} → Counted S → ℕ
+counted_faults counted = counted.faults
+
+-- the same, as a source and as a sink that tell no byte
+abbrev pub counted_source : {S : Type 0} → Counted S → SourceState
+counted_source counted = record { tells = false; to_come = []; faults = counted.faults }
+
+abbrev pub counted_sink : {S : Type 0} → Counted S → SinkState
+counted_sink counted = record { tells = false; taken = []; faults = counted.faults }
+
+-- one failed call more, of a count that is kept in 64 bits
+abbrev pub one_fault_more : ℕ → ℕ
+one_fault_more faults = min (faults + 1) (2 ^ 64 - 1)

@@ -1,0 +1,299 @@
+-- What holds of base 256 digits, at each width and in both orders; and that std's conversions between numbers and bytes are these digits.
+use Rattle.std.proofs.Common.{◌≡◌, ◌↔◌, Bool, false, true≢false, IsTrue, ℕ, zero, suc, ◌+◌, ◌-◌, ◌*◌, ◌/◌, ◌%◌, ◌^◌, ◌<◌, ◌≤◌, List, [], ◌∷◌, ◌++◌, length, reverse, get_or, slice_index, refl, sym, ap, ap₂, ◌∙◌, subst, subst₂, arith}
+use Rattle.std.proofs.Math.Nat.{pow-suc, div-div-eq-div-mul, div-one}
+use Rattle.std.proofs.lemmas.List.{reverse-append, reverse-reverse, length-reverse}
+use mir.Val.{bits, Fits}
+use Rattle.std.specs.Int.{Width, w8, w16, w32, w64, w128, byte_len, byte_at, byte_worth, bytes_low_first, bytes_high_first, sum_through, from_le_bytes, from_be_bytes, to_le_bytes, to_be_bytes, swap_bytes}
+use Rattle.speedy_base.specs.declared.endianness.Endianness.{Endianness}
+use Rattle.speedy_base.specs.declared.endianness.Endianness.TheVariants.{LittleEndian, BigEndian}
+use Rattle.speedy_base.specs.Digits.{little_number, number, little_digits, digits, AreBytes, SpellsNumber, swapped}
+
+-- ---- sums
+
+-- a sum is its first term and the rest
+sum_first : (f : ℕ → ℕ) (k : ℕ) → sum_through f (suc k) ≡ f 0 + sum_through (λ i. f (suc i)) k
+sum_first f zero = refl
+sum_first f (suc k) = omega (arith, sum_first f k)
+
+sum_same : (f g : ℕ → ℕ) (k : ℕ) → ((i : ℕ) → i ≤ k → f i ≡ g i) → sum_through f k ≡ sum_through g k
+sum_same f g zero h = h 0 (omega arith)
+sum_same f g (suc k) h = ap₂ ◌+◌ (sum_same f g k (λ i l. h i (omega arith))) (h (suc k) (omega arith))
+
+sum_times : (f : ℕ → ℕ) (c k : ℕ) → sum_through (λ i. c * f i) k ≡ c * sum_through f k
+sum_times f c zero = refl
+sum_times f c (suc k) = omega (arith, sum_times f c k)
+
+-- ---- the worth of a byte
+
+worth_more : (i b : ℕ) → byte_worth (suc i) b ≡ 256 * byte_worth i b
+worth_more zero b = omega arith
+worth_more (suc i) b = rw (pow-suc 256 (suc i)) (omega arith)
+
+worth_is : (i b : ℕ) → byte_worth i b ≡ b * 256 ^ i
+worth_is zero b = omega arith
+worth_is (suc i) b = refl
+
+-- ---- numbers of digits
+
+reverse-cons : (b : ℕ) (bs : List ℕ) → reverse (b ∷ bs) ≡ reverse bs ++ b ∷ []
+reverse-cons b bs = reverse-append (b ∷ []) bs
+
+-- the digits of two lists, one above the other
+pub little_number-append : (xs ys : List ℕ) → little_number (xs ++ ys) ≡ little_number xs + 256 ^ length xs * little_number ys
+little_number-append [] ys = omega arith
+little_number-append (x ∷ xs) ys = rw (pow-suc 256 (length xs), little_number-append xs ys) (omega arith)
+
+little_number-reverse_cons : (b : ℕ) (bs : List ℕ) → little_number (reverse (b ∷ bs)) ≡ b * 256 ^ length bs + little_number (reverse bs)
+little_number-reverse_cons b bs = rw (reverse-cons b bs, little_number-append (reverse bs) (b ∷ []), length-reverse bs) (omega arith)
+
+-- ---- std's numbers from bytes
+
+from_low_first : (k : ℕ) (bytes : List ℕ) → length bytes ≡ suc k → sum_through (λ i. byte_worth i (slice_index bytes i)) k ≡ little_number bytes
+from_low_first zero [] e = absurd (omega arith)
+from_low_first zero (b ∷ []) e = omega arith
+from_low_first zero (b ∷ c ∷ bs) e = absurd (omega arith)
+from_low_first (suc k) [] e = absurd (omega arith)
+from_low_first (suc k) (b ∷ bs) e =
+    sum_first (λ i. byte_worth i (slice_index (b ∷ bs) i)) k
+    ∙ ap (λ (n : ℕ). b + n)
+    (sum_same (λ i. byte_worth (suc i) (slice_index bs i)) (λ i. 256 * byte_worth i (slice_index bs i)) k (λ i l. worth_more i (slice_index bs i))
+    ∙ sum_times (λ i. byte_worth i (slice_index bs i)) 256 k
+    ∙ ap (λ (n : ℕ). 256 * n) (from_low_first k bs (omega arith)))
+
+from_high_first : (k : ℕ) (bytes : List ℕ) → length bytes ≡ suc k → sum_through (λ i. byte_worth (k - i) (slice_index bytes i)) k ≡ little_number (reverse bytes)
+from_high_first zero [] e = absurd (omega arith)
+from_high_first zero (b ∷ []) e = omega arith
+from_high_first zero (b ∷ c ∷ bs) e = absurd (omega arith)
+from_high_first (suc k) [] e = absurd (omega arith)
+from_high_first (suc k) (b ∷ bs) e =
+    let top : suc k - 0 ≡ length bs = omega arith in
+    sum_first (λ i. byte_worth (suc k - i) (slice_index (b ∷ bs) i)) k
+    ∙ ap₂ ◌+◌ (worth_is (suc k - 0) b ∙ ap (λ (n : ℕ). b * 256 ^ n) top)
+    (sum_same (λ i. byte_worth (suc k - suc i) (slice_index bs i)) (λ i. byte_worth (k - i) (slice_index bs i)) k (λ i l. let less : suc k - suc i ≡ k - i = omega arith in ap (λ (n : ℕ). byte_worth n (slice_index bs i)) less)
+    ∙ from_high_first k bs (omega arith))
+    ∙ sym (little_number-reverse_cons b bs)
+
+-- each width has a byte
+byte_len-above : (w : Width) → byte_len w ≡ suc (byte_len w - 1)
+byte_len-above w8 = refl
+byte_len-above w16 = refl
+byte_len-above w32 = refl
+byte_len-above w64 = refl
+byte_len-above w128 = refl
+
+pub little_number-from_le_bytes : (w : Width) (bytes : List ℕ) → length bytes ≡ byte_len w → from_le_bytes w bytes ≡ little_number bytes
+little_number-from_le_bytes w bytes e = from_low_first (byte_len w - 1) bytes (e ∙ byte_len-above w)
+
+pub little_number-from_be_bytes : (w : Width) (bytes : List ℕ) → length bytes ≡ byte_len w → from_be_bytes w bytes ≡ little_number (reverse bytes)
+little_number-from_be_bytes w bytes e = from_high_first (byte_len w - 1) bytes (e ∙ byte_len-above w)
+
+-- ---- std's bytes of numbers
+
+byte_at-is : (i n : ℕ) → byte_at i n ≡ n / 256 ^ i % 256
+byte_at-is zero n = ap (λ (m : ℕ). m % 256) (sym (div-one n))
+byte_at-is (suc i) n = refl
+
+div-pow-suc : (i n : ℕ) → n / 256 ^ i / 256 ≡ n / 256 ^ suc i
+div-pow-suc i n = div-div-eq-div-mul n (256 ^ i) 256 ∙ ap (λ (m : ℕ). n / m) (sym (pow-suc 256 i))
+
+low_first_is : (i k n : ℕ) → bytes_low_first i k n ≡ little_digits k (n / 256 ^ i)
+low_first_is i zero n = refl
+low_first_is i (suc k) n = ap₂ ◌∷◌ (byte_at-is i n) (low_first_is (suc i) k n ∙ ap (little_digits k) (sym (div-pow-suc i n)))
+
+-- the greatest digit, taken off
+little_digits-last : (k n : ℕ) → little_digits (suc k) n ≡ little_digits k n ++ (n / 256 ^ k % 256) ∷ []
+little_digits-last zero n = ap (λ (m : ℕ). m % 256 ∷ []) (sym (div-one n))
+little_digits-last (suc k) n =
+    ap (◌∷◌ (n % 256))
+    (little_digits-last k (n / 256)
+    ∙ ap (λ (m : ℕ). little_digits k (n / 256) ++ m % 256 ∷ []) (div-div-eq-div-mul n 256 (256 ^ k) ∙ ap (λ (m : ℕ). n / m) (let turned : 256 * 256 ^ k ≡ 256 ^ suc k = rw (pow-suc 256 k) (omega arith) in turned)))
+
+high_first_is : (k n : ℕ) → bytes_high_first k n ≡ reverse (little_digits k n)
+high_first_is zero n = refl
+high_first_is (suc k) n =
+    ap₂ ◌∷◌ (byte_at-is k n) (high_first_is k n)
+    ∙ sym (ap reverse (little_digits-last k n) ∙ reverse-append (little_digits k n) ((n / 256 ^ k % 256) ∷ []))
+
+pub to_le_bytes-little_digits : (w : Width) (n : ℕ) → to_le_bytes w n ≡ little_digits (byte_len w) n
+to_le_bytes-little_digits w n = low_first_is 0 (byte_len w) n ∙ ap (little_digits (byte_len w)) (div-one n)
+
+pub to_be_bytes-little_digits : (w : Width) (n : ℕ) → to_be_bytes w n ≡ reverse (little_digits (byte_len w) n)
+to_be_bytes-little_digits w n = high_first_is (byte_len w) n
+
+-- ---- bytes
+
+pub AreBytes-each : (bytes : List ℕ) → ((i : ℕ) → get_or bytes i 0 < 256) → AreBytes bytes
+AreBytes-each [] h = tt
+AreBytes-each (b ∷ bs) h = (h 0, AreBytes-each bs (λ i. h (suc i)))
+
+-- from what the type of a slice of bytes says of its items
+pub AreBytes-slice : (bytes : List ℕ) → ((i : ℕ) → Fits w8 (get_or bytes i 0)) → AreBytes bytes
+AreBytes-slice bytes h = AreBytes-each bytes (λ i. omega (arith, h i))
+
+pub AreBytes-get_or : (bytes : List ℕ) → AreBytes bytes → (i : ℕ) → get_or bytes i 0 < 256
+AreBytes-get_or [] h i = omega arith
+AreBytes-get_or (b ∷ bs) h zero = h.0
+AreBytes-get_or (b ∷ bs) h (suc i) = AreBytes-get_or bs h.1 i
+
+pub AreBytes-append : (xs ys : List ℕ) → AreBytes xs → AreBytes ys → AreBytes (xs ++ ys)
+AreBytes-append [] ys g h = h
+AreBytes-append (x ∷ xs) ys g h = (g.0, AreBytes-append xs ys g.1 h)
+
+pub AreBytes-append_parts : (xs ys : List ℕ) → AreBytes (xs ++ ys) → AreBytes xs × AreBytes ys
+AreBytes-append_parts [] ys h = (tt, h)
+AreBytes-append_parts (x ∷ xs) ys h = let rest = AreBytes-append_parts xs ys h.1 in ((h.0, rest.0), rest.1)
+
+pub AreBytes-reverse : (bytes : List ℕ) → AreBytes bytes → AreBytes (reverse bytes)
+AreBytes-reverse [] h = tt
+AreBytes-reverse (b ∷ bs) h = subst AreBytes (sym (reverse-cons b bs)) (AreBytes-append (reverse bs) (b ∷ []) (AreBytes-reverse bs h.1) (h.0, tt))
+
+-- ---- digits, least first
+
+pub length-little_digits : (width n : ℕ) → length (little_digits width n) ≡ width
+length-little_digits zero n = refl
+length-little_digits (suc width) n = ap suc (length-little_digits width (n / 256))
+
+pub AreBytes-little_digits : (width n : ℕ) → AreBytes (little_digits width n)
+AreBytes-little_digits zero n = tt
+AreBytes-little_digits (suc width) n = (omega arith, AreBytes-little_digits width (n / 256))
+
+pub little_number-below : (bytes : List ℕ) → AreBytes bytes → little_number bytes < 256 ^ length bytes
+little_number-below [] h = omega arith
+little_number-below (b ∷ bs) h = let rest : little_number bs < 256 ^ length bs = little_number-below bs h.1 in omega (arith, pow-suc 256 (length bs), h.0)
+
+pub little_digits-little_number : (bytes : List ℕ) → AreBytes bytes → little_digits (length bytes) (little_number bytes) ≡ bytes
+little_digits-little_number [] h = refl
+little_digits-little_number (b ∷ bs) h =
+    let first : (b + 256 * little_number bs) % 256 ≡ b = omega (arith, h.0) in
+    let rest : (b + 256 * little_number bs) / 256 ≡ little_number bs = omega (arith, h.0) in
+    ap₂ ◌∷◌ first (ap (little_digits (length bs)) rest ∙ little_digits-little_number bs h.1)
+
+pub little_number-little_digits : (width n : ℕ) → n < 256 ^ width → little_number (little_digits width n) ≡ n
+little_number-little_digits zero n l = omega arith
+little_number-little_digits (suc width) n l =
+    let less : n / 256 < 256 ^ width = omega (arith, pow-suc 256 width) in
+    let rest : little_number (little_digits width (n / 256)) ≡ n / 256 = little_number-little_digits width (n / 256) less in
+    omega arith
+
+-- ---- digits in either order
+
+pub length-digits : (order : Endianness) (width n : ℕ) → length (digits order width n) ≡ width
+unfolding digits
+length-digits LittleEndian width n = length-little_digits width n
+length-digits BigEndian width n = length-reverse (little_digits width n) ∙ length-little_digits width n
+
+pub AreBytes-digits : (order : Endianness) (width n : ℕ) → AreBytes (digits order width n)
+unfolding digits
+AreBytes-digits LittleEndian width n = AreBytes-little_digits width n
+AreBytes-digits BigEndian width n = AreBytes-reverse (little_digits width n) (AreBytes-little_digits width n)
+
+pub number-digits : (order : Endianness) (width n : ℕ) → n < 256 ^ width → number order (digits order width n) ≡ n
+unfolding digits number
+number-digits LittleEndian width n l = little_number-little_digits width n l
+number-digits BigEndian width n l = ap little_number (reverse-reverse (little_digits width n)) ∙ little_number-little_digits width n l
+
+pub digits-number : (order : Endianness) (bytes : List ℕ) → AreBytes bytes → digits order (length bytes) (number order bytes) ≡ bytes
+unfolding digits number
+digits-number LittleEndian bytes h = little_digits-little_number bytes h
+digits-number BigEndian bytes h =
+    ap reverse
+    (ap (λ (width : ℕ). little_digits width (little_number (reverse bytes))) (sym (length-reverse bytes))
+    ∙ little_digits-little_number (reverse bytes) (AreBytes-reverse bytes h))
+    ∙ reverse-reverse bytes
+
+pub number-below : (order : Endianness) (bytes : List ℕ) → AreBytes bytes → number order bytes < 256 ^ length bytes
+unfolding number
+number-below LittleEndian bytes h = little_number-below bytes h
+number-below BigEndian bytes h = subst (λ (width : ℕ). little_number (reverse bytes) < 256 ^ width) (length-reverse bytes) (little_number-below (reverse bytes) (AreBytes-reverse bytes h))
+
+-- ---- spellings
+
+-- each number that is small enough has a spelling
+pub SpellsNumber-digits : (width : ℕ) (order : Endianness) (n : ℕ) → n < 256 ^ width → SpellsNumber width order n (digits order width n)
+SpellsNumber-digits width order n l = record { width_is = length-digits order width n; are_bytes = AreBytes-digits order width n; value_is = number-digits order width n l }
+
+-- and no other
+pub SpellsNumber-unique : (width : ℕ) (order : Endianness) (n : ℕ) (bytes : List ℕ) → SpellsNumber width order n bytes → bytes ≡ digits order width n
+SpellsNumber-unique width order n bytes s = sym (digits-number order bytes s.are_bytes) ∙ ap₂ (digits order) s.width_is s.value_is
+
+-- the same bytes spell one number
+pub SpellsNumber-same_value : (width : ℕ) (order : Endianness) (m n : ℕ) (bytes : List ℕ) → SpellsNumber width order m bytes → SpellsNumber width order n bytes → m ≡ n
+SpellsNumber-same_value width order m n bytes s t = sym s.value_is ∙ t.value_is
+
+-- the same number has one spelling
+pub SpellsNumber-same_bytes : (width : ℕ) (order : Endianness) (n : ℕ) (xs ys : List ℕ) → SpellsNumber width order n xs → SpellsNumber width order n ys → xs ≡ ys
+SpellsNumber-same_bytes width order n xs ys s t = SpellsNumber-unique width order n xs s ∙ sym (SpellsNumber-unique width order n ys t)
+
+pub SpellsNumber-below : (width : ℕ) (order : Endianness) (n : ℕ) (bytes : List ℕ) → SpellsNumber width order n bytes → n < 256 ^ width
+SpellsNumber-below width order n bytes s = subst₂ (λ (m w : ℕ). m < 256 ^ w) s.value_is s.width_is (number-below order bytes s.are_bytes)
+
+-- ---- spellings by std's conversions
+
+-- the items of a list from index i onward, so many of them
+abbrev pub listed : List ℕ → ℕ → ℕ → List ℕ
+listed bytes i zero = []
+listed bytes i (suc k) = get_or bytes i 0 ∷ listed bytes (suc i) k
+
+listed-later : (b : ℕ) (bs : List ℕ) (i k : ℕ) → listed (b ∷ bs) (suc i) k ≡ listed bs i k
+listed-later b bs i zero = refl
+listed-later b bs i (suc k) = ap (◌∷◌ (get_or bs i 0)) (listed-later b bs (suc i) k)
+
+pub listed-all : (bytes : List ℕ) (k : ℕ) → length bytes ≡ k → listed bytes 0 k ≡ bytes
+listed-all [] zero e = refl
+listed-all [] (suc k) e = absurd (omega arith)
+listed-all (b ∷ bs) zero e = absurd (omega arith)
+listed-all (b ∷ bs) (suc k) e = ap (◌∷◌ b) (listed-later b bs 0 k ∙ listed-all bs k (omega arith))
+
+-- what the bytes of a width can hold
+pow-byte_len : (w : Width) → 2 ^ bits w ≡ 256 ^ byte_len w
+pow-byte_len w8 = refl
+pow-byte_len w16 = refl
+pow-byte_len w32 = refl
+pow-byte_len w64 = refl
+pow-byte_len w128 = refl
+
+-- a number that was read from a slice, byte by byte
+pub SpellsNumber-from_le_bytes : (w : Width) (order : Endianness) (n : ℕ) (bytes items : List ℕ) → order ≡ LittleEndian → items ≡ bytes → length bytes ≡ byte_len w → AreBytes bytes → n ≡ from_le_bytes w items → SpellsNumber (byte_len w) order n bytes
+unfolding number
+SpellsNumber-from_le_bytes w order n bytes items is same len are e = record {
+  width_is = len;
+  are_bytes = are;
+  value_is = ap (λ (o : Endianness). number o bytes) is ∙ sym (e ∙ ap (from_le_bytes w) same ∙ little_number-from_le_bytes w bytes len);
+}
+
+pub SpellsNumber-from_be_bytes : (w : Width) (order : Endianness) (n : ℕ) (bytes items : List ℕ) → order ≡ BigEndian → items ≡ bytes → length bytes ≡ byte_len w → AreBytes bytes → n ≡ from_be_bytes w items → SpellsNumber (byte_len w) order n bytes
+unfolding number
+SpellsNumber-from_be_bytes w order n bytes items is same len are e = record {
+  width_is = len;
+  are_bytes = are;
+  value_is = ap (λ (o : Endianness). number o bytes) is ∙ sym (e ∙ ap (from_be_bytes w) same ∙ little_number-from_be_bytes w bytes len);
+}
+
+-- a number of the type, written
+pub SpellsNumber-to_le_bytes : (w : Width) (order : Endianness) (n : ℕ) (bytes : List ℕ) → order ≡ LittleEndian → n < 2 ^ bits w → bytes ≡ to_le_bytes w n → SpellsNumber (byte_len w) order n bytes
+unfolding digits
+SpellsNumber-to_le_bytes w order n bytes is l e =
+    subst₂ (λ (o : Endianness) (bs : List ℕ). SpellsNumber (byte_len w) o n bs) (sym is) (sym (e ∙ to_le_bytes-little_digits w n)) (SpellsNumber-digits (byte_len w) LittleEndian n (subst (λ (m : ℕ). n < m) (pow-byte_len w) l))
+
+pub SpellsNumber-to_be_bytes : (w : Width) (order : Endianness) (n : ℕ) (bytes : List ℕ) → order ≡ BigEndian → n < 2 ^ bits w → bytes ≡ to_be_bytes w n → SpellsNumber (byte_len w) order n bytes
+unfolding digits
+SpellsNumber-to_be_bytes w order n bytes is l e =
+    subst₂ (λ (o : Endianness) (bs : List ℕ). SpellsNumber (byte_len w) o n bs) (sym is) (sym (e ∙ to_be_bytes-little_digits w n)) (SpellsNumber-digits (byte_len w) BigEndian n (subst (λ (m : ℕ). n < m) (pow-byte_len w) l))
+
+-- ---- std's reversal of a number's bytes
+
+pub swapped-little : (order : Endianness) (width n : ℕ) → order ≡ LittleEndian → swapped order width n ≡ n
+unfolding swapped
+swapped-little order width n is = ap (λ (o : Endianness). swapped o width n) is
+
+pub swapped-swap_bytes : (w : Width) (order : Endianness) (n : ℕ) → order ≡ BigEndian → swap_bytes w n ≡ swapped order (byte_len w) n
+unfolding swapped digits number
+swapped-swap_bytes w order n is =
+    ap (from_be_bytes w) (to_le_bytes-little_digits w n)
+    ∙ little_number-from_be_bytes w (little_digits (byte_len w) n) (length-little_digits (byte_len w) n)
+    ∙ sym (ap (λ (o : Endianness). swapped o (byte_len w) n) is)
+
+-- an order that is not the one is the other
+pub little_from_not_big : (order : Endianness) (is_big : Bool) → (IsTrue is_big ↔ (order ≡ BigEndian)) → is_big ≡ false → order ≡ LittleEndian
+little_from_not_big LittleEndian is_big h e = refl
+little_from_not_big BigEndian is_big h e = absurd (true≢false (sym (h.1 refl) ∙ e))

@@ -1,0 +1,32 @@
+-- Refusals, seen by their kinds.
+use Rattle.std.specs.Prelude.{◌≡◌, ℕ, List, Bool}
+use Rattle.std.specs.String.{string_bytes}
+use Rattle.std.specs.declared.io.Error.{Error as StdIoError}
+use Rattle.speedy_base.specs.declared.error.ErrorKind.{ErrorKind}
+use Rattle.speedy_base.specs.declared.error.ErrorKind.TheVariants as kinds
+pub use Rattle.speedy_base.specs.declared.error.Error.{Error}
+use Rattle.speedy_base.specs.ErrorKind.{is_eof_kind}
+
+-- the kind of a refusal
+abbrev pub kind_of : Error → ErrorKind
+kind_of e = e.kind
+
+-- the refusal of a kind
+abbrev pub error_of : ErrorKind → Error
+error_of kind = record { kind = kind }
+
+-- the refusal says that the bytes ended too soon
+abbrev pub is_eof_error : Error → Bool
+is_eof_error e = is_eof_kind e.kind
+
+-- a user's refusal with this text, or that the text found no memory
+abbrev pub IsCustomOf : List ℕ → ErrorKind → Type 0
+IsCustomOf text (kinds.Custom t) = string_bytes t ≡ text
+IsCustomOf text kinds.OutOfMemory = Unit {0}
+IsCustomOf text _ = ⊥
+
+-- the refusal of a device's failed call, or that its box found no memory
+abbrev pub IsIoErrorOf : StdIoError → ErrorKind → Type 0
+IsIoErrorOf error (kinds.IoError boxed) = boxed.value ≡ error
+IsIoErrorOf error kinds.OutOfMemory = Unit {0}
+IsIoErrorOf error _ = ⊥

@@ -1,0 +1,7 @@
+pub mod Device
+pub mod Devices
+pub mod Digits
+pub mod DigitsLemmas
+pub mod Error
+pub mod ErrorKind
+pub mod Form

@@ -1,0 +1,88 @@
+//! Contexts: what reading and writing are told beside the bytes.
+ghost use Rattle.std.specs.Prelude.{◌≡◌};
+ghost use Rattle.std.proofs.Common.{ap};
+ghost use Rattle.speedy_base.specs.Form.{Form, plain_form};
+ghost use Rattle.speedy_base.specs.Error.{is_eof_error, Error as Refusal};
+ghost use Rattle.speedy_base.specs.declared.endianness.Endianness.TheVariants.{LittleEndian as LittleOrder, BigEndian as BigOrder};
+
+use crate::endianness::Endianness;
+use crate::error::{Error, IsEof};
+
+/// What values are read and written under.
+///
+/// A context of one's own gives its order, and an error that every refusal converts to.
+pub trait Context: Drop {
+    /// What reading and writing under this context refuse with.
+    type Error: From<Error> + IsEof + Drop;
+
+    /// What the context asks of the bytes.
+    ghost form: { Self → Form };
+
+    /// The byte order of numbers.
+    fn endianness(&self) -> Endianness
+        ensures { result ≡ (form self.now).order };
+
+    /// An end of input stays one when it is converted, and nothing else becomes one.
+    ghost keeps_eof: { (e : Refusal) (x : Self.Error) → Self.Error.from_gives e x → Self.Error.eof x ≡ is_eof_error e };
+}
+
+/// The context that the forms without a context argument mean.
+pub trait PlainContext: Context {
+    /// The context itself, which asks for the little byte order alone.
+    fn plain() -> Self
+        ensures { Self.form result ≡ plain_form Endianness.LittleEndian };
+}
+
+impl Context for Endianness {
+    type Error = Error;
+
+    ghost form = { plain_form };
+
+    ghost keeps_eof = { λ e x h. ap is_eof_error h };
+
+    #[inline(always)]
+    fn endianness(&self) -> Endianness {
+        *self
+    }
+}
+
+/// The context of the little byte order.
+#[derive(Clone, Copy, Debug, Default, PartialEq, Eq)]
+pub struct LittleEndian {}
+
+/// The context of the big byte order.
+#[derive(Clone, Copy, Debug, Default, PartialEq, Eq)]
+pub struct BigEndian {}
+
+impl Context for LittleEndian {
+    type Error = Error;
+
+    ghost form = { λ _. plain_form LittleOrder };
+
+    ghost keeps_eof = { λ e x h. ap is_eof_error h };
+
+    #[inline(always)]
+    fn endianness(&self) -> Endianness {
+        Endianness::LittleEndian
+    }
+}
+
+impl Context for BigEndian {
+    type Error = Error;
+
+    ghost form = { λ _. plain_form BigOrder };
+
+    ghost keeps_eof = { λ e x h. ap is_eof_error h };
+
+    #[inline(always)]
+    fn endianness(&self) -> Endianness {
+        Endianness::BigEndian
+    }
+}
+
+impl PlainContext for LittleEndian {
+    #[inline(always)]
+    fn plain() -> LittleEndian {
+        LittleEndian {}
+    }
+}

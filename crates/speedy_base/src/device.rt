@@ -1,0 +1,210 @@
+//! Where bytes come from and go to.
+ghost use Rattle.std.specs.Prelude.{◌≡◌, min, [], ◌++◌, length, take, drop, IsOk, IfOk, IfErr, OnOk, OnErr};
+ghost use Rattle.std.specs.IoError.{error_kind};
+ghost use Rattle.std.specs.Io.KnownBytes.{ReadConsumes, WriteAppends, Keeps};
+ghost use Rattle.speedy_base.specs.Device.{SourceState, SinkState, Pulls, Pushes, Flushes};
+ghost use Rattle.speedy_base.specs.Devices.{bytes_source, vec_sink_bytes, vec_sink_faults, vec_sink_state, counted_inner, counted_faults, counted_source, counted_sink, one_fault_more};
+
+use std::alloc::Global;
+use std::io::{self, ErrorKind, Read, Write};
+
+/// Where bytes come from.
+///
+/// A failed call is a fault, and a source counts its faults. It is the caller who decides whether to go on after one.
+pub trait Source {
+    ghost source: { Self → SourceState };
+
+    /// Moves bytes to the front of the output, and says how many. What lies after them in the output may have changed too.
+    fn pull(&mut self, output: &mut [u8]) -> Result<usize, io::Error>
+        ensures { Pulls result (source self.old) (source self.new) output.new };
+}
+
+/// Where bytes go to.
+///
+/// A failed call is a fault, and a sink counts its faults. It is the caller who decides whether to go on after one.
+pub trait Sink {
+    ghost sink: { Self → SinkState };
+
+    /// Takes bytes from the front of `bytes`, and says how many.
+    fn push(&mut self, bytes: &[u8]) -> Result<usize, io::Error>
+        ensures { Pushes result (sink self.old) (sink self.new) bytes.now };
+
+    /// Passes on what was taken and still waits somewhere.
+    fn flush(&mut self) -> Result<(), io::Error>
+        ensures { Flushes result (sink self.old) (sink self.new) };
+}
+
+/// Bytes in memory, which give themselves from the first on. The slice is then what is left.
+impl Source for &[u8] {
+    ghost source = { λ s. bytes_source s.now };
+
+    /// Moves as many bytes as are left, or as there is room for.
+    fn pull(&mut self, output: &mut [u8]) -> Result<usize, io::Error>
+        ensures pulls { Pulls result (bytes_source self.old.now) (bytes_source self.new.now)
+            output.new }
+        ensures never_fails { IsOk result }
+        ensures count { IfOk result (λ n. n ≡ min (length self.old.now) (length output.old)) }
+        ensures copied { IfOk result (λ n. output.new ≡ take n self.old.now ++ drop n output.old) }
+        ensures rest { IfOk result (λ n. self.new.now ≡ drop n self.old.now) }
+    {
+        let all: &[u8] = *self;
+        let count = all.len().min(output.len());
+        output[..count].copy_from_slice(&all[..count]);
+        *self = &all[count..];
+        Ok(count)
+    }
+}
+
+/// Keeps what it takes in memory.
+#[derive(Drop)]
+pub struct VecSink {
+    bytes: Vec<u8>,
+    faults: u64,
+}
+
+impl VecSink {
+    /// A sink that has taken nothing.
+    pub fn new(alloc: Global) -> VecSink
+        ensures empty { vec_sink_bytes result ≡ [] }
+        ensures no_faults { vec_sink_faults result ≡ 0 }
+    {
+        VecSink {
+            bytes: Vec::new(alloc),
+            faults: 0,
+        }
+    }
+
+    /// All that was taken.
+    pub fn bytes(&self) -> &[u8]
+        ensures { result.now ≡ vec_sink_bytes self.now }
+    {
+        &self.bytes
+    }
+
+    /// All that was taken, without a copy.
+    pub fn into_bytes(self) -> Vec<u8>
+        ensures { result.items ≡ vec_sink_bytes self }
+    {
+        self.bytes
+    }
+}
+
+impl Sink for VecSink {
+    ghost sink = { vec_sink_state };
+
+    /// Takes all of `bytes`, or none of them where there is no memory for them.
+    fn push(&mut self, bytes: &[u8]) -> Result<usize, io::Error>
+        ensures pushes { Pushes result (vec_sink_state self.old) (vec_sink_state self.new)
+            bytes.now }
+        ensures all { IfOk result (λ n. n ≡ length bytes.now) }
+        ensures why { IfErr result (λ e. error_kind e ≡ ErrorKind.OutOfMemory) }
+        ensures one_fault { OnErr result (vec_sink_faults self.new
+            ≡ one_fault_more (vec_sink_faults self.old)) }
+    {
+        if self.bytes.extend_from_slice(bytes).is_err() {
+            self.faults = self.faults.saturating_add(1);
+            return Err(io::Error::new(ErrorKind::OutOfMemory, "no memory for the bytes"));
+        }
+        Ok(bytes.len())
+    }
+
+    /// Nothing waits, so there is nothing to do.
+    fn flush(&mut self) -> Result<(), io::Error>
+        ensures flushes { Flushes result (vec_sink_state self.old) (vec_sink_state self.new) }
+        ensures never_fails { IsOk result }
+    {
+        Ok(())
+    }
+}
+
+/// A reader or a writer of the standard library, and how many calls of it have failed.
+///
+/// The count stays at its greatest value once it is there.
+#[derive(Drop)]
+pub struct Counted<S> {
+    inner: S,
+    faults: u64,
+}
+
+impl<S> Counted<S> {
+    /// With no failed call yet.
+    pub fn new(inner: S) -> Counted<S>
+        ensures same { counted_inner result ≡ inner }
+        ensures no_faults { counted_faults result ≡ 0 }
+    {
+        Counted { inner, faults: 0 }
+    }
+
+    /// What the calls went to. The count is lost.
+    pub fn into_inner(self) -> S
+        ensures { result ≡ counted_inner self }
+    {
+        let Counted { inner, faults: _ } = self;
+        inner
+    }
+}
+
+impl<R: Read> Source for Counted<R> {
+    ghost source = { counted_source };
+
+    /// Reads once. A read that was interrupted has failed like any other: nothing is tried again here.
+    fn pull(&mut self, output: &mut [u8]) -> Result<usize, io::Error>
+        ensures pulls { Pulls result (counted_source self.old) (counted_source self.new)
+            output.new }
+        ensures reads { ReadConsumes (R.remaining (counted_inner self.old))
+            (R.remaining (counted_inner self.new)) result output.new }
+        ensures one_fault { OnErr result (counted_faults self.new
+            ≡ one_fault_more (counted_faults self.old)) }
+    {
+        match self.inner.read(output) {
+            Ok(count) => Ok(count),
+            Err(error) => {
+                self.faults = self.faults.saturating_add(1);
+                Err(error)
+            }
+        }
+    }
+}
+
+impl<W: Write> Sink for Counted<W> {
+    ghost sink = { counted_sink };
+
+    /// Writes once. A write that was interrupted has failed, and so has one that took none of some bytes: its error is
+    /// of the kind `WriteZero`. Nothing is tried again here.
+    fn push(&mut self, bytes: &[u8]) -> Result<usize, io::Error>
+        ensures pushes { Pushes result (counted_sink self.old) (counted_sink self.new) bytes.now }
+        ensures writes { WriteAppends (W.contents (counted_inner self.old))
+            (W.contents (counted_inner self.new)) result bytes.now }
+        ensures one_fault { OnErr result (counted_faults self.new
+            ≡ one_fault_more (counted_faults self.old)) }
+    {
+        match self.inner.write(bytes) {
+            Ok(0) if !bytes.is_empty() => {
+                self.faults = self.faults.saturating_add(1);
+                Err(io::Error::new(ErrorKind::WriteZero, "the writer took no byte"))
+            }
+            Ok(count) => Ok(count),
+            Err(error) => {
+                self.faults = self.faults.saturating_add(1);
+                Err(error)
+            }
+        }
+    }
+
+    /// Flushes once.
+    fn flush(&mut self) -> Result<(), io::Error>
+        ensures flushes { Flushes result (counted_sink self.old) (counted_sink self.new) }
+        ensures keeps { Keeps (W.contents (counted_inner self.old))
+            (W.contents (counted_inner self.new)) }
+        ensures one_fault { OnErr result (counted_faults self.new
+            ≡ one_fault_more (counted_faults self.old)) }
+    {
+        match self.inner.flush() {
+            Ok(()) => Ok(()),
+            Err(error) => {
+                self.faults = self.faults.saturating_add(1);
+                Err(error)
+            }
+        }
+    }
+}

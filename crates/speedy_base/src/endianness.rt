@@ -1,0 +1,93 @@
+//! Byte orders: how the digits of a number lie in bytes.
+ghost use Rattle.std.specs.Prelude.{◌≡◌, ◌↔◌, length, IsTrue};
+ghost use Rattle.speedy_base.specs.Digits.{SpellsNumber, swapped};
+
+/// The order in which the base 256 digits of a number are written.
+#[derive(Clone, Copy, Debug, PartialEq, Eq, PartialOrd, Ord, Hash)]
+pub enum Endianness {
+    /// Least digit first.
+    LittleEndian,
+    /// Greatest digit first.
+    BigEndian,
+}
+
+impl Endianness {
+    /// The order of the machines that this library is built for, x86-64.
+    pub const NATIVE: Endianness = Endianness::LittleEndian;
+
+    /// Whether numbers of the machine have to be reversed to lie in this order.
+    #[inline(always)]
+    pub fn conversion_necessary(self) -> bool
+        ensures { IsTrue result ↔ (self ≡ Endianness.BigEndian) }
+    {
+        self != Endianness::NATIVE
+    }
+
+    /// The number that two bytes spell in this order.
+    #[inline]
+    pub fn read_u16(self, slice: &[u8]) -> u16
+        requires { length slice.now ≡ 2 }
+        ensures { SpellsNumber 2 self result slice.now }
+    {
+        let bytes = [slice[0], slice[1]];
+        match self {
+            Endianness::LittleEndian => u16::from_le_bytes(bytes),
+            Endianness::BigEndian => u16::from_be_bytes(bytes),
+        }
+    }
+
+    /// The number that four bytes spell in this order.
+    #[inline]
+    pub fn read_u32(self, slice: &[u8]) -> u32
+        requires { length slice.now ≡ 4 }
+        ensures { SpellsNumber 4 self result slice.now }
+    {
+        let bytes = [slice[0], slice[1], slice[2], slice[3]];
+        match self {
+            Endianness::LittleEndian => u32::from_le_bytes(bytes),
+            Endianness::BigEndian => u32::from_be_bytes(bytes),
+        }
+    }
+
+    /// The two bytes that spell a number in this order.
+    #[inline]
+    pub fn bytes_of_u16(self, value: u16) -> [u8; 2]
+        ensures { SpellsNumber 2 self value result }
+    {
+        match self {
+            Endianness::LittleEndian => value.to_le_bytes(),
+            Endianness::BigEndian => value.to_be_bytes(),
+        }
+    }
+
+    /// The four bytes that spell a number in this order.
+    #[inline]
+    pub fn bytes_of_u32(self, value: u32) -> [u8; 4]
+        ensures { SpellsNumber 4 self value result }
+    {
+        match self {
+            Endianness::LittleEndian => value.to_le_bytes(),
+            Endianness::BigEndian => value.to_be_bytes(),
+        }
+    }
+
+    /// Reverses the bytes of a number where the order is big, and leaves it as it is where it is little.
+    #[inline]
+    pub fn swap_u16(self, value: &mut u16)
+        ensures { value.new ≡ swapped self 2 value.old }
+    {
+        if self.conversion_necessary() {
+            *value = value.swap_bytes();
+        }
+    }
+
+    /// Reverses the bytes of a number where the order is big, and leaves it as it is where it is little.
+    #[inline]
+    pub fn swap_u32(self, value: &mut u32)
+        ensures { value.new ≡ swapped self 4 value.old }
+    {
+        if self.conversion_necessary() {
+            *value = value.swap_bytes();
+        }
+    }
+}

@@ -1,0 +1,9 @@
+//! What all of `speedy` speaks of: byte orders, contexts, refusals and devices.
+#![tactic(auto)]
+
+pub mod context;
+pub mod device;
+pub mod endianness;
+pub mod error;
+#[cfg(test)]
+mod tests;
