@@ -1,0 +1,6 @@
+pub mod Language
+pub mod Laws
+pub mod Numbers
+pub mod Lists
+pub mod Texts
+pub mod Utf8
