@@ -1,0 +1,128 @@
+-- What a read does.
+use Rattle.std.specs.Prelude.{◌≡◌, ℕ, ◌≤◌, ◌<◌, ◌-◌, ◌^◌, List, ◌++◌, length, Bool, IsTrue, ◌⊎◌, ◌↔◌, Option, Some, Result, MatchResult, IfOk, IfErr, IsErrAnd}
+use Rattle.std.specs.Borrow.{GName}
+use Rattle.speedy_base.specs.declared.error.ErrorKind.{ErrorKind}
+use Rattle.speedy_base.specs.declared.error.ErrorKind.TheVariants as kinds
+use Rattle.speedy_base.specs.declared.error.Error.{Error}
+use Rattle.speedy_base.specs.Error.{error_of}
+use Rattle.speedy_base.specs.Device.{HasGrown}
+use Rattle.speedy_base.specs.Digits.{AreBytes}
+use Rattle.speedy_base.specs.Form.{Form}
+use Rattle.speedy_layout.specs.Language.{Language}
+
+-- A reader, as reads see it.
+pub record ReaderState : Type 0 where
+  -- the bytes still to come, where the device tells them
+  pub to_come : List ℕ
+  pub tells : Bool
+  -- it lends parts of its bytes
+  pub lends : Bool
+  -- it holds no more of a source's bytes than its way of reading allows
+  pub tidy : Bool
+  -- it reads ahead of what is asked
+  pub buffers : Bool
+  -- its reads may ask for memory
+  pub takes_memory : Bool
+  -- what its context asks of the bytes
+  pub form : Form
+  -- its device's number of failed calls
+  pub faults : ℕ
+  -- the `&mut`s that it holds
+  pub targets : List GName
+
+-- what every read keeps, a refused one too
+pub record Kept (old new : ReaderState) : Type 0 where
+  pub tells : new.tells ≡ old.tells
+  pub lends : new.lends ≡ old.lends
+  pub tidy : IsTrue old.tidy → IsTrue new.tidy
+  pub buffers : new.buffers ≡ old.buffers
+  pub takes_memory : new.takes_memory ≡ old.takes_memory
+  pub form : new.form ≡ old.form
+  pub faults : old.faults ≤ new.faults
+  pub targets : new.targets ≡ old.targets
+  -- what is to come is a tail of what was to come
+  pub tail : IsTrue old.tells → (front : List ℕ) × (old.to_come ≡ front ++ new.to_come)
+
+-- what every peek keeps: the bytes to come too, but not that the reader is tidy
+pub record KeptByPeek (old new : ReaderState) : Type 0 where
+  pub tells : new.tells ≡ old.tells
+  pub lends : new.lends ≡ old.lends
+  pub buffers : new.buffers ≡ old.buffers
+  pub takes_memory : new.takes_memory ≡ old.takes_memory
+  pub form : new.form ≡ old.form
+  pub faults : old.faults ≤ new.faults
+  pub targets : new.targets ≡ old.targets
+  pub to_come : IsTrue old.tells → new.to_come ≡ old.to_come
+
+-- a front of the bytes to come that is spelled so, and just it was taken
+pub record Got (spelled : List ℕ → Type 0) (old new : ReaderState) : Type 0 where
+  pub front : List ℕ
+  pub front_is : spelled front
+  pub taken : IsTrue old.tells → old.to_come ≡ front ++ new.to_come
+
+-- a front of the bytes to come that is spelled so
+pub record Ahead (spelled : List ℕ → Type 0) (old : ReaderState) : Type 0 where
+  pub front : List ℕ
+  pub rest : List ℕ
+  pub front_is : spelled front
+  pub stands : IsTrue old.tells → old.to_come ≡ front ++ rest
+
+-- the bytes are told, fewer than `usize::MAX` of them, and lent where the type needs it
+pub record IsTold {V : Type 0} (L : Language V) (old : ReaderState) : Type 0 where
+  pub tells : IsTrue old.tells
+  pub are_bytes : AreBytes old.to_come
+  pub fit : length old.to_come < 2 ^ 64 - 1
+  pub lends : IsTrue L.needs_lending → IsTrue old.lends
+
+-- so many bytes at the front are spelled so
+pub record Counts (spelled : List ℕ → Type 0) (count : ℕ) (bytes : List ℕ) : Type 0 where
+  pub front : List ℕ
+  pub rest : List ℕ
+  pub whole_is : bytes ≡ front ++ rest
+  pub front_is : spelled front
+  pub count_is : count ≡ length front
+
+module _ {E : Type 0} (gives : Error → E → Type 0) (eof : E → Bool) where
+  -- want of memory, where memory may be asked for, or a failed call of the device
+  abbrev pub Excused : Bool → E → ReaderState → ReaderState → Type 0
+  Excused takes e old new = (gives (error_of kinds.OutOfMemory) e × (IsTrue takes ⊎ IsTrue old.takes_memory)) ⊎ HasGrown old.faults new.faults
+
+  -- an end of the bytes, or a refusal of a kind that is named
+  abbrev pub IsNamed : (ErrorKind → Type 0) → E → Type 0
+  IsNamed names e = (kind : ErrorKind) × names kind × gives (error_of kind) e
+
+  -- the bytes to come spell no value at their front, and the error says whether they may begin a spelling
+  pub record Unspelled {V : Type 0} (L : Language V) (e : E) (bytes : List ℕ) : Type 0 where
+    pub no_front : (v : V) (front rest : List ℕ) → bytes ≡ front ++ rest → L.spells v front → ⊥
+    pub too_short : (v : V) (more : List ℕ) → L.spells v (bytes ++ more) → IsTrue (eof e)
+    pub at_fault : L.at_fault bytes → IsNamed L.names e
+
+  -- a clean refusal
+  pub record Refused {V : Type 0} (L : Language V) (e : E) (old : ReaderState) : Type 0 where
+    pub kind : IsTrue (eof e) ⊎ IsNamed L.names e
+    pub because : IsTold L old → Unspelled L e old.to_come
+
+  -- bytes that spell no value at their front are refused: as an end where they may begin a spelling, and else with a kind that the type names
+  pub record RefusesBuffer {V : Type 0} (L : Language V) (e : E) (bytes : List ℕ) : Type 0 where
+    pub kind : IsTrue (eof e) ⊎ IsNamed L.names e
+    pub because : Unspelled L e bytes
+
+  -- A read of a language's values. A value that is answered is spelled by a front of the bytes to come, and just that front is taken. A clean refusal means that no front spells any value.
+  pub record Reads {A V : Type 0} (seen : A → V) (L : Language V) (result : Result A E) (old new : ReaderState) : Type 0 where
+    pub kept : Kept old new
+    pub answer : MatchResult result (λ x. Got (L.spells (seen x)) old new) (λ e. Excused L.takes_memory e old new ⊎ Refused L e old)
+
+  -- A peek of a language's values: as the read, but nothing is taken.
+  pub record Peeks {A V : Type 0} (seen : A → V) (L : Language V) (result : Result A E) (old new : ReaderState) : Type 0 where
+    pub kept : KeptByPeek old new
+    pub answer : MatchResult result (λ x. Ahead (L.spells (seen x)) old) (λ e. Excused L.takes_memory e old new ⊎ Refused L e old)
+
+  -- What a form that reads from a buffer answers: a buffer that is shorter than any spelling is refused with both sizes; else a value is answered exactly when a front of the bytes spells it, and the count is the length of that front.
+  pub record AnswersBuffer {A V : Type 0} (seen : A → V) (least : ℕ) (L : Language V) (result : Result A E) (count : ℕ) (bytes : List ℕ) : Type 0 where
+    pub too_small : length bytes < least → IsErrAnd result (λ e. gives (error_of (kinds.InputBufferIsTooSmall (length bytes) least)) e) × (count ≡ 0)
+    pub value : IfOk result (λ x. Counts (L.spells (seen x)) count bytes)
+    pub refused : least ≤ length bytes → IfErr result (λ e. (gives (error_of kinds.OutOfMemory) e × IsTrue L.takes_memory) ⊎ RefusesBuffer L e bytes)
+
+-- what a reader says of the number of bytes to come is right
+abbrev pub IsRight : Option Bool → ReaderState → ℕ → Type 0
+IsRight answer old n = (b : Bool) → answer ≡ Some b → IsTrue old.tells → IsTrue b ↔ (n ≤ length old.to_come)

@@ -1,0 +1,131 @@
+//! Reading from bytes in memory.
+ghost use Rattle.std.specs.Prelude.{◌≡◌, ◌↔◌, [], IsTrue, length, nat_le, Some, OnErr, refl};
+ghost use Rattle.std.specs.Borrow.{sem, Lends};
+ghost use Rattle.speedy_layout.specs.Texts.{bytes_of, any_bytes};
+ghost use Rattle.speedy_read.specs.Reading.{Reads, Peeks};
+ghost use Rattle.speedy_read.specs.Buffers.{bytes_state};
+
+use crate::reader::LendingReader;
+use speedy_base::context::Context;
+use speedy_base::error::error_end_of_input;
+use std::alloc::Global;
+use std::marker::PhantomData;
+
+/// Reads from bytes in memory, and lends parts of them.
+#[derive(Drop)]
+pub struct BufferReader<'a, C> {
+    context: C,
+    alloc: Global,
+    rest: &'a [u8],
+    // A reference that may be written makes the context's loans provable.
+    writes: PhantomData<&'a mut u8>,
+}
+
+impl<'a, C: Context> BufferReader<'a, C> {
+    /// A reader at the front of the buffer.
+    #[inline]
+    pub fn new(alloc: Global, context: C, buffer: &'a [u8]) -> BufferReader<'a, C>
+        ensures context { ⟦<BufferReader<'a, C> as LendingReader<&'a [u8], C>>⟧.at result ≡ context }
+        ensures state { ⟦<BufferReader<'a, C> as LendingReader<&'a [u8], C>>⟧.state result ≡ bytes_state buffer.now (C.form context) }
+    {
+        BufferReader {
+            context,
+            alloc,
+            rest: buffer,
+            writes: PhantomData,
+        }
+    }
+
+    /// How many bytes are to come.
+    #[inline]
+    pub fn len(&self) -> usize
+        ensures { result ≡ length (⟦<BufferReader<'a, C> as LendingReader<&'a [u8], C>>⟧.state self.now).to_come }
+    {
+        self.rest.len()
+    }
+
+    /// Whether no bytes are to come.
+    #[inline]
+    pub fn is_empty(&self) -> bool
+        ensures { IsTrue result ↔ ((⟦<BufferReader<'a, C> as LendingReader<&'a [u8], C>>⟧.state self.now).to_come ≡ []) }
+    {
+        self.rest.is_empty()
+    }
+}
+
+impl<'a, C: Context> LendingReader<&'a [u8], C> for BufferReader<'a, C> {
+    ghost at = { λ r. r.context };
+
+    ghost with_context = { λ r c. record r { context = c } };
+
+    ghost state = { λ r. bytes_state r.rest.now (C.form r.context) };
+
+    ghost can_read = { λ r n. Some (nat_le n (length r.rest.now)) };
+
+    #[inline(always)]
+    fn read_bytes(&mut self, output: &mut [u8]) -> Result<(), C::Error>
+        ensures reads { Reads C.Error.from_gives C.Error.eof (λ _. output.new) (bytes_of (length output.old)) result
+            (⟦<BufferReader<'a, C> as LendingReader<&'a [u8], C>>⟧.state self.old) (⟦<BufferReader<'a, C> as LendingReader<&'a [u8], C>>⟧.state self.new) }
+        ensures unchanged { OnErr result (self.new ≡ self.old) }
+    {
+        let length = output.len();
+        if self.rest.len() < length {
+            return Err(error_end_of_input());
+        }
+        let (front, rest) = self.rest.split_at(length);
+        output.copy_from_slice(front);
+        self.rest = rest;
+        Ok(())
+    }
+
+    #[inline(always)]
+    fn peek_bytes(&mut self, output: &mut [u8]) -> Result<(), C::Error>
+        ensures peeks { Peeks C.Error.from_gives C.Error.eof (λ _. output.new) (bytes_of (length output.old)) result
+            (⟦<BufferReader<'a, C> as LendingReader<&'a [u8], C>>⟧.state self.old) (⟦<BufferReader<'a, C> as LendingReader<&'a [u8], C>>⟧.state self.new) }
+        ensures unchanged { OnErr result (self.new ≡ self.old) }
+    {
+        let length = output.len();
+        if self.rest.len() < length {
+            return Err(error_end_of_input());
+        }
+        output.copy_from_slice(&self.rest[..length]);
+        Ok(())
+    }
+
+    #[inline(always)]
+    fn skip_bytes(&mut self, length: usize) -> Result<(), C::Error>
+        ensures skips { Reads C.Error.from_gives C.Error.eof (λ x. x) (any_bytes length) result
+            (⟦<BufferReader<'a, C> as LendingReader<&'a [u8], C>>⟧.state self.old) (⟦<BufferReader<'a, C> as LendingReader<&'a [u8], C>>⟧.state self.new) }
+        ensures unchanged { OnErr result (self.new ≡ self.old) }
+    {
+        if self.rest.len() < length {
+            return Err(error_end_of_input());
+        }
+        self.rest = &self.rest[length..];
+        Ok(())
+    }
+
+    #[inline(always)]
+    fn can_read_at_least(&self, size: usize) -> Option<bool> {
+        Some(size <= self.rest.len())
+    }
+
+    #[inline(always)]
+    fn alloc(&self) -> Global {
+        self.alloc
+    }
+
+    #[inline(always)]
+    fn context(&self) -> &C {
+        &self.context
+    }
+
+    #[inline(always)]
+    fn context_mut(&mut self) -> &mut C {
+        &mut self.context
+    }
+
+    ghost form_at = { λ r. refl };
+
+    ghost state_with = { λ r c. refl };
+}

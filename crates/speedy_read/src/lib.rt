@@ -1,0 +1,8 @@
+//! Reading: readers, and the types that are read.
+#![tactic(auto)]
+
+pub mod buffer_reader;
+pub mod private;
+pub mod readable;
+pub mod readable_impl;
+pub mod reader;

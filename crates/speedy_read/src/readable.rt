@@ -1,0 +1,134 @@
+//! What types that are read do.
+ghost use Rattle.std.specs.Prelude.{◌≡◌, ℕ, [], map, MatchResult};
+ghost use Rattle.speedy_base.specs.Error.{error_of};
+ghost use Rattle.speedy_base.specs.Form.{plain_form};
+ghost use Rattle.speedy_layout.specs.Lists.{vector};
+ghost use Rattle.speedy_read.specs.Reading.{Reads, AnswersBuffer};
+
+use crate::buffer_reader::BufferReader;
+use crate::reader::LendingReader;
+use speedy_base::context::{Context, PlainContext};
+use speedy_base::endianness::Endianness;
+use speedy_base::error::{ErrorKind, error_input_buffer_is_too_small, error_out_of_memory};
+use speedy_layout::layout::Layout;
+use std::alloc::Global;
+use std::convert::AsSlice;
+
+/// What types that are read implement, over what a reader lends.
+///
+/// Most types are read whatever is lent; types that borrow are read where `L` is `&'a [u8]`. Users name
+/// the types that are read by [`Readable`].
+pub trait ReadFrom<L: AsSlice<u8> + Drop, C: Context>: Layout + Sized + Drop {
+    /// Reads a value.
+    ///
+    /// A value that is answered is spelled by a front of the bytes to come, and just that front is taken.
+    /// A clean refusal, neither want of memory nor a failed call of the device, means that no front
+    /// spells any value.
+    fn read_from<R: LendingReader<L, C>>(reader: &mut R) -> Result<Self, C::Error>
+        ensures { Reads C.Error.from_gives C.Error.eof Self.seen (Self.language (R.state reader.old).form) result (R.state reader.old) (R.state reader.new) };
+
+    /// Reads so many values, one after another.
+    fn read_many<R: LendingReader<L, C>>(
+        reader: &mut R,
+        length: usize,
+    ) -> Result<Vec<Self>, C::Error>
+        ensures { Reads C.Error.from_gives C.Error.eof (λ v. map Self.seen v.items) (vector length (Self.language (R.state reader.old).form)) result (R.state reader.old) (R.state reader.new) }
+    {
+        let least = Self::minimum_bytes_needed();
+        let mut items = vec_for::<Self, L, C, R>(reader, least, length)?;
+        for _i in 0..length {
+            let item = Self::read_from(reader)?;
+            if items.push(item).is_err() {
+                return Err(error_out_of_memory());
+            }
+        }
+        Ok(items)
+    }
+
+    /// The least number of bytes that spell a value.
+    fn minimum_bytes_needed() -> usize
+        ensures { result ≡ Self.least };
+}
+
+/// Types that are read from bytes, which may be lent for `'a`.
+pub trait Readable<'a, C: Context>: ReadFrom<&'a [u8], C> {
+    /// The value that a front of the buffer spells in the little byte order.
+    ///
+    /// A buffer that is shorter than any spelling is refused with `InputBufferIsTooSmall`.
+    final fn read_from_buffer(alloc: Global, buffer: &'a [u8]) -> Result<Self, C::Error>
+    where
+        C: PlainContext,
+        ensures { (count : ℕ) × AnswersBuffer C.Error.from_gives C.Error.eof Self.seen Self.least (Self.language (plain_form Endianness.LittleEndian)) result count buffer.now }
+    {
+        Self::read_from_buffer_with_ctx(alloc, C::plain(), buffer)
+    }
+
+    /// The value that a front of the buffer spells in the little byte order, and how many bytes spell it.
+    ///
+    /// A buffer that is shorter than any spelling is refused with `InputBufferIsTooSmall` and the count 0.
+    final fn read_with_length_from_buffer(
+        alloc: Global,
+        buffer: &'a [u8],
+    ) -> (Result<Self, C::Error>, usize)
+    where
+        C: PlainContext,
+        ensures { AnswersBuffer C.Error.from_gives C.Error.eof Self.seen Self.least (Self.language (plain_form Endianness.LittleEndian)) result.0 result.1 buffer.now }
+    {
+        Self::read_with_length_from_buffer_with_ctx(alloc, C::plain(), buffer)
+    }
+
+    /// The value that a front of the buffer spells under the context.
+    ///
+    /// A buffer that is shorter than any spelling is refused with `InputBufferIsTooSmall`.
+    final fn read_from_buffer_with_ctx(
+        alloc: Global,
+        context: C,
+        buffer: &'a [u8],
+    ) -> Result<Self, C::Error>
+        ensures { (count : ℕ) × AnswersBuffer C.Error.from_gives C.Error.eof Self.seen Self.least (Self.language (C.form context)) result count buffer.now }
+    {
+        Self::read_with_length_from_buffer_with_ctx(alloc, context, buffer).0
+    }
+
+    /// The value that a front of the buffer spells under the context, and how many bytes spell it.
+    ///
+    /// A buffer that is shorter than any spelling is refused with `InputBufferIsTooSmall` and the count 0.
+    final fn read_with_length_from_buffer_with_ctx(
+        alloc: Global,
+        context: C,
+        buffer: &'a [u8],
+    ) -> (Result<Self, C::Error>, usize)
+        ensures { AnswersBuffer C.Error.from_gives C.Error.eof Self.seen Self.least (Self.language (C.form context)) result.0 result.1 buffer.now }
+    {
+        let least = Self::minimum_bytes_needed();
+        if buffer.len() < least {
+            return (Err(error_input_buffer_is_too_small(buffer.len(), least)), 0);
+        }
+        let mut reader = BufferReader::new(alloc, context, buffer);
+        let result = Self::read_from(&mut reader);
+        (result, buffer.len() - reader.len())
+    }
+}
+
+impl<'a, C: Context, T: ReadFrom<&'a [u8], C>> Readable<'a, C> for T {}
+
+// An empty vector, with room for so many items where the reader says that their bytes are to come.
+fn vec_for<T, L: AsSlice<u8> + Drop, C: Context, R: LendingReader<L, C>>(
+    reader: &R,
+    least: usize,
+    length: usize,
+) -> Result<Vec<T>, C::Error>
+    ensures { MatchResult result (λ v. v.items ≡ []) (C.Error.from_gives (error_of ErrorKind.OutOfMemory)) }
+{
+    let known = match least.checked_mul(length) {
+        Some(size) => least > 0 && reader.can_read_at_least(size) == Some(true),
+        None => false,
+    };
+    if !known {
+        return Ok(Vec::new(reader.alloc()));
+    }
+    match Vec::with_capacity(reader.alloc(), length) {
+        Ok(items) => Ok(items),
+        Err(_) => Err(error_out_of_memory()),
+    }
+}

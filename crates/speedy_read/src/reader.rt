@@ -1,0 +1,194 @@
+//! What every reader does.
+ghost use Rattle.std.specs.Prelude.{◌≡◌, ℕ, ◌<◌, ◌≤◌, ◌*◌, ◌-◌, ◌^◌, ◌⊎◌, ◌↔◌, IsTrue, slice_index, length, length as count, map, Bool, Option, Some, false, IsErrAnd};
+ghost use Rattle.std.specs.Borrow.{sem, Lends};
+ghost use Rattle.std.specs.String.{string_bytes};
+ghost use Rattle.speedy_base.specs.Error.{error_of};
+ghost use Rattle.speedy_layout.specs.Texts.{bytes_of, any_bytes, text_of_length};
+ghost use Rattle.speedy_layout.specs.Numbers.{digits_language};
+ghost use Rattle.speedy_layout.specs.Lists.{vector};
+ghost use Rattle.speedy_read.specs.Reading.{ReaderState, Reads, Peeks, IsRight};
+
+use crate::private::vec_to_string;
+use crate::readable::ReadFrom;
+use speedy_base::context::Context;
+use speedy_base::endianness::Endianness;
+use speedy_base::error::{ErrorKind, error_end_of_input};
+use std::alloc::Global;
+use std::convert::AsSlice;
+
+/// What every reader does, over what it lends.
+///
+/// `L` is what the reader lends: `&'a [u8]` for one that hands out parts of a buffer. Users name readers
+/// by [`Reader`]; a reader of one's own implements this trait.
+pub trait LendingReader<L: AsSlice<u8> + Drop, C: Context> {
+    /// The context that the reader holds, and the reader with another one.
+    ghost at: { Self → C };
+
+    ghost with_context: { Self → C → Self };
+
+    /// What reads see of the reader.
+    ghost state: { Self → ReaderState };
+
+    /// What the reader says of the number of bytes to come.
+    ghost can_read: { Self → ℕ → Option Bool };
+
+    /// Fills the output with the next bytes. What a refused read leaves in the output is not said.
+    fn read_bytes(&mut self, output: &mut [u8]) -> Result<(), C::Error>
+        ensures { Reads C.Error.from_gives C.Error.eof (λ _. output.new) (bytes_of (length output.old)) result (state self.old) (state self.new) };
+
+    /// Fills the output with the next bytes, and takes none of them.
+    fn peek_bytes(&mut self, output: &mut [u8]) -> Result<(), C::Error>
+        ensures { Peeks C.Error.from_gives C.Error.eof (λ _. output.new) (bytes_of (length output.old)) result (state self.old) (state self.new) };
+
+    /// Takes so many bytes. This body reads them, a chunk at a time.
+    fn skip_bytes(&mut self, length: usize) -> Result<(), C::Error>
+        ensures { Reads C.Error.from_gives C.Error.eof (λ x. x) (any_bytes length) result (state self.old) (state self.new) }
+    {
+        let mut chunk = [0u8; 1024];
+        let mut left = length;
+        while left > 0 {
+            let size = left.min(chunk.len());
+            self.read_bytes(&mut chunk[..size])?;
+            left -= size;
+        }
+        Ok(())
+    }
+
+    /// Whether at least so many bytes are to come, where the reader knows.
+    fn can_read_at_least(&self, size: usize) -> Option<bool>
+        ensures says { result ≡ can_read self.now size }
+        ensures right { IsRight result (state self.now) size };
+
+    /// Where values that own memory get it.
+    fn alloc(&self) -> Global;
+
+    /// The context.
+    fn context(&self) -> &C
+        ensures { result.now ≡ at self.now };
+
+    /// The context, to change it.
+    fn context_mut(&mut self) -> &mut C
+        ensures* writes_back { sem 𝓛 (Lends Self.row C.row self.entry result (with_context self.old)) }
+        ensures value { result.now ≡ at self.old };
+
+    /// The byte order of numbers.
+    final fn endianness(&self) -> Endianness
+        ensures { result ≡ (state self.now).form.order }
+    {
+        self.context().endianness()
+    }
+
+    /// The next byte as a number in the context's order.
+    #[inline]
+    final fn read_u8(&mut self) -> Result<u8, C::Error>
+        ensures { Reads C.Error.from_gives C.Error.eof (λ x. x) (digits_language 1 (state self.old).form) result (state self.old) (state self.new) }
+    {
+        let mut bytes = [0u8; 1];
+        self.read_bytes(&mut bytes)?;
+        Ok(byte_of(&bytes))
+    }
+
+    /// The next 2 bytes as a number in the context's order.
+    #[inline]
+    final fn read_u16(&mut self) -> Result<u16, C::Error>
+        ensures { Reads C.Error.from_gives C.Error.eof (λ x. x) (digits_language 2 (state self.old).form) result (state self.old) (state self.new) }
+    {
+        let mut bytes = [0u8; 2];
+        self.read_bytes(&mut bytes)?;
+        Ok(self.endianness().read_u16(&bytes))
+    }
+
+    /// The next 4 bytes as a number in the context's order.
+    #[inline]
+    final fn read_u32(&mut self) -> Result<u32, C::Error>
+        ensures { Reads C.Error.from_gives C.Error.eof (λ x. x) (digits_language 4 (state self.old).form) result (state self.old) (state self.new) }
+    {
+        let mut bytes = [0u8; 4];
+        self.read_bytes(&mut bytes)?;
+        Ok(self.endianness().read_u32(&bytes))
+    }
+
+    /// The next byte, which is not taken.
+    #[inline]
+    final fn peek_u8(&mut self) -> Result<u8, C::Error>
+        ensures { Peeks C.Error.from_gives C.Error.eof (λ x. x) (digits_language 1 (state self.old).form) result (state self.old) (state self.new) }
+    {
+        let mut bytes = [0u8; 1];
+        self.peek_bytes(&mut bytes)?;
+        Ok(byte_of(&bytes))
+    }
+
+    /// The next value.
+    #[inline]
+    final fn read_value<T: ReadFrom<L, C>>(&mut self) -> Result<T, C::Error>
+    where
+        Self: Sized,
+        ensures { Reads C.Error.from_gives C.Error.eof T.seen (T.language (state self.old).form) result (state self.old) (state self.new) }
+    {
+        T::read_from(self)
+    }
+
+    /// So many values, one after another.
+    ///
+    /// It is refused before any item where fewer bytes are to come than so many items have at least, if the
+    /// reader says so, and where that many bytes are past `usize::MAX`.
+    #[inline]
+    final fn read_vec<T: ReadFrom<L, C>>(&mut self, length: usize) -> Result<Vec<T>, C::Error>
+    where
+        Self: Sized,
+        ensures reads { Reads C.Error.from_gives C.Error.eof (λ v. map T.seen v.items) (vector length (T.language (state self.old).form)) result (state self.old) (state self.new) }
+        ensures early { ((2 ^ 64 ≤ T.least * length) ⊎ (can_read self.old (T.least * length) ≡ Some false))
+            → IsErrAnd result (λ e. C.Error.from_gives (error_of ErrorKind.UnexpectedEndOfInput) e) × (self.new ≡ self.old) }
+    {
+        if ends_before::<L, C, Self>(self, T::minimum_bytes_needed(), length) {
+            return Err(error_end_of_input());
+        }
+        T::read_many(self, length)
+    }
+
+    /// A text of so many bytes, which are refused with `InvalidUtf8` where they are none.
+    #[inline]
+    final fn read_string(&mut self, length: usize) -> Result<String, C::Error>
+    where
+        Self: Sized,
+        ensures { Reads C.Error.from_gives C.Error.eof string_bytes (text_of_length length) result (state self.old) (state self.new) }
+    {
+        vec_to_string(self.read_vec(length)?)
+    }
+
+    /// The form that reads see is what the context asks.
+    ghost form_at: { (r : Self) → (state r).form ≡ C.form (at r) };
+
+    /// Another context changes nothing but the form.
+    ghost state_with: { (r : Self) (c : C) → state (with_context r c) ≡ record (state r) { form = C.form c } };
+}
+
+/// Readers that may lend parts of their bytes for `'a`.
+pub trait Reader<'a, C: Context>: LendingReader<&'a [u8], C> {}
+
+impl<'a, C: Context, R: LendingReader<&'a [u8], C>> Reader<'a, C> for R {}
+
+// What a proof knows of the byte is its range, which the contents of a buffer don't show.
+#[inline]
+fn byte_of(bytes: &[u8; 1]) -> u8
+    ensures value { result ≡ slice_index bytes.now 0 }
+    ensures range { result < 256 }
+{
+    bytes[0]
+}
+
+// Whether it is known before any is read that fewer bytes are to come than so many items have at least.
+fn ends_before<L: AsSlice<u8> + Drop, C: Context, R: LendingReader<L, C>>(
+    reader: &R,
+    least: usize,
+    length: usize,
+) -> bool
+    ensures test { IsTrue result ↔ ((2 ^ 64 ≤ least * length) ⊎ (R.can_read reader.now (least * length) ≡ Some false)) }
+    ensures fewer { IsTrue result → IsTrue (R.state reader.now).tells → count (R.state reader.now).to_come < 2 ^ 64 - 1
+        → count (R.state reader.now).to_come < length * least }
+{
+    match least.checked_mul(length) {
+        Some(size) => reader.can_read_at_least(size) == Some(false),
+        None => true,
+    }
+}
