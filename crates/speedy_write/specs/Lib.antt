@@ -1,0 +1,5 @@
+pub mod Writing
+pub mod Collectors
+pub mod Joining
+pub mod Listed
+pub mod Ways

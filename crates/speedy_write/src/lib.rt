@@ -1,0 +1,12 @@
+//! Writing: writers, and the types that are written.
+#![tactic(auto)]
+
+pub mod collectors;
+#[cfg(test)]
+mod tests;
+pub mod writable;
+pub mod writable_impl;
+pub mod writer;
+
+pub use writable::Writable;
+pub use writer::Writer;

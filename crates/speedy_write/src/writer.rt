@@ -1,0 +1,133 @@
+//! Writers: where the bytes of values go.
+ghost use Rattle.std.specs.Prelude.{◌≡◌, ℕ, [], ◌++◌, List, map, Option, Bool};
+ghost use Rattle.std.specs.Borrow.{sem, Lends};
+ghost use Rattle.speedy_write.specs.Writing.{WriterState, WritesBytes, WritesNumber, WritesValue, WritesEach, RefusesFull, IsRight};
+
+use crate::writable::Writable;
+use speedy_base::context::Context;
+use speedy_base::endianness::Endianness;
+
+/// Where bytes are written.
+pub trait Writer<C: Context> {
+    /// The context that the writer holds.
+    ghost at: { Self → C };
+
+    /// The writer with another context.
+    ghost with_context: { Self → C → Self };
+
+    /// The writer, as writes see it.
+    ghost state: { Self → WriterState };
+
+    /// Which bytes lie between two states of the writer.
+    ghost appends: { Self → List ℕ → Self → Type 0 };
+
+    /// What the writer says of its space.
+    ghost can_write: { Self → ℕ → Option Bool };
+
+    /// Writes all the bytes. A refused call may have written some of the first ones.
+    fn write_bytes(&mut self, slice: &[u8]) -> Result<(), C::Error>
+        ensures writes { let before = self.old in let after = self.new in
+            WritesBytes C.Error.from_gives slice.now result
+            (state before) (state after) (λ b. appends before b after) }
+        ensures full { RefusesFull C.Error.from_gives result (state self.old) (state self.new) };
+
+    /// The context that numbers are written under.
+    fn context(&self) -> &C
+        ensures { result.now ≡ at self.now };
+
+    /// The context, to be changed.
+    fn context_mut(&mut self) -> &mut C
+        ensures* writes_back { sem 𝓛 (Lends Self.row C.row self.entry result (with_context self.old)) }
+        ensures value { result.now ≡ at self.old };
+
+    /// Whether so many bytes fit, where the writer knows it.
+    fn can_write_at_least(&self, size: usize) -> Option<bool>
+        ensures says { result ≡ can_write self.now size }
+        ensures right { IsRight result size (state self.now).space };
+
+    /// The form is the context's.
+    ghost form_at: { (w : Self) → (state w).form ≡ C.form (at w) };
+
+    /// Another context changes the form alone.
+    ghost state_with: { (w : Self) (c : C) → state (with_context w c) ≡ record (state w) { form = C.form c } };
+
+    /// Between a state and itself lies nothing.
+    ghost nothing: { (w : Self) → appends w [] w };
+
+    /// What lies between is joined.
+    ghost additive: { (a b c : Self) (s t : List ℕ) → appends a s b → appends b t c → appends a (s ++ t) c };
+
+    /// Another context writes nothing and unwrites nothing.
+    ghost appends_with: { (a b : Self) (s : List ℕ) (c : C) → appends a s b → appends a s (with_context b c) × appends (with_context a c) s b };
+
+    /// The byte order of numbers.
+    #[inline(always)]
+    final fn endianness(&self) -> Endianness
+        ensures { result ≡ (state self.now).form.order }
+    {
+        self.context().endianness()
+    }
+
+    /// Writes a byte.
+    #[inline(always)]
+    final fn write_u8(&mut self, value: u8) -> Result<(), C::Error>
+        ensures writes { let before = self.old in let after = self.new in
+            WritesNumber C.Error.from_gives 1 value result
+            (state before) (state after) (λ b. appends before b after) }
+        ensures full { RefusesFull C.Error.from_gives result (state self.old) (state self.new) }
+    {
+        self.write_bytes(&[value])
+    }
+
+    /// Writes two bytes, in the context's order.
+    #[inline(always)]
+    final fn write_u16(&mut self, value: u16) -> Result<(), C::Error>
+        ensures writes { let before = self.old in let after = self.new in
+            WritesNumber C.Error.from_gives 2 value result
+            (state before) (state after) (λ b. appends before b after) }
+        ensures full { RefusesFull C.Error.from_gives result (state self.old) (state self.new) }
+    {
+        let bytes = self.endianness().bytes_of_u16(value);
+        self.write_bytes(&bytes)
+    }
+
+    /// Writes four bytes, in the context's order.
+    #[inline(always)]
+    final fn write_u32(&mut self, value: u32) -> Result<(), C::Error>
+        ensures writes { let before = self.old in let after = self.new in
+            WritesNumber C.Error.from_gives 4 value result
+            (state before) (state after) (λ b. appends before b after) }
+        ensures full { RefusesFull C.Error.from_gives result (state self.old) (state self.new) }
+    {
+        let bytes = self.endianness().bytes_of_u32(value);
+        self.write_bytes(&bytes)
+    }
+
+    /// Writes a value.
+    #[inline(always)]
+    final fn write_value<T: Writable<C>>(&mut self, item: &T) -> Result<(), C::Error>
+    where
+        Self: Sized,
+        ensures { let before = self.old in let after = self.new in
+            let gives = C.Error.from_gives in
+            let language = T.language (state before).form in
+            WritesValue gives language (T.seen item.now) result
+            (state before) (state after) (λ b. appends before b after) }
+    {
+        item.write_to(self)
+    }
+
+    /// Writes values, one after the other and with no count.
+    #[inline]
+    final fn write_slice<T: Writable<C>>(&mut self, slice: &[T]) -> Result<(), C::Error>
+    where
+        Self: Sized,
+        ensures { let before = self.old in let after = self.new in
+            let gives = C.Error.from_gives in
+            let language = T.language (state before).form in
+            WritesEach gives language (map T.seen slice.now) result
+            (state before) (state after) (λ b. appends before b after) }
+    {
+        T::write_many(slice, self)
+    }
+}
