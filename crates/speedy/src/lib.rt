@@ -1,0 +1,24 @@
+//! Values to compact bytes and back, in either byte order, with every call proved.
+//!
+//! ```text
+//! let bytes = 258_u16.write_to_vec(alloc)?;            // [2, 1]
+//! let value = <u16 as Readable<LittleEndian>>::read_from_buffer(alloc, &bytes)?;
+//! ```
+#![tactic(auto)]
+
+pub mod private;
+#[cfg(test)]
+mod tests;
+
+pub use context::{BigEndian, Context, LittleEndian, PlainContext};
+pub use endianness::Endianness;
+pub use error::{Error, IsEof};
+pub use layout::Layout;
+pub use readable::{ReadFrom, Readable};
+pub use reader::{LendingReader, Reader};
+pub use speedy_base::{context, device, endianness, error};
+pub use speedy_layout::{laws, layout};
+pub use speedy_read::{buffer_reader, readable, readable_impl, reader};
+pub use speedy_write::{collectors, writable, writable_impl, writer};
+pub use writable::Writable;
+pub use writer::Writer;
