@@ -1,0 +1,8 @@
+use Rattle.speedy_vectors.specs.Running.{flushed, flush_failed}
+use Rattle.speedy_vectors.proofs.run.flush.Goals as goal
+
+pub returns-in-Ok : goal.returns-in-Ok
+returns-in-Ok g c = flushed _ _ _ _ c.in-Ok.ensures
+
+pub returns-in-Err : goal.returns-in-Err
+returns-in-Err g c = flush_failed _ _ _ _ c.in-Err.ensures

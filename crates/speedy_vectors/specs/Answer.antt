@@ -1,0 +1,98 @@
+-- What a line is answered.
+use Rattle.std.specs.Prelude.{◌≡◌, ℕ, ◌<◌, ◌≤◌, List, [], ◌∷◌, ◌++◌, ◌⊎◌, length, IsTrue, codes}
+use Rattle.std.specs.Fmt.{decimal}
+use Rattle.hex.specs.Hex.{encode_lower}
+use Rattle.speedy_base.specs.declared.error.ErrorKind.{ErrorKind}
+use Rattle.speedy_base.specs.declared.error.ErrorKind.TheVariants as kinds
+use Rattle.speedy_base.specs.declared.endianness.Endianness.{Endianness}
+use Rattle.speedy_base.specs.ErrorKind.{is_eof_kind}
+use Rattle.speedy_base.specs.Form.{Form, plain_form}
+use Rattle.speedy_layout.specs.Language.{Language}
+use Rattle.speedy_layout.specs.Numbers.{digits_language}
+use Rattle.speedy_layout.specs.Lists.{counted}
+use Rattle.speedy_layout.specs.Texts.{text}
+use Rattle.speedy_vectors.specs.declared.line.TypeName.{TypeName}
+use Rattle.speedy_vectors.specs.declared.line.TypeName.TheVariants as names
+use Rattle.speedy_vectors.specs.Line.{IsLine, IsBad}
+
+-- bytes as hexadecimal digits in lower case, `-` for none
+abbrev pub hex_of : List ℕ → List ℕ
+hex_of [] = codes "-"
+hex_of (b ∷ bytes) = encode_lower (b ∷ bytes)
+
+-- the name of a kind of refusal
+abbrev pub kind_name : ErrorKind → List ℕ
+kind_name kinds.InvalidChar = codes "InvalidChar"
+kind_name kinds.InvalidEnumVariant = codes "InvalidEnumVariant"
+kind_name kinds.InvalidUtf8 = codes "InvalidUtf8"
+kind_name kinds.InvalidSystemTime = codes "InvalidSystemTime"
+kind_name kinds.ZeroNonZero = codes "ZeroNonZero"
+kind_name kinds.OutOfRangeLength = codes "OutOfRangeLength"
+kind_name kinds.OutOfRangeUsize = codes "OutOfRangeUsize"
+kind_name kinds.UnexpectedEndOfInput = codes "UnexpectedEndOfInput"
+kind_name kinds.UnexpectedEndOfOutputBuffer = codes "UnexpectedEndOfOutputBuffer"
+kind_name (kinds.InputBufferIsTooSmall actual expected) = codes "InputBufferIsTooSmall " ++ (decimal actual ++ (codes " " ++ decimal expected))
+kind_name (kinds.OutputBufferIsTooSmall actual expected) = codes "OutputBufferIsTooSmall " ++ (decimal actual ++ (codes " " ++ decimal expected))
+kind_name (kinds.LengthIsNotTheSameAsLengthAttribute field) = codes "LengthIsNotTheSameAsLengthAttribute"
+kind_name (kinds.ExpectedConstant constant) = codes "ExpectedConstant"
+kind_name kinds.Unsized = codes "Unsized"
+kind_name kinds.EndiannessMismatch = codes "EndiannessMismatch"
+kind_name (kinds.IoError e) = codes "IoError"
+kind_name kinds.OutOfMemory = codes "OutOfMemory"
+kind_name (kinds.Custom message) = codes "Custom"
+
+-- a value: the length of the front that spells it, and what is written of it
+abbrev pub ok_text : ℕ → List ℕ → List ℕ
+ok_text count written = codes "ok " ++ (decimal count ++ (codes " " ++ (hex_of written ++ codes "\n")))
+
+-- a refusal: its kind
+abbrev pub refused_text : ErrorKind → List ℕ
+refused_text kind = codes "refused " ++ (kind_name kind ++ codes "\n")
+
+-- the bytes are fewer than any spelling has
+pub record AnswersTooSmall (least : ℕ) (bytes answer : List ℕ) : Type 0 where
+  pub fewer : length bytes < least
+  pub answer_is : answer ≡ refused_text (kinds.InputBufferIsTooSmall (length bytes) least)
+
+module _ {V : Type 0} (least : ℕ) (L : Language V) (bytes answer : List ℕ) where
+  -- a front of the bytes spells a value
+  pub record AnswersValue : Type 0 where
+    pub value : V
+    pub front : List ℕ
+    pub rest : List ℕ
+    pub written : List ℕ
+    pub bytes_are : bytes ≡ front ++ rest
+    pub front_spells : L.spells value front
+    pub written_is : L.writes value written
+    pub answer_is : answer ≡ ok_text (length front) written
+
+  -- no front spells any: an end of input where more bytes may make a spelling, else that or a kind that the type names
+  pub record AnswersRefusal : Type 0 where
+    pub kind : ErrorKind
+    pub enough : least ≤ length bytes
+    pub no_front : (v : V) (front rest : List ℕ) → bytes ≡ front ++ rest → L.spells v front → ⊥
+    pub kind_is : IsTrue (is_eof_kind kind) ⊎ L.names kind
+    pub too_short : (v : V) (more : List ℕ) → L.spells v (bytes ++ more) → IsTrue (is_eof_kind kind)
+    pub answer_is : answer ≡ refused_text kind
+
+  -- what the bytes of a line are answered, read as values of a language
+  abbrev pub AnswersBytes : Type 0
+  AnswersBytes = AnswersTooSmall least bytes answer ⊎ (AnswersValue ⊎ AnswersRefusal)
+
+-- what the bytes of a line are answered, by the type's name
+abbrev pub AnswersAs : TypeName → Form → List ℕ → List ℕ → Type 0
+AnswersAs names.U16 form = AnswersBytes 2 (digits_language 2 form)
+AnswersAs names.Text form = AnswersBytes 4 (text form)
+AnswersAs names.VecU16 form = AnswersBytes 4 (counted form (digits_language 2 form))
+
+-- the answer of a line that is of the form
+pub record AnswersGoodLine (line answer : List ℕ) : Type 0 where
+  pub order : Endianness
+  pub name : TypeName
+  pub bytes : List ℕ
+  pub says : IsLine line order name bytes
+  pub answers : AnswersAs name (plain_form order) bytes answer
+
+-- the answer of a line: `bad line` exactly where it isn't of the form
+abbrev pub AnswersLine : List ℕ → List ℕ → Type 0
+AnswersLine line answer = (IsBad line × (answer ≡ codes "bad line\n")) ⊎ AnswersGoodLine line answer

@@ -1,0 +1,101 @@
+-- What the program does with a whole input.
+use Rattle.std.specs.Prelude.{◌≡◌, ◌≢◌, ◌==◌, if◌then◌else◌, ℕ, ◌-◌, ◌^◌, ◌≤◌, List, [], ◌∷◌, ◌++◌, ◌⊎◌, length, IsTrue, Result, OnOk, OnErr, IfErr}
+use Rattle.std.specs.List.{AllByRecursion}
+use Rattle.speedy_base.specs.declared.error.Error.{Error}
+use Rattle.speedy_base.specs.declared.error.ErrorKind.TheVariants as kinds
+use Rattle.speedy_base.specs.Error.{error_of}
+use Rattle.speedy_base.specs.Device.{SourceState, SinkState, HasGrown}
+use Rattle.speedy_layout.specs.Language.{Each}
+use Rattle.speedy_vectors.specs.Answer.{AnswersLine}
+
+-- the byte that ends a line
+abbrev pub line_feed : ℕ
+line_feed = 10
+
+-- a byte that stands before lines begins the first of them, and is a line where there is none
+abbrev pub with_first : ℕ → List (List ℕ) → List (List ℕ)
+with_first b [] = (b ∷ []) ∷ []
+with_first b (line ∷ lines) = (b ∷ line) ∷ lines
+
+-- the lines of some bytes, each without its line feed; bytes after the last line feed are a line if there are any
+abbrev pub lines_of : List ℕ → List (List ℕ)
+lines_of [] = []
+lines_of (b ∷ bytes) = if b == line_feed then [] ∷ lines_of bytes else with_first b (lines_of bytes)
+
+-- no byte is a line feed
+abbrev pub NoFeed : List ℕ → Type 0
+NoFeed text = AllByRecursion (λ b. b ≢ line_feed) text
+
+-- the text is a line, a line feed and more
+pub record SplitsAtFeed (text line rest : List ℕ) : Type 0 where
+  pub text_is : text ≡ line ++ line_feed ∷ rest
+  pub line_is : NoFeed line
+
+-- a source that tells its bytes goes on doing so, and no failed call of it is forgotten
+pub record SourceKept (old new : SourceState) : Type 0 where
+  pub same_tells : new.tells ≡ old.tells
+  pub faults_kept : old.faults ≤ new.faults
+
+-- a sink that tells its bytes goes on doing so, and no failed call of it is forgotten
+pub record SinkKept (old new : SinkState) : Type 0 where
+  pub same_tells : new.tells ≡ old.tells
+  pub faults_kept : old.faults ≤ new.faults
+
+-- the sink took one answer for each of the lines, in order
+pub record AnsweredAll (lines : List (List ℕ)) (old new : SinkState) : Type 0 where
+  pub answers : List ℕ
+  pub answers_are : Each AnswersLine lines answers
+  pub taken : IsTrue old.tells → new.taken ≡ old.taken ++ answers
+
+-- the sink took one answer for each of the lines but those that are left, in order
+pub record Answered (lines left : List (List ℕ)) (old new : SinkState) : Type 0 where
+  pub done : List (List ℕ)
+  pub lines_are : lines ≡ done ++ left
+  pub answered : AnsweredAll done old new
+
+-- the sink took a front of the answers to the first of the lines, one for each of these and in order
+pub record AnsweredPartly (lines : List (List ℕ)) (old new : SinkState) : Type 0 where
+  pub done : List (List ℕ)
+  pub left : List (List ℕ)
+  pub front : List ℕ
+  pub rest : List ℕ
+  pub lines_are : lines ≡ done ++ left
+  pub answers_are : Each AnswersLine done (front ++ rest)
+  pub taken : IsTrue old.tells → new.taken ≡ old.taken ++ front
+
+-- there was no memory, or a call of the sink failed
+abbrev pub IsSinkFailure : Error → SinkState → SinkState → Type 0
+IsSinkFailure e old new = (e ≡ error_of kinds.OutOfMemory) ⊎ HasGrown old.faults new.faults
+
+-- all but the lines that are left were answered, or some were and why not more
+pub record Answering {T : Type 0} (result : Result T Error) (lines left : List (List ℕ)) (old new : SinkState) : Type 0 where
+  pub kept : SinkKept old new
+  pub no_fault : OnOk result (new.faults ≡ old.faults)
+  pub all : OnOk result (Answered lines left old new)
+  pub partly : OnErr result (AnsweredPartly lines old new)
+  pub why : IfErr result (λ e. IsSinkFailure e old new)
+
+-- the bytes were pushed, or a front of them and why not more
+pub record Pushing {T : Type 0} (result : Result T Error) (bytes : List ℕ) (old new : SinkState) : Type 0 where
+  pub kept : SinkKept old new
+  pub no_fault : OnOk result (new.faults ≡ old.faults)
+  pub all : OnOk result (IsTrue old.tells → new.taken ≡ old.taken ++ bytes)
+  pub partly : OnErr result ((front : List ℕ) × (rest : List ℕ) × (bytes ≡ front ++ rest) × (IsTrue old.tells → new.taken ≡ old.taken ++ front))
+  pub why : OnErr result (HasGrown old.faults new.faults)
+
+-- the input was longer than the program counts
+abbrev pub IsTooLong : Error → SourceState → Type 0
+IsTooLong e input = (e ≡ error_of kinds.OutOfRangeLength) × (IsTrue input.tells → 2 ^ 64 - 1 ≤ length input.to_come)
+
+-- a whole input, from the states of the devices before to those after
+pub record Runs {T : Type 0} (result : Result T Error) (input input_after : SourceState) (output output_after : SinkState) : Type 0 where
+  pub input_kept : SourceKept input input_after
+  pub output_kept : SinkKept output output_after
+  -- no failed call is passed over
+  pub no_fault : OnOk result ((input_after.faults ≡ input.faults) × (output_after.faults ≡ output.faults))
+  -- each line of the input was answered
+  pub all : OnOk result (IsTrue input.tells → AnsweredAll (lines_of input.to_come) output output_after)
+  -- what was written before a failure is right as far as it goes
+  pub partly : OnErr result (IsTrue input.tells → AnsweredPartly (lines_of input.to_come) output output_after)
+  -- no failure without a cause
+  pub why : IfErr result (λ e. (e ≡ error_of kinds.OutOfMemory) ⊎ (HasGrown input.faults input_after.faults ⊎ (HasGrown output.faults output_after.faults ⊎ IsTooLong e input)))
