@@ -4,3 +4,5 @@ pub mod Numbers
 pub mod Lists
 pub mod Texts
 pub mod Utf8
+pub mod Varint
+pub mod Zigzag

@@ -1,14 +1,13 @@
 -- Lists: so many items one after the other, and counted lists.
-use Rattle.std.specs.Prelude.{◌≡◌, ℕ, zero, suc, ◌+◌, ◌*◌, ◌≤◌, List, [], ◌∷◌, ◌++◌, length, Bool, true, false, refl}
+use Rattle.std.specs.Prelude.{◌≡◌, ℕ, zero, suc, ◌*◌, ◌≤◌, List, [], ◌∷◌, ◌++◌, length, true, false, refl}
 use Rattle.std.proofs.Common.{sym, ◌∙◌, ap, subst, arith}
-use Rattle.std.proofs.lemmas.List.{append_assoc, append-nil, length-append}
-use Rattle.speedy_base.specs.declared.error.ErrorKind.{ErrorKind}
+use Rattle.std.proofs.lemmas.List.{append_assoc, length-append}
 use Rattle.speedy_base.specs.Digits.{SpellsNumber, number}
 use Rattle.speedy_base.specs.DigitsLemmas.{SpellsNumber-same_bytes}
 use Rattle.speedy_base.specs.Form.{Form}
-use Rattle.speedy_layout.specs.Language.{Language, Parts, Each, IsOwnKind}
+use Rattle.speedy_layout.specs.Language.{Language, Parts, Each}
 use Rattle.speedy_layout.specs.Laws.{Laws}
-use Rattle.speedy_layout.specs.Numbers.{digits_language, digits_laws, same_fronts}
+use Rattle.speedy_layout.specs.Numbers.{same_fronts}
 
 -- so many items, one after the other, read without a request for memory of their own
 unfoldable pub times : {V : Type 0} → ℕ → Language V → Language (List V)

@@ -1,7 +1,7 @@
 -- The UTF-8 of characters is made of bytes.
-use Rattle.std.specs.Prelude.{◌≡◌, ℕ, ◌+◌, ◌/◌, ◌%◌, ◌<◌, ◌≤◌, List, [], ◌∷◌, ◌++◌, Bool, true, false, cond, ◌&&◌, nat_lt, nat_le, refl}
-use Rattle.std.proofs.Common.{sym, ◌∙◌, ap, subst, arith, ltb, leb, ltb-true, ltb-false}
-use Rattle.std.specs.Str.{IsUtf8, encode_utf8_all}
+use Rattle.std.specs.Prelude.{◌≡◌, ℕ, ◌<◌, List, [], ◌∷◌, Bool, true, false, cond, ◌&&◌, refl}
+use Rattle.std.proofs.Common.{sym, ◌∙◌, subst, arith, ltb, leb, ltb-true}
+use Rattle.std.specs.Str.{IsUtf8}
 use lib.Utf8.{encode, encodes, scalar, scalars}
 use Rattle.speedy_base.specs.Digits.{AreBytes}
 use Rattle.speedy_base.specs.DigitsLemmas.{AreBytes-append}

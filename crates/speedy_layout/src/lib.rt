@@ -5,5 +5,7 @@ pub mod laws;
 pub mod layout;
 #[cfg(test)]
 mod tests;
+pub mod varint;
 
 pub use layout::{Lawful, Layout};
+pub use varint::VarInt64;

@@ -1,0 +1,171 @@
+//! Integers of a variable length: one to nine bytes, the fewer the smaller the number.
+ghost use Rattle.std.specs.Prelude.{◌≡◌, ◌+◌, ◌-◌, ◌*◌, ◌^◌, ◌<◌, ◌≤◌, ℕ, ◌∷◌, take, length};
+ghost use Rattle.speedy_layout.specs.Varint.{varint, varint_laws, HasNoShorter, StartsVarint};
+ghost use Rattle.speedy_layout.specs.Zigzag.{varint_number, zigzag};
+
+use crate::layout::Layout;
+
+/// A number below `2 ^ 64` that is written in one to nine bytes.
+#[derive(Clone, Copy, PartialEq, Eq, PartialOrd, Ord, Hash, Debug)]
+pub struct VarInt64(u64);
+
+impl VarInt64 {
+    /// The bytes that are written: so many from the front of the array.
+    #[inline]
+    pub fn encode(self) -> ([u8; 9], usize)
+        ensures one_at_least { 1 ≤ result.1 }
+        ensures nine_at_most { result.1 ≤ 9 }
+        ensures written { varint.writes (varint_number self) (take result.1 result.0) }
+    {
+        let more = more_bytes(self.0);
+        let low = if more < 8 { self.0 >> (8 * more) } else { 0 };
+        let first = (256 - (256_u64 >> more) + low) as u8;
+        let digits = self.0.to_le_bytes();
+        (
+            [
+                first, digits[0], digits[1], digits[2], digits[3], digits[4], digits[5], digits[6],
+                digits[7],
+            ],
+            more + 1,
+        )
+    }
+
+    /// How many bytes follow the first one.
+    #[inline]
+    pub fn length_of(first: u8) -> usize
+        ensures { StartsVarint result first }
+    {
+        first.leading_ones() as usize
+    }
+
+    /// The number that the first byte and those that follow it spell.
+    #[inline]
+    pub fn decode(first: u8, rest: &[u8]) -> VarInt64
+        requires { StartsVarint (length rest.now) first }
+        ensures { varint.spells (varint_number result) (first ∷ rest.now) }
+    {
+        let more = rest.len();
+        let mut digits = [0; 8];
+        digits[..more].copy_from_slice(rest);
+        let low = (first as u64) - (256 - (256_u64 >> more));
+        let high = if more < 8 { low << (8 * more) } else { 0 };
+        VarInt64(high + u64::from_le_bytes(digits))
+    }
+}
+
+/// How many bytes have to follow the first one.
+fn more_bytes(number: u64) -> usize
+    ensures eight_at_most { result ≤ 8 }
+    ensures enough { number < 2 ^ (7 - result) * 256 ^ result }
+    ensures no_shorter { HasNoShorter result number }
+{
+    let bits = 64 - number.leading_zeros();
+    (bits.saturating_sub(1) / 7).min(8) as usize
+}
+
+impl Layout for VarInt64 {
+    ghost Seen = { ℕ };
+
+    ghost seen = { varint_number };
+
+    ghost language = { λ _. varint };
+
+    ghost least = { 1 };
+
+    ghost layout_laws = { λ _. varint_laws };
+}
+
+impl From<u8> for VarInt64 {
+    ghost from_gives = { λ number v. varint_number v ≡ number };
+
+    #[inline]
+    fn from(number: u8) -> VarInt64 {
+        VarInt64(number as u64)
+    }
+}
+
+impl From<u16> for VarInt64 {
+    ghost from_gives = { λ number v. varint_number v ≡ number };
+
+    #[inline]
+    fn from(number: u16) -> VarInt64 {
+        VarInt64(number as u64)
+    }
+}
+
+impl From<u32> for VarInt64 {
+    ghost from_gives = { λ number v. varint_number v ≡ number };
+
+    #[inline]
+    fn from(number: u32) -> VarInt64 {
+        VarInt64(number as u64)
+    }
+}
+
+impl From<u64> for VarInt64 {
+    ghost from_gives = { λ number v. varint_number v ≡ number };
+
+    #[inline]
+    fn from(number: u64) -> VarInt64 {
+        VarInt64(number)
+    }
+}
+
+impl From<i8> for VarInt64 {
+    ghost from_gives = { λ number v. varint_number v ≡ zigzag number };
+
+    #[inline]
+    fn from(number: i8) -> VarInt64 {
+        VarInt64::from(number as i64)
+    }
+}
+
+impl From<i16> for VarInt64 {
+    ghost from_gives = { λ number v. varint_number v ≡ zigzag number };
+
+    #[inline]
+    fn from(number: i16) -> VarInt64 {
+        VarInt64::from(number as i64)
+    }
+}
+
+impl From<i32> for VarInt64 {
+    ghost from_gives = { λ number v. varint_number v ≡ zigzag number };
+
+    #[inline]
+    fn from(number: i32) -> VarInt64 {
+        VarInt64::from(number as i64)
+    }
+}
+
+impl From<i64> for VarInt64 {
+    ghost from_gives = { λ number v. varint_number v ≡ zigzag number };
+
+    #[inline]
+    fn from(number: i64) -> VarInt64 {
+        if number < 0 {
+            VarInt64(2 * (-(number + 1)) as u64 + 1)
+        } else {
+            VarInt64(2 * number as u64)
+        }
+    }
+}
+
+impl From<VarInt64> for u64 {
+    ghost from_gives = { λ v number. number ≡ varint_number v };
+
+    #[inline]
+    fn from(v: VarInt64) -> u64 {
+        v.0
+    }
+}
+
+impl From<VarInt64> for i64 {
+    ghost from_gives = { λ v number. zigzag number ≡ varint_number v };
+
+    #[inline]
+    fn from(v: VarInt64) -> i64 {
+        let half = (v.0 / 2) as i64;
+        if v.0 % 2 == 0 { half } else { -half - 1 }
+    }
+}
