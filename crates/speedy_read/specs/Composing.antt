@@ -135,17 +135,18 @@ module _ {E : Type 0} (gives : Error → E → Type 0) (eof : E → Bool) where
           ];
     }
 
+    refusal_first : (e : E) (old new : ReaderState) → Excused gives eof L.takes_memory e old new ⊎ Refused gives eof L e old → Excused gives eof N.takes_memory e old new ⊎ Refused gives eof N e old
+    refusal_first e old new (inl x) = inl (excused_more L.takes_memory N.takes_memory e old new c.takes_first x)
+    refusal_first e old new (inr x) = inr (record {
+      kind = kind_more e c.names_first x.kind;
+      because = λ told. unspelled_first e old.to_come (x.because (IsTold-part N L old c.lends_first told));
+    })
+
     pub refused_first : {A B : Type 0} (seen : A → U) (view : B → V) (e : E) (old new : ReaderState) → Reads gives eof seen L (Err e) old new → Reads gives eof view N (Err e) old new
-    refused_first seen view e old new r = record {
-      kept = r.kept;
-      answer = elim r.answer [
-        | inl x ↦ inl (excused_more L.takes_memory N.takes_memory e old new c.takes_first x)
-        | inr x ↦ inr (record {
-          kind = kind_more e c.names_first x.kind;
-          because = λ told. unspelled_first e old.to_come (x.because (IsTold-part N L old c.lends_first told));
-        })
-      ];
-    }
+    refused_first seen view e old new r = record { kept = r.kept; answer = refusal_first e old new r.answer }
+
+    pub peek_refused_first : {A B : Type 0} (seen : A → U) (view : B → V) (e : E) (old new : ReaderState) → Peeks gives eof seen L (Err e) old new → Peeks gives eof view N (Err e) old new
+    peek_refused_first seen view e old new r = record { kept = r.kept; answer = refusal_first e old new r.answer }
 
     -- where the second part is refused, the whole is
     module _ (least : ℕ) (laws : Laws least L) where

@@ -63,7 +63,8 @@ digits_compose_text form = record {
   lends_second = λ _ t. t;
 }
 
-one_byte : (order : Endianness) (b : ℕ) → b < 256 → SpellsNumber 1 order b (b ∷ [])
+-- a byte is a number of one digit
+pub one_byte : (order : Endianness) (b : ℕ) → b < 256 → SpellsNumber 1 order b (b ∷ [])
 unfolding number
 one_byte LittleEndian b l = record { width_is = refl; are_bytes = (l, tt); value_is = omega arith }
 one_byte BigEndian b l = record { width_is = refl; are_bytes = (l, tt); value_is = omega arith }
@@ -94,7 +95,8 @@ bytes_cover_text n form = record {
   lends = λ t. t;
 }
 
-one_digit : (order : Endianness) (v : ℕ) (s : List ℕ) → SpellsNumber 1 order v s → s ≡ v ∷ []
+-- which has no other spelling
+pub one_digit : (order : Endianness) (v : ℕ) (s : List ℕ) → SpellsNumber 1 order v s → s ≡ v ∷ []
 unfolding number
 one_digit order v [] h = let l = h.width_is in absurd (omega arith)
 one_digit LittleEndian v (b ∷ []) h = ap (λ (x : ℕ). x ∷ []) (let e : b + 256 * 0 ≡ v = h.value_is in omega arith)

@@ -5,3 +5,4 @@ pub mod Leaves
 pub mod Exits
 pub mod Buffers
 pub mod Skipping
+pub mod Varints

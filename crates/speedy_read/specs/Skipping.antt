@@ -1,10 +1,9 @@
 -- Bytes that are skipped a chunk at a time.
-use Rattle.std.specs.Prelude.{◌≡◌, ℕ, ◌+◌, ◌-◌, ◌<◌, ◌≤◌, List, [], ◌∷◌, ◌++◌, length, take, drop, replicate, Bool, IsTrue, ◌⊎◌, Result, Ok, Err, refl}
+use Rattle.std.specs.Prelude.{◌≡◌, ℕ, ◌+◌, ◌-◌, ◌<◌, ◌≤◌, List, [], ◌++◌, length, take, drop, replicate, Bool, IsTrue, Ok, Err, refl}
 use Rattle.std.proofs.Common.{sym, ◌∙◌, ap, subst, arith, inl, inr}
 use Rattle.std.proofs.lemmas.Bool.{cases_lt}
 use Rattle.std.proofs.lemmas.List.{append_assoc, length-append, length-take-le, length-replicate, take-append-drop}
 use Rattle.speedy_base.specs.declared.error.Error.{Error}
-use Rattle.speedy_layout.specs.Language.{Language}
 use Rattle.speedy_layout.specs.Texts.{bytes_of, any_bytes}
 use Rattle.speedy_read.specs.Reading.{ReaderState, Kept, Got, Reads, Unspelled}
 use Rattle.speedy_read.specs.Composing.{Kept-after, Kept-same, excused_after, IsTold-after}

@@ -6,6 +6,7 @@ ghost use Rattle.speedy_read.specs.Reading.{Reads};
 use crate::readable::ReadFrom;
 use crate::reader::LendingReader;
 use speedy_base::context::Context;
+use speedy_layout::VarInt64;
 use std::convert::AsSlice;
 
 impl<L: AsSlice<u8> + Drop, C: Context> ReadFrom<L, C> for u8 {
@@ -67,5 +68,17 @@ impl<L: AsSlice<u8> + Drop, C: Context> ReadFrom<L, C> for String {
     #[inline]
     fn minimum_bytes_needed() -> usize {
         4
+    }
+}
+
+impl<L: AsSlice<u8> + Drop, C: Context> ReadFrom<L, C> for VarInt64 {
+    #[inline]
+    fn read_from<R: LendingReader<L, C>>(reader: &mut R) -> Result<VarInt64, C::Error> {
+        Ok(VarInt64::from(reader.read_u64_varint()?))
+    }
+
+    #[inline]
+    fn minimum_bytes_needed() -> usize {
+        1
     }
 }

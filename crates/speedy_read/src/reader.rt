@@ -6,6 +6,7 @@ ghost use Rattle.speedy_base.specs.Error.{error_of};
 ghost use Rattle.speedy_layout.specs.Texts.{bytes_of, any_bytes, text_of_length};
 ghost use Rattle.speedy_layout.specs.Numbers.{digits_language};
 ghost use Rattle.speedy_layout.specs.Lists.{vector};
+ghost use Rattle.speedy_layout.specs.Varint.{varint};
 ghost use Rattle.speedy_read.specs.Reading.{ReaderState, Reads, Peeks, IsRight};
 
 use crate::private::vec_to_string;
@@ -13,6 +14,7 @@ use crate::readable::ReadFrom;
 use speedy_base::context::Context;
 use speedy_base::endianness::Endianness;
 use speedy_base::error::{ErrorKind, error_end_of_input};
+use speedy_layout::VarInt64;
 use std::alloc::Global;
 use std::convert::AsSlice;
 
@@ -116,6 +118,31 @@ pub trait LendingReader<L: AsSlice<u8> + Drop, C: Context> {
         let mut bytes = [0u8; 1];
         self.peek_bytes(&mut bytes)?;
         Ok(byte_of(&bytes))
+    }
+
+    /// The next integer of variable length, which is spelled alike in both orders. A longer spelling than
+    /// the number needs is read too.
+    #[inline]
+    final fn read_u64_varint(&mut self) -> Result<u64, C::Error>
+        ensures { Reads C.Error.from_gives C.Error.eof (λ x. x) varint result (state self.old) (state self.new) }
+    {
+        let first = self.read_u8()?;
+        let mut bytes = [0u8; 8];
+        let rest = &mut bytes[..VarInt64::length_of(first)];
+        self.read_bytes(rest)?;
+        Ok(u64::from(VarInt64::decode(first, rest)))
+    }
+
+    /// What [`read_u64_varint`](Self::read_u64_varint) answers, of which nothing is taken.
+    #[inline]
+    final fn peek_u64_varint(&mut self) -> Result<u64, C::Error>
+        ensures { Peeks C.Error.from_gives C.Error.eof (λ x. x) varint result (state self.old) (state self.new) }
+    {
+        let first = self.peek_u8()?;
+        let mut bytes = [0u8; 9];
+        let whole = &mut bytes[..=VarInt64::length_of(first)];
+        self.peek_bytes(whole)?;
+        Ok(u64::from(VarInt64::decode(first, &whole[1..])))
     }
 
     /// The next value.
