@@ -297,6 +297,24 @@ module _ {E : Type 0} (gives : Error → E → Type 0) where
   Writes-number width order n bytes result old new h w =
       Writes-as result old new (λ _ k. k) (λ b e. subst (SpellsNumber width order n) (sym e) h) (λ b k. SpellsNumber-same_bytes width order n b bytes k h) (λ b k. SpellsNumber-same_bytes width order n b bytes k h) w
 
+  -- the bytes of a written form are written as the value is
+  pub Writes-form : {V : Type 0} (least : ℕ) (L : Language V) (laws : Laws least L) (v : V) (bytes : List ℕ) (result : Result (Unit {0}) E) (old new : WriterState) {appended : List ℕ → Type 0} → L.writes v bytes → Writes gives NoKind (Just bytes) (Just bytes) result old new appended → WritesValue gives L v result old new appended
+  Writes-form least L laws v bytes (Ok _) old new h w = record { kept = w.kept; answer = Put-as old new (λ b e. subst (L.writes v) (sym e) h) w.answer }
+  Writes-form least L laws v bytes (Err e) old new h w = record {
+    kept = w.kept;
+    answer = record {
+      beginning = λ _ _. let x = w.answer.beginning bytes refl in record { front = x.front; rest = x.rest; is_written = subst (L.writes v) (sym x.is_written) h; is_appended = x.is_appended };
+      because = elim w.answer.because [
+        | inl x ↦ inl x
+        | inr x ↦ inr (record {
+          no_fit = λ b k fit. x.no_fit bytes refl (subst (λ (n : ℕ). Fits n old.space) (one_length least L laws v b bytes k h) fit);
+          no_spelling = λ s _ _. x.no_spelling s bytes refl;
+          kind = kind_more old e (λ _ k. absurd k) x.kind;
+        })
+      ];
+    };
+  }
+
 -- a byte spells itself
 pub byte_spelled : (order : Endianness) (n : ℕ) → n < 256 → SpellsNumber 1 order n (n ∷ [])
 unfolding number

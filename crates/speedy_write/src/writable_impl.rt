@@ -7,6 +7,7 @@ use crate::writable::Writable;
 use crate::writer::Writer;
 use speedy_base::context::Context;
 use speedy_base::error::{ErrorKind, error_out_of_range_length};
+use speedy_layout::VarInt64;
 
 /// Writes a length as a `u32`. A longer one is refused as `OutOfRangeLength` before anything is written.
 #[inline]
@@ -49,6 +50,13 @@ impl<C: Context> Writable<C> for u32 {
     #[inline(always)]
     fn write_to<W: Writer<C>>(&self, writer: &mut W) -> Result<(), C::Error> {
         writer.write_u32(*self)
+    }
+}
+
+impl<C: Context> Writable<C> for VarInt64 {
+    #[inline]
+    fn write_to<W: Writer<C>>(&self, writer: &mut W) -> Result<(), C::Error> {
+        writer.write_u64_varint(u64::from(*self))
     }
 }
 

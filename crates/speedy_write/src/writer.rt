@@ -1,11 +1,13 @@
 //! Writers: where the bytes of values go.
 ghost use Rattle.std.specs.Prelude.{◌≡◌, ℕ, [], ◌++◌, List, map, Option, Bool};
 ghost use Rattle.std.specs.Borrow.{sem, Lends};
+ghost use Rattle.speedy_layout.specs.Varint.{varint};
 ghost use Rattle.speedy_write.specs.Writing.{WriterState, WritesBytes, WritesNumber, WritesValue, WritesEach, RefusesFull, IsRight};
 
 use crate::writable::Writable;
 use speedy_base::context::Context;
 use speedy_base::endianness::Endianness;
+use speedy_layout::VarInt64;
 
 /// Where bytes are written.
 pub trait Writer<C: Context> {
@@ -101,6 +103,18 @@ pub trait Writer<C: Context> {
     {
         let bytes = self.endianness().bytes_of_u32(value);
         self.write_bytes(&bytes)
+    }
+
+    /// Writes an integer of variable length, in one to nine bytes: as few as hold it.
+    #[inline]
+    final fn write_u64_varint(&mut self, value: u64) -> Result<(), C::Error>
+        ensures writes { let before = self.old in let after = self.new in
+            WritesValue C.Error.from_gives varint value result
+            (state before) (state after) (λ b. appends before b after) }
+        ensures full { RefusesFull C.Error.from_gives result (state self.old) (state self.new) }
+    {
+        let (bytes, count) = VarInt64::from(value).encode();
+        self.write_bytes(&bytes[..count])
     }
 
     /// Writes a value.
