@@ -9,6 +9,8 @@ pub use Rattle.speedy_layout.specs.Laws
 pub use Rattle.speedy_layout.specs.Lists
 pub use Rattle.speedy_layout.specs.Numbers
 pub use Rattle.speedy_layout.specs.Texts
+pub use Rattle.speedy_layout.specs.Varint
+pub use Rattle.speedy_layout.specs.Zigzag
 pub use Rattle.speedy_read.specs.Reading
 pub use Rattle.speedy_write.specs.Ways
 pub use Rattle.speedy_write.specs.Writing

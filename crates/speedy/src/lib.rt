@@ -9,6 +9,8 @@
 pub mod private;
 #[cfg(test)]
 mod tests;
+#[cfg(test)]
+mod tests_varint;
 
 pub use context::{BigEndian, Context, LittleEndian, PlainContext};
 pub use endianness::Endianness;
@@ -17,7 +19,7 @@ pub use layout::Layout;
 pub use readable::{ReadFrom, Readable};
 pub use reader::{LendingReader, Reader};
 pub use speedy_base::{context, device, endianness, error};
-pub use speedy_layout::{laws, layout};
+pub use speedy_layout::{laws, layout, varint};
 pub use speedy_read::{buffer_reader, readable, readable_impl, reader};
 pub use speedy_write::{collectors, writable, writable_impl, writer};
 pub use writable::Writable;

@@ -7,5 +7,6 @@ pub use speedy_base::error::{
     error_out_of_range_length, error_output_buffer_is_too_small,
     error_too_big_usize_for_this_architecture, error_unsized, error_zero_non_zero, get_error_kind,
 };
+pub use speedy_layout::varint::VarInt64;
 pub use speedy_read::private::vec_to_string;
 pub use speedy_write::writable_impl::write_length;

@@ -92,7 +92,7 @@ where
 }
 
 /// In both orders, each chosen where the program runs.
-fn lies_in_both_orders<'a, T>(
+pub(crate) fn lies_in_both_orders<'a, T>(
     rt: &impl Abort,
     alloc: Global,
     value: &T,

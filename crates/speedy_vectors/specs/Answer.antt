@@ -11,6 +11,7 @@ use Rattle.speedy_layout.specs.Language.{Language}
 use Rattle.speedy_layout.specs.Numbers.{digits_language}
 use Rattle.speedy_layout.specs.Lists.{counted}
 use Rattle.speedy_layout.specs.Texts.{text}
+use Rattle.speedy_layout.specs.Varint.{varint}
 use Rattle.speedy_vectors.specs.declared.line.TypeName.{TypeName}
 use Rattle.speedy_vectors.specs.declared.line.TypeName.TheVariants as names
 use Rattle.speedy_vectors.specs.Line.{IsLine, IsBad}
@@ -84,6 +85,7 @@ abbrev pub AnswersAs : TypeName → Form → List ℕ → List ℕ → Type 0
 AnswersAs names.U16 form = AnswersBytes 2 (digits_language 2 form)
 AnswersAs names.Text form = AnswersBytes 4 (text form)
 AnswersAs names.VecU16 form = AnswersBytes 4 (counted form (digits_language 2 form))
+AnswersAs names.Varint form = AnswersBytes 1 varint
 
 -- the answer of a line that is of the form
 pub record AnswersGoodLine (line answer : List ℕ) : Type 0 where

@@ -21,6 +21,7 @@ abbrev pub name_text : TypeName → List ℕ
 name_text names.U16 = codes "u16"
 name_text names.Text = codes "string"
 name_text names.VecU16 = codes "vec_u16"
+name_text names.Varint = codes "varint"
 
 -- the third field: an even number of hexadecimal digits of either case, two for each byte, or `-` for no bytes
 abbrev pub IsHex : List ℕ → List ℕ → Type 0

@@ -32,6 +32,7 @@ pub name_no_space : (name : TypeName) → NoSpace (name_text name)
 name_no_space names.U16 = (omega arith, (omega arith, (omega arith, tt)))
 name_no_space names.Text = (omega arith, (omega arith, (omega arith, (omega arith, (omega arith, (omega arith, tt))))))
 name_no_space names.VecU16 = (omega arith, (omega arith, (omega arith, (omega arith, (omega arith, (omega arith, (omega arith, tt)))))))
+name_no_space names.Varint = (omega arith, (omega arith, (omega arith, (omega arith, (omega arith, (omega arith, tt))))))
 
 -- a line of the form splits at its spaces
 pub line_splits : (line f g hex : List ℕ) (order : Endianness) (name : TypeName) (bytes : List ℕ) → NoSpace f → NoSpace g → line ≡ f ++ space ∷ (g ++ space ∷ hex) → IsLine line order name bytes → (f ≡ order_text order) × (g ≡ name_text name) × IsHex hex bytes

@@ -19,6 +19,8 @@ pub enum TypeName {
     Text,
     /// `Vec<u16>`.
     VecU16,
+    /// `VarInt64`.
+    Varint,
 }
 
 /// A line of the form that the program answers.
@@ -59,6 +61,7 @@ fn name_of(field: &[u8]) -> Option<TypeName>
         b"u16" => Some(TypeName::U16),
         b"string" => Some(TypeName::Text),
         b"vec_u16" => Some(TypeName::VecU16),
+        b"varint" => Some(TypeName::Varint),
         _ => None,
     }
 }

@@ -22,6 +22,7 @@ use run::run;
 use speedy::Error;
 use speedy::device::{Counted, Sink};
 use speedy::private::ErrorKind;
+use speedy::varint::VarInt64;
 use std::alloc::{AllocError, Global};
 use std::io::{self, BufWriter};
 use std::process::ExitCode;
@@ -47,6 +48,7 @@ fn answer_good_line(alloc: Global, line: &Line) -> Result<Vec<u8>, AllocError>
         TypeName::U16 => answer_as::<u16>(alloc, order, bytes),
         TypeName::Text => answer_as::<String>(alloc, order, bytes),
         TypeName::VecU16 => answer_as::<Vec<u16>>(alloc, order, bytes),
+        TypeName::Varint => answer_as::<VarInt64>(alloc, order, bytes),
     }
 }
 

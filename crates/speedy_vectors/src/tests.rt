@@ -4,10 +4,12 @@ use speedy::private::{ErrorKind, get_error_kind};
 use std::alloc::Global;
 use std::io::{self, Read, Write};
 
-/// An input that gives at most so many bytes a call, and of which one call fails, counted from 1.
+/// An input that gives at most so many bytes a call, so many at the first, and of which one call fails, counted
+/// from 1.
 #[derive(Drop)]
 struct Input {
     bytes: &'static [u8],
+    first: usize,
     most: usize,
     fails_at: u8,
     calls: u8,
@@ -36,7 +38,12 @@ impl Read for Input {
         if self.calls == self.fails_at {
             return Err(io::Error::from(io::ErrorKind::ConnectionReset));
         }
-        let count = self.bytes.len().min(buf.len()).min(self.most);
+        let most = if self.calls == 1 {
+            self.first
+        } else {
+            self.most
+        };
+        let count = self.bytes.len().min(buf.len()).min(most);
         buf[..count].copy_from_slice(&self.bytes[..count]);
         self.bytes = &self.bytes[count..];
         Ok(count)
@@ -64,6 +71,7 @@ impl Write for Output {
 fn input_of(bytes: &'static [u8], most: usize, fails_at: u8) -> Input {
     Input {
         bytes,
+        first: most,
         most,
         fails_at,
         calls: 0,
@@ -102,6 +110,26 @@ fn lines_are_answered_in_whatever_pieces(rt: HostRuntime) {
                 b"ok 2 0200\nbad line\nok 2 0002\nrefused InputBufferIsTooSmall 0 2\n".as_slice()
             );
         }
+    }
+}
+
+#[test]
+fn lines_are_answered_wherever_they_are_cut(rt: HostRuntime) {
+    let bytes = b"be varint c10203\nle varint c0\n\nle varint ff0000000000000000\nbe varint 8000";
+    for first in 1..bytes.len() {
+        let input = Input {
+            bytes,
+            first,
+            most: 8192,
+            fails_at: 0,
+            calls: 0,
+        };
+        let (end, taken) = run_over(rt.alloc(), input, 8192, 0);
+        assert_eq!(rt; end, End::Good);
+        assert_eq!(rt;
+            taken.as_slice(),
+            b"ok 3 c10203\nrefused UnexpectedEndOfInput\nbad line\nok 9 00\nok 2 00\n".as_slice()
+        );
     }
 }
 
