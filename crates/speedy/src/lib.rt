@@ -11,6 +11,7 @@ pub mod private;
 mod tests;
 #[cfg(test)]
 mod tests_varint;
+mod tests_numbers;
 
 pub use context::{BigEndian, Context, LittleEndian, PlainContext};
 pub use endianness::Endianness;

@@ -49,6 +49,34 @@ impl Endianness {
         }
     }
 
+    /// The number that eight bytes spell in this order.
+    #[inline]
+    pub fn read_u64(self, slice: &[u8]) -> u64
+        requires { length slice.now ≡ 8 }
+        ensures { SpellsNumber 8 self result slice.now }
+    {
+        let mut bytes = [0; 8];
+        bytes.copy_from_slice(slice);
+        match self {
+            Endianness::LittleEndian => u64::from_le_bytes(bytes),
+            Endianness::BigEndian => u64::from_be_bytes(bytes),
+        }
+    }
+
+    /// The number that sixteen bytes spell in this order.
+    #[inline]
+    pub fn read_u128(self, slice: &[u8]) -> u128
+        requires { length slice.now ≡ 16 }
+        ensures { SpellsNumber 16 self result slice.now }
+    {
+        let mut bytes = [0; 16];
+        bytes.copy_from_slice(slice);
+        match self {
+            Endianness::LittleEndian => u128::from_le_bytes(bytes),
+            Endianness::BigEndian => u128::from_be_bytes(bytes),
+        }
+    }
+
     /// The two bytes that spell a number in this order.
     #[inline]
     pub fn bytes_of_u16(self, value: u16) -> [u8; 2]
@@ -64,6 +92,28 @@ impl Endianness {
     #[inline]
     pub fn bytes_of_u32(self, value: u32) -> [u8; 4]
         ensures { SpellsNumber 4 self value result }
+    {
+        match self {
+            Endianness::LittleEndian => value.to_le_bytes(),
+            Endianness::BigEndian => value.to_be_bytes(),
+        }
+    }
+
+    /// The eight bytes that spell a number in this order.
+    #[inline]
+    pub fn bytes_of_u64(self, value: u64) -> [u8; 8]
+        ensures { SpellsNumber 8 self value result }
+    {
+        match self {
+            Endianness::LittleEndian => value.to_le_bytes(),
+            Endianness::BigEndian => value.to_be_bytes(),
+        }
+    }
+
+    /// The sixteen bytes that spell a number in this order.
+    #[inline]
+    pub fn bytes_of_u128(self, value: u128) -> [u8; 16]
+        ensures { SpellsNumber 16 self value result }
     {
         match self {
             Endianness::LittleEndian => value.to_le_bytes(),

@@ -7,3 +7,5 @@ pub mod endianness;
 pub mod error;
 #[cfg(test)]
 mod tests;
+#[cfg(test)]
+mod tests_numbers;

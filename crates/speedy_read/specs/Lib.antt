@@ -2,6 +2,7 @@ pub mod Reading
 pub mod Composing
 pub mod Items
 pub mod Leaves
+pub mod NumberReads
 pub mod Exits
 pub mod Buffers
 pub mod Skipping

@@ -5,4 +5,5 @@ pub mod buffer_reader;
 pub mod private;
 pub mod readable;
 pub mod readable_impl;
+pub mod readable_numbers;
 pub mod reader;

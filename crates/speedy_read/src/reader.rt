@@ -110,6 +110,26 @@ pub trait LendingReader<L: AsSlice<u8> + Drop, C: Context> {
         Ok(self.endianness().read_u32(&bytes))
     }
 
+    /// The next 8 bytes as a number in the context's order.
+    #[inline]
+    final fn read_u64(&mut self) -> Result<u64, C::Error>
+        ensures { Reads C.Error.from_gives C.Error.eof (λ x. x) (digits_language 8 (state self.old).form) result (state self.old) (state self.new) }
+    {
+        let mut bytes = [0u8; 8];
+        self.read_bytes(&mut bytes)?;
+        Ok(self.endianness().read_u64(&bytes))
+    }
+
+    /// The next 16 bytes as a number in the context's order.
+    #[inline]
+    final fn read_u128(&mut self) -> Result<u128, C::Error>
+        ensures { Reads C.Error.from_gives C.Error.eof (λ x. x) (digits_language 16 (state self.old).form) result (state self.old) (state self.new) }
+    {
+        let mut bytes = [0u8; 16];
+        self.read_bytes(&mut bytes)?;
+        Ok(self.endianness().read_u128(&bytes))
+    }
+
     /// The next byte, which is not taken.
     #[inline]
     final fn peek_u8(&mut self) -> Result<u8, C::Error>

@@ -1,5 +1,6 @@
 pub mod Writing
 pub mod Collectors
 pub mod Joining
+pub mod NumberWrites
 pub mod Listed
 pub mod Ways

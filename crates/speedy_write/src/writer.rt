@@ -115,6 +115,28 @@ pub trait Writer<C: Context> {
     {
         let (bytes, count) = VarInt64::from(value).encode();
         self.write_bytes(&bytes[..count])
+    /// Writes eight bytes, in the context's order.
+    #[inline(always)]
+    final fn write_u64(&mut self, value: u64) -> Result<(), C::Error>
+        ensures writes { let before = self.old in let after = self.new in
+            WritesNumber C.Error.from_gives 8 value result
+            (state before) (state after) (λ b. appends before b after) }
+        ensures full { RefusesFull C.Error.from_gives result (state self.old) (state self.new) }
+    {
+        let bytes = self.endianness().bytes_of_u64(value);
+        self.write_bytes(&bytes)
+    }
+
+    /// Writes sixteen bytes, in the context's order.
+    #[inline(always)]
+    final fn write_u128(&mut self, value: u128) -> Result<(), C::Error>
+        ensures writes { let before = self.old in let after = self.new in
+            WritesNumber C.Error.from_gives 16 value result
+            (state before) (state after) (λ b. appends before b after) }
+        ensures full { RefusesFull C.Error.from_gives result (state self.old) (state self.new) }
+    {
+        let bytes = self.endianness().bytes_of_u128(value);
+        self.write_bytes(&bytes)
     }
 
     /// Writes a value.

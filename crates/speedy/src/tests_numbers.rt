@@ -1,0 +1,81 @@
+//! The numbers past `u32`, in both orders.
+use crate::endianness::Endianness;
+use crate::readable::{ReadFrom, Readable};
+use crate::writable::Writable;
+use std::alloc::Global;
+use std::fmt::Debug;
+use std::process::Abort;
+use std::test::Fail;
+
+/// In this order the value is spelled by all but the last of the bytes.
+fn lies_in<'a, T>(
+    rt: &impl Abort,
+    alloc: Global,
+    order: Endianness,
+    value: &T,
+    followed: &'a [u8],
+) -> Result<(), Fail>
+where
+    T: Readable<'a, Endianness> + Writable<Endianness> + PartialEq + Debug,
+{
+    let count = followed.len().saturating_sub(1);
+    let spelling = &followed[..count];
+    let mut held = order;
+    assert_eq!(rt; value.bytes_needed(&mut held)?, count, "{value:?}");
+    let written = value.write_to_vec_with_ctx(alloc, order)?;
+    assert_eq!(rt; written.as_slice(), spelling, "{value:?}");
+    let mut buffer = followed.to_vec(alloc)?;
+    buffer.as_mut_slice().fill(9);
+    value.write_to_buffer_with_ctx(order, buffer.as_mut_slice())?;
+    let (front, after) = buffer.as_slice().split_at(count);
+    assert_eq!(rt; front, spelling, "{value:?}");
+    assert_eq!(rt; after, [9].as_slice(), "{value:?}");
+
+    let (outcome, length) = T::read_with_length_from_buffer_with_ctx(alloc, order, followed);
+    assert_eq!(rt; &outcome?, value);
+    assert_eq!(rt; length, count, "{value:?}");
+    let outcome = T::read_from_buffer_with_ctx(alloc, order, &followed[..count / 2]);
+    assert!(rt; outcome.is_err(), "{value:?}");
+    Ok(())
+}
+
+/// In the little order and in the big one, each with a byte after it.
+fn lies<'a, T>(
+    rt: &impl Abort,
+    alloc: Global,
+    value: T,
+    little: &'a [u8],
+    big: &'a [u8],
+    least: usize,
+) -> Result<(), Fail>
+where
+    T: Readable<'a, Endianness> + Writable<Endianness> + PartialEq + Debug,
+{
+    assert_eq!(rt;
+        <T as ReadFrom<&'a [u8], Endianness>>::minimum_bytes_needed(),
+        least
+    );
+    lies_in(rt, alloc, Endianness::LittleEndian, &value, little)?;
+    lies_in(rt, alloc, Endianness::BigEndian, &value, big)
+}
+
+#[test]
+fn wide_numbers_lie_in_both_orders(rt: HostRuntime) -> Result<(), Fail> {
+    let alloc = rt.alloc();
+    lies(
+        &rt,
+        alloc,
+        33_u64,
+        &[33, 0, 0, 0, 0, 0, 0, 0, 1],
+        &[0, 0, 0, 0, 0, 0, 0, 33, 1],
+        8,
+    )?;
+    lies(
+        &rt,
+        alloc,
+        0x0102_0304_0506_0708_090a_0b0c_0d0e_0f10_u128,
+        &[16, 15, 14, 13, 12, 11, 10, 9, 8, 7, 6, 5, 4, 3, 2, 1, 1],
+        &[1, 2, 3, 4, 5, 6, 7, 8, 9, 10, 11, 12, 13, 14, 15, 16, 1],
+        16,
+    )
+}
