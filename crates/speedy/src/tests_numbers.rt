@@ -1,4 +1,4 @@
-//! The numbers past `u32`, in both orders.
+//! The numbers past `u32` and the signed ones, in both orders.
 use crate::endianness::Endianness;
 use crate::readable::{ReadFrom, Readable};
 use crate::writable::Writable;
@@ -74,6 +74,38 @@ fn wide_numbers_lie_in_both_orders(rt: HostRuntime) -> Result<(), Fail> {
         &rt,
         alloc,
         0x0102_0304_0506_0708_090a_0b0c_0d0e_0f10_u128,
+        &[16, 15, 14, 13, 12, 11, 10, 9, 8, 7, 6, 5, 4, 3, 2, 1, 1],
+        &[1, 2, 3, 4, 5, 6, 7, 8, 9, 10, 11, 12, 13, 14, 15, 16, 1],
+        16,
+    )
+}
+
+#[test]
+fn signed_numbers_lie_in_two_s_complement(rt: HostRuntime) -> Result<(), Fail> {
+    let alloc = rt.alloc();
+    lies(&rt, alloc, -33_i8, &[223, 1], &[223, 1], 1)?;
+    lies(&rt, alloc, -33_i16, &[223, 255, 1], &[255, 223, 1], 2)?;
+    lies(&rt, alloc, i16::MIN, &[0, 128, 1], &[128, 0, 1], 2)?;
+    lies(
+        &rt,
+        alloc,
+        -33_i32,
+        &[223, 255, 255, 255, 1],
+        &[255, 255, 255, 223, 1],
+        4,
+    )?;
+    lies(
+        &rt,
+        alloc,
+        -33_i64,
+        &[223, 255, 255, 255, 255, 255, 255, 255, 1],
+        &[255, 255, 255, 255, 255, 255, 255, 223, 1],
+        8,
+    )?;
+    lies(
+        &rt,
+        alloc,
+        0x0102_0304_0506_0708_090a_0b0c_0d0e_0f10_i128,
         &[16, 15, 14, 13, 12, 11, 10, 9, 8, 7, 6, 5, 4, 3, 2, 1, 1],
         &[1, 2, 3, 4, 5, 6, 7, 8, 9, 10, 11, 12, 13, 14, 15, 16, 1],
         16,

@@ -245,7 +245,7 @@ listed-all (b ∷ bs) zero e = absurd (omega arith)
 listed-all (b ∷ bs) (suc k) e = ap (◌∷◌ b) (listed-later b bs 0 k ∙ listed-all bs k (omega arith))
 
 -- what the bytes of a width can hold
-pow-byte_len : (w : Width) → 2 ^ bits w ≡ 256 ^ byte_len w
+pub pow-byte_len : (w : Width) → 2 ^ bits w ≡ 256 ^ byte_len w
 pow-byte_len w8 = refl
 pow-byte_len w16 = refl
 pow-byte_len w32 = refl

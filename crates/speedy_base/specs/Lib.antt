@@ -5,3 +5,5 @@ pub mod DigitsLemmas
 pub mod Error
 pub mod ErrorKind
 pub mod Form
+pub mod Signed
+pub mod SignedLemmas

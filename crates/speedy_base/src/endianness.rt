@@ -1,6 +1,8 @@
 //! Byte orders: how the digits of a number lie in bytes.
 ghost use Rattle.std.specs.Prelude.{◌≡◌, ◌↔◌, length, IsTrue};
+ghost use Rattle.std.specs.Int.{w16, w32, w64, w128};
 ghost use Rattle.speedy_base.specs.Digits.{SpellsNumber, swapped};
+ghost use Rattle.speedy_base.specs.Signed.{SpellsSigned};
 
 /// The order in which the base 256 digits of a number are written.
 #[derive(Clone, Copy, Debug, PartialEq, Eq, PartialOrd, Ord, Hash)]
@@ -75,6 +77,42 @@ impl Endianness {
             Endianness::LittleEndian => u128::from_le_bytes(bytes),
             Endianness::BigEndian => u128::from_be_bytes(bytes),
         }
+    }
+
+    /// The signed number that two bytes spell in this order.
+    #[inline]
+    pub fn read_i16(self, slice: &[u8]) -> i16
+        requires { length slice.now ≡ 2 }
+        ensures { SpellsSigned w16 self result slice.now }
+    {
+        self.read_u16(slice).cast_signed()
+    }
+
+    /// The signed number that four bytes spell in this order.
+    #[inline]
+    pub fn read_i32(self, slice: &[u8]) -> i32
+        requires { length slice.now ≡ 4 }
+        ensures { SpellsSigned w32 self result slice.now }
+    {
+        self.read_u32(slice).cast_signed()
+    }
+
+    /// The signed number that eight bytes spell in this order.
+    #[inline]
+    pub fn read_i64(self, slice: &[u8]) -> i64
+        requires { length slice.now ≡ 8 }
+        ensures { SpellsSigned w64 self result slice.now }
+    {
+        self.read_u64(slice).cast_signed()
+    }
+
+    /// The signed number that sixteen bytes spell in this order.
+    #[inline]
+    pub fn read_i128(self, slice: &[u8]) -> i128
+        requires { length slice.now ≡ 16 }
+        ensures { SpellsSigned w128 self result slice.now }
+    {
+        self.read_u128(slice).cast_signed()
     }
 
     /// The two bytes that spell a number in this order.

@@ -1,4 +1,4 @@
-//! The numbers past `u32`, in both orders.
+//! The numbers past `u32` and the signed ones, in both orders.
 use crate::endianness::Endianness;
 
 #[test]
@@ -22,4 +22,24 @@ fn digits_of_wide_numbers_lie_in_both_orders(rt: HostRuntime) {
         assert_eq!(rt; order.read_u128(&sixteen_bytes), sixteen, "{order:?}");
         assert_eq!(rt; order.bytes_of_u128(sixteen), sixteen_bytes, "{order:?}");
     }
+}
+
+#[test]
+fn signed_numbers_are_read_in_two_s_complement(rt: HostRuntime) {
+    let little = Endianness::LittleEndian;
+    let big = Endianness::BigEndian;
+    assert_eq!(rt; little.read_i16(&[223, 255]), -33);
+    assert_eq!(rt; big.read_i16(&[255, 223]), -33);
+    assert_eq!(rt; little.read_i32(&[223, 255, 255, 255]), -33);
+    assert_eq!(rt; big.read_i32(&[127, 0, 0, 1]), 0x7f00_0001);
+    assert_eq!(rt; little.read_i64(&[0, 0, 0, 0, 0, 0, 0, 128]), i64::MIN);
+    assert_eq!(rt;
+        big.read_i64(&[255, 255, 255, 255, 255, 255, 255, 223]),
+        -33
+    );
+    assert_eq!(rt; little.read_i128(&[255; 16]), -1);
+    assert_eq!(rt;
+        big.read_i128(&[0, 0, 0, 0, 0, 0, 0, 0, 0, 0, 0, 0, 0, 0, 1, 2]),
+        258
+    );
 }

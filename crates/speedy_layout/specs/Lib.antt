@@ -1,6 +1,7 @@
 pub mod Language
 pub mod Laws
 pub mod Numbers
+pub mod SignedNumbers
 pub mod Lists
 pub mod Texts
 pub mod Utf8

@@ -1,4 +1,4 @@
-//! How the wider numbers are read.
+//! How the wider numbers and the signed ones are read.
 use crate::readable::ReadFrom;
 use crate::reader::LendingReader;
 use speedy_base::context::Context;
@@ -20,6 +20,66 @@ impl<L: AsSlice<u8> + Drop, C: Context> ReadFrom<L, C> for u128 {
     #[inline]
     fn read_from<R: LendingReader<L, C>>(reader: &mut R) -> Result<u128, C::Error> {
         reader.read_u128()
+    }
+
+    #[inline]
+    fn minimum_bytes_needed() -> usize {
+        16
+    }
+}
+
+impl<L: AsSlice<u8> + Drop, C: Context> ReadFrom<L, C> for i8 {
+    #[inline]
+    fn read_from<R: LendingReader<L, C>>(reader: &mut R) -> Result<i8, C::Error> {
+        reader.read_i8()
+    }
+
+    #[inline]
+    fn minimum_bytes_needed() -> usize {
+        1
+    }
+}
+
+impl<L: AsSlice<u8> + Drop, C: Context> ReadFrom<L, C> for i16 {
+    #[inline]
+    fn read_from<R: LendingReader<L, C>>(reader: &mut R) -> Result<i16, C::Error> {
+        reader.read_i16()
+    }
+
+    #[inline]
+    fn minimum_bytes_needed() -> usize {
+        2
+    }
+}
+
+impl<L: AsSlice<u8> + Drop, C: Context> ReadFrom<L, C> for i32 {
+    #[inline]
+    fn read_from<R: LendingReader<L, C>>(reader: &mut R) -> Result<i32, C::Error> {
+        reader.read_i32()
+    }
+
+    #[inline]
+    fn minimum_bytes_needed() -> usize {
+        4
+    }
+}
+
+impl<L: AsSlice<u8> + Drop, C: Context> ReadFrom<L, C> for i64 {
+    #[inline]
+    fn read_from<R: LendingReader<L, C>>(reader: &mut R) -> Result<i64, C::Error> {
+        reader.read_i64()
+    }
+
+    #[inline]
+    fn minimum_bytes_needed() -> usize {
+        8
+    }
+}
+
+impl<L: AsSlice<u8> + Drop, C: Context> ReadFrom<L, C> for i128 {
+    #[inline]
+    fn read_from<R: LendingReader<L, C>>(reader: &mut R) -> Result<i128, C::Error> {
+        reader.read_i128()
     }
 
     #[inline]

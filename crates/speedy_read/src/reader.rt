@@ -1,10 +1,12 @@
 //! What every reader does.
 ghost use Rattle.std.specs.Prelude.{◌≡◌, ℕ, ◌<◌, ◌≤◌, ◌*◌, ◌-◌, ◌^◌, ◌⊎◌, ◌↔◌, IsTrue, slice_index, length, length as count, map, Bool, Option, Some, false, IsErrAnd};
 ghost use Rattle.std.specs.Borrow.{sem, Lends};
+ghost use Rattle.std.specs.Int.{w8, w16, w32, w64, w128};
 ghost use Rattle.std.specs.String.{string_bytes};
 ghost use Rattle.speedy_base.specs.Error.{error_of};
 ghost use Rattle.speedy_layout.specs.Texts.{bytes_of, any_bytes, text_of_length};
 ghost use Rattle.speedy_layout.specs.Numbers.{digits_language};
+ghost use Rattle.speedy_layout.specs.SignedNumbers.{signed_language};
 ghost use Rattle.speedy_layout.specs.Lists.{vector};
 ghost use Rattle.speedy_layout.specs.Varint.{varint};
 ghost use Rattle.speedy_read.specs.Reading.{ReaderState, Reads, Peeks, IsRight};
@@ -128,6 +130,46 @@ pub trait LendingReader<L: AsSlice<u8> + Drop, C: Context> {
         let mut bytes = [0u8; 16];
         self.read_bytes(&mut bytes)?;
         Ok(self.endianness().read_u128(&bytes))
+    }
+
+    /// The next byte as a signed number.
+    #[inline]
+    final fn read_i8(&mut self) -> Result<i8, C::Error>
+        ensures { Reads C.Error.from_gives C.Error.eof (λ x. x) (signed_language w8 (state self.old).form) result (state self.old) (state self.new) }
+    {
+        Ok(self.read_u8()?.cast_signed())
+    }
+
+    /// The next 2 bytes as a signed number in the context's order.
+    #[inline]
+    final fn read_i16(&mut self) -> Result<i16, C::Error>
+        ensures { Reads C.Error.from_gives C.Error.eof (λ x. x) (signed_language w16 (state self.old).form) result (state self.old) (state self.new) }
+    {
+        Ok(self.read_u16()?.cast_signed())
+    }
+
+    /// The next 4 bytes as a signed number in the context's order.
+    #[inline]
+    final fn read_i32(&mut self) -> Result<i32, C::Error>
+        ensures { Reads C.Error.from_gives C.Error.eof (λ x. x) (signed_language w32 (state self.old).form) result (state self.old) (state self.new) }
+    {
+        Ok(self.read_u32()?.cast_signed())
+    }
+
+    /// The next 8 bytes as a signed number in the context's order.
+    #[inline]
+    final fn read_i64(&mut self) -> Result<i64, C::Error>
+        ensures { Reads C.Error.from_gives C.Error.eof (λ x. x) (signed_language w64 (state self.old).form) result (state self.old) (state self.new) }
+    {
+        Ok(self.read_u64()?.cast_signed())
+    }
+
+    /// The next 16 bytes as a signed number in the context's order.
+    #[inline]
+    final fn read_i128(&mut self) -> Result<i128, C::Error>
+        ensures { Reads C.Error.from_gives C.Error.eof (λ x. x) (signed_language w128 (state self.old).form) result (state self.old) (state self.new) }
+    {
+        Ok(self.read_u128()?.cast_signed())
     }
 
     /// The next byte, which is not taken.

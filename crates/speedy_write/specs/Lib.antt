@@ -1,4 +1,5 @@
 pub mod Writing
+pub mod SignedWriting
 pub mod Collectors
 pub mod Joining
 pub mod NumberWrites

@@ -2,6 +2,8 @@
 ghost use Rattle.std.specs.Prelude.{◌≡◌, ℕ, [], ◌++◌, List, map, Option, Bool};
 ghost use Rattle.std.specs.Borrow.{sem, Lends};
 ghost use Rattle.speedy_layout.specs.Varint.{varint};
+ghost use Rattle.std.specs.Int.{w8, w16, w32, w64, w128};
+ghost use Rattle.speedy_write.specs.SignedWriting.{WritesSigned};
 ghost use Rattle.speedy_write.specs.Writing.{WriterState, WritesBytes, WritesNumber, WritesValue, WritesEach, RefusesFull, IsRight};
 
 use crate::writable::Writable;
@@ -137,6 +139,61 @@ pub trait Writer<C: Context> {
     {
         let bytes = self.endianness().bytes_of_u128(value);
         self.write_bytes(&bytes)
+    }
+
+    /// Writes a signed number as a byte.
+    #[inline(always)]
+    final fn write_i8(&mut self, value: i8) -> Result<(), C::Error>
+        ensures writes { let before = self.old in let after = self.new in
+            WritesSigned C.Error.from_gives w8 value result
+            (state before) (state after) (λ b. appends before b after) }
+        ensures full { RefusesFull C.Error.from_gives result (state self.old) (state self.new) }
+    {
+        self.write_u8(value.cast_unsigned())
+    }
+
+    /// Writes a signed number as two bytes, in the context's order.
+    #[inline(always)]
+    final fn write_i16(&mut self, value: i16) -> Result<(), C::Error>
+        ensures writes { let before = self.old in let after = self.new in
+            WritesSigned C.Error.from_gives w16 value result
+            (state before) (state after) (λ b. appends before b after) }
+        ensures full { RefusesFull C.Error.from_gives result (state self.old) (state self.new) }
+    {
+        self.write_u16(value.cast_unsigned())
+    }
+
+    /// Writes a signed number as four bytes, in the context's order.
+    #[inline(always)]
+    final fn write_i32(&mut self, value: i32) -> Result<(), C::Error>
+        ensures writes { let before = self.old in let after = self.new in
+            WritesSigned C.Error.from_gives w32 value result
+            (state before) (state after) (λ b. appends before b after) }
+        ensures full { RefusesFull C.Error.from_gives result (state self.old) (state self.new) }
+    {
+        self.write_u32(value.cast_unsigned())
+    }
+
+    /// Writes a signed number as eight bytes, in the context's order.
+    #[inline(always)]
+    final fn write_i64(&mut self, value: i64) -> Result<(), C::Error>
+        ensures writes { let before = self.old in let after = self.new in
+            WritesSigned C.Error.from_gives w64 value result
+            (state before) (state after) (λ b. appends before b after) }
+        ensures full { RefusesFull C.Error.from_gives result (state self.old) (state self.new) }
+    {
+        self.write_u64(value.cast_unsigned())
+    }
+
+    /// Writes a signed number as sixteen bytes, in the context's order.
+    #[inline(always)]
+    final fn write_i128(&mut self, value: i128) -> Result<(), C::Error>
+        ensures writes { let before = self.old in let after = self.new in
+            WritesSigned C.Error.from_gives w128 value result
+            (state before) (state after) (λ b. appends before b after) }
+        ensures full { RefusesFull C.Error.from_gives result (state self.old) (state self.new) }
+    {
+        self.write_u128(value.cast_unsigned())
     }
 
     /// Writes a value.

@@ -1,0 +1,36 @@
+-- What holds of the digits of signed numbers, at each width and in both orders.
+use Rattle.std.specs.Prelude.{◌≡◌, ℕ, ℤ, ◌<◌, List}
+use Rattle.std.proofs.Common.{sym, ◌∙◌, ap, subst}
+use mir.Val.{bits, Fits}
+use mir.ValLaws.{to_z-of_z, of_z-to_z, to_z-Fits}
+use Rattle.std.specs.Int.{Width, byte_len, cast_unsigned, cast_signed}
+use Rattle.std.specs.Int.RustNames.{FitsSigned}
+use Rattle.speedy_base.specs.declared.endianness.Endianness.{Endianness}
+use Rattle.speedy_base.specs.Digits.{SpellsNumber}
+use Rattle.speedy_base.specs.DigitsLemmas.{SpellsNumber-below, SpellsNumber-same_value, pow-byte_len}
+use Rattle.speedy_base.specs.Signed.{SpellsSigned}
+
+-- a number that has a spelling fits the width
+fits : (w : Width) (order : Endianness) (n : ℕ) (bytes : List ℕ) → SpellsNumber (byte_len w) order n bytes → Fits w n
+fits w order n bytes s = record { fits = subst (λ (m : ℕ). n < m) (sym (pow-byte_len w)) (SpellsNumber-below (byte_len w) order n bytes s) }
+
+-- the signed number of the same bits has the same spelling
+pub SpellsSigned-cast_signed : (w : Width) (order : Endianness) (n : ℕ) (bytes : List ℕ) → SpellsNumber (byte_len w) order n bytes → SpellsSigned w order (cast_signed w n) bytes
+SpellsSigned-cast_signed w order n bytes s = record {
+  range = to_z-Fits w n (fits w order n bytes s);
+  digits = subst (λ (m : ℕ). SpellsNumber (byte_len w) order m bytes) (sym (of_z-to_z w n (fits w order n bytes s))) s;
+}
+
+-- and so where a function answers it
+pub SpellsSigned-answered : (w : Width) (order : Endianness) (n : ℕ) (z : ℤ) (bytes : List ℕ) → z ≡ cast_signed w n → SpellsNumber (byte_len w) order n bytes → SpellsSigned w order (cast_signed w (cast_unsigned w z)) bytes
+SpellsSigned-answered w order n z bytes e s =
+    let same : cast_unsigned w z ≡ n = ap (cast_unsigned w) e ∙ of_z-to_z w n (fits w order n bytes s) in
+    subst (λ (m : ℕ). SpellsSigned w order (cast_signed w m) bytes) (sym same) (SpellsSigned-cast_signed w order n bytes s)
+
+-- signed numbers of the same bits are the same
+pub cast_unsigned-same : (w : Width) (y z : ℤ) → FitsSigned w y → FitsSigned w z → cast_unsigned w y ≡ cast_unsigned w z → y ≡ z
+cast_unsigned-same w y z f g e = sym (to_z-of_z w y f) ∙ (ap (cast_signed w) e ∙ to_z-of_z w z g)
+
+-- the same bytes spell one number
+pub SpellsSigned-same_value : (w : Width) (order : Endianness) (y z : ℤ) (bytes : List ℕ) → SpellsSigned w order y bytes → SpellsSigned w order z bytes → y ≡ z
+SpellsSigned-same_value w order y z bytes s t = cast_unsigned-same w y z s.range t.range (SpellsNumber-same_value (byte_len w) order (cast_unsigned w y) (cast_unsigned w z) bytes s.digits t.digits)
