@@ -5,8 +5,10 @@ pub use Rattle.speedy_base.specs.Error
 pub use Rattle.speedy_base.specs.ErrorKind
 pub use Rattle.speedy_base.specs.Form
 pub use Rattle.speedy_base.specs.Signed
+pub use Rattle.speedy_layout.specs.Coding
 pub use Rattle.speedy_layout.specs.Language
 pub use Rattle.speedy_layout.specs.Laws
+pub use Rattle.speedy_layout.specs.Leaves
 pub use Rattle.speedy_layout.specs.Lists
 pub use Rattle.speedy_layout.specs.Numbers
 pub use Rattle.speedy_layout.specs.SignedNumbers

@@ -11,6 +11,8 @@ pub mod private;
 mod tests;
 #[cfg(test)]
 mod tests_varint;
+mod tests_leaves;
+#[cfg(test)]
 mod tests_numbers;
 
 pub use context::{BigEndian, Context, LittleEndian, PlainContext};

@@ -7,3 +7,5 @@ pub mod Texts
 pub mod Utf8
 pub mod Varint
 pub mod Zigzag
+pub mod Coding
+pub mod Leaves

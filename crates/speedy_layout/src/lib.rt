@@ -3,6 +3,7 @@
 
 pub mod laws;
 pub mod layout;
+pub mod leaves;
 pub mod numbers;
 #[cfg(test)]
 mod tests;

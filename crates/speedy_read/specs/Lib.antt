@@ -7,3 +7,4 @@ pub mod Exits
 pub mod Buffers
 pub mod Skipping
 pub mod Varints
+pub mod Coding

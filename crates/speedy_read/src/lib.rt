@@ -5,5 +5,6 @@ pub mod buffer_reader;
 pub mod private;
 pub mod readable;
 pub mod readable_impl;
+pub mod readable_leaves;
 pub mod readable_numbers;
 pub mod reader;

@@ -5,3 +5,4 @@ pub mod Joining
 pub mod NumberWrites
 pub mod Listed
 pub mod Ways
+pub mod Coding

@@ -6,6 +6,7 @@ pub mod collectors;
 mod tests;
 pub mod writable;
 pub mod writable_impl;
+pub mod writable_leaves;
 pub mod writable_numbers;
 pub mod writer;
 
