@@ -12,6 +12,7 @@ pub use Rattle.speedy_layout.specs.Leaves
 pub use Rattle.speedy_layout.specs.Lists
 pub use Rattle.speedy_layout.specs.Numbers
 pub use Rattle.speedy_layout.specs.SignedNumbers
+pub use Rattle.speedy_layout.specs.TestedNumbers
 pub use Rattle.speedy_layout.specs.Texts
 pub use Rattle.speedy_layout.specs.Varint
 pub use Rattle.speedy_layout.specs.Zigzag

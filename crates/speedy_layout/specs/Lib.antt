@@ -9,3 +9,4 @@ pub mod Varint
 pub mod Zigzag
 pub mod Coding
 pub mod Leaves
+pub mod TestedNumbers

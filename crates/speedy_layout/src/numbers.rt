@@ -3,6 +3,7 @@ ghost use Rattle.std.specs.Prelude.{ℕ, ℤ};
 ghost use Rattle.std.specs.Int.{w8, w16, w32, w64, w128};
 ghost use Rattle.speedy_layout.specs.Numbers.{digits_language, digits_laws};
 ghost use Rattle.speedy_layout.specs.SignedNumbers.{signed_language, signed_laws};
+ghost use Rattle.speedy_layout.specs.TestedNumbers.{usize_language, usize_laws};
 
 use crate::layout::Layout;
 
@@ -88,4 +89,16 @@ impl Layout for i128 {
     ghost least = { 16 };
 
     ghost layout_laws = { signed_laws w128 };
+}
+
+impl Layout for usize {
+    ghost Seen = { ℕ };
+
+    ghost seen = { λ x. x };
+
+    ghost language = { usize_language };
+
+    ghost least = { 8 };
+
+    ghost layout_laws = { usize_laws };
 }

@@ -2,6 +2,7 @@
 use crate::readable::ReadFrom;
 use crate::reader::LendingReader;
 use speedy_base::context::Context;
+use speedy_base::error::error_too_big_usize_for_this_architecture;
 use std::convert::AsSlice;
 
 impl<L: AsSlice<u8> + Drop, C: Context> ReadFrom<L, C> for u64 {
@@ -85,5 +86,20 @@ impl<L: AsSlice<u8> + Drop, C: Context> ReadFrom<L, C> for i128 {
     #[inline]
     fn minimum_bytes_needed() -> usize {
         16
+    }
+}
+
+impl<L: AsSlice<u8> + Drop, C: Context> ReadFrom<L, C> for usize {
+    #[inline]
+    fn read_from<R: LendingReader<L, C>>(reader: &mut R) -> Result<usize, C::Error> {
+        match usize::try_from(reader.read_u64()?) {
+            Ok(number) => Ok(number),
+            Err(_) => Err(error_too_big_usize_for_this_architecture()),
+        }
+    }
+
+    #[inline]
+    fn minimum_bytes_needed() -> usize {
+        8
     }
 }

@@ -51,3 +51,10 @@ impl<C: Context> Writable<C> for i128 {
         writer.write_i128(*self)
     }
 }
+
+impl<C: Context> Writable<C> for usize {
+    #[inline(always)]
+    fn write_to<W: Writer<C>>(&self, writer: &mut W) -> Result<(), C::Error> {
+        writer.write_u64(*self as u64)
+    }
+}
