@@ -1,14 +1,15 @@
 -- What holds of the digits of signed numbers, at each width and in both orders.
 use Rattle.std.specs.Prelude.{◌≡◌, ℕ, ℤ, ◌<◌, List}
-use Rattle.std.proofs.Common.{sym, ◌∙◌, ap, subst}
+use Rattle.std.proofs.Common.{refl, sym, ◌∙◌, ap, subst}
 use mir.Val.{bits, Fits}
 use mir.ValLaws.{to_z-of_z, of_z-to_z, to_z-Fits}
-use Rattle.std.specs.Int.{Width, byte_len, cast_unsigned, cast_signed}
+use Rattle.std.specs.Int.{Width, byte_len, cast_unsigned, cast_signed, swap_bytes}
 use Rattle.std.specs.Int.RustNames.{FitsSigned}
 use Rattle.speedy_base.specs.declared.endianness.Endianness.{Endianness}
+use Rattle.speedy_base.specs.declared.endianness.Endianness.TheVariants.{LittleEndian, BigEndian}
 use Rattle.speedy_base.specs.Digits.{SpellsNumber}
-use Rattle.speedy_base.specs.DigitsLemmas.{SpellsNumber-below, SpellsNumber-same_value, pow-byte_len}
-use Rattle.speedy_base.specs.Signed.{SpellsSigned}
+use Rattle.speedy_base.specs.DigitsLemmas.{SpellsNumber-below, SpellsNumber-same_value, pow-byte_len, swapped-swap_bytes}
+use Rattle.speedy_base.specs.Signed.{SpellsSigned, swapped_signed}
 
 -- a number that has a spelling fits the width
 fits : (w : Width) (order : Endianness) (n : ℕ) (bytes : List ℕ) → SpellsNumber (byte_len w) order n bytes → Fits w n
@@ -34,3 +35,18 @@ cast_unsigned-same w y z f g e = sym (to_z-of_z w y f) ∙ (ap (cast_signed w) e
 -- the same bytes spell one number
 pub SpellsSigned-same_value : (w : Width) (order : Endianness) (y z : ℤ) (bytes : List ℕ) → SpellsSigned w order y bytes → SpellsSigned w order z bytes → y ≡ z
 SpellsSigned-same_value w order y z bytes s t = cast_unsigned-same w y z s.range t.range (SpellsNumber-same_value (byte_len w) order (cast_unsigned w y) (cast_unsigned w z) bytes s.digits t.digits)
+
+-- ---- std's reversal of a signed number's bytes
+
+pub swapped_signed-little : (w : Width) (z : ℤ) → swapped_signed LittleEndian w z ≡ z
+unfolding swapped_signed
+swapped_signed-little w z = refl
+
+pub swapped_signed-swap_bytes : (w : Width) (z : ℤ) → cast_signed w (swap_bytes w (cast_unsigned w z)) ≡ swapped_signed BigEndian w z
+unfolding swapped_signed
+swapped_signed-swap_bytes w z = ap (cast_signed w) (swapped-swap_bytes w BigEndian (cast_unsigned w z) refl)
+
+-- and so where a function answers it
+pub swapped_signed-answered : (w : Width) (y z : ℤ) → FitsSigned w y → FitsSigned w z → y ≡ cast_signed w (swap_bytes w (cast_unsigned w (cast_signed w (cast_unsigned w z)))) → cast_signed w (cast_unsigned w y) ≡ swapped_signed BigEndian w z
+swapped_signed-answered w y z f g e =
+    to_z-of_z w y f ∙ (e ∙ (ap (λ (x : ℤ). cast_signed w (swap_bytes w (cast_unsigned w x))) (to_z-of_z w z g) ∙ swapped_signed-swap_bytes w z))

@@ -5,6 +5,7 @@ pub mod context;
 pub mod device;
 pub mod endianness;
 pub mod error;
+pub mod swaps;
 #[cfg(test)]
 mod tests;
 #[cfg(test)]

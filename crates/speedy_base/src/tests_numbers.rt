@@ -43,3 +43,70 @@ fn signed_numbers_are_read_in_two_s_complement(rt: HostRuntime) {
         258
     );
 }
+
+#[test]
+fn numbers_are_swapped_under_the_big_order(rt: HostRuntime) {
+    let mut eight = 1_u64;
+    Endianness::LittleEndian.swap_u64(&mut eight);
+    assert!(rt; eight == 1);
+    let big = Endianness::BigEndian;
+    big.swap_u64(&mut eight);
+    assert!(rt; eight == 0x0100_0000_0000_0000);
+    let mut sixteen = 1_u128;
+    big.swap_u128(&mut sixteen);
+    assert!(rt; sixteen == 0x0100_0000_0000_0000_0000_0000_0000_0000);
+    let mut two = -2_i16;
+    big.swap_i16(&mut two);
+    assert!(rt; two == -257);
+    let mut four = 1_i32;
+    big.swap_i32(&mut four);
+    assert!(rt; four == 0x0100_0000);
+    let mut wide = 128_i64;
+    big.swap_i64(&mut wide);
+    assert!(rt; wide == i64::MIN);
+    let mut widest = 128_i128;
+    big.swap_i128(&mut widest);
+    assert!(rt; widest == i128::MIN);
+}
+
+#[test]
+fn slices_are_swapped_number_by_number(rt: HostRuntime) {
+    let big = Endianness::BigEndian;
+    let mut ones = [1_u8, 2];
+    big.swap_slice_u8(&mut ones);
+    assert!(rt; ones == [1, 2]);
+    let mut twos = [1_u16, 0x0203];
+    Endianness::LittleEndian.swap_slice_u16(&mut twos);
+    assert!(rt; twos == [1, 0x0203]);
+    big.swap_slice_u16(&mut twos);
+    assert!(rt; twos == [0x0100, 0x0302]);
+    let mut fours = [1_u32, 2];
+    big.swap_slice_u32(&mut fours);
+    assert!(rt; fours == [0x0100_0000, 0x0200_0000]);
+    let mut eights = [1_u64];
+    big.swap_slice_u64(&mut eights);
+    assert!(rt; eights == [0x0100_0000_0000_0000]);
+    let mut sixteens = [1_u128];
+    big.swap_slice_u128(&mut sixteens);
+    assert!(rt; sixteens == [0x0100_0000_0000_0000_0000_0000_0000_0000]);
+}
+
+#[test]
+fn slices_of_signed_numbers_are_swapped(rt: HostRuntime) {
+    let big = Endianness::BigEndian;
+    let mut ones = [1_i8, -2];
+    big.swap_slice_i8(&mut ones);
+    assert!(rt; ones == [1, -2]);
+    let mut twos = [-2_i16, 1];
+    big.swap_slice_i16(&mut twos);
+    assert!(rt; twos == [-257, 256]);
+    let mut fours = [128_i32];
+    big.swap_slice_i32(&mut fours);
+    assert!(rt; fours == [i32::MIN]);
+    let mut eights = [128_i64];
+    big.swap_slice_i64(&mut eights);
+    assert!(rt; eights == [i64::MIN]);
+    let mut sixteens = [128_i128];
+    big.swap_slice_i128(&mut sixteens);
+    assert!(rt; sixteens == [i128::MIN]);
+}

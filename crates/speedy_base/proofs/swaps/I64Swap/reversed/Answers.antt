@@ -1,0 +1,6 @@
+use Rattle.std.specs.Int.{w64}
+use Rattle.speedy_base.specs.SignedLemmas.{swapped_signed-answered}
+use Rattle.speedy_base.proofs.swaps.I64Swap.reversed.Goals as goal
+
+pub returns : goal.returns
+returns c = swapped_signed-answered w64 _ _ (record { sfits = c.swap_bytes.type_inv }) c.ranges.self c.swap_bytes.ensures
