@@ -4,6 +4,7 @@
 pub mod laws;
 pub mod layout;
 pub mod leaves;
+pub mod non_zero;
 pub mod numbers;
 #[cfg(test)]
 mod tests;

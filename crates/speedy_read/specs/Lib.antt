@@ -8,3 +8,4 @@ pub mod Buffers
 pub mod Skipping
 pub mod Varints
 pub mod Coding
+pub mod NonZeroReads

@@ -6,5 +6,6 @@ pub mod private;
 pub mod readable;
 pub mod readable_impl;
 pub mod readable_leaves;
+pub mod readable_non_zero;
 pub mod readable_numbers;
 pub mod reader;

@@ -6,3 +6,4 @@ pub mod NumberWrites
 pub mod Listed
 pub mod Ways
 pub mod Coding
+pub mod NonZeroWrites

@@ -7,6 +7,7 @@ mod tests;
 pub mod writable;
 pub mod writable_impl;
 pub mod writable_leaves;
+pub mod writable_non_zero;
 pub mod writable_numbers;
 pub mod writer;
 

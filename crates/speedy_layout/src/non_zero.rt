@@ -1,0 +1,106 @@
+//! The layouts of numbers that are not 0.
+ghost use Rattle.std.specs.Prelude.{ℕ, ℤ};
+ghost use Rattle.std.specs.Int.{w8, w16, w32, w64};
+ghost use Rattle.std.specs.Int.NonZero.{non_zero_u8_get, non_zero_u16_get, non_zero_u32_get, non_zero_u64_get, non_zero_i8_get, non_zero_i16_get, non_zero_i32_get, non_zero_i64_get};
+ghost use Rattle.speedy_layout.specs.TestedNumbers.{non_zero, non_zero_laws, signed_non_zero, signed_non_zero_laws};
+
+use crate::layout::Layout;
+use std::num::{
+    NonZeroI8, NonZeroI16, NonZeroI32, NonZeroI64, NonZeroU8, NonZeroU16, NonZeroU32, NonZeroU64,
+};
+
+impl Layout for NonZeroU8 {
+    ghost Seen = { ℕ };
+
+    ghost seen = { non_zero_u8_get };
+
+    ghost language = { non_zero 1 };
+
+    ghost least = { 1 };
+
+    ghost layout_laws = { non_zero_laws 1 };
+}
+
+impl Layout for NonZeroU16 {
+    ghost Seen = { ℕ };
+
+    ghost seen = { non_zero_u16_get };
+
+    ghost language = { non_zero 2 };
+
+    ghost least = { 2 };
+
+    ghost layout_laws = { non_zero_laws 2 };
+}
+
+impl Layout for NonZeroU32 {
+    ghost Seen = { ℕ };
+
+    ghost seen = { non_zero_u32_get };
+
+    ghost language = { non_zero 4 };
+
+    ghost least = { 4 };
+
+    ghost layout_laws = { non_zero_laws 4 };
+}
+
+impl Layout for NonZeroU64 {
+    ghost Seen = { ℕ };
+
+    ghost seen = { non_zero_u64_get };
+
+    ghost language = { non_zero 8 };
+
+    ghost least = { 8 };
+
+    ghost layout_laws = { non_zero_laws 8 };
+}
+
+impl Layout for NonZeroI8 {
+    ghost Seen = { ℤ };
+
+    ghost seen = { non_zero_i8_get };
+
+    ghost language = { signed_non_zero w8 };
+
+    ghost least = { 1 };
+
+    ghost layout_laws = { signed_non_zero_laws w8 };
+}
+
+impl Layout for NonZeroI16 {
+    ghost Seen = { ℤ };
+
+    ghost seen = { non_zero_i16_get };
+
+    ghost language = { signed_non_zero w16 };
+
+    ghost least = { 2 };
+
+    ghost layout_laws = { signed_non_zero_laws w16 };
+}
+
+impl Layout for NonZeroI32 {
+    ghost Seen = { ℤ };
+
+    ghost seen = { non_zero_i32_get };
+
+    ghost language = { signed_non_zero w32 };
+
+    ghost least = { 4 };
+
+    ghost layout_laws = { signed_non_zero_laws w32 };
+}
+
+impl Layout for NonZeroI64 {
+    ghost Seen = { ℤ };
+
+    ghost seen = { non_zero_i64_get };
+
+    ghost language = { signed_non_zero w64 };
+
+    ghost least = { 8 };
+
+    ghost layout_laws = { signed_non_zero_laws w64 };
+}
