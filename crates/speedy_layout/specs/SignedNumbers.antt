@@ -1,6 +1,6 @@
 -- Signed numbers, in two's complement: so many digits in the order of the form.
 use Rattle.std.specs.Prelude.{ℤ, false}
-use Rattle.std.proofs.Common.{subst, sym}
+use Rattle.std.proofs.Common.{subst}
 use Rattle.std.specs.Int.{Width, byte_len, cast_unsigned}
 use Rattle.speedy_base.specs.Form.{Form}
 use Rattle.speedy_base.specs.Signed.{SpellsSigned}

@@ -1,5 +1,5 @@
 -- Reads of bytes make reads of numbers, and these make reads of signed numbers, at each width.
-use Rattle.std.specs.Prelude.{◌≡◌, ℕ, ℤ, List, Bool, Result, Ok, Err}
+use Rattle.std.specs.Prelude.{◌≡◌, ℕ, ℤ, List, Bool, Ok, Err}
 use Rattle.std.specs.Int.{Width, byte_len, cast_unsigned, cast_signed}
 use Rattle.std.proofs.Common.{ap, subst, ◌∙◌}
 use Rattle.speedy_base.specs.declared.error.Error.{Error}
