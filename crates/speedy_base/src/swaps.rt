@@ -1,5 +1,5 @@
 //! Numbers of the machine, turned into those that lie in a byte order, in place.
-ghost use Rattle.std.specs.Prelude.{◌≡◌, map};
+ghost use Rattle.std.specs.Prelude.{◌≡◌, map, refl};
 ghost use Rattle.std.specs.Int.{w16, w32, w64, w128};
 ghost use Rattle.speedy_base.specs.declared.endianness.Endianness.{Endianness as Order};
 ghost use Rattle.speedy_base.specs.declared.endianness.Endianness.TheVariants.{LittleEndian, BigEndian};
@@ -7,7 +7,6 @@ ghost use Rattle.speedy_base.specs.Digits.{swapped};
 ghost use Rattle.speedy_base.specs.DigitsLemmas.{swapped-little};
 ghost use Rattle.speedy_base.specs.Signed.{swapped_signed};
 ghost use Rattle.speedy_base.specs.SignedLemmas.{swapped_signed-little};
-ghost use Rattle.std.proofs.Common.{refl};
 
 use crate::endianness::Endianness;
 
