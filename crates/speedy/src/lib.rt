@@ -10,10 +10,11 @@ pub mod private;
 #[cfg(test)]
 mod tests;
 #[cfg(test)]
-mod tests_varint;
 mod tests_leaves;
 #[cfg(test)]
 mod tests_numbers;
+#[cfg(test)]
+mod tests_varint;
 
 pub use context::{BigEndian, Context, LittleEndian, PlainContext};
 pub use endianness::Endianness;

@@ -1,7 +1,6 @@
 //! Leaves that test or map a number: bytes that come from outside, and each refusal once.
 use crate::context::{Context, LittleEndian};
 use crate::endianness::Endianness;
-use crate::error::Error;
 use crate::private::{ErrorKind, get_error_kind};
 use crate::readable::Readable;
 use crate::writable::Writable;
@@ -80,14 +79,17 @@ where
     lies_under(rt, alloc, Endianness::BigEndian, value, big, least)
 }
 
-/// What the bytes are refused with.
-fn refusal<'a, T: Readable<'a, Endianness>>(
-    alloc: Global,
-    order: Endianness,
-    bytes: &'a [u8],
-) -> Result<Error, Fail> {
-    let outcome = T::read_from_buffer_with_ctx(alloc, order, bytes);
-    Ok(outcome.err().ok_or("a value was read")?)
+// What the bytes are refused with.
+macro_rules! refusal {
+    ($type:ty, $alloc:expr, $bytes:expr) => {
+        <$type as Readable<Endianness>>::read_from_buffer_with_ctx(
+            $alloc,
+            Endianness::LittleEndian,
+            $bytes,
+        )
+        .err()
+        .ok_or("a value was read")?
+    };
 }
 
 #[test]
@@ -110,7 +112,7 @@ fn characters_are_their_codes(rt: HostRuntime) -> Result<(), Fail> {
         4,
     )?;
     for bytes in [[0, 0xd8, 0, 0], [255, 0xdf, 0, 0], [0, 0, 0x11, 0]] {
-        let error = refusal::<char>(alloc, Endianness::LittleEndian, &bytes)?;
+        let error = refusal!(char, alloc, &bytes);
         assert!(rt; matches!(get_error_kind(&error), ErrorKind::InvalidChar));
     }
     Ok(())
@@ -121,7 +123,7 @@ fn byte_orders_are_one_byte(rt: HostRuntime) -> Result<(), Fail> {
     let alloc = rt.alloc();
     lies(&rt, alloc, &Endianness::LittleEndian, &[0, 1], &[0, 1], 1)?;
     lies(&rt, alloc, &Endianness::BigEndian, &[1, 1], &[1, 1], 1)?;
-    let error = refusal::<Endianness>(alloc, Endianness::LittleEndian, &[2])?;
+    let error = refusal!(Endianness, alloc, &[2]);
     assert!(rt; matches!(get_error_kind(&error), ErrorKind::InvalidEnumVariant));
     Ok(())
 }

@@ -117,6 +117,8 @@ pub trait Writer<C: Context> {
     {
         let (bytes, count) = VarInt64::from(value).encode();
         self.write_bytes(&bytes[..count])
+    }
+
     /// Writes eight bytes, in the context's order.
     #[inline(always)]
     final fn write_u64(&mut self, value: u64) -> Result<(), C::Error>
