@@ -1,7 +1,7 @@
 -- What holds of the digits of signed numbers, at each width and in both orders.
 use Rattle.std.specs.Prelude.{◌≡◌, ℕ, ℤ, ◌<◌, List}
 use Rattle.std.proofs.Common.{refl, sym, ◌∙◌, ap, subst}
-use mir.Val.{bits, Fits}
+use mir.Val.{Fits}
 use mir.ValLaws.{to_z-of_z, of_z-to_z, to_z-Fits}
 use Rattle.std.specs.Int.{Width, byte_len, cast_unsigned, cast_signed, swap_bytes}
 use Rattle.std.specs.Int.RustNames.{FitsSigned}
