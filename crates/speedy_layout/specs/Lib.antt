@@ -7,6 +7,9 @@ pub mod Texts
 pub mod Utf8
 pub mod Varint
 pub mod Zigzag
+pub mod Composed
+pub mod Addresses
 pub mod Coding
 pub mod Leaves
 pub mod TestedNumbers
+pub mod Durations

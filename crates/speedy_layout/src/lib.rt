@@ -1,6 +1,8 @@
 //! What bytes mean: the layout of each type, with its laws.
 #![tactic(auto)]
 
+pub mod addresses;
+pub mod composed;
 pub mod laws;
 pub mod layout;
 pub mod leaves;

@@ -12,9 +12,9 @@ use Rattle.speedy_layout.specs.Laws.{Laws}
 use Rattle.speedy_read.specs.Reading.{ReaderState, Kept, Got, IsTold, Excused, IsNamed, Unspelled, Refused, Reads, Peeks}
 
 -- a value of N is one of L and then one of M, which may depend on it
-pub record Composes {U W V : Type 0} (L : Language U) (M : U → Language W) (N : Language V) (join : U → W → V) : Type 0 where
-  pub joins : (u : U) (w : W) (s t : List ℕ) → L.spells u s → (M u).spells w t → N.spells (join u w) (s ++ t)
-  pub splits : (v : V) (s : List ℕ) → N.spells v s → (u : U) × (w : W) × Parts (L.spells u) ((M u).spells w) s
+pub record Composes {U V : Type 0} {W : U → Type 0} (L : Language U) (M : (u : U) → Language (W u)) (N : Language V) (join : (u : U) → W u → V) : Type 0 where
+  pub joins : (u : U) (w : W u) (s t : List ℕ) → L.spells u s → (M u).spells w t → N.spells (join u w) (s ++ t)
+  pub splits : (v : V) (s : List ℕ) → N.spells v s → (u : U) × (w : W u) × Parts (L.spells u) ((M u).spells w) s
   pub names_first : (kind : ErrorKind) → L.names kind → N.names kind
   pub names_second : (u : U) (kind : ErrorKind) → (M u).names kind → N.names kind
   pub faults : (bytes : List ℕ) → N.at_fault bytes → L.at_fault bytes ⊎ ((u : U) × Parts (L.spells u) ((M u).at_fault) bytes)
@@ -116,7 +116,7 @@ module _ {E : Type 0} (gives : Error → E → Type 0) (eof : E → Bool) where
   excused_after takes more e old mid new k f (inr h) = inr (HasGrown-after old.faults mid.faults new.faults k.faults h)
 
   -- where the first part is refused, the whole is
-  module _ {U W V : Type 0} (L : Language U) (M : U → Language W) (N : Language V) (join : U → W → V) (c : Composes L M N join) where
+  module _ {U V : Type 0} {W : U → Type 0} (L : Language U) (M : (u : U) → Language (W u)) (N : Language V) (join : (u : U) → W u → V) (c : Composes L M N join) where
     unspelled_first : (e : E) (bytes : List ℕ) → Unspelled gives eof L e bytes → Unspelled gives eof N e bytes
     unspelled_first e bytes un = record {
       no_front = λ v front rest is sp.
@@ -155,11 +155,13 @@ module _ {E : Type 0} (gives : Error → E → Type 0) (eof : E → Bool) where
         no_front = λ v whole tail is sp.
             let parts = c.splits v whole sp in
             let same = laws.decodes u parts.0 front parts.2.front rest (parts.2.back ++ tail) first parts.2.first_is (is ∙ (ap (λ x. x ++ tail) parts.2.whole_is ∙ append_assoc parts.2.front parts.2.back tail)) in
-            un.no_front parts.1 parts.2.back tail same.2 (subst (λ (x : U). (M x).spells parts.1 parts.2.back) (sym same.0) parts.2.second_is);
+            let second = subst (λ (x : U). (w : W x) × (M x).spells w parts.2.back) (sym same.0) (parts.1, parts.2.second_is) in
+            un.no_front second.0 parts.2.back tail same.2 second.1;
         too_short = λ v more sp.
             let parts = c.splits v ((front ++ rest) ++ more) sp in
             let same = laws.decodes u parts.0 front parts.2.front (rest ++ more) parts.2.back first parts.2.first_is (sym (append_assoc front rest more) ∙ parts.2.whole_is) in
-            un.too_short parts.1 more (subst (λ (x : List ℕ). (M u).spells parts.1 x) (sym same.2) (subst (λ (x : U). (M x).spells parts.1 parts.2.back) (sym same.0) parts.2.second_is));
+            let second = subst (λ (x : U). (w : W x) × (M x).spells w parts.2.back) (sym same.0) (parts.1, parts.2.second_is) in
+            un.too_short second.0 more (subst (λ (x : List ℕ). (M u).spells second.0 x) (sym same.2) second.1);
         at_fault = λ fault.
             elim (c.faults (front ++ rest) fault) [
               | inl h ↦ absurd (laws.fault_unspelled u front rest h first)
@@ -169,7 +171,7 @@ module _ {E : Type 0} (gives : Error → E → Type 0) (eof : E → Bool) where
             ];
       }
 
-      pub refused_second : {A B : Type 0} (u : U) (seen : A → W) (view : B → V) (e : E) (old mid new : ReaderState) → Kept old mid → Got (L.spells u) old mid → Reads gives eof seen (M u) (Err e) mid new → Reads gives eof view N (Err e) old new
+      pub refused_second : {A B : Type 0} (u : U) (seen : A → W u) (view : B → V) (e : E) (old mid new : ReaderState) → Kept old mid → Got (L.spells u) old mid → Reads gives eof seen (M u) (Err e) mid new → Reads gives eof view N (Err e) old new
       refused_second u seen view e old mid new k got r = record {
         kept = Kept-after old mid new k r.kept;
         answer = elim r.answer [
@@ -184,7 +186,7 @@ module _ {E : Type 0} (gives : Error → E → Type 0) (eof : E → Bool) where
       }
 
       -- both parts are read
-      pub got_both : {A B : Type 0} (u : U) (seen : A → W) (view : B → V) (x : A) (y : B) (old mid new : ReaderState) → Kept old mid → Got (L.spells u) old mid → Reads gives eof seen (M u) (Ok x) mid new → view y ≡ join u (seen x) → Reads gives eof view N (Ok y) old new
+      pub got_both : {A B : Type 0} (u : U) (seen : A → W u) (view : B → V) (x : A) (y : B) (old mid new : ReaderState) → Kept old mid → Got (L.spells u) old mid → Reads gives eof seen (M u) (Ok x) mid new → view y ≡ join u (seen x) → Reads gives eof view N (Ok y) old new
       got_both u seen view x y old mid new k got r e = record {
         kept = Kept-after old mid new k r.kept;
         answer = record {
@@ -195,7 +197,7 @@ module _ {E : Type 0} (gives : Error → E → Type 0) (eof : E → Bool) where
       }
 
       -- the second part decides
-      pub second_decides : {A : Type 0} (u : U) (seen : A → W) (view : A → V) (r : Result A E) (old mid new : ReaderState) → Kept old mid → Got (L.spells u) old mid → Reads gives eof seen (M u) r mid new → ((x : A) → view x ≡ join u (seen x)) → Reads gives eof view N r old new
+      pub second_decides : {A : Type 0} (u : U) (seen : A → W u) (view : A → V) (r : Result A E) (old mid new : ReaderState) → Kept old mid → Got (L.spells u) old mid → Reads gives eof seen (M u) r mid new → ((x : A) → view x ≡ join u (seen x)) → Reads gives eof view N r old new
       second_decides u seen view (Ok x) old mid new k got r same = got_both u seen view x x old mid new k got r (same x)
       second_decides u seen view (Err e) old mid new k got r same = refused_second u seen view e old mid new k got r
 

@@ -8,4 +8,5 @@ pub mod Buffers
 pub mod Skipping
 pub mod Varints
 pub mod Coding
+pub mod Composed
 pub mod NonZeroReads

@@ -4,6 +4,8 @@
 pub mod buffer_reader;
 pub mod private;
 pub mod readable;
+pub mod readable_addresses;
+pub mod readable_composed;
 pub mod readable_impl;
 pub mod readable_leaves;
 pub mod readable_non_zero;

@@ -1,4 +1,4 @@
-//! How leaves that test or map a number are read.
+//! How leaves that test or map what they are spelled as are read.
 ghost use Rattle.std.specs.Prelude.{◌≡◌};
 ghost use Rattle.speedy_read.specs.Reading.{Reads};
 
@@ -6,8 +6,12 @@ use crate::readable::ReadFrom;
 use crate::reader::LendingReader;
 use speedy_base::context::Context;
 use speedy_base::endianness::Endianness;
-use speedy_base::error::{error_invalid_enum_variant, error_out_of_range_char};
+use speedy_base::error::{
+    error_invalid_enum_variant, error_invalid_system_time, error_out_of_range_char,
+};
 use std::convert::AsSlice;
+use std::net::{Ipv4Addr, Ipv6Addr};
+use std::time::Duration;
 
 impl<L: AsSlice<u8> + Drop, C: Context> ReadFrom<L, C> for char {
     #[inline]
@@ -38,5 +42,49 @@ impl<L: AsSlice<u8> + Drop, C: Context> ReadFrom<L, C> for Endianness {
     #[inline]
     fn minimum_bytes_needed() -> usize {
         1
+    }
+}
+
+impl<L: AsSlice<u8> + Drop, C: Context> ReadFrom<L, C> for Ipv4Addr {
+    #[inline]
+    fn read_from<R: LendingReader<L, C>>(reader: &mut R) -> Result<Ipv4Addr, C::Error> {
+        let number = reader.read_u32()?;
+        Ok(Ipv4Addr::from(Endianness::BigEndian.bytes_of_u32(number)))
+    }
+
+    #[inline]
+    fn minimum_bytes_needed() -> usize {
+        4
+    }
+}
+
+impl<L: AsSlice<u8> + Drop, C: Context> ReadFrom<L, C> for Ipv6Addr {
+    #[inline]
+    fn read_from<R: LendingReader<L, C>>(reader: &mut R) -> Result<Ipv6Addr, C::Error> {
+        let number = reader.read_u128()?;
+        Ok(Ipv6Addr::from(Endianness::BigEndian.bytes_of_u128(number)))
+    }
+
+    #[inline]
+    fn minimum_bytes_needed() -> usize {
+        16
+    }
+}
+
+impl<L: AsSlice<u8> + Drop, C: Context> ReadFrom<L, C> for Duration {
+    /// Reads seconds and nanoseconds. Nanoseconds of a second and more carry into the seconds.
+    #[inline]
+    fn read_from<R: LendingReader<L, C>>(reader: &mut R) -> Result<Duration, C::Error> {
+        let (seconds, nanos) = reader.read_value::<(u64, u32)>()?;
+        let carried = (nanos / 1_000_000_000) as u64;
+        if u64::MAX - seconds < carried {
+            return Err(error_invalid_system_time());
+        }
+        Ok(Duration::new(seconds, nanos))
+    }
+
+    #[inline]
+    fn minimum_bytes_needed() -> usize {
+        12
     }
 }

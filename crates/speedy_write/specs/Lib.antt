@@ -6,4 +6,5 @@ pub mod NumberWrites
 pub mod Listed
 pub mod Ways
 pub mod Coding
+pub mod Composed
 pub mod NonZeroWrites

@@ -5,6 +5,8 @@ pub mod collectors;
 #[cfg(test)]
 mod tests;
 pub mod writable;
+pub mod writable_addresses;
+pub mod writable_composed;
 pub mod writable_impl;
 pub mod writable_leaves;
 pub mod writable_non_zero;

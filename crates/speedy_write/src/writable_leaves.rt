@@ -1,10 +1,12 @@
-//! How leaves that test or map a number are written.
+//! How leaves that test or map what they are spelled as are written.
 ghost use Rattle.speedy_write.specs.Writing.{WritesValue};
 
 use crate::writable::Writable;
 use crate::writer::Writer;
 use speedy_base::context::Context;
 use speedy_base::endianness::Endianness;
+use std::net::{Ipv4Addr, Ipv6Addr};
+use std::time::Duration;
 
 impl<C: Context> Writable<C> for char {
     #[inline(always)]
@@ -21,5 +23,28 @@ impl<C: Context> Writable<C> for Endianness {
             Endianness::BigEndian => 1,
         };
         writer.write_u8(number)
+    }
+}
+
+impl<C: Context> Writable<C> for Ipv4Addr {
+    #[inline(always)]
+    fn write_to<W: Writer<C>>(&self, writer: &mut W) -> Result<(), C::Error> {
+        let octets = self.octets();
+        writer.write_u32(Endianness::BigEndian.read_u32(&octets))
+    }
+}
+
+impl<C: Context> Writable<C> for Ipv6Addr {
+    #[inline(always)]
+    fn write_to<W: Writer<C>>(&self, writer: &mut W) -> Result<(), C::Error> {
+        let octets = self.octets();
+        writer.write_u128(Endianness::BigEndian.read_u128(&octets))
+    }
+}
+
+impl<C: Context> Writable<C> for Duration {
+    #[inline]
+    fn write_to<W: Writer<C>>(&self, writer: &mut W) -> Result<(), C::Error> {
+        (self.as_secs(), self.subsec_nanos()).write_to(writer)
     }
 }
