@@ -10,6 +10,7 @@ pub mod non_zero;
 pub mod numbers;
 #[cfg(test)]
 mod tests;
+pub mod tuples;
 pub mod varint;
 
 pub use layout::{Lawful, Layout};

@@ -10,4 +10,5 @@ pub mod readable_impl;
 pub mod readable_leaves;
 pub mod readable_non_zero;
 pub mod readable_numbers;
+pub mod readable_tuples;
 pub mod reader;
