@@ -12,4 +12,5 @@ pub mod Addresses
 pub mod Coding
 pub mod Leaves
 pub mod TestedNumbers
+pub mod Owned
 pub mod Durations

@@ -8,6 +8,7 @@ pub mod layout;
 pub mod leaves;
 pub mod non_zero;
 pub mod numbers;
+pub mod owned;
 #[cfg(test)]
 mod tests;
 pub mod tuples;

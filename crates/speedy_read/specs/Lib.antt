@@ -8,5 +8,6 @@ pub mod Buffers
 pub mod Skipping
 pub mod Varints
 pub mod Coding
+pub mod Owned
 pub mod Composed
 pub mod NonZeroReads

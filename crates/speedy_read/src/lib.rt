@@ -10,5 +10,6 @@ pub mod readable_impl;
 pub mod readable_leaves;
 pub mod readable_non_zero;
 pub mod readable_numbers;
+pub mod readable_owned;
 pub mod readable_tuples;
 pub mod reader;

@@ -6,5 +6,6 @@ pub mod NumberWrites
 pub mod Listed
 pub mod Ways
 pub mod Coding
+pub mod Owned
 pub mod Composed
 pub mod NonZeroWrites

@@ -11,6 +11,7 @@ pub mod writable_impl;
 pub mod writable_leaves;
 pub mod writable_non_zero;
 pub mod writable_numbers;
+pub mod writable_owned;
 pub mod writable_tuples;
 pub mod writer;
 
