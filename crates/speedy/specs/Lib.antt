@@ -6,6 +6,8 @@ pub use Rattle.speedy_base.specs.ErrorKind
 pub use Rattle.speedy_base.specs.Form
 pub use Rattle.speedy_base.specs.Signed
 pub use Rattle.speedy_layout.specs.Coding
+pub use Rattle.speedy_layout.specs.Composed
+pub use Rattle.speedy_layout.specs.Durations
 pub use Rattle.speedy_layout.specs.Language
 pub use Rattle.speedy_layout.specs.Laws
 pub use Rattle.speedy_layout.specs.Leaves

@@ -6,13 +6,19 @@
 //! ```
 #![tactic(auto)]
 
+#[cfg(test)]
+mod lying;
 pub mod private;
 #[cfg(test)]
 mod tests;
 #[cfg(test)]
+mod tests_composed;
+#[cfg(test)]
 mod tests_leaves;
 #[cfg(test)]
 mod tests_numbers;
+#[cfg(test)]
+mod tests_owned;
 #[cfg(test)]
 mod tests_varint;
 

@@ -1,83 +1,12 @@
-//! Leaves that test or map a number: bytes that come from outside, and each refusal once.
-use crate::context::{Context, LittleEndian};
+//! Leaves that test or map what they are spelled as: bytes that come from outside, and each refusal once.
 use crate::endianness::Endianness;
+use crate::lying::lies;
 use crate::private::{ErrorKind, get_error_kind};
 use crate::readable::Readable;
 use crate::writable::Writable;
-use std::alloc::Global;
-use std::fmt::Debug;
-use std::process::Abort;
+use std::net::{Ipv4Addr, Ipv6Addr};
 use std::test::Fail;
-
-/// Under the context a value is spelled by all but the last of the bytes, and no spelling is shorter than `least`.
-fn lies_under<'a, C, T>(
-    rt: &impl Abort,
-    alloc: Global,
-    context: C,
-    value: &T,
-    followed: &'a [u8],
-    least: usize,
-) -> Result<(), Fail>
-where
-    C: Context + Copy,
-    C::Error: Debug,
-    T: Readable<'a, C> + Writable<C> + PartialEq + Debug,
-{
-    assert!(rt; !followed.is_empty());
-    let count = followed.len() - 1;
-    let mut held = context;
-    assert_eq!(rt; value.bytes_needed(&mut held)?, count, "{value:?}");
-    assert_eq!(rt; T::minimum_bytes_needed(), least, "{value:?}");
-    let written = value.write_to_vec_with_ctx(alloc, context)?;
-    assert_eq!(rt; written.as_slice(), &followed[..count], "{value:?}");
-    let (outcome, length) = T::read_with_length_from_buffer_with_ctx(alloc, context, followed);
-    assert_eq!(rt; &outcome?, value);
-    assert_eq!(rt; length, count, "{value:?}");
-    let read = T::read_from_buffer_with_ctx(alloc, context, &followed[..count])?;
-    assert_eq!(rt; &read, value);
-    Ok(())
-}
-
-/// In the ways that are given no context.
-fn lies_plainly<'a, T>(
-    rt: &impl Abort,
-    alloc: Global,
-    value: &T,
-    followed: &'a [u8],
-) -> Result<(), Fail>
-where
-    T: Readable<'a, LittleEndian> + Writable<LittleEndian> + PartialEq + Debug,
-{
-    assert!(rt; !followed.is_empty());
-    let count = followed.len() - 1;
-    let written = value.write_to_vec(alloc)?;
-    assert_eq!(rt; written.as_slice(), &followed[..count], "{value:?}");
-    let mut buffer = followed.to_vec(alloc)?;
-    buffer.as_mut_slice()[..count].fill(9);
-    value.write_to_buffer(buffer.as_mut_slice())?;
-    assert_eq!(rt; buffer.as_slice(), followed, "{value:?}");
-    let read = T::read_from_buffer(alloc, followed)?;
-    assert_eq!(rt; &read, value);
-    Ok(())
-}
-
-/// In both orders, each with a byte after the spelling.
-fn lies<'a, T>(
-    rt: &impl Abort,
-    alloc: Global,
-    value: &T,
-    little: &'a [u8],
-    big: &'a [u8],
-    least: usize,
-) -> Result<(), Fail>
-where
-    T: Readable<'a, Endianness> + Writable<Endianness> + PartialEq + Debug,
-    T: Readable<'a, LittleEndian> + Writable<LittleEndian>,
-{
-    lies_plainly(rt, alloc, value, little)?;
-    lies_under(rt, alloc, Endianness::LittleEndian, value, little, least)?;
-    lies_under(rt, alloc, Endianness::BigEndian, value, big, least)
-}
+use std::time::Duration;
 
 // What the bytes are refused with.
 macro_rules! refusal {
@@ -125,5 +54,70 @@ fn byte_orders_are_one_byte(rt: HostRuntime) -> Result<(), Fail> {
     lies(&rt, alloc, &Endianness::BigEndian, &[1, 1], &[1, 1], 1)?;
     let error = refusal!(Endianness, alloc, &[2]);
     assert!(rt; matches!(get_error_kind(&error), ErrorKind::InvalidEnumVariant));
+    Ok(())
+}
+
+#[test]
+fn addresses_lie_in_the_order_of_the_context(rt: HostRuntime) -> Result<(), Fail> {
+    let alloc = rt.alloc();
+    lies(
+        &rt,
+        alloc,
+        &Ipv4Addr::LOCALHOST,
+        &[1, 0, 0, 127, 9],
+        &[127, 0, 0, 1, 9],
+        4,
+    )?;
+    lies(
+        &rt,
+        alloc,
+        &Ipv6Addr::new(0x2001, 0x720, 0x1500, 1, 0, 0, 0, 0xa100),
+        &[
+            0, 0xa1, 0, 0, 0, 0, 0, 0, 1, 0, 0, 0x15, 0x20, 7, 1, 0x20, 9,
+        ],
+        &[
+            0x20, 1, 7, 0x20, 0x15, 0, 0, 1, 0, 0, 0, 0, 0, 0, 0xa1, 0, 9,
+        ],
+        16,
+    )
+}
+
+#[test]
+fn durations_are_seconds_and_nanoseconds(rt: HostRuntime) -> Result<(), Fail> {
+    let alloc = rt.alloc();
+    lies(
+        &rt,
+        alloc,
+        &Duration::new(1, 2),
+        &[1, 0, 0, 0, 0, 0, 0, 0, 2, 0, 0, 0, 9],
+        &[0, 0, 0, 0, 0, 0, 0, 1, 0, 0, 0, 2, 9],
+        12,
+    )?;
+    lies(
+        &rt,
+        alloc,
+        &Duration::MAX,
+        &[
+            255, 255, 255, 255, 255, 255, 255, 255, 255, 0xc9, 0x9a, 0x3b, 9,
+        ],
+        &[
+            255, 255, 255, 255, 255, 255, 255, 255, 0x3b, 0x9a, 0xc9, 255, 9,
+        ],
+        12,
+    )
+}
+
+#[test]
+fn nanoseconds_carry_into_the_seconds(rt: HostRuntime) -> Result<(), Fail> {
+    let alloc = rt.alloc();
+    let bytes = [0, 0, 0, 0, 0, 0, 0, 1, 0x3b, 0x9a, 0xca, 0];
+    let read: Duration = Readable::read_from_buffer_with_ctx(alloc, Endianness::BigEndian, &bytes)?;
+    assert_eq!(rt; read, Duration::new(2, 0));
+    let written = read.write_to_vec_with_ctx(alloc, Endianness::BigEndian)?;
+    let expected = [0, 0, 0, 0, 0, 0, 0, 2, 0, 0, 0, 0];
+    assert_eq!(rt; written.as_slice(), expected.as_slice());
+    let bytes = [255, 255, 255, 255, 255, 255, 255, 255, 0, 0xca, 0x9a, 0x3b];
+    let error = refusal!(Duration, alloc, &bytes);
+    assert!(rt; matches!(get_error_kind(&error), ErrorKind::InvalidSystemTime));
     Ok(())
 }

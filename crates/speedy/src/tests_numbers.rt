@@ -1,67 +1,12 @@
 //! The numbers past `u32`, the signed ones and those that are not 0, in both orders.
 use crate::endianness::Endianness;
+use crate::lying::lies;
 use crate::private::{ErrorKind, get_error_kind};
-use crate::readable::{ReadFrom, Readable};
-use crate::writable::Writable;
-use std::alloc::Global;
-use std::fmt::Debug;
+use crate::readable::Readable;
 use std::num::{
     NonZeroI8, NonZeroI16, NonZeroI32, NonZeroI64, NonZeroU8, NonZeroU16, NonZeroU32, NonZeroU64,
 };
-use std::process::Abort;
 use std::test::Fail;
-
-/// In this order the value is spelled by all but the last of the bytes.
-fn lies_in<'a, T>(
-    rt: &impl Abort,
-    alloc: Global,
-    order: Endianness,
-    value: &T,
-    followed: &'a [u8],
-) -> Result<(), Fail>
-where
-    T: Readable<'a, Endianness> + Writable<Endianness> + PartialEq + Debug,
-{
-    let count = followed.len().saturating_sub(1);
-    let spelling = &followed[..count];
-    let mut held = order;
-    assert_eq!(rt; value.bytes_needed(&mut held)?, count, "{value:?}");
-    let written = value.write_to_vec_with_ctx(alloc, order)?;
-    assert_eq!(rt; written.as_slice(), spelling, "{value:?}");
-    let mut buffer = followed.to_vec(alloc)?;
-    buffer.as_mut_slice().fill(9);
-    value.write_to_buffer_with_ctx(order, buffer.as_mut_slice())?;
-    let (front, after) = buffer.as_slice().split_at(count);
-    assert_eq!(rt; front, spelling, "{value:?}");
-    assert_eq!(rt; after, [9].as_slice(), "{value:?}");
-
-    let (outcome, length) = T::read_with_length_from_buffer_with_ctx(alloc, order, followed);
-    assert_eq!(rt; &outcome?, value);
-    assert_eq!(rt; length, count, "{value:?}");
-    let outcome = T::read_from_buffer_with_ctx(alloc, order, &followed[..count / 2]);
-    assert!(rt; outcome.is_err(), "{value:?}");
-    Ok(())
-}
-
-/// In the little order and in the big one, each with a byte after it.
-fn lies<'a, T>(
-    rt: &impl Abort,
-    alloc: Global,
-    value: T,
-    little: &'a [u8],
-    big: &'a [u8],
-    least: usize,
-) -> Result<(), Fail>
-where
-    T: Readable<'a, Endianness> + Writable<Endianness> + PartialEq + Debug,
-{
-    assert_eq!(rt;
-        <T as ReadFrom<&'a [u8], Endianness>>::minimum_bytes_needed(),
-        least
-    );
-    lies_in(rt, alloc, Endianness::LittleEndian, &value, little)?;
-    lies_in(rt, alloc, Endianness::BigEndian, &value, big)
-}
 
 #[test]
 fn wide_numbers_lie_in_both_orders(rt: HostRuntime) -> Result<(), Fail> {
@@ -69,7 +14,7 @@ fn wide_numbers_lie_in_both_orders(rt: HostRuntime) -> Result<(), Fail> {
     lies(
         &rt,
         alloc,
-        33_u64,
+        &33_u64,
         &[33, 0, 0, 0, 0, 0, 0, 0, 1],
         &[0, 0, 0, 0, 0, 0, 0, 33, 1],
         8,
@@ -77,7 +22,7 @@ fn wide_numbers_lie_in_both_orders(rt: HostRuntime) -> Result<(), Fail> {
     lies(
         &rt,
         alloc,
-        33_usize,
+        &33_usize,
         &[33, 0, 0, 0, 0, 0, 0, 0, 1],
         &[0, 0, 0, 0, 0, 0, 0, 33, 1],
         8,
@@ -85,7 +30,7 @@ fn wide_numbers_lie_in_both_orders(rt: HostRuntime) -> Result<(), Fail> {
     lies(
         &rt,
         alloc,
-        0x0102_0304_0506_0708_090a_0b0c_0d0e_0f10_u128,
+        &0x0102_0304_0506_0708_090a_0b0c_0d0e_0f10_u128,
         &[16, 15, 14, 13, 12, 11, 10, 9, 8, 7, 6, 5, 4, 3, 2, 1, 1],
         &[1, 2, 3, 4, 5, 6, 7, 8, 9, 10, 11, 12, 13, 14, 15, 16, 1],
         16,
@@ -93,15 +38,32 @@ fn wide_numbers_lie_in_both_orders(rt: HostRuntime) -> Result<(), Fail> {
 }
 
 #[test]
-fn signed_numbers_lie_in_two_s_complement(rt: HostRuntime) -> Result<(), Fail> {
+fn wide_numbers_lie_one_after_another(rt: HostRuntime) -> Result<(), Fail> {
     let alloc = rt.alloc();
-    lies(&rt, alloc, -33_i8, &[223, 1], &[223, 1], 1)?;
-    lies(&rt, alloc, -33_i16, &[223, 255, 1], &[255, 223, 1], 2)?;
-    lies(&rt, alloc, i16::MIN, &[0, 128, 1], &[128, 0, 1], 2)?;
     lies(
         &rt,
         alloc,
-        -33_i32,
+        &vec![in alloc; 10_u64, 11]?,
+        &[
+            2, 0, 0, 0, 10, 0, 0, 0, 0, 0, 0, 0, 11, 0, 0, 0, 0, 0, 0, 0, 1,
+        ],
+        &[
+            0, 0, 0, 2, 0, 0, 0, 0, 0, 0, 0, 10, 0, 0, 0, 0, 0, 0, 0, 11, 1,
+        ],
+        4,
+    )
+}
+
+#[test]
+fn signed_numbers_lie_in_two_s_complement(rt: HostRuntime) -> Result<(), Fail> {
+    let alloc = rt.alloc();
+    lies(&rt, alloc, &-33_i8, &[223, 1], &[223, 1], 1)?;
+    lies(&rt, alloc, &-33_i16, &[223, 255, 1], &[255, 223, 1], 2)?;
+    lies(&rt, alloc, &i16::MIN, &[0, 128, 1], &[128, 0, 1], 2)?;
+    lies(
+        &rt,
+        alloc,
+        &-33_i32,
         &[223, 255, 255, 255, 1],
         &[255, 255, 255, 223, 1],
         4,
@@ -109,7 +71,7 @@ fn signed_numbers_lie_in_two_s_complement(rt: HostRuntime) -> Result<(), Fail> {
     lies(
         &rt,
         alloc,
-        -33_i64,
+        &-33_i64,
         &[223, 255, 255, 255, 255, 255, 255, 255, 1],
         &[255, 255, 255, 255, 255, 255, 255, 223, 1],
         8,
@@ -117,7 +79,7 @@ fn signed_numbers_lie_in_two_s_complement(rt: HostRuntime) -> Result<(), Fail> {
     lies(
         &rt,
         alloc,
-        0x0102_0304_0506_0708_090a_0b0c_0d0e_0f10_i128,
+        &0x0102_0304_0506_0708_090a_0b0c_0d0e_0f10_i128,
         &[16, 15, 14, 13, 12, 11, 10, 9, 8, 7, 6, 5, 4, 3, 2, 1, 1],
         &[1, 2, 3, 4, 5, 6, 7, 8, 9, 10, 11, 12, 13, 14, 15, 16, 1],
         16,
@@ -127,14 +89,14 @@ fn signed_numbers_lie_in_two_s_complement(rt: HostRuntime) -> Result<(), Fail> {
 #[test]
 fn numbers_that_are_not_0_lie_as_numbers(rt: HostRuntime) -> Result<(), Fail> {
     let alloc = rt.alloc();
-    lies(&rt, alloc, NonZeroU8::MAX, &[255, 1], &[255, 1], 1)?;
-    lies(&rt, alloc, NonZeroI8::MIN, &[128, 1], &[128, 1], 1)?;
-    lies(&rt, alloc, NonZeroU16::MIN, &[1, 0, 1], &[0, 1, 1], 2)?;
-    lies(&rt, alloc, NonZeroI16::MIN, &[0, 128, 1], &[128, 0, 1], 2)?;
+    lies(&rt, alloc, &NonZeroU8::MAX, &[255, 1], &[255, 1], 1)?;
+    lies(&rt, alloc, &NonZeroI8::MIN, &[128, 1], &[128, 1], 1)?;
+    lies(&rt, alloc, &NonZeroU16::MIN, &[1, 0, 1], &[0, 1, 1], 2)?;
+    lies(&rt, alloc, &NonZeroI16::MIN, &[0, 128, 1], &[128, 0, 1], 2)?;
     lies(
         &rt,
         alloc,
-        NonZeroU32::new(33).ok_or("not 0")?,
+        &NonZeroU32::new(33).ok_or("not 0")?,
         &[33, 0, 0, 0, 1],
         &[0, 0, 0, 33, 1],
         4,
@@ -142,7 +104,7 @@ fn numbers_that_are_not_0_lie_as_numbers(rt: HostRuntime) -> Result<(), Fail> {
     lies(
         &rt,
         alloc,
-        NonZeroI32::new(-2).ok_or("not 0")?,
+        &NonZeroI32::new(-2).ok_or("not 0")?,
         &[254, 255, 255, 255, 1],
         &[255, 255, 255, 254, 1],
         4,
@@ -150,7 +112,7 @@ fn numbers_that_are_not_0_lie_as_numbers(rt: HostRuntime) -> Result<(), Fail> {
     lies(
         &rt,
         alloc,
-        NonZeroU64::MIN,
+        &NonZeroU64::MIN,
         &[1, 0, 0, 0, 0, 0, 0, 0, 1],
         &[0, 0, 0, 0, 0, 0, 0, 1, 1],
         8,
@@ -158,7 +120,7 @@ fn numbers_that_are_not_0_lie_as_numbers(rt: HostRuntime) -> Result<(), Fail> {
     lies(
         &rt,
         alloc,
-        NonZeroI64::MIN,
+        &NonZeroI64::MIN,
         &[0, 0, 0, 0, 0, 0, 0, 128, 1],
         &[128, 0, 0, 0, 0, 0, 0, 0, 1],
         8,

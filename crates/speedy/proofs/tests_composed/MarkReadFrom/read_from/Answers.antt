@@ -1,0 +1,18 @@
+use Rattle.std.proofs.Common.{refl, arith, ◌∙◌}
+use Rattle.speedy_base.specs.declared.error.ErrorKind.TheVariants as kinds
+use Rattle.speedy_layout.specs.Numbers.{digits_laws}
+use Rattle.speedy_read.specs.Coding.{code_refused, code_read, code_means_nothing}
+use Rattle.speedy_read.specs.Exits.{exit_is}
+use Rattle.speedy.proofs.tests_composed.MarkReadFrom.read_from.Goals as goal
+
+pub returns-in_err-number : goal.returns-in_err-number
+returns-in_err-number g c =
+    rw (exit_is c.from_residual.result c.from_residual.ensures.1)
+    (code_refused _ _ _ _ _ _ _ _ _ c.in_err-number.ensures)
+
+pub returns-in-0 : goal.returns-in-0
+returns-in-0 g c = code_read _ _ _ _ _ _ _ _ _ _ (c.in-0.is, refl) c.in_ok-number.ensures
+
+pub returns-in_default : goal.returns-in_default
+returns-in_default g c =
+    code_means_nothing _ _ _ _ 1 (digits_laws 1 _) _ _ _ _ _ _ (λ v h. let e = h.0 ∙ h.1 in omega arith) (kinds.InvalidEnumVariant, refl, c.error_invalid_enum_variant.ensures) c.in_ok-number.ensures
