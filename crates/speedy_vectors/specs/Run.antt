@@ -1,9 +1,10 @@
 -- What the program does with a whole input.
 use Rattle.std.specs.Prelude.{◌≡◌, ◌≢◌, ◌==◌, if◌then◌else◌, ℕ, ◌-◌, ◌^◌, ◌≤◌, List, [], ◌∷◌, ◌++◌, ◌⊎◌, length, IsTrue, Result, OnOk, OnErr, IfErr}
 use Rattle.std.specs.List.{AllByRecursion}
+use Rattle.std.specs.declared.io.Error.{Error as StdIoError}
 use Rattle.speedy_base.specs.declared.error.Error.{Error}
 use Rattle.speedy_base.specs.declared.error.ErrorKind.TheVariants as kinds
-use Rattle.speedy_base.specs.Error.{error_of}
+use Rattle.speedy_base.specs.Error.{error_of, kind_of, IsIoErrorOf}
 use Rattle.speedy_base.specs.Device.{SourceState, SinkState, HasGrown}
 use Rattle.speedy_layout.specs.Language.{Each}
 use Rattle.speedy_vectors.specs.Answer.{AnswersLine}
@@ -63,9 +64,13 @@ pub record AnsweredPartly (lines : List (List ℕ)) (old new : SinkState) : Type
   pub answers_are : Each AnswersLine done (front ++ rest)
   pub taken : IsTrue old.tells → new.taken ≡ old.taken ++ front
 
+-- a call of a device failed, and this is its error
+abbrev pub IsFailedCall : Error → ℕ → ℕ → Type 0
+IsFailedCall e faults faults_after = ((x : StdIoError) × IsIoErrorOf x (kind_of e)) × HasGrown faults faults_after
+
 -- there was no memory, or a call of the sink failed
 abbrev pub IsSinkFailure : Error → SinkState → SinkState → Type 0
-IsSinkFailure e old new = (e ≡ error_of kinds.OutOfMemory) ⊎ HasGrown old.faults new.faults
+IsSinkFailure e old new = (e ≡ error_of kinds.OutOfMemory) ⊎ IsFailedCall e old.faults new.faults
 
 -- all but the lines that are left were answered, or some were and why not more
 pub record Answering {T : Type 0} (result : Result T Error) (lines left : List (List ℕ)) (old new : SinkState) : Type 0 where
@@ -81,7 +86,7 @@ pub record Pushing {T : Type 0} (result : Result T Error) (bytes : List ℕ) (ol
   pub no_fault : OnOk result (new.faults ≡ old.faults)
   pub all : OnOk result (IsTrue old.tells → new.taken ≡ old.taken ++ bytes)
   pub partly : OnErr result ((front : List ℕ) × (rest : List ℕ) × (bytes ≡ front ++ rest) × (IsTrue old.tells → new.taken ≡ old.taken ++ front))
-  pub why : OnErr result (HasGrown old.faults new.faults)
+  pub why : IfErr result (λ e. IsFailedCall e old.faults new.faults)
 
 -- the input was longer than the program counts
 abbrev pub IsTooLong : Error → SourceState → Type 0
@@ -98,4 +103,4 @@ pub record Runs {T : Type 0} (result : Result T Error) (input input_after : Sour
   -- what was written before a failure is right as far as it goes
   pub partly : OnErr result (IsTrue input.tells → AnsweredPartly (lines_of input.to_come) output output_after)
   -- no failure without a cause
-  pub why : IfErr result (λ e. (e ≡ error_of kinds.OutOfMemory) ⊎ (HasGrown input.faults input_after.faults ⊎ (HasGrown output.faults output_after.faults ⊎ IsTooLong e input)))
+  pub why : IfErr result (λ e. (e ≡ error_of kinds.OutOfMemory) ⊎ (IsFailedCall e input.faults input_after.faults ⊎ (IsFailedCall e output.faults output_after.faults ⊎ IsTooLong e input)))

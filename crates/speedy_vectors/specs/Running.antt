@@ -4,13 +4,14 @@ use Rattle.std.proofs.Common.{sym, ◌∙◌, ap, subst, arith, inl, inr}
 use Rattle.std.proofs.lemmas.Bool.{ne_eqb, eqb-false, eqb-true}
 use Rattle.std.proofs.lemmas.List.{append_assoc, append-nil, length-append, length-drop, length-take-le, take-append-drop, take_rest, nil_from_length}
 use Rattle.std.proofs.lemmas.Result.{on_ok_weaker, on_err_weaker, IfErr-weaker}
+use Rattle.std.specs.declared.io.Error.{Error as StdIoError}
 use Rattle.speedy_base.specs.declared.error.Error.{Error}
 use Rattle.speedy_base.specs.declared.error.ErrorKind.TheVariants as kinds
-use Rattle.speedy_base.specs.Error.{error_of}
+use Rattle.speedy_base.specs.Error.{error_of, kind_of, IsIoErrorOf}
 use Rattle.speedy_base.specs.Device.{SourceState, SinkState, HasGrown, Pulls, Pushes, Flushes}
 use Rattle.speedy_layout.specs.Language.{Each}
 use Rattle.speedy_vectors.specs.Answer.{AnswersLine}
-use Rattle.speedy_vectors.specs.Run.{line_feed, with_first, lines_of, NoFeed, SplitsAtFeed, SourceKept, SinkKept, AnsweredAll, Answered, AnsweredPartly, IsSinkFailure, Answering, Pushing, IsTooLong, Runs}
+use Rattle.speedy_vectors.specs.Run.{line_feed, with_first, lines_of, NoFeed, SplitsAtFeed, SourceKept, SinkKept, AnsweredAll, Answered, AnsweredPartly, IsFailedCall, IsSinkFailure, Answering, Pushing, IsTooLong, Runs}
 
 -- lines
 
@@ -68,9 +69,12 @@ grown_after : (a b d : ℕ) → a ≤ b → HasGrown b d → HasGrown a d
 grown_after a b d h (inl k) = inl (omega arith)
 grown_after a b d h (inr k) = inr k
 
+failed_after : (e : Error) (a b d : ℕ) → a ≤ b → IsFailedCall e b d → IsFailedCall e a d
+failed_after e a b d h k = (k.0, grown_after a b d h k.1)
+
 failure_after : (e : Error) (s t u : SinkState) → SinkKept s t → IsSinkFailure e t u → IsSinkFailure e s u
 failure_after e s t u h (inl k) = inl k
-failure_after e s t u h (inr k) = inr (grown_after s.faults t.faults u.faults h.faults_kept k)
+failure_after e s t u h (inr k) = inr (failed_after e s.faults t.faults u.faults h.faults_kept k)
 
 taken_after : (s t u : SinkState) (x y : List ℕ) → SinkKept s t → (IsTrue s.tells → t.taken ≡ s.taken ++ x) → (IsTrue t.tells → u.taken ≡ t.taken ++ y) → IsTrue s.tells → u.taken ≡ s.taken ++ (x ++ y)
 taken_after s t u x y kept h k tells = k (subst IsTrue (sym kept.same_tells) tells) ∙ (ap (λ (z : List ℕ). z ++ y) (h tells) ∙ append_assoc s.taken x y)
@@ -118,13 +122,13 @@ all_pushed x bytes rest s t so_far none = record {
   why = tt;
 }
 
-pub push_failed : {T E : Type 0} (e : Error) (x : E) (bytes rest : List ℕ) (s t u : SinkState) → PushedSoFar bytes rest s t → Pushes (Err x) t u rest → Pushing {T = T} (Err e) bytes s u
-push_failed e x bytes rest s t u so_far p = record {
+pub push_failed : {T : Type 0} (e : Error) (x : StdIoError) (bytes rest : List ℕ) (s t u : SinkState) → PushedSoFar bytes rest s t → IsIoErrorOf x (kind_of e) → Pushes (Err x) t u rest → Pushing {T = T} (Err e) bytes s u
+push_failed e x bytes rest s t u so_far is p = record {
   kept = SinkKept-after s t u so_far.kept (record { same_tells = p.same_tells; faults_kept = p.faults_kept });
   no_fault = tt;
   all = tt;
   partly = (so_far.front, rest, so_far.bytes_are, λ tells. p.unmoved (subst IsTrue (sym so_far.kept.same_tells) tells) ∙ so_far.taken tells);
-  why = grown_after s.faults t.faults u.faults so_far.kept.faults_kept p.fault;
+  why = ((x, is), grown_after s.faults t.faults u.faults so_far.kept.faults_kept p.fault);
 }
 
 -- a line is answered
@@ -230,13 +234,13 @@ flushed x y s t f = record {
   why = tt;
 }
 
-pub flush_failed : {T E : Type 0} (e : Error) (x : E) (s t : SinkState) → Flushes {T = Unit {0}} (Err x) s t → Answering {T = T} (Err e) [] [] s t
-flush_failed e x s t f = record {
+pub flush_failed : {T : Type 0} (e : Error) (x : StdIoError) (s t : SinkState) → IsIoErrorOf x (kind_of e) → Flushes {T = Unit {0}} (Err x) s t → Answering {T = T} (Err e) [] [] s t
+flush_failed e x s t is f = record {
   kept = record { same_tells = f.same_tells; faults_kept = f.faults_kept };
   no_fault = tt;
   all = tt;
   partly = record { done = []; left = []; front = []; rest = []; lines_are = refl; answers_are = refl; taken = λ _. f.same_taken ∙ sym (append-nil s.taken) };
-  why = inr f.fault;
+  why = inr ((x, is), f.fault);
 }
 
 -- the last line, if it has no line feed
@@ -396,7 +400,7 @@ module _ (count : ℕ) (pending : List ℕ) (a b d : SourceState) (s t u : SinkS
           partly = λ tells. AnsweredPartly-after (lines_of a.to_come) (lines_of (pending ++ (piece ++ d.to_come))) s t u so_far.output_kept (before_piece tells) (k d.to_come).partly;
           why = why_of (failure_after e s t u so_far.output_kept (k []).why);
         } where
-          why_of : IsSinkFailure e s u → (e ≡ error_of kinds.OutOfMemory) ⊎ (HasGrown a.faults d.faults ⊎ (HasGrown s.faults u.faults ⊎ IsTooLong e a))
+          why_of : IsSinkFailure e s u → (e ≡ error_of kinds.OutOfMemory) ⊎ (IsFailedCall e a.faults d.faults ⊎ (IsFailedCall e s.faults u.faults ⊎ IsTooLong e a))
           why_of (inl h) = inl h
           why_of (inr h) = inr (inr (inl h))
 
@@ -410,7 +414,7 @@ module _ (count : ℕ) (pending : List ℕ) (a b d : SourceState) (s t u : SinkS
     partly = on_err_under _ r (λ tells. (whole tells).partly);
     why = IfErr-weaker r _ _ (λ e h. why_of e (failure_after e s t u so_far.output_kept h)) k.why;
   } where
-    why_of : (e : Error) → IsSinkFailure e s u → (e ≡ error_of kinds.OutOfMemory) ⊎ (HasGrown a.faults d.faults ⊎ (HasGrown s.faults u.faults ⊎ IsTooLong e a))
+    why_of : (e : Error) → IsSinkFailure e s u → (e ≡ error_of kinds.OutOfMemory) ⊎ (IsFailedCall e a.faults d.faults ⊎ (IsFailedCall e s.faults u.faults ⊎ IsTooLong e a))
     why_of e (inl h) = inl h
     why_of e (inr h) = inr (inr (inl h))
 
@@ -421,14 +425,14 @@ module _ (count : ℕ) (pending : List ℕ) (a b d : SourceState) (s t u : SinkS
     whole tells = Answering-after r (lines_of a.to_come) (lines_of pending) [] s t u so_far.output_kept so_far.output_no_fault (subst (λ (z : List ℕ). Answered (lines_of a.to_come) (lines_of z) s t) (none_to_come tells) (so_far.answered tells)) k
 
 -- a call of the input failed
-pub pull_failed : {T E : Type 0} (e : Error) (x : E) (chunk : List ℕ) (count : ℕ) (pending : List ℕ) (a b d : SourceState) (s t : SinkState) → RunSoFar count pending a b s t → Pulls (Err x) b d chunk → Runs {T = T} (Err e) a d s t
-pull_failed e x chunk count pending a b d s t so_far pull = record {
+pub pull_failed : {T : Type 0} (e : Error) (x : StdIoError) (chunk : List ℕ) (count : ℕ) (pending : List ℕ) (a b d : SourceState) (s t : SinkState) → RunSoFar count pending a b s t → IsIoErrorOf x (kind_of e) → Pulls (Err x) b d chunk → Runs {T = T} (Err e) a d s t
+pull_failed e x chunk count pending a b d s t so_far is pull = record {
   input_kept = SourceKept-after a b d so_far.input_kept (record { same_tells = pull.same_tells; faults_kept = pull.faults_kept });
   output_kept = so_far.output_kept;
   no_fault = tt;
   all = tt;
   partly = λ tells. partly_answered (lines_of a.to_come) (lines_of (pending ++ b.to_come)) s t (so_far.answered tells);
-  why = inr (inl (grown_after a.faults b.faults d.faults so_far.input_kept.faults_kept pull.fault));
+  why = inr (inl ((x, is), grown_after a.faults b.faults d.faults so_far.input_kept.faults_kept pull.fault));
 }
 
 -- the input did not end

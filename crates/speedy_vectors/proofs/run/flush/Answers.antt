@@ -5,4 +5,4 @@ pub returns-in-Ok : goal.returns-in-Ok
 returns-in-Ok g c = flushed _ _ _ _ c.in-Ok.ensures
 
 pub returns-in-Err : goal.returns-in-Err
-returns-in-Err g c = flush_failed _ _ _ _ c.in-Err.ensures
+returns-in-Err g c = flush_failed _ _ _ _ c.from_io_error.ensures c.in-Err.ensures

@@ -14,4 +14,4 @@ pub returns : goal.returns
 returns g c = all_pushed _ _ _ _ _ c.loop-rest.invariant (is_empty _ c.loop-rest-test.ensures)
 
 pub returns-in-Err : goal.returns-in-Err
-returns-in-Err g c = push_failed _ _ _ _ _ _ _ c.loop-rest.invariant c.in-Err.ensures
+returns-in-Err g c = push_failed _ _ _ _ _ _ _ c.loop-rest.invariant c.from_io_error.ensures c.in-Err.ensures

@@ -15,7 +15,7 @@ pub returns : goal.returns
 returns g c = too_long _ _ _ _ _ _ _ c.loop-i.invariant c.loop-i-test.false c.error_out_of_range_length.ensures
 
 pub returns-in-Err : goal.returns-in-Err
-returns-in-Err g c = pull_failed _ _ _ _ _ _ _ _ _ _ c.loop-i.invariant c.in-Err.ensures
+returns-in-Err g c = pull_failed _ _ _ _ _ _ _ _ _ _ c.loop-i.invariant c.from_io_error.ensures c.in-Err.ensures
 
 pub returns-then-count-eq0 : goal.returns-then-count-eq0
 returns-then-count-eq0 g c =
