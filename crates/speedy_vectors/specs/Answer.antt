@@ -8,12 +8,8 @@ use Rattle.speedy_base.specs.declared.endianness.Endianness.{Endianness}
 use Rattle.speedy_base.specs.ErrorKind.{is_eof_kind}
 use Rattle.speedy_base.specs.Form.{Form, plain_form}
 use Rattle.speedy_layout.specs.Language.{Language}
-use Rattle.speedy_layout.specs.Numbers.{digits_language}
-use Rattle.speedy_layout.specs.Lists.{counted}
-use Rattle.speedy_layout.specs.Texts.{text}
-use Rattle.speedy_layout.specs.Varint.{varint}
 use Rattle.speedy_vectors.specs.declared.line.TypeName.{TypeName}
-use Rattle.speedy_vectors.specs.declared.line.TypeName.TheVariants as names
+use Rattle.speedy_vectors.specs.Names.{named}
 use Rattle.speedy_vectors.specs.Line.{IsLine, IsBad}
 
 -- bytes as hexadecimal digits in lower case, `-` for none
@@ -82,10 +78,7 @@ module _ {V : Type 0} (least : ℕ) (L : Language V) (bytes answer : List ℕ) w
 
 -- what the bytes of a line are answered, by the type's name
 abbrev pub AnswersAs : TypeName → Form → List ℕ → List ℕ → Type 0
-AnswersAs names.U16 form = AnswersBytes 2 (digits_language 2 form)
-AnswersAs names.Text form = AnswersBytes 4 (text form)
-AnswersAs names.VecU16 form = AnswersBytes 4 (counted form (digits_language 2 form))
-AnswersAs names.Varint form = AnswersBytes 1 varint
+AnswersAs name form = AnswersBytes (named name).least ((named name).language form)
 
 -- the answer of a line that is of the form
 pub record AnswersGoodLine (line answer : List ℕ) : Type 0 where

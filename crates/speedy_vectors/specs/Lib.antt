@@ -1,3 +1,4 @@
+pub mod Names
 pub mod Line
 pub mod Answer
 pub mod Lines

@@ -5,7 +5,7 @@ use Rattle.hex.specs.Hex.{decode_of}
 use Rattle.speedy_base.specs.declared.endianness.Endianness.{Endianness}
 use Rattle.speedy_base.specs.declared.endianness.Endianness.TheVariants.{LittleEndian, BigEndian}
 use Rattle.speedy_vectors.specs.declared.line.TypeName.{TypeName}
-use Rattle.speedy_vectors.specs.declared.line.TypeName.TheVariants as names
+use Rattle.speedy_vectors.specs.Names.{named}
 
 -- the space between two fields
 abbrev pub space : ℕ
@@ -18,10 +18,7 @@ order_text BigEndian = codes "be"
 
 -- the second field: the type
 abbrev pub name_text : TypeName → List ℕ
-name_text names.U16 = codes "u16"
-name_text names.Text = codes "string"
-name_text names.VecU16 = codes "vec_u16"
-name_text names.Varint = codes "varint"
+name_text name = (named name).text
 
 -- the third field: an even number of hexadecimal digits of either case, two for each byte, or `-` for no bytes
 abbrev pub IsHex : List ℕ → List ℕ → Type 0

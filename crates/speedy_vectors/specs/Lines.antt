@@ -1,10 +1,10 @@
 -- The fields of a line are found at its spaces.
-use Rattle.std.specs.Prelude.{◌≡◌, ℕ, List, [], ◌∷◌, ◌++◌, refl}
+use Rattle.std.specs.Prelude.{◌≡◌, ℕ, ◌==◌, ◌&&◌, not, true, false, Bool, List, [], ◌∷◌, ◌++◌, IsTrue, refl}
 use Rattle.std.proofs.Common.{sym, ◌∙◌, subst, arith}
 use Rattle.speedy_base.specs.declared.endianness.Endianness.{Endianness}
 use Rattle.speedy_base.specs.declared.endianness.Endianness.TheVariants.{LittleEndian, BigEndian}
 use Rattle.speedy_vectors.specs.declared.line.TypeName.{TypeName}
-use Rattle.speedy_vectors.specs.declared.line.TypeName.TheVariants as names
+use Rattle.speedy_vectors.specs.Names.{named, has_no_space}
 use Rattle.speedy_vectors.specs.Line.{space, order_text, name_text, IsHex, IsLine, IsBad, NoSpace, SplitsAtSpace}
 
 -- a text with a space has one
@@ -28,11 +28,15 @@ pub order_no_space : (order : Endianness) → NoSpace (order_text order)
 order_no_space LittleEndian = (omega arith, (omega arith, tt))
 order_no_space BigEndian = (omega arith, (omega arith, tt))
 
+no_space : (text : List ℕ) → IsTrue (has_no_space text) → NoSpace text
+no_space [] h = tt
+no_space (b ∷ text) h = go (b == space) refl h (no_space text) where
+  go : (e : Bool) → (b == space) ≡ e → IsTrue (not e && has_no_space text) → (IsTrue (has_no_space text) → NoSpace text) → NoSpace (b ∷ text)
+  go true p h more = absurd (cc)
+  go false p h more = (λ same. absurd (let q : (space == space) ≡ false = subst (λ (x : ℕ). (x == space) ≡ false) same p in (cc)), more h)
+
 pub name_no_space : (name : TypeName) → NoSpace (name_text name)
-name_no_space names.U16 = (omega arith, (omega arith, (omega arith, tt)))
-name_no_space names.Text = (omega arith, (omega arith, (omega arith, (omega arith, (omega arith, (omega arith, tt))))))
-name_no_space names.VecU16 = (omega arith, (omega arith, (omega arith, (omega arith, (omega arith, (omega arith, (omega arith, tt)))))))
-name_no_space names.Varint = (omega arith, (omega arith, (omega arith, (omega arith, (omega arith, (omega arith, tt))))))
+name_no_space name = no_space (named name).text (named name).no_space
 
 -- a line of the form splits at its spaces
 pub line_splits : (line f g hex : List ℕ) (order : Endianness) (name : TypeName) (bytes : List ℕ) → NoSpace f → NoSpace g → line ≡ f ++ space ∷ (g ++ space ∷ hex) → IsLine line order name bytes → (f ≡ order_text order) × (g ≡ name_text name) × IsHex hex bytes

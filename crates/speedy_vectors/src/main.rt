@@ -15,17 +15,24 @@ pub mod line;
 pub mod run;
 #[cfg(test)]
 mod tests;
+#[cfg(test)]
+mod tests_rows;
 
 use answer::answer_as;
-use line::{Line, TypeName, parse_line};
+use line::{Line, TypeName, for_each_name, parse_line};
 use run::run;
-use speedy::Error;
 use speedy::device::{Counted, Sink};
 use speedy::private::ErrorKind;
 use speedy::varint::VarInt64;
+use speedy::{Endianness, Error};
 use std::alloc::{AllocError, Global};
+use std::boxed::{BoxedSlice, BoxedStr};
 use std::io::{self, BufWriter};
+use std::net::{IpAddr, Ipv4Addr, Ipv6Addr};
+use std::num::{NonZeroI32, NonZeroU8, NonZeroU16};
+use std::ops::{Range, RangeInclusive};
 use std::process::ExitCode;
+use std::time::Duration;
 
 /// The answer to a line, with its line feed. The line comes without one.
 ///
@@ -44,12 +51,14 @@ fn answer_good_line(alloc: Global, line: &Line) -> Result<Vec<u8>, AllocError>
     ensures { IfOk result (λ answer. AnswersAs line.now.name (plain_form line.now.order) line.now.bytes.items answer.items) }
 {
     let (order, bytes) = (line.order, line.bytes.as_slice());
-    match line.name {
-        TypeName::U16 => answer_as::<u16>(alloc, order, bytes),
-        TypeName::Text => answer_as::<String>(alloc, order, bytes),
-        TypeName::VecU16 => answer_as::<Vec<u16>>(alloc, order, bytes),
-        TypeName::Varint => answer_as::<VarInt64>(alloc, order, bytes),
+    macro_rules! answer {
+        ($($text:literal $name:ident $type:ty;)*) => {
+            match line.name {
+                $(TypeName::$name => answer_as::<$type>(alloc, order, bytes),)*
+            }
+        };
     }
+    for_each_name!(answer)
 }
 
 fn main(rt: HostRuntime) -> ExitCode {

@@ -19,6 +19,7 @@ struct Input {
 #[derive(Drop)]
 struct Output {
     taken: Vec<u8>,
+    flushes: u8,
     most: usize,
     fails_at: u8,
     calls: u8,
@@ -64,6 +65,7 @@ impl Write for Output {
     }
 
     fn flush(&mut self) -> io::Result<()> {
+        self.flushes = self.flushes.saturating_add(1);
         Ok(())
     }
 }
@@ -83,6 +85,7 @@ fn run_over(alloc: Global, input: Input, most: usize, fails_at: u8) -> (End, Vec
     let mut input = Counted::new(input);
     let mut output = Counted::new(Output {
         taken: Vec::new(alloc),
+        flushes: 0,
         most,
         fails_at,
         calls: 0,
@@ -147,6 +150,21 @@ fn the_last_line_needs_no_line_feed(rt: HostRuntime) {
         assert_eq!(rt; end, End::Good);
         assert_eq!(rt; taken.as_slice(), wanted);
     }
+}
+
+#[test]
+fn the_output_is_flushed_at_the_end(rt: HostRuntime) {
+    let mut input = Counted::new(input_of(b"x\n", 8192, 0));
+    let mut output = Counted::new(Output {
+        taken: Vec::new(rt.alloc()),
+        flushes: 0,
+        most: 8192,
+        fails_at: 0,
+        calls: 0,
+    });
+    assert!(rt; run(rt.alloc(), &mut input, &mut output).is_ok());
+    let Output { flushes, .. } = output.into_inner();
+    assert_eq!(rt; flushes, 1);
 }
 
 #[test]

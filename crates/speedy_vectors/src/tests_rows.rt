@@ -1,0 +1,95 @@
+//! A line of each type, with its answer.
+use crate::answer_line;
+use std::test::Fail;
+
+/// Lines, each with its answer.
+const ROWS: [(&str, &str); 46] = [
+    ("be u8 21", "ok 1 21\n"),
+    ("be u32 00000021", "ok 4 00000021\n"),
+    ("le u64 2100000000000000ff", "ok 8 2100000000000000\n"),
+    (
+        "be u128 0102030405060708090a0b0c0d0e0f10",
+        "ok 16 0102030405060708090a0b0c0d0e0f10\n",
+    ),
+    ("le i8 DF", "ok 1 df\n"),
+    ("be i16 ffdf", "ok 2 ffdf\n"),
+    ("le i32 dfffffff", "ok 4 dfffffff\n"),
+    ("be i64 ffffffffffffffdf", "ok 8 ffffffffffffffdf\n"),
+    (
+        "le i128 dfffffffffffffffffffffffffffffff",
+        "ok 16 dfffffffffffffffffffffffffffffff\n",
+    ),
+    ("be usize 0000000000000021", "ok 8 0000000000000021\n"),
+    ("le varint 8000", "ok 2 00\n"),
+    ("le bool 07", "ok 1 01\n"),
+    ("le char 00d80000", "refused InvalidChar\n"),
+    ("be char 000059b9", "ok 4 000059b9\n"),
+    ("le unit -", "ok 0 -\n"),
+    ("le nonzero_u8 ff", "ok 1 ff\n"),
+    ("le nonzero_u16 0000", "refused ZeroNonZero\n"),
+    ("be nonzero_i32 fffffffe", "ok 4 fffffffe\n"),
+    ("le endianness 01", "ok 1 01\n"),
+    ("le endianness 02", "refused InvalidEnumVariant\n"),
+    ("le ipv4 0100007f", "ok 4 0100007f\n"),
+    (
+        "be ipv6 2001072015000001000000000000a100",
+        "ok 16 2001072015000001000000000000a100\n",
+    ),
+    ("be ip 007f000001", "ok 5 007f000001\n"),
+    ("le ip 0101000000", "refused UnexpectedEndOfInput\n"),
+    ("le ip 02", "refused InputBufferIsTooSmall 1 5\n"),
+    ("le ip 0200000000", "refused InvalidEnumVariant\n"),
+    (
+        "be duration 00000000000000013b9aca00",
+        "ok 12 000000000000000200000000\n",
+    ),
+    (
+        "le duration ffffffffffffffff00ca9a3b",
+        "refused InvalidSystemTime\n",
+    ),
+    ("le opt_u16 070500ff", "ok 3 010500\n"),
+    ("le res_u16_u8 0009", "ok 2 0009\n"),
+    ("le range_u16 0a000b00", "ok 4 0a000b00\n"),
+    ("le range_incl_u16 03000100", "ok 4 03000100\n"),
+    (
+        "be tuple_u8_u16_u32 01000200000003",
+        "ok 7 01000200000003\n",
+    ),
+    ("be array_u16_4 0001000200030004", "ok 8 0001000200030004\n"),
+    (
+        "le array_u16_4 01000200030004",
+        "refused InputBufferIsTooSmall 7 8\n",
+    ),
+    ("be boxed_str 000000024869", "ok 6 000000024869\n"),
+    (
+        "le boxed_str 050000004869",
+        "refused UnexpectedEndOfInput\n",
+    ),
+    ("le box_u16 0200", "ok 2 0200\n"),
+    ("le vec_u8 020000000a0b", "ok 6 020000000a0b\n"),
+    ("be boxed_u16 00000002000a000b", "ok 8 00000002000a000b\n"),
+    ("be vec_char 0000000100000041", "ok 8 0000000100000041\n"),
+    (
+        "le vec_char 0200000000d80000",
+        "refused UnexpectedEndOfInput\n",
+    ),
+    ("le vec_unit 03000000", "ok 4 03000000\n"),
+    (
+        "le vec_opt_string 0200000001010000006100",
+        "ok 11 0200000001010000006100\n",
+    ),
+    (
+        "le vec_opt_string 02000000010100000061",
+        "refused UnexpectedEndOfInput\n",
+    ),
+    ("le vec_strings 00000000", "bad line\n"),
+];
+
+#[test]
+fn each_type_is_answered(rt: HostRuntime) -> Result<(), Fail> {
+    for (line, wanted) in ROWS {
+        let answer = answer_line(rt.alloc(), line.as_bytes())?;
+        assert_eq!(rt; answer.as_slice(), wanted.as_bytes(), "{line}");
+    }
+    Ok(())
+}
