@@ -7,11 +7,12 @@ pub record SourceState : Type 0 where
   pub to_come : List ℕ
   pub faults : ℕ
 
--- a sink: whether it tells which bytes it took, those bytes where it does, and how many of its calls have failed
+-- a sink: whether it tells which bytes it took, those bytes where it does, how many of its calls have failed, and whether all that it took was passed on
 pub record SinkState : Type 0 where
   pub tells : Bool
   pub taken : List ℕ
   pub faults : ℕ
+  pub settled : Bool
 
 -- a number of failed calls that is kept in 64 bits stays at its greatest value, and counts as grown there
 abbrev pub HasGrown : ℕ → ℕ → Type 0
@@ -67,3 +68,5 @@ pub record Flushes {T E : Type 0} (result : Result T E) (old new : SinkState) : 
   pub no_fault : OnOk result (new.faults ≡ old.faults)
   -- what fails is counted
   pub fault : OnErr result (HasGrown old.faults new.faults)
+  -- what succeeds leaves nothing that was taken waiting
+  pub settles : OnOk result (IsTrue new.settled)

@@ -1,5 +1,5 @@
 -- What contracts see of the devices that this crate has.
-use Rattle.std.specs.Prelude.{ℕ, ◌+◌, ◌-◌, ◌^◌, min, true, false, List, []}
+use Rattle.std.specs.Prelude.{ℕ, ◌+◌, ◌-◌, ◌^◌, min, Bool, true, false, List, []}
 use Rattle.speedy_base.specs.declared.device.VecSink.{VecSink}
 use Rattle.speedy_base.specs.declared.device.Counted.{Counted}
 use Rattle.speedy_base.specs.Device.{SourceState, SinkState}
@@ -16,9 +16,9 @@ vec_sink_bytes sink = sink.bytes.items
 abbrev pub vec_sink_faults : VecSink → ℕ
 vec_sink_faults sink = sink.faults
 
--- the same, as a sink that tells
+-- the same, as a sink that tells, and in which nothing waits
 abbrev pub vec_sink_state : VecSink → SinkState
-vec_sink_state sink = record { tells = true; taken = sink.bytes.items; faults = sink.faults }
+vec_sink_state sink = record { tells = true; taken = sink.bytes.items; faults = sink.faults; settled = true }
 
 -- what a `Counted` counts the calls of
 abbrev pub counted_inner : {S : Type 0} → Counted S → S
@@ -28,12 +28,16 @@ counted_inner counted = counted.inner
 abbrev pub counted_faults : {S : Type 0} → Counted S → ℕ
 counted_faults counted = counted.faults
 
+-- nothing was pushed since a flush that succeeded
+abbrev pub counted_settled : {S : Type 0} → Counted S → Bool
+counted_settled counted = counted.settled
+
 -- the same, as a source and as a sink that tell no byte
 abbrev pub counted_source : {S : Type 0} → Counted S → SourceState
 counted_source counted = record { tells = false; to_come = []; faults = counted.faults }
 
 abbrev pub counted_sink : {S : Type 0} → Counted S → SinkState
-counted_sink counted = record { tells = false; taken = []; faults = counted.faults }
+counted_sink counted = record { tells = false; taken = []; faults = counted.faults; settled = counted.settled }
 
 -- one failed call more, of a count that is kept in 64 bits
 abbrev pub one_fault_more : ℕ → ℕ

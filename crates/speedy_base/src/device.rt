@@ -1,9 +1,9 @@
 //! Where bytes come from and go to.
-ghost use Rattle.std.specs.Prelude.{◌≡◌, min, [], ◌++◌, length, take, drop, IsOk, IfOk, IfErr, OnOk, OnErr};
+ghost use Rattle.std.specs.Prelude.{◌≡◌, min, [], ◌++◌, length, take, drop, IsOk, IfOk, IfErr, OnOk, OnErr, false};
 ghost use Rattle.std.specs.IoError.{error_kind};
 ghost use Rattle.std.specs.Io.KnownBytes.{ReadConsumes, WriteAppends, Keeps};
 ghost use Rattle.speedy_base.specs.Device.{SourceState, SinkState, Pulls, Pushes, Flushes};
-ghost use Rattle.speedy_base.specs.Devices.{bytes_source, vec_sink_bytes, vec_sink_faults, vec_sink_state, counted_inner, counted_faults, counted_source, counted_sink, one_fault_more};
+ghost use Rattle.speedy_base.specs.Devices.{bytes_source, vec_sink_bytes, vec_sink_faults, vec_sink_state, counted_inner, counted_faults, counted_settled, counted_source, counted_sink, one_fault_more};
 
 use std::alloc::Global;
 use std::io::{self, ErrorKind, Read, Write};
@@ -29,7 +29,7 @@ pub trait Sink {
     fn push(&mut self, bytes: &[u8]) -> Result<usize, io::Error>
         ensures { Pushes result (sink self.old) (sink self.new) bytes.now };
 
-    /// Passes on what was taken and still waits somewhere.
+    /// Passes on what was taken and still waits somewhere. After a flush that succeeds nothing does.
     fn flush(&mut self) -> Result<(), io::Error>
         ensures { Flushes result (sink self.old) (sink self.new) };
 }
@@ -117,29 +117,36 @@ impl Sink for VecSink {
     }
 }
 
-/// A reader or a writer of the standard library, and how many calls of it have failed.
+/// A reader or a writer of the standard library, how many calls of it have failed, and whether it was flushed since
+/// it was last written to.
 ///
 /// The count stays at its greatest value once it is there.
 #[derive(Drop)]
 pub struct Counted<S> {
     inner: S,
     faults: u64,
+    settled: bool,
 }
 
 impl<S> Counted<S> {
-    /// With no failed call yet.
+    /// With no failed call yet, and no flush: what was written before may wait.
     pub fn new(inner: S) -> Counted<S>
         ensures same { counted_inner result ≡ inner }
         ensures no_faults { counted_faults result ≡ 0 }
+        ensures not_settled { counted_settled result ≡ false }
     {
-        Counted { inner, faults: 0 }
+        Counted {
+            inner,
+            faults: 0,
+            settled: false,
+        }
     }
 
     /// What the calls went to. The count is lost.
     pub fn into_inner(self) -> S
         ensures { result ≡ counted_inner self }
     {
-        let Counted { inner, faults: _ } = self;
+        let Counted { inner, .. } = self;
         inner
     }
 }
@@ -173,11 +180,13 @@ impl<W: Write> Sink for Counted<W> {
     /// of the kind `WriteZero`. Nothing is tried again here.
     fn push(&mut self, bytes: &[u8]) -> Result<usize, io::Error>
         ensures pushes { Pushes result (counted_sink self.old) (counted_sink self.new) bytes.now }
+        ensures waits { counted_settled self.new ≡ false }
         ensures writes { WriteAppends (W.contents (counted_inner self.old))
             (W.contents (counted_inner self.new)) result bytes.now }
         ensures one_fault { OnErr result (counted_faults self.new
             ≡ one_fault_more (counted_faults self.old)) }
     {
+        self.settled = false;
         match self.inner.write(bytes) {
             Ok(0) if !bytes.is_empty() => {
                 self.faults = self.faults.saturating_add(1);
@@ -200,7 +209,10 @@ impl<W: Write> Sink for Counted<W> {
             ≡ one_fault_more (counted_faults self.old)) }
     {
         match self.inner.flush() {
-            Ok(()) => Ok(()),
+            Ok(()) => {
+                self.settled = true;
+                Ok(())
+            }
             Err(error) => {
                 self.faults = self.faults.saturating_add(1);
                 Err(error)

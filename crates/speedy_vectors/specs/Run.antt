@@ -98,6 +98,8 @@ pub record Runs {T : Type 0} (result : Result T Error) (input input_after : Sour
   pub output_kept : SinkKept output output_after
   -- no failed call is passed over
   pub no_fault : OnOk result ((input_after.faults ≡ input.faults) × (output_after.faults ≡ output.faults))
+  -- and no answer waits in the output
+  pub settled : OnOk result (IsTrue output_after.settled)
   -- each line of the input was answered
   pub all : OnOk result (IsTrue input.tells → AnsweredAll (lines_of input.to_come) output output_after)
   -- what was written before a failure is right as far as it goes

@@ -396,6 +396,7 @@ module _ (count : ℕ) (pending : List ℕ) (a b d : SourceState) (s t u : SinkS
           input_kept = kept_by_pull (Ok n) chunk pull;
           output_kept = SinkKept-after s t u so_far.output_kept (k []).kept;
           no_fault = tt;
+          settled = tt;
           all = tt;
           partly = λ tells. AnsweredPartly-after (lines_of a.to_come) (lines_of (pending ++ (piece ++ d.to_come))) s t u so_far.output_kept (before_piece tells) (k d.to_come).partly;
           why = why_of (failure_after e s t u so_far.output_kept (k []).why);
@@ -405,11 +406,12 @@ module _ (count : ℕ) (pending : List ℕ) (a b d : SourceState) (s t u : SinkS
           why_of (inr h) = inr (inr (inl h))
 
   -- the input is at its end
-  pub input_ended : {T E : Type 0} (r : Result T Error) (n : ℕ) (chunk : List ℕ) → Pulls {E = E} (Ok n) b d chunk → n ≡ 0 → 0 < length chunk → Answering r (lines_of pending) [] t u → Runs r a d s u
-  input_ended r n chunk pull none room k = record {
+  pub input_ended : {T E : Type 0} (r : Result T Error) (n : ℕ) (chunk : List ℕ) → Pulls {E = E} (Ok n) b d chunk → n ≡ 0 → 0 < length chunk → Answering r (lines_of pending) [] t u → OnOk r (IsTrue u.settled) → Runs r a d s u
+  input_ended r n chunk pull none room k settled = record {
     input_kept = SourceKept-after a b d so_far.input_kept (record { same_tells = pull.same_tells; faults_kept = pull.faults_kept });
     output_kept = SinkKept-after s t u so_far.output_kept k.kept;
     no_fault = on_ok_weaker r (λ x. (pull.no_fault ∙ so_far.input_no_fault, x ∙ so_far.output_no_fault)) k.no_fault;
+    settled = settled;
     all = on_ok_under _ r (λ tells. on_ok_weaker r (λ x. all_answered (lines_of a.to_come) s u x) (whole tells).all);
     partly = on_err_under _ r (λ tells. (whole tells).partly);
     why = IfErr-weaker r _ _ (λ e h. why_of e (failure_after e s t u so_far.output_kept h)) k.why;
@@ -430,6 +432,7 @@ pull_failed e x chunk count pending a b d s t so_far is pull = record {
   input_kept = SourceKept-after a b d so_far.input_kept (record { same_tells = pull.same_tells; faults_kept = pull.faults_kept });
   output_kept = so_far.output_kept;
   no_fault = tt;
+  settled = tt;
   all = tt;
   partly = λ tells. partly_answered (lines_of a.to_come) (lines_of (pending ++ b.to_come)) s t (so_far.answered tells);
   why = inr (inl ((x, is), grown_after a.faults b.faults d.faults so_far.input_kept.faults_kept pull.fault));
@@ -441,6 +444,7 @@ too_long e count pending a b s t so_far long is = record {
   input_kept = so_far.input_kept;
   output_kept = so_far.output_kept;
   no_fault = tt;
+  settled = tt;
   all = tt;
   partly = λ tells. partly_answered (lines_of a.to_come) (lines_of (pending ++ b.to_come)) s t (so_far.answered tells);
   why = inr (inr (inr (is, λ tells. let counted = so_far.counted tells in omega arith)));

@@ -1,5 +1,5 @@
 //! The program over a whole input.
-ghost use Rattle.std.specs.Prelude.{◌≡◌, [], ◌++◌, ◌∷◌, MatchOption, OnOk, List, ℕ};
+ghost use Rattle.std.specs.Prelude.{◌≡◌, [], ◌++◌, ◌∷◌, MatchOption, IsTrue, OnOk, List, ℕ};
 ghost use Rattle.speedy_vectors.specs.Run.{lines_of, NoFeed, SplitsAtFeed, Answering, Pushing, Runs};
 
 use crate::answer_line;
@@ -81,7 +81,8 @@ fn split_at_line_feed(text: &[u8]) -> Option<(&[u8], &[u8])>
 // Answers a last line that has no line feed, if there is one, and flushes.
 fn finish<W: Sink>(alloc: Global, pending: &[u8], output: &mut W) -> Result<(), Error>
     requires { NoFeed pending.now }
-    ensures { Answering result (lines_of pending.now) [] (W.sink output.old) (W.sink output.new) }
+    ensures answers { Answering result (lines_of pending.now) [] (W.sink output.old) (W.sink output.new) }
+    ensures settled { OnOk result (IsTrue (W.sink output.new).settled) }
 {
     if pending.is_empty() {
         return flush(alloc, output);
@@ -92,7 +93,8 @@ fn finish<W: Sink>(alloc: Global, pending: &[u8], output: &mut W) -> Result<(), 
 
 // Flushes the output.
 fn flush<W: Sink>(alloc: Global, output: &mut W) -> Result<(), Error>
-    ensures { Answering result [] [] (W.sink output.old) (W.sink output.new) }
+    ensures answers { Answering result [] [] (W.sink output.old) (W.sink output.new) }
+    ensures settled { OnOk result (IsTrue (W.sink output.new).settled) }
 {
     match output.flush() {
         Ok(()) => Ok(()),

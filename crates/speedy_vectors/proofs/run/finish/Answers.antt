@@ -5,10 +5,15 @@ use Rattle.speedy_vectors.proofs.run.finish.Goals as goal
 pub returns-in_err-push_answer : goal.returns-in_err-push_answer
 returns-in_err-push_answer g c =
     rw (exit_is c.from_residual.result c.from_residual.ensures.1)
-    (last_failed _ _ _ _ c.requires (not_empty _ c.if-is_empty.ensures) c.in_err-push_answer.ensures)
+    (record { answers = last_failed _ _ _ _ c.requires (not_empty _ c.if-is_empty.ensures) c.in_err-push_answer.ensures; settled = tt })
 
 pub returns : goal.returns
-returns g c = last_answered _ _ _ _ _ c.requires (not_empty _ c.if-is_empty.ensures) c.in_ok-push_answer.ensures.kept c.in_ok-push_answer.ensures.no_fault c.in_ok-push_answer.ensures.all c.flush-2.ensures
+returns g c =
+    let pushed = c.in_ok-push_answer.ensures in
+    record {
+      answers = last_answered _ _ _ _ _ c.requires (not_empty _ c.if-is_empty.ensures) pushed.kept pushed.no_fault pushed.all c.flush-2.ensures.answers;
+      settled = c.flush-2.ensures.settled;
+    }
 
 pub returns-then-is_empty : goal.returns-then-is_empty
-returns-then-is_empty g c = nothing_left _ _ _ _ (is_empty _ c.if-is_empty.ensures) c.flush.ensures
+returns-then-is_empty g c = record { answers = nothing_left _ _ _ _ (is_empty _ c.if-is_empty.ensures) c.flush.ensures.answers; settled = c.flush.ensures.settled }

@@ -20,7 +20,7 @@ returns-in-Err g c = pull_failed _ _ _ _ _ _ _ _ _ _ c.loop-i.invariant c.from_i
 pub returns-then-count-eq0 : goal.returns-then-count-eq0
 returns-then-count-eq0 g c =
     let room : 0 < length c.pull.new.output = omega arith in
-    input_ended _ _ _ _ _ _ _ (g.W.Sink.sink c.finish.new.output) c.loop-i.invariant _ _ _ c.in-Ok.ensures c.if-count-eq0.true room (rw c.deref.ensures.value at c.finish.ensures)
+    input_ended _ _ _ _ _ _ _ (g.W.Sink.sink c.finish.new.output) c.loop-i.invariant _ _ _ c.in-Ok.ensures c.if-count-eq0.true room (rw c.deref.ensures.value at c.finish.ensures.answers) c.finish.ensures.settled
 
 pub returns-in_err-answer_piece : goal.returns-in_err-answer_piece
 returns-in_err-answer_piece g c =
