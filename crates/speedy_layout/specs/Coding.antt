@@ -35,6 +35,7 @@ coded c L = record {
   spells = Coded L.spells c.means;
   writes = Coded L.writes c.chosen;
   names = λ kind. L.names kind ⊎ c.fault kind;
+  refuses_writing = L.refuses_writing;
   at_fault = λ bytes. L.at_fault bytes ⊎ MeansNothing L.spells c.means bytes;
   needs_lending = L.needs_lending;
   hashed = L.hashed;
@@ -79,6 +80,7 @@ coded_laws {U = U} c least L laws is = record {
             x.nothing v (subst (λ (u : U). c.means u v) (sym same.0) h.stands)
       ];
   names_own = λ kind n. elim n [ inl x ↦ laws.names_own kind x | inr x ↦ is.fault_own kind x ];
+  refuses_own = laws.refuses_own;
 }
 
 -- ---- one code for each value

@@ -37,6 +37,7 @@ composed {U = U} split L asks M = record {
   spells = λ v. Parts (L.spells (split v).0) ((M (split v).0).spells (split v).1);
   writes = λ v. Parts (L.writes (split v).0) ((M (split v).0).writes (split v).1);
   names = λ kind. L.names kind ⊎ ((u : U) × (M u).names kind);
+  refuses_writing = λ kind. L.refuses_writing kind ⊎ ((u : U) × (M u).refuses_writing kind);
   at_fault = λ bytes. L.at_fault bytes ⊎ ((u : U) × Parts (L.spells u) (M u).at_fault bytes);
   needs_lending = L.needs_lending || asks.lending;
   hashed = L.hashed || asks.hashed;
@@ -70,6 +71,7 @@ Laws-less n m L less laws = record {
   one_written = laws.one_written;
   fault_unspelled = laws.fault_unspelled;
   names_own = laws.names_own;
+  refuses_own = laws.refuses_own;
 }
 
 module _ {U V : Type 0} {W : U → Type 0} (split : V → (u : U) × W u) (L : Language U) (asks : Asks) (M : (u : U) → Language (W u)) where
@@ -129,6 +131,11 @@ module _ {U V : Type 0} {W : U → Type 0} (split : V → (u : U) × W u) (L : L
             | inl h ↦ laws.names_own kind h
             | inr h ↦ (more h.0).names_own kind h.1
           ];
+      refuses_own = λ kind refused.
+          elim refused [
+            | inl h ↦ laws.refuses_own kind h
+            | inr h ↦ (more h.0).refuses_own kind h.1
+          ];
     }
 
 -- values that can be put together again from their parts differ in their parts
@@ -166,6 +173,7 @@ nothing = record {
   spells = λ _ bytes. bytes ≡ [];
   writes = λ _ bytes. bytes ≡ [];
   names = λ _. ⊥;
+  refuses_writing = λ _. ⊥;
   at_fault = λ _. ⊥;
   needs_lending = false;
   hashed = false;
@@ -183,6 +191,7 @@ nothing_laws = record {
   one_written = λ _ v b c h k. h ∙ sym k;
   fault_unspelled = λ _ _ _ h _. h;
   names_own = λ kind h. absurd h;
+  refuses_own = λ kind h. absurd h;
 }
 
 -- the bytes of a flag

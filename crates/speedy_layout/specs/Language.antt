@@ -9,8 +9,10 @@ pub record Language (V : Type 0) : Type 1 where
   pub spells : V → List ℕ → Type 0
   -- the spellings that are written
   pub writes : V → List ℕ → Type 0
-  -- the kinds of refusals that the type adds itself, and those of its parts
+  -- the kinds of refusals that the type adds itself in reading, and those of its parts
   pub names : ErrorKind → Type 0
+  -- the kinds of refusals that the type adds itself in writing, and those of its parts; of the listed types none
+  pub refuses_writing : ErrorKind → Type 0
   -- bytes at whose front a fault of the type stands
   pub at_fault : List ℕ → Type 0
   -- values that borrow, and so can be read only from a reader that lends

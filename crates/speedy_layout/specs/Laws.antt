@@ -21,3 +21,5 @@ pub record Laws {V : Type 0} (least : ℕ) (L : Language V) : Type 0 where
   pub fault_unspelled : (v : V) (front rest : List ℕ) → L.at_fault (front ++ rest) → L.spells v front → ⊥
   -- the kinds that a type names are its own
   pub names_own : (kind : ErrorKind) → L.names kind → IsOwnKind kind
+  -- and so are those that its writing is refused with
+  pub refuses_own : (kind : ErrorKind) → L.refuses_writing kind → IsOwnKind kind

@@ -15,6 +15,7 @@ times n L = record {
   spells = λ vs bytes. (length vs ≡ n) × Each L.spells vs bytes;
   writes = λ vs bytes. (length vs ≡ n) × Each L.writes vs bytes;
   names = L.names;
+  refuses_writing = L.refuses_writing;
   at_fault = λ _. ⊥;
   needs_lending = L.needs_lending;
   hashed = L.hashed;
@@ -27,6 +28,7 @@ vector n L = record {
   spells = λ vs bytes. (length vs ≡ n) × Each L.spells vs bytes;
   writes = λ vs bytes. (length vs ≡ n) × Each L.writes vs bytes;
   names = L.names;
+  refuses_writing = L.refuses_writing;
   at_fault = λ _. ⊥;
   needs_lending = L.needs_lending;
   hashed = L.hashed;
@@ -39,6 +41,7 @@ counted form L = record {
   spells = λ vs. Parts (SpellsNumber 4 form.order (length vs)) (Each L.spells vs);
   writes = λ vs. Parts (SpellsNumber 4 form.order (length vs)) (Each L.writes vs);
   names = L.names;
+  refuses_writing = L.refuses_writing;
   at_fault = λ _. ⊥;
   needs_lending = L.needs_lending;
   hashed = L.hashed;
@@ -123,6 +126,7 @@ module _ {V : Type 0} (least : ℕ) (L : Language V) (laws : Laws least L) where
     one_written = λ u v b c h k. each_one_written u v b c h.1 k.1;
     fault_unspelled = λ _ _ _ h _. h;
     names_own = laws.names_own;
+    refuses_own = laws.refuses_own;
   }
 
   -- the laws of so many items in a vector
@@ -137,6 +141,7 @@ module _ {V : Type 0} (least : ℕ) (L : Language V) (laws : Laws least L) where
     one_written = λ u v b c h k. each_one_written u v b c h.1 k.1;
     fault_unspelled = λ _ _ _ h _. h;
     names_own = laws.names_own;
+    refuses_own = laws.refuses_own;
   }
 
   -- the laws of counted lists
@@ -176,4 +181,5 @@ module _ {V : Type 0} (least : ℕ) (L : Language V) (laws : Laws least L) where
         h.whole_is ∙ (cc) ∙ sym k.whole_is;
     fault_unspelled = λ _ _ _ h _. h;
     names_own = laws.names_own;
+    refuses_own = laws.refuses_own;
   }

@@ -14,6 +14,7 @@ digits_language width form = record {
   spells = SpellsNumber width form.order;
   writes = SpellsNumber width form.order;
   names = λ _. ⊥;
+  refuses_writing = λ _. ⊥;
   at_fault = λ _. ⊥;
   needs_lending = false;
   hashed = false;
@@ -41,4 +42,5 @@ digits_laws width form = record {
   one_written = λ _ v b c h k. SpellsNumber-same_bytes width form.order v b c h k;
   fault_unspelled = λ _ _ _ h _. h;
   names_own = λ kind h. absurd h;
+  refuses_own = λ kind h. absurd h;
 }

@@ -33,6 +33,7 @@ module _ {V : Type 0} (least : ℕ) (L : Language V) (laws : Laws least L) where
     one_written = laws.one_written;
     fault_unspelled = laws.fault_unspelled;
     names_own = laws.names_own;
+    refuses_own = laws.refuses_own;
   }
 
   names_own_lent : (kind : ErrorKind) → L.names kind ⊎ (kind ≡ kinds.Unsized) → IsOwnKind kind
@@ -51,4 +52,5 @@ module _ {V : Type 0} (least : ℕ) (L : Language V) (laws : Laws least L) where
     one_written = laws.one_written;
     fault_unspelled = laws.fault_unspelled;
     names_own = names_own_lent;
+    refuses_own = laws.refuses_own;
   }

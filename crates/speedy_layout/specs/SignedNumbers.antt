@@ -16,6 +16,7 @@ signed_language w form = record {
   spells = SpellsSigned w form.order;
   writes = SpellsSigned w form.order;
   names = λ _. ⊥;
+  refuses_writing = λ _. ⊥;
   at_fault = λ _. ⊥;
   needs_lending = false;
   hashed = false;
@@ -38,4 +39,5 @@ signed_laws w form =
       one_written = λ _ z b c h k. SpellsNumber-same_bytes (byte_len w) form.order (cast_unsigned w z) b c h.digits k.digits;
       fault_unspelled = λ _ _ _ h _. h;
       names_own = λ kind h. absurd h;
+      refuses_own = λ kind h. absurd h;
     }

@@ -49,6 +49,7 @@ varint = record {
   spells = λ n bytes. (more : ℕ) × SpellsVarint more n bytes;
   writes = λ n bytes. (more : ℕ) × WritesVarint more n bytes;
   names = λ _. ⊥;
+  refuses_writing = λ _. ⊥;
   at_fault = λ _. ⊥;
   needs_lending = false;
   hashed = false;
@@ -242,6 +243,7 @@ varint_laws = record {
       one_spelling h.0 v b c h.1.spelled (subst (λ (i : ℕ). SpellsVarint i v c) same g.1.spelled);
   fault_unspelled = λ _ _ _ h _. h;
   names_own = λ kind h. absurd h;
+  refuses_own = λ kind h. absurd h;
 }
 
 -- ---- for readers

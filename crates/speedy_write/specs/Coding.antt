@@ -27,6 +27,6 @@ module _ {E : Type 0} (gives : Error → E → Type 0) where
   pub Writes-coded : {U V : Type 0} (c : Code U V) (L : Language U) → IsCode c L → (u : U) (v : V) (result : Result (Unit {0}) E) (old new : WriterState) {appended : List ℕ → Type 0} → c.chosen u v → WritesValue gives L u result old new appended → WritesValue gives (coded c L) v result old new appended
   unfolding coded
   Writes-coded {U = U} c L is u v result old new chosen w =
-      Writes-as gives result old new (λ kind h. inl h) (λ b h. record { code = u; code_is = h; stands = chosen })
+      Writes-as gives result old new (λ kind h. h) (λ b h. record { code = u; code_is = h; stands = chosen })
       (λ b h. subst (λ (x : U). L.writes x b) (is.one_chosen h.code u v h.stands chosen) h.code_is) (λ b h. h)
       (spelled_too result old new (λ b h. let x = is.has_chosen v b h in (x.0, subst (λ (y : U). L.spells y x.0) (is.one_chosen x.1.code u v x.1.stands chosen) x.1.code_is)) w)

@@ -26,10 +26,10 @@ module _ {E : Type 0} (gives : Error → E → Type 0) where
   Writes-nothing old h = record { kept = Kept-same old; answer = Put-nothing old h }
 
   module _ {U V : Type 0} {W : U → Type 0} (split : V → (u : U) × W u) (L : Language U) (asks : Asks) (M : (u : U) → Language (W u)) (v : V) (p : (u : U) × W u) (same : split v ≡ p) where
-    restated : (result : Result (Unit {0}) E) (old new : WriterState) {appended : List ℕ → Type 0} → Writes gives (composed split L asks M).names (Parts (L.writes p.0) ((M p.0).writes p.1)) (Parts (L.spells p.0) ((M p.0).spells p.1)) result old new appended → WritesValue gives (composed split L asks M) v result old new appended
+    restated : (result : Result (Unit {0}) E) (old new : WriterState) {appended : List ℕ → Type 0} → Writes gives (composed split L asks M).refuses_writing (Parts (L.writes p.0) ((M p.0).writes p.1)) (Parts (L.spells p.0) ((M p.0).spells p.1)) result old new appended → WritesValue gives (composed split L asks M) v result old new appended
     unfolding composed
     restated result old new {appended = appended} w =
-        subst (λ (p : (u : U) × W u). Writes gives (composed split L asks M).names (Parts (L.writes p.0) ((M p.0).writes p.1)) (Parts (L.spells p.0) ((M p.0).spells p.1)) result old new appended) (sym same) w
+        subst (λ (p : (u : U) × W u). Writes gives (composed split L asks M).refuses_writing (Parts (L.writes p.0) ((M p.0).writes p.1)) (Parts (L.spells p.0) ((M p.0).spells p.1)) result old new appended) (sym same) w
 
     -- where the first part is refused, the value is
     pub composed_refused : (e : E) (result : Result (Unit {0}) E) (old new : WriterState) {appended : List ℕ → Type 0} → IsErrAnd result (λ x. x ≡ e) → WritesValue gives L p.0 (Err e) old new appended → WritesValue gives (composed split L asks M) v result old new appended

@@ -1,6 +1,6 @@
 -- Writes of what owns or borrows its content.
 use Rattle.std.specs.Prelude.{◌≡◌, ℕ, List, length, Result}
-use Rattle.std.proofs.Common.{inl, subst}
+use Rattle.std.proofs.Common.{subst}
 use Rattle.speedy_base.specs.declared.error.Error.{Error}
 use Rattle.speedy_layout.specs.Language.{Language}
 use Rattle.speedy_layout.specs.Lists.{vector}
@@ -17,7 +17,7 @@ module _ {E : Type 0} (gives : Error → E → Type 0) {V : Type 0} (L : Languag
   -- what is borrowed is written as it is
   pub Writes-lent : (v : V) (result : Result (Unit {0}) E) (old new : WriterState) {appended : List ℕ → Type 0} → WritesValue gives L v result old new appended → WritesValue gives (lent L) v result old new appended
   unfolding lent
-  Writes-lent v result old new w = Writes-as gives result old new (λ kind k. inl k) (λ b h. h) (λ b h. h) (λ b h. h) w
+  Writes-lent v result old new w = Writes-as gives result old new (λ kind k. k) (λ b h. h) (λ b h. h) (λ b h. h) w
 
   -- so many items are written one after the other
   pub Writes-vector : (n : ℕ) (vs ws : List V) (result : Result (Unit {0}) E) (old new : WriterState) {appended : List ℕ → Type 0} → length vs ≡ n → ws ≡ vs → WritesEach gives L ws result old new appended → WritesValue gives (vector n L) vs result old new appended

@@ -29,7 +29,7 @@ module _ {E : Type 0} (gives : Error → E → Type 0) where
     pub written : IfOk result (λ n. (bytes : List ℕ) × L.writes v bytes × (n ≡ length bytes))
     -- the length of a written form is answered, if it is below `usize::MAX`
     pub answers : (bytes : List ℕ) → L.writes v bytes → length bytes < 2 ^ 64 - 1 → IsOkAnd result (λ n. n ≡ length bytes)
-    pub refused : IfErr result (IsOutOfRange L.names)
+    pub refused : IfErr result (IsOutOfRange L.refuses_writing)
 
   -- a buffer of this size is refused, and so many bytes were needed
   abbrev pub IsTooSmall : ℕ → ℕ → E → Type 0
@@ -43,7 +43,7 @@ module _ {E : Type 0} (gives : Error → E → Type 0) where
     -- a shorter buffer is refused, with both sizes
     pub too_small : (bytes : List ℕ) → L.writes v bytes → length bytes < 2 ^ 64 - 1 → length old < length bytes → IsErrAnd result (IsTooSmall (length old) (length bytes))
     -- there is no other refusal than that one and that of a value that cannot be written
-    pub refused : IfErr result (λ e. ((bytes : List ℕ) × L.writes v bytes × (length old < length bytes) × IsTooSmall (length old) (length bytes) e) ⊎ IsOutOfRange L.names e)
+    pub refused : IfErr result (λ e. ((bytes : List ℕ) × L.writes v bytes × (length old < length bytes) × IsTooSmall (length old) (length bytes) e) ⊎ IsOutOfRange L.refuses_writing e)
     -- what is refused leaves the buffer as it was
     pub unchanged : OnErr result (new ≡ old)
 
@@ -51,4 +51,4 @@ module _ {E : Type 0} (gives : Error → E → Type 0) where
   pub record WritesToVec {V A : Type 0} (L : Language V) (v : V) (items : A → List ℕ) (result : Result A E) : Type 0 where
     pub written : IfOk result (λ vec. IsShortest L v (items vec))
     -- a refusal means want of memory, or that the value has no spelling that can be counted
-    pub refused : IfErr result (λ e. gives (error_of kinds.OutOfMemory) e ⊎ (((bytes : List ℕ) → L.spells v bytes → length bytes < 2 ^ 64 - 1 → ⊥) × IsOutOfRange L.names e))
+    pub refused : IfErr result (λ e. gives (error_of kinds.OutOfMemory) e ⊎ (((bytes : List ℕ) → L.spells v bytes → length bytes < 2 ^ 64 - 1 → ⊥) × IsOutOfRange L.refuses_writing e))

@@ -87,11 +87,11 @@ module _ {E : Type 0} (gives : Error → E → Type 0) where
 
   -- the write of a value of a language
   abbrev pub WritesValue : {V : Type 0} → Language V → V → Result (Unit {0}) E → WriterState → WriterState → (List ℕ → Type 0) → Type 0
-  WritesValue L v = Writes L.names (L.writes v) (L.spells v)
+  WritesValue L v = Writes L.refuses_writing (L.writes v) (L.spells v)
 
   -- the write of values of a language, one after the other
   abbrev pub WritesEach : {V : Type 0} → Language V → List V → Result (Unit {0}) E → WriterState → WriterState → (List ℕ → Type 0) → Type 0
-  WritesEach L vs = Writes L.names (Each L.writes vs) (Each L.spells vs)
+  WritesEach L vs = Writes L.refuses_writing (Each L.writes vs) (Each L.spells vs)
 
   -- the write of these bytes
   abbrev pub WritesBytes : List ℕ → Result (Unit {0}) E → WriterState → WriterState → (List ℕ → Type 0) → Type 0
