@@ -1,5 +1,5 @@
 //! The laws of layouts, as functions that a user's proof can cite. Their bodies are empty.
-ghost use Rattle.std.specs.Prelude.{◌≡◌, ◌≤◌, List, ◌++◌, ℕ, length, []};
+ghost use Rattle.std.specs.Prelude.{◌≡◌, ◌≤◌, List, ◌++◌, ℕ, length, [], false};
 ghost use Rattle.speedy_base.specs.Form.{Form};
 
 use crate::layout::Layout;
@@ -28,4 +28,23 @@ pub fn written_is_shortest<T: Layout>()
 pub fn spelled_is_written<T: Layout>()
     ensures { (f : Form) (v : T.Seen) (bytes : List ℕ) →
         (T.language f).spells v bytes → (form : List ℕ) × (T.language f).writes v form }
+{}
+
+/// No spelling is shorter than the type's least size.
+pub fn no_spelling_is_below_least<T: Layout>()
+    ensures { (f : Form) (v : T.Seen) (bytes : List ℕ) →
+        (T.language f).spells v bytes → T.least ≤ length bytes }
+{}
+
+/// A value has one written form, where nothing in it is hashed.
+pub fn one_written_form<T: Layout>()
+    ensures { (f : Form) (v : T.Seen) (bytes others : List ℕ) →
+        (T.language f).hashed ≡ false → (T.language f).writes v bytes → (T.language f).writes v others → bytes ≡ others }
+{}
+
+/// Two fronts of one list of bytes that spell are one front. They spell one value, and leave the same rest.
+pub fn one_front<T: Layout>()
+    ensures { (f : Form) (v w : T.Seen) (bytes more others left : List ℕ) →
+        (T.language f).spells v bytes → (T.language f).spells w others → bytes ++ more ≡ others ++ left →
+        (v ≡ w) × (bytes ≡ others) × (more ≡ left) }
 {}

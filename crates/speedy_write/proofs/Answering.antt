@@ -8,7 +8,7 @@ use Rattle.speedy_base.specs.Form.{Form}
 use Rattle.speedy_layout.specs.Language.{Language}
 use Rattle.speedy_layout.specs.Laws.{Laws}
 use Rattle.speedy_write.specs.Writing.{WriterState, Put, WritesValue, BufferAppends}
-use Rattle.speedy_write.specs.Collectors.{buffer_state}
+use Rattle.speedy_write.specs.Collectors.{buffer_state, put_in_front}
 use Rattle.speedy_write.specs.Ways.{Stands}
 
 -- no call failed where none is counted
@@ -16,17 +16,13 @@ none_grown : (n : ℕ) → n ≡ 0 → HasGrown 0 n → ⊥
 none_grown n e (inl h) = omega arith
 none_grown n e (inr h) = omega arith
 
--- what is put at the front of a buffer
-put_in_front : (A b B : List ℕ) (q : ℕ) → BufferAppends 0 A b q B → B ≡ b ++ drop (length b) A
-put_in_front A b B q h = let e : q ≡ length b = let x = h.end_is in omega arith in h.after_is ∙ ap (λ n. b ++ drop n A) e
-
 module _ {E : Type 0} (gives : Error → E → Type 0) {V : Type 0} (language : Form → Language V) (least : ℕ) (laws : (f : Form) → Laws least (language f)) (v : V) where
   -- a written form of the value, where it is put at a buffer's front
   stands : (form : Form) (old B : List ℕ) (q : ℕ) (before after : WriterState) → Put ((language form).writes v) before after (λ b. BufferAppends 0 old b q B) → Stands (language form) v old B
   stands form old B q before after p = record {
     bytes = p.bytes;
     is_shortest = record { is_written = p.is_written; shortest = λ others k. (laws form).shortest v p.bytes others p.is_written k };
-    new_is = put_in_front old p.bytes B q p.is_appended;
+    new_is = put_in_front 0 old old p.bytes q B refl refl p.is_appended;
   }
 
   -- a write into a buffer that has the room is never refused

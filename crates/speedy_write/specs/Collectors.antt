@@ -30,6 +30,12 @@ put_length p A s q B h =
     let o = length-drop q A in
     omega arith
 
+-- what was put at the front of a buffer stands there
+pub put_in_front : (p : ℕ) (old A s : List ℕ) (q : ℕ) (B : List ℕ) → p ≡ 0 → A ≡ old → BufferAppends p A s q B → B ≡ s ++ drop (length s) old
+put_in_front p old A s q B start same h =
+    let end : q ≡ length s = let e = h.end_is in omega arith in
+    h.after_is ∙ (ap (λ (p : ℕ). take p A ++ (s ++ drop q A)) start ∙ (ap (λ n. s ++ drop n A) end ∙ ap (λ (A : List ℕ). s ++ drop (length s) A) same))
+
 -- the parts of a buffer that bytes were put into
 part_front : (p : ℕ) (A s : List ℕ) (q : ℕ) → q ≡ p + length s → q ≤ length A → take q (take p A ++ (s ++ drop q A)) ≡ take p A ++ s
 part_front p A s q e h =

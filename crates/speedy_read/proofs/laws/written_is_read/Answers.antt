@@ -1,0 +1,5 @@
+use Rattle.speedy_read.specs.RoundTrip.{written_is_read}
+use Rattle.speedy_read.proofs.laws.written_is_read.Goals as goal
+
+pub returns : goal.returns
+returns g c = written_is_read _ _ _ _ _ g.met.T.Layout.layout_laws

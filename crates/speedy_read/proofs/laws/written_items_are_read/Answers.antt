@@ -1,0 +1,5 @@
+use Rattle.speedy_read.specs.RoundTrip.{written_items_are_read}
+use Rattle.speedy_read.proofs.laws.written_items_are_read.Goals as goal
+
+pub returns : goal.returns
+returns g c = written_items_are_read _ _ _ _ _ g.met.T.Layout.layout_laws
