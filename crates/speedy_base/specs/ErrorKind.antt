@@ -1,5 +1,5 @@
 -- The kinds of refusals: which of them are ends of input, what they print, and what they are as an `io::Error`.
-use Rattle.std.specs.Prelude.{◌≡◌, ℕ, List, ◌++◌, length, Bool, true, false, Option, Some, None, codes}
+use Rattle.std.specs.Prelude.{◌≡◌, ℕ, List, ◌++◌, length, Bool, true, false, IsTrue, Option, Some, None, codes}
 use Rattle.std.specs.Fmt.{decimal}
 use Rattle.std.specs.String.{string_bytes}
 use Rattle.std.specs.IoError.{error_kind}
@@ -20,6 +20,12 @@ is_eof_kind kinds.UnexpectedEndOfInput = true
 is_eof_kind kinds.UnexpectedEndOfOutputBuffer = true
 is_eof_kind (kinds.IoError e) = is_io_eof (error_kind e.value)
 is_eof_kind _ = false
+
+-- the kinds with which input ends: `UnexpectedEndOfInput`, and where it comes from a device also an `IoError` that stands for an end
+abbrev pub EndsInput : Bool → ErrorKind → Type 0
+EndsInput by_device kinds.UnexpectedEndOfInput = Unit {0}
+EndsInput by_device (kinds.IoError e) = IsTrue by_device × IsTrue (is_io_eof (error_kind e.value))
+EndsInput by_device _ = ⊥
 
 -- the text that `{}` prints, but for the inner text of an `IoError`
 abbrev pub text_of : ErrorKind → Option (List ℕ)

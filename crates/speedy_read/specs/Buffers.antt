@@ -9,10 +9,10 @@ use Rattle.speedy_base.specs.Digits.{AreBytes}
 use Rattle.speedy_base.specs.Form.{Form}
 use Rattle.speedy_layout.specs.Language.{Language}
 use Rattle.speedy_layout.specs.Texts.{bytes_of, any_bytes}
-use Rattle.speedy_read.specs.Reading.{ReaderState, Kept, KeptByPeek, Reads, Peeks, IsRight, Excused, Refused, RefusesBuffer, AnswersBuffer}
+use Rattle.speedy_read.specs.Reading.{ReaderState, Kept, KeptByPeek, Reads, Peeks, IsRight, Excused, IsEnd, Refused, RefusesBuffer, AnswersBuffer}
 use Rattle.speedy_read.specs.Composing.{Kept-same}
 
--- a reader of bytes that lie in memory, which lends parts of them: it never fails, and asks for no memory
+-- a reader of bytes that lie in memory, which lends parts of them: it never fails, asks for no memory, and ends as `UnexpectedEndOfInput` alone
 abbrev pub bytes_state : List ℕ → Form → ReaderState
 bytes_state bytes form = record {
   to_come = bytes;
@@ -21,6 +21,7 @@ bytes_state bytes form = record {
   tidy = true;
   buffers = false;
   takes_memory = false;
+  ends_by_device = false;
   form = form;
   faults = 0;
   targets = [];
@@ -34,6 +35,7 @@ Kept-drop n bytes form = record {
   tidy = λ t. t;
   buffers = refl;
   takes_memory = refl;
+  ends_by_device = refl;
   form = refl;
   faults = omega arith;
   targets = refl;
@@ -41,7 +43,7 @@ Kept-drop n bytes form = record {
 }
 
 pub KeptByPeek-same : (a : ReaderState) → KeptByPeek a a
-KeptByPeek-same a = record { tells = refl; lends = refl; buffers = refl; takes_memory = refl; form = refl; faults = omega arith; targets = refl; to_come = λ _. refl }
+KeptByPeek-same a = record { tells = refl; lends = refl; buffers = refl; takes_memory = refl; ends_by_device = refl; form = refl; faults = omega arith; targets = refl; to_come = λ _. refl }
 
 -- what a reader of bytes in memory says is right
 pub IsRight-bytes : (bytes : List ℕ) (form : Form) (n : ℕ) → IsRight (Some (nat_le n (length bytes))) (bytes_state bytes form) n
@@ -73,38 +75,38 @@ module _ {E : Type 0} (gives : Error → E → Type 0) (eof : E → Bool) where
   }
 
   -- the bytes are not there
-  pub bytes_missed : {A : Type 0} (seen : A → List ℕ) (e : E) (n : ℕ) (bytes : List ℕ) (form : Form) → length bytes < n → IsTrue (eof e) → Reads gives eof seen (bytes_of n) (Err e) (bytes_state bytes form) (bytes_state bytes form)
+  pub bytes_missed : {A : Type 0} (seen : A → List ℕ) (e : E) (n : ℕ) (bytes : List ℕ) (form : Form) → length bytes < n → IsEnd gives eof false e → Reads gives eof seen (bytes_of n) (Err e) (bytes_state bytes form) (bytes_state bytes form)
   unfolding bytes_of
-  bytes_missed seen e n bytes form l is_eof = record {
+  bytes_missed seen e n bytes form l ended = record {
     kept = Kept-same (bytes_state bytes form);
     answer = inr (record {
-      kind = inl is_eof;
+      kind = inl ended;
       because = λ _. record {
         no_front = λ v front rest is h. let m = ap length is ∙ length-append front rest in let k = h.1 in absurd (omega arith);
-        too_short = λ _ _ _. is_eof;
+        too_short = λ _ _ _. ended.1;
         at_fault = λ fault. absurd fault;
       };
     });
   }
 
-  pub bytes_not_skipped : {A : Type 0} (seen : A → Unit {0}) (e : E) (n : ℕ) (bytes : List ℕ) (form : Form) → length bytes < n → IsTrue (eof e) → Reads gives eof seen (any_bytes n) (Err e) (bytes_state bytes form) (bytes_state bytes form)
+  pub bytes_not_skipped : {A : Type 0} (seen : A → Unit {0}) (e : E) (n : ℕ) (bytes : List ℕ) (form : Form) → length bytes < n → IsEnd gives eof false e → Reads gives eof seen (any_bytes n) (Err e) (bytes_state bytes form) (bytes_state bytes form)
   unfolding any_bytes
-  bytes_not_skipped seen e n bytes form l is_eof = record {
+  bytes_not_skipped seen e n bytes form l ended = record {
     kept = Kept-same (bytes_state bytes form);
     answer = inr (record {
-      kind = inl is_eof;
+      kind = inl ended;
       because = λ _. record {
         no_front = λ v front rest is h. let m = ap length is ∙ length-append front rest in absurd (omega arith);
-        too_short = λ _ _ _. is_eof;
+        too_short = λ _ _ _. ended.1;
         at_fault = λ fault. absurd fault;
       };
     });
   }
 
-  pub bytes_not_peeked : {A : Type 0} (seen : A → List ℕ) (e : E) (n : ℕ) (bytes : List ℕ) (form : Form) → length bytes < n → IsTrue (eof e) → Peeks gives eof seen (bytes_of n) (Err e) (bytes_state bytes form) (bytes_state bytes form)
-  bytes_not_peeked seen e n bytes form l is_eof = record {
+  pub bytes_not_peeked : {A : Type 0} (seen : A → List ℕ) (e : E) (n : ℕ) (bytes : List ℕ) (form : Form) → length bytes < n → IsEnd gives eof false e → Peeks gives eof seen (bytes_of n) (Err e) (bytes_state bytes form) (bytes_state bytes form)
+  bytes_not_peeked seen e n bytes form l ended = record {
     kept = KeptByPeek-same (bytes_state bytes form);
-    answer = (bytes_missed seen e n bytes form l is_eof).answer;
+    answer = (bytes_missed seen e n bytes form l ended).answer;
   }
 
   -- a read from the front of a buffer answers for the buffer

@@ -3,13 +3,15 @@ use Rattle.std.specs.Prelude.{◌≡◌, ℕ, ◌≤◌, List, [], ◌∷◌, �
 use Rattle.std.proofs.Common.{sym, ◌∙◌, ap, subst, arith, inl, inr}
 use Rattle.std.proofs.lemmas.List.{append_assoc, append-nil, length-append}
 use Rattle.speedy_base.specs.declared.error.ErrorKind.{ErrorKind}
+use Rattle.speedy_base.specs.declared.error.ErrorKind.TheVariants as kinds
 use Rattle.speedy_base.specs.declared.error.Error.{Error}
+use Rattle.speedy_base.specs.Error.{error_of}
 use Rattle.speedy_base.specs.Device.{HasGrown}
 use Rattle.speedy_base.specs.Digits.{AreBytes}
 use Rattle.speedy_base.specs.DigitsLemmas.{AreBytes-append_parts}
 use Rattle.speedy_layout.specs.Language.{Language, Parts}
 use Rattle.speedy_layout.specs.Laws.{Laws}
-use Rattle.speedy_read.specs.Reading.{ReaderState, Kept, Got, IsTold, Excused, IsNamed, Unspelled, Refused, Reads, Peeks}
+use Rattle.speedy_read.specs.Reading.{ReaderState, Kept, Got, IsTold, Excused, IsNamed, IsEnd, Unspelled, Refused, Reads, Peeks}
 
 -- a value of N is one of L and then one of M, which may depend on it
 pub record Composes {U V : Type 0} {W : U → Type 0} (L : Language U) (M : (u : U) → Language (W u)) (N : Language V) (join : (u : U) → W u → V) : Type 0 where
@@ -52,6 +54,7 @@ Kept-after a b c h k = record {
   tidy = λ t. k.tidy (h.tidy t);
   buffers = k.buffers ∙ h.buffers;
   takes_memory = k.takes_memory ∙ h.takes_memory;
+  ends_by_device = k.ends_by_device ∙ h.ends_by_device;
   form = k.form ∙ h.form;
   faults = let x = h.faults in let y = k.faults in omega arith;
   targets = k.targets ∙ h.targets;
@@ -69,6 +72,7 @@ Kept-same a = record {
   tidy = λ t. t;
   buffers = refl;
   takes_memory = refl;
+  ends_by_device = refl;
   form = refl;
   faults = omega arith;
   targets = refl;
@@ -101,9 +105,17 @@ module _ {E : Type 0} (gives : Error → E → Type 0) (eof : E → Bool) where
   pub named_more : {names more : ErrorKind → Type 0} (e : E) → ((kind : ErrorKind) → names kind → more kind) → IsNamed gives eof names e → IsNamed gives eof more e
   named_more e f n = (n.0, f n.0 n.1, n.2)
 
-  pub kind_more : {names more : ErrorKind → Type 0} (e : E) → ((kind : ErrorKind) → names kind → more kind) → IsTrue (eof e) ⊎ IsNamed gives eof names e → IsTrue (eof e) ⊎ IsNamed gives eof more e
-  kind_more e f (inl h) = inl h
-  kind_more e f (inr n) = inr (named_more e f n)
+  -- an error that says so
+  pub input_ended : (by_device : Bool) (e : E) → gives (error_of kinds.UnexpectedEndOfInput) e → IsTrue (eof e) → IsEnd gives eof by_device e
+  input_ended by_device e g h = ((kinds.UnexpectedEndOfInput, tt, g), h)
+
+  pub kind_more : {names more : ErrorKind → Type 0} (by_device : Bool) (e : E) → ((kind : ErrorKind) → names kind → more kind) → IsEnd gives eof by_device e ⊎ IsNamed gives eof names e → IsEnd gives eof by_device e ⊎ IsNamed gives eof more e
+  kind_more by_device e f (inl h) = inl h
+  kind_more by_device e f (inr n) = inr (named_more e f n)
+
+  -- a reader that ends as before
+  pub kind_after : {names : ErrorKind → Type 0} (before after : Bool) (e : E) → after ≡ before → IsEnd gives eof after e ⊎ IsNamed gives eof names e → IsEnd gives eof before e ⊎ IsNamed gives eof names e
+  kind_after {names = names} before after e same h = subst (λ (by_device : Bool). IsEnd gives eof by_device e ⊎ IsNamed gives eof names e) same h
 
   pub excused_more : (takes more : Bool) (e : E) (old new : ReaderState) → (IsTrue takes → IsTrue more) → Excused gives eof takes e old new → Excused gives eof more e old new
   excused_more takes more e old new f (inl (g, inl t)) = inl (g, inl (f t))
@@ -138,7 +150,7 @@ module _ {E : Type 0} (gives : Error → E → Type 0) (eof : E → Bool) where
     refusal_first : (e : E) (old new : ReaderState) → Excused gives eof L.takes_memory e old new ⊎ Refused gives eof L e old → Excused gives eof N.takes_memory e old new ⊎ Refused gives eof N e old
     refusal_first e old new (inl x) = inl (excused_more L.takes_memory N.takes_memory e old new c.takes_first x)
     refusal_first e old new (inr x) = inr (record {
-      kind = kind_more e c.names_first x.kind;
+      kind = kind_more old.ends_by_device e c.names_first x.kind;
       because = λ told. unspelled_first e old.to_come (x.because (IsTold-part N L old c.lends_first told));
     })
 
@@ -177,7 +189,7 @@ module _ {E : Type 0} (gives : Error → E → Type 0) (eof : E → Bool) where
         answer = elim r.answer [
           | inl x ↦ inl (excused_after ((M u).takes_memory) N.takes_memory e old mid new k (c.takes_second u) x)
           | inr x ↦ inr (record {
-            kind = kind_more e (c.names_second u) x.kind;
+            kind = kind_after old.ends_by_device mid.ends_by_device e k.ends_by_device (kind_more mid.ends_by_device e (c.names_second u) x.kind);
             because = λ told.
                 subst (λ (bytes : List ℕ). Unspelled gives eof N e bytes) (sym (got.taken told.tells))
                 (unspelled_second u e got.front mid.to_come got.front_is (x.because (IsTold-after N (M u) old mid k (c.lends_second u) told)));
@@ -206,7 +218,7 @@ module _ {E : Type 0} (gives : Error → E → Type 0) (eof : E → Bool) where
     refusal_covered : (e : E) (old new : ReaderState) → Excused gives eof L.takes_memory e old new ⊎ Refused gives eof L e old → Excused gives eof N.takes_memory e old new ⊎ Refused gives eof N e old
     refusal_covered e old new (inl x) = inl (excused_more L.takes_memory N.takes_memory e old new c.takes x)
     refusal_covered e old new (inr x) = inr (record {
-      kind = kind_more e c.names x.kind;
+      kind = kind_more old.ends_by_device e c.names x.kind;
       because = λ told.
           let un = x.because (IsTold-part N L old c.lends told) in
           record {

@@ -9,8 +9,8 @@ use Rattle.speedy_base.specs.Error.{error_of}
 use Rattle.speedy_layout.specs.Language.{Language, Each}
 use Rattle.speedy_layout.specs.Laws.{Laws}
 use Rattle.speedy_layout.specs.Lists.{vector, each_size, across}
-use Rattle.speedy_read.specs.Reading.{ReaderState, Kept, Got, Reads, IsRight}
-use Rattle.speedy_read.specs.Composing.{fronts_nest, Kept-after, Kept-same, excused_after, IsTold-after}
+use Rattle.speedy_read.specs.Reading.{ReaderState, Kept, Got, Reads, IsEnd, IsRight}
+use Rattle.speedy_read.specs.Composing.{fronts_nest, Kept-after, Kept-same, excused_after, kind_after, IsTold-after}
 
 -- a list of items and one item more
 pub each_more : {V : Type 0} (spells : V → List ℕ → Type 0) (vs : List V) (v : V) (s t : List ℕ) → Each spells vs s → spells v t → Each spells (vs ++ v ∷ []) (s ++ t)
@@ -52,7 +52,7 @@ module _ {V : Type 0} (least : ℕ) (L : Language V) (laws : Laws least L) where
       answer = elim r.answer [
         | inl x ↦ inl (excused_after gives eof L.takes_memory true e old mid new k (λ _. refl) x)
         | inr x ↦ inr (record {
-          kind = x.kind;
+          kind = kind_after gives eof old.ends_by_device mid.ends_by_device e k.ends_by_device x.kind;
           because = λ told.
               let un = x.because (IsTold-after (vector n L) L old mid k (λ need. need) told) in
               record {
@@ -90,12 +90,12 @@ module _ {V : Type 0} (least : ℕ) (L : Language V) (laws : Laws least L) where
     }
 
     -- fewer bytes are to come than so many items have at least
-    pub refused_early : {B : Type 0} (n : ℕ) (view : B → List V) (e : E) (old : ReaderState) → IsTrue (eof e) → (IsTrue old.tells → length old.to_come < 2 ^ 64 - 1 → length old.to_come < n * least) → Reads gives eof view (vector n L) (Err e) old old
+    pub refused_early : {B : Type 0} (n : ℕ) (view : B → List V) (e : E) (old : ReaderState) → IsEnd gives eof old.ends_by_device e → (IsTrue old.tells → length old.to_come < 2 ^ 64 - 1 → length old.to_come < n * least) → Reads gives eof view (vector n L) (Err e) old old
     unfolding vector
-    refused_early n view e old is_eof fewer = record {
+    refused_early n view e old ended fewer = record {
       kept = Kept-same old;
       answer = inr (record {
-        kind = inl is_eof;
+        kind = inl ended;
         because = λ told. record {
           no_front = λ ws front rest is sp.
               let size = each_size least L laws ws front sp.1 in
@@ -103,7 +103,7 @@ module _ {V : Type 0} (least : ℕ) (L : Language V) (laws : Laws least L) where
               let f = fewer told.tells told.fit in
               let m = subst (λ (k : ℕ). k * least ≤ length front) sp.0 size in
               absurd (omega arith);
-          too_short = λ _ _ _. is_eof;
+          too_short = λ _ _ _. ended.1;
           at_fault = λ fault. absurd fault;
         };
       });

@@ -14,7 +14,7 @@ use Rattle.speedy_base.specs.Form.{Form}
 use Rattle.speedy_layout.specs.Language.{Language, Each}
 use Rattle.speedy_layout.specs.Numbers.{digits_language, digits_laws}
 use Rattle.speedy_layout.specs.Lists.{vector, vector_laws, counted}
-use Rattle.speedy_layout.specs.Texts.{bytes_of, text_of_length, text}
+use Rattle.speedy_layout.specs.Texts.{bytes_of, any_bytes, text_of_length, text}
 use Rattle.speedy_layout.specs.Utf8.{AreBytes-utf8}
 use Rattle.speedy_read.specs.Reading.{ReaderState, Kept, Got, Reads}
 use Rattle.speedy_read.specs.Composing.{Composes, Covers, refused_by_test}
@@ -110,6 +110,17 @@ each_byte_is order (v ∷ vs) bytes h =
     let front = one_digit order v h.front h.first_is in
     let more = each_byte_is order vs h.back h.second_is in
     ap (λ x. v ∷ x) more ∙ (ap (λ x. x ++ h.back) (sym front) ∙ sym h.whole_is)
+
+-- so numbers of one digit are read where as many bytes are
+pub any_bytes_cover : (n : ℕ) (form : Form) → Covers (any_bytes n) (vector n (digits_language 1 form))
+unfolding any_bytes vector digits_language
+any_bytes_cover n form = record {
+  under = λ v s h. (tt, ap length (sym (each_byte_is form.order v s h.1)) ∙ h.0);
+  names = λ kind h. absurd h;
+  faults = λ bytes are h. absurd h;
+  takes = never;
+  lends = never;
+}
 
 -- bytes that were read spell the number that they stand for
 pub number_stands : (width : ℕ) (form : Form) (n : ℕ) (bytes s : List ℕ) → SpellsNumber width form.order n bytes → (bytes_of width).spells bytes s → (digits_language width form).spells n s

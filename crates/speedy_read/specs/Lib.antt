@@ -7,6 +7,7 @@ pub mod Exits
 pub mod Buffers
 pub mod Skipping
 pub mod Varints
+pub mod RoundTrip
 pub mod Coding
 pub mod Owned
 pub mod Composed

@@ -1,10 +1,11 @@
 -- What a read does.
-use Rattle.std.specs.Prelude.{◌≡◌, ℕ, ◌≤◌, ◌<◌, ◌-◌, ◌^◌, List, ◌++◌, length, Bool, IsTrue, ◌⊎◌, ◌↔◌, Option, Some, Result, MatchResult, IfOk, IfErr, IsErrAnd}
+use Rattle.std.specs.Prelude.{◌≡◌, ℕ, ◌≤◌, ◌<◌, ◌-◌, ◌^◌, List, ◌++◌, length, Bool, false, IsTrue, ◌⊎◌, ◌↔◌, Option, Some, Result, MatchResult, IfOk, IfErr, IsErrAnd}
 use Rattle.std.specs.Borrow.{GName}
 use Rattle.speedy_base.specs.declared.error.ErrorKind.{ErrorKind}
 use Rattle.speedy_base.specs.declared.error.ErrorKind.TheVariants as kinds
 use Rattle.speedy_base.specs.declared.error.Error.{Error}
 use Rattle.speedy_base.specs.Error.{error_of}
+use Rattle.speedy_base.specs.ErrorKind.{EndsInput}
 use Rattle.speedy_base.specs.Device.{HasGrown}
 use Rattle.speedy_base.specs.Digits.{AreBytes}
 use Rattle.speedy_base.specs.Form.{Form}
@@ -23,6 +24,8 @@ pub record ReaderState : Type 0 where
   pub buffers : Bool
   -- its reads may ask for memory
   pub takes_memory : Bool
+  -- an end of its bytes may be answered as the device's own, an `IoError`, and not only as `UnexpectedEndOfInput`
+  pub ends_by_device : Bool
   -- what its context asks of the bytes
   pub form : Form
   -- its device's number of failed calls
@@ -37,6 +40,7 @@ pub record Kept (old new : ReaderState) : Type 0 where
   pub tidy : IsTrue old.tidy → IsTrue new.tidy
   pub buffers : new.buffers ≡ old.buffers
   pub takes_memory : new.takes_memory ≡ old.takes_memory
+  pub ends_by_device : new.ends_by_device ≡ old.ends_by_device
   pub form : new.form ≡ old.form
   pub faults : old.faults ≤ new.faults
   pub targets : new.targets ≡ old.targets
@@ -49,6 +53,7 @@ pub record KeptByPeek (old new : ReaderState) : Type 0 where
   pub lends : new.lends ≡ old.lends
   pub buffers : new.buffers ≡ old.buffers
   pub takes_memory : new.takes_memory ≡ old.takes_memory
+  pub ends_by_device : new.ends_by_device ≡ old.ends_by_device
   pub form : new.form ≡ old.form
   pub faults : old.faults ≤ new.faults
   pub targets : new.targets ≡ old.targets
@@ -87,9 +92,13 @@ module _ {E : Type 0} (gives : Error → E → Type 0) (eof : E → Bool) where
   abbrev pub Excused : Bool → E → ReaderState → ReaderState → Type 0
   Excused takes e old new = (gives (error_of kinds.OutOfMemory) e × (IsTrue takes ⊎ IsTrue old.takes_memory)) ⊎ HasGrown old.faults new.faults
 
-  -- an end of the bytes, or a refusal of a kind that is named
+  -- a refusal of a kind that is named
   abbrev pub IsNamed : (ErrorKind → Type 0) → E → Type 0
   IsNamed names e = (kind : ErrorKind) × names kind × gives (error_of kind) e
+
+  -- the bytes ended, as the reader says it
+  abbrev pub IsEnd : Bool → E → Type 0
+  IsEnd by_device e = IsNamed (EndsInput by_device) e × IsTrue (eof e)
 
   -- the bytes to come spell no value at their front, and the error says whether they may begin a spelling
   pub record Unspelled {V : Type 0} (L : Language V) (e : E) (bytes : List ℕ) : Type 0 where
@@ -99,12 +108,12 @@ module _ {E : Type 0} (gives : Error → E → Type 0) (eof : E → Bool) where
 
   -- a clean refusal
   pub record Refused {V : Type 0} (L : Language V) (e : E) (old : ReaderState) : Type 0 where
-    pub kind : IsTrue (eof e) ⊎ IsNamed L.names e
+    pub kind : IsEnd old.ends_by_device e ⊎ IsNamed L.names e
     pub because : IsTold L old → Unspelled L e old.to_come
 
-  -- bytes that spell no value at their front are refused: as an end where they may begin a spelling, and else with a kind that the type names
+  -- bytes that spell no value at their front are refused: as `UnexpectedEndOfInput` where they may begin a spelling, and else so or with a kind that the type names
   pub record RefusesBuffer {V : Type 0} (L : Language V) (e : E) (bytes : List ℕ) : Type 0 where
-    pub kind : IsTrue (eof e) ⊎ IsNamed L.names e
+    pub kind : IsEnd false e ⊎ IsNamed L.names e
     pub because : Unspelled L e bytes
 
   -- A read of a language's values. A value that is answered is spelled by a front of the bytes to come, and just that front is taken. A clean refusal means that no front spells any value.

@@ -10,7 +10,7 @@ use Rattle.speedy_layout.specs.Numbers.{digits_language}
 use Rattle.speedy_layout.specs.Texts.{bytes_of}
 use Rattle.speedy_layout.specs.Varint.{varint, StartsVarint, StartsVarint-same, StartsVarint-byte, varint-starts}
 use Rattle.speedy_read.specs.Reading.{ReaderState, KeptByPeek, Ahead, IsTold, Excused, Unspelled, Peeks}
-use Rattle.speedy_read.specs.Composing.{Composes, Covers, HasGrown-after}
+use Rattle.speedy_read.specs.Composing.{Composes, Covers, HasGrown-after, kind_after}
 use Rattle.speedy_read.specs.Leaves.{one_digit, one_byte}
 
 -- what may follow a first byte
@@ -19,6 +19,7 @@ varint_after first = record {
   spells = λ n tail. varint.spells n (first ∷ tail);
   writes = λ n tail. varint.spells n (first ∷ tail);
   names = λ _. ⊥;
+  refuses_writing = λ _. ⊥;
   at_fault = λ _. ⊥;
   needs_lending = false;
   hashed = false;
@@ -102,6 +103,7 @@ KeptByPeek-after a b c h k = record {
   lends = k.lends ∙ h.lends;
   buffers = k.buffers ∙ h.buffers;
   takes_memory = k.takes_memory ∙ h.takes_memory;
+  ends_by_device = k.ends_by_device ∙ h.ends_by_device;
   form = k.form ∙ h.form;
   faults = let x = h.faults in let y = k.faults in omega arith;
   targets = k.targets ∙ h.targets;
@@ -139,7 +141,7 @@ module _ {E : Type 0} (gives : Error → E → Type 0) (eof : E → Bool) where
     answer = elim r.answer [
       | inl x ↦ inl (excused_after_peek false false e old mid new kept (λ t. t) x)
       | inr x ↦ inr (record {
-        kind = x.kind;
+        kind = kind_after gives eof old.ends_by_device mid.ends_by_device e kept.ends_by_device x.kind;
         because = λ told.
             let same = kept.to_come told.tells in
             let there : IsTold (bytes_of size) mid = record {

@@ -2,6 +2,7 @@
 #![tactic(auto)]
 
 pub mod buffer_reader;
+pub mod laws;
 pub mod private;
 pub mod readable;
 pub mod readable_addresses;

@@ -5,7 +5,7 @@ ghost use Rattle.speedy_base.specs.Form.{plain_form};
 ghost use Rattle.speedy_layout.specs.Lists.{vector};
 ghost use Rattle.speedy_read.specs.Reading.{Reads, AnswersBuffer};
 
-use crate::buffer_reader::BufferReader;
+pub use crate::buffer_reader::BufferReader;
 use crate::reader::LendingReader;
 use speedy_base::context::{Context, PlainContext};
 use speedy_base::endianness::Endianness;
@@ -27,6 +27,15 @@ pub trait ReadFrom<L: AsSlice<u8> + Drop, C: Context>: Layout + Sized + Drop {
     fn read_from<R: LendingReader<L, C>>(reader: &mut R) -> Result<Self, C::Error>
         ensures { Reads C.Error.from_gives C.Error.eof Self.seen (Self.language (R.state reader.old).form) result (R.state reader.old) (R.state reader.new) };
 
+    /// The least number of bytes that spell a value.
+    fn minimum_bytes_needed() -> usize
+        ensures { result ≡ Self.least };
+}
+
+/// What types that are read implement besides, for several values at once.
+///
+/// The body serves each type. One that is read faster in bulk has a body of its own.
+pub trait ReadMany<L: AsSlice<u8> + Drop, C: Context>: ReadFrom<L, C> {
     /// Reads so many values, one after another.
     fn read_many<R: LendingReader<L, C>>(
         reader: &mut R,
@@ -34,24 +43,12 @@ pub trait ReadFrom<L: AsSlice<u8> + Drop, C: Context>: Layout + Sized + Drop {
     ) -> Result<Vec<Self>, C::Error>
         ensures { Reads C.Error.from_gives C.Error.eof (λ v. map Self.seen v.items) (vector length (Self.language (R.state reader.old).form)) result (R.state reader.old) (R.state reader.new) }
     {
-        let least = Self::minimum_bytes_needed();
-        let mut items = vec_for::<Self, L, C, R>(reader, least, length)?;
-        for _i in 0..length {
-            let item = Self::read_from(reader)?;
-            if items.push(item).is_err() {
-                return Err(error_out_of_memory());
-            }
-        }
-        Ok(items)
+        read_each::<Self, L, C, R>(reader, length)
     }
-
-    /// The least number of bytes that spell a value.
-    fn minimum_bytes_needed() -> usize
-        ensures { result ≡ Self.least };
 }
 
 /// Types that are read from bytes, which may be lent for `'a`.
-pub trait Readable<'a, C: Context>: ReadFrom<&'a [u8], C> {
+pub trait Readable<'a, C: Context>: ReadMany<&'a [u8], C> {
     /// The value that a front of the buffer spells in the little byte order.
     ///
     /// A buffer that is shorter than any spelling is refused with `InputBufferIsTooSmall`.
@@ -110,10 +107,27 @@ pub trait Readable<'a, C: Context>: ReadFrom<&'a [u8], C> {
     }
 }
 
-impl<'a, C: Context, T: ReadFrom<&'a [u8], C>> Readable<'a, C> for T {}
+impl<'a, C: Context, T: ReadMany<&'a [u8], C>> Readable<'a, C> for T {}
+
+// Reads so many values, each by itself. It stands outside the trait, so that it is proved once for all types.
+fn read_each<T: ReadFrom<L, C>, L: AsSlice<u8> + Drop, C: Context, R: LendingReader<L, C>>(
+    reader: &mut R,
+    length: usize,
+) -> Result<Vec<T>, C::Error>
+    ensures { Reads C.Error.from_gives C.Error.eof (λ v. map T.seen v.items) (vector length (T.language (R.state reader.old).form)) result (R.state reader.old) (R.state reader.new) }
+{
+    let mut items = vec_for::<T, L, C, R>(reader, T::minimum_bytes_needed(), length)?;
+    for _i in 0..length {
+        let item = T::read_from(reader)?;
+        if items.push(item).is_err() {
+            return Err(error_out_of_memory());
+        }
+    }
+    Ok(items)
+}
 
 // An empty vector, with room for so many items where the reader says that their bytes are to come.
-fn vec_for<T, L: AsSlice<u8> + Drop, C: Context, R: LendingReader<L, C>>(
+pub(crate) fn vec_for<T, L: AsSlice<u8> + Drop, C: Context, R: LendingReader<L, C>>(
     reader: &R,
     least: usize,
     length: usize,

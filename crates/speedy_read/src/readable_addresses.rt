@@ -2,7 +2,7 @@
 ghost use Rattle.std.specs.Prelude.{◌≡◌};
 ghost use Rattle.speedy_read.specs.Reading.{Reads};
 
-use crate::readable::ReadFrom;
+use crate::readable::{ReadFrom, ReadMany};
 use crate::reader::LendingReader;
 use speedy_base::context::Context;
 use speedy_base::error::error_invalid_enum_variant;
@@ -32,3 +32,5 @@ impl<L: AsSlice<u8> + Drop, C: Context> ReadFrom<L, C> for IpAddr {
         5
     }
 }
+
+impl<L: AsSlice<u8> + Drop, C: Context> ReadMany<L, C> for IpAddr {}

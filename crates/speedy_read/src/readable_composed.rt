@@ -1,14 +1,16 @@
 //! How flags, and values that are one part after another, are read.
-ghost use Rattle.std.specs.Prelude.{◌≡◌, ◌+◌, MatchOption};
+ghost use Rattle.std.specs.Prelude.{◌≡◌, ◌+◌, false, MatchOption, IfOk};
 ghost use Rattle.std.specs.Option.{option_map};
+ghost use Rattle.std.specs.Range.{range_inclusive_exhausted};
 ghost use Rattle.std.specs.Result.{result_map_both};
 ghost use Rattle.speedy_layout.specs.Composed.{saturated};
 ghost use Rattle.speedy_read.specs.Reading.{Reads};
 
-use crate::readable::ReadFrom;
+use crate::readable::{ReadFrom, ReadMany};
 use crate::reader::LendingReader;
 use speedy_base::context::Context;
 use speedy_layout::composed;
+use speedy_layout::layout::Layout;
 use std::convert::AsSlice;
 use std::ops::{Range, RangeInclusive};
 
@@ -24,6 +26,8 @@ impl<L: AsSlice<u8> + Drop, C: Context> ReadFrom<L, C> for () {
     }
 }
 
+impl<L: AsSlice<u8> + Drop, C: Context> ReadMany<L, C> for () {}
+
 impl<L: AsSlice<u8> + Drop, C: Context> ReadFrom<L, C> for bool {
     #[inline]
     fn read_from<R: LendingReader<L, C>>(reader: &mut R) -> Result<bool, C::Error> {
@@ -36,6 +40,8 @@ impl<L: AsSlice<u8> + Drop, C: Context> ReadFrom<L, C> for bool {
         1
     }
 }
+
+impl<L: AsSlice<u8> + Drop, C: Context> ReadMany<L, C> for bool {}
 
 impl<L: AsSlice<u8> + Drop, C: Context, T: ReadFrom<L, C>> ReadFrom<L, C> for Option<T> {
     #[inline]
@@ -53,6 +59,8 @@ impl<L: AsSlice<u8> + Drop, C: Context, T: ReadFrom<L, C>> ReadFrom<L, C> for Op
         1
     }
 }
+
+impl<L: AsSlice<u8> + Drop, C: Context, T: ReadFrom<L, C>> ReadMany<L, C> for Option<T> {}
 
 impl<L: AsSlice<u8> + Drop, C: Context, T: ReadFrom<L, C>, U: ReadFrom<L, C>> ReadFrom<L, C>
     for Result<T, U> {
@@ -74,6 +82,9 @@ impl<L: AsSlice<u8> + Drop, C: Context, T: ReadFrom<L, C>, U: ReadFrom<L, C>> Re
     }
 }
 
+impl<L: AsSlice<u8> + Drop, C: Context, T: ReadFrom<L, C>, U: ReadFrom<L, C>> ReadMany<L, C>
+    for Result<T, U> {}
+
 impl<L: AsSlice<u8> + Drop, C: Context, T: ReadFrom<L, C>> ReadFrom<L, C> for Range<T> {
     #[inline]
     fn read_from<R: LendingReader<L, C>>(reader: &mut R) -> Result<Range<T>, C::Error> {
@@ -87,9 +98,14 @@ impl<L: AsSlice<u8> + Drop, C: Context, T: ReadFrom<L, C>> ReadFrom<L, C> for Ra
     }
 }
 
+impl<L: AsSlice<u8> + Drop, C: Context, T: ReadFrom<L, C>> ReadMany<L, C> for Range<T> {}
+
 impl<L: AsSlice<u8> + Drop, C: Context, T: ReadFrom<L, C>> ReadFrom<L, C> for RangeInclusive<T> {
     #[inline]
-    fn read_from<R: LendingReader<L, C>>(reader: &mut R) -> Result<RangeInclusive<T>, C::Error> {
+    fn read_from<R: LendingReader<L, C>>(reader: &mut R) -> Result<RangeInclusive<T>, C::Error>
+        ensures reads { Reads C.Error.from_gives C.Error.eof ⟦<RangeInclusive<T> as Layout>⟧.seen (⟦<RangeInclusive<T> as Layout>⟧.language (R.state reader.old).form) result (R.state reader.old) (R.state reader.new) }
+        ensures not_walked { IfOk result (λ range. range_inclusive_exhausted range ≡ false) }
+    {
         let (start, end) = reader.read_value::<(T, T)>()?;
         Ok(start..=end)
     }
@@ -99,3 +115,5 @@ impl<L: AsSlice<u8> + Drop, C: Context, T: ReadFrom<L, C>> ReadFrom<L, C> for Ra
         T::minimum_bytes_needed().saturating_mul(2)
     }
 }
+
+impl<L: AsSlice<u8> + Drop, C: Context, T: ReadFrom<L, C>> ReadMany<L, C> for RangeInclusive<T> {}

@@ -2,7 +2,7 @@
 ghost use Rattle.std.specs.Prelude.{◌≡◌};
 ghost use Rattle.speedy_read.specs.Reading.{Reads};
 
-use crate::readable::ReadFrom;
+use crate::readable::{ReadFrom, ReadMany};
 use crate::reader::LendingReader;
 use speedy_base::context::Context;
 use speedy_base::endianness::Endianness;
@@ -29,6 +29,8 @@ impl<L: AsSlice<u8> + Drop, C: Context> ReadFrom<L, C> for char {
     }
 }
 
+impl<L: AsSlice<u8> + Drop, C: Context> ReadMany<L, C> for char {}
+
 impl<L: AsSlice<u8> + Drop, C: Context> ReadFrom<L, C> for Endianness {
     #[inline]
     fn read_from<R: LendingReader<L, C>>(reader: &mut R) -> Result<Endianness, C::Error> {
@@ -45,6 +47,8 @@ impl<L: AsSlice<u8> + Drop, C: Context> ReadFrom<L, C> for Endianness {
     }
 }
 
+impl<L: AsSlice<u8> + Drop, C: Context> ReadMany<L, C> for Endianness {}
+
 impl<L: AsSlice<u8> + Drop, C: Context> ReadFrom<L, C> for Ipv4Addr {
     #[inline]
     fn read_from<R: LendingReader<L, C>>(reader: &mut R) -> Result<Ipv4Addr, C::Error> {
@@ -58,6 +62,8 @@ impl<L: AsSlice<u8> + Drop, C: Context> ReadFrom<L, C> for Ipv4Addr {
     }
 }
 
+impl<L: AsSlice<u8> + Drop, C: Context> ReadMany<L, C> for Ipv4Addr {}
+
 impl<L: AsSlice<u8> + Drop, C: Context> ReadFrom<L, C> for Ipv6Addr {
     #[inline]
     fn read_from<R: LendingReader<L, C>>(reader: &mut R) -> Result<Ipv6Addr, C::Error> {
@@ -70,6 +76,8 @@ impl<L: AsSlice<u8> + Drop, C: Context> ReadFrom<L, C> for Ipv6Addr {
         16
     }
 }
+
+impl<L: AsSlice<u8> + Drop, C: Context> ReadMany<L, C> for Ipv6Addr {}
 
 impl<L: AsSlice<u8> + Drop, C: Context> ReadFrom<L, C> for Duration {
     /// Reads seconds and nanoseconds. Nanoseconds of a second and more carry into the seconds.
@@ -88,3 +96,5 @@ impl<L: AsSlice<u8> + Drop, C: Context> ReadFrom<L, C> for Duration {
         12
     }
 }
+
+impl<L: AsSlice<u8> + Drop, C: Context> ReadMany<L, C> for Duration {}

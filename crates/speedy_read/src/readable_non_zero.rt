@@ -1,5 +1,5 @@
 //! How numbers that are not 0 are read.
-use crate::readable::ReadFrom;
+use crate::readable::{ReadFrom, ReadMany};
 use crate::reader::LendingReader;
 use speedy_base::context::Context;
 use speedy_base::error::error_zero_non_zero;
@@ -23,6 +23,8 @@ impl<L: AsSlice<u8> + Drop, C: Context> ReadFrom<L, C> for NonZeroU8 {
     }
 }
 
+impl<L: AsSlice<u8> + Drop, C: Context> ReadMany<L, C> for NonZeroU8 {}
+
 impl<L: AsSlice<u8> + Drop, C: Context> ReadFrom<L, C> for NonZeroU16 {
     #[inline]
     fn read_from<R: LendingReader<L, C>>(reader: &mut R) -> Result<NonZeroU16, C::Error> {
@@ -37,6 +39,8 @@ impl<L: AsSlice<u8> + Drop, C: Context> ReadFrom<L, C> for NonZeroU16 {
         2
     }
 }
+
+impl<L: AsSlice<u8> + Drop, C: Context> ReadMany<L, C> for NonZeroU16 {}
 
 impl<L: AsSlice<u8> + Drop, C: Context> ReadFrom<L, C> for NonZeroU32 {
     #[inline]
@@ -53,6 +57,8 @@ impl<L: AsSlice<u8> + Drop, C: Context> ReadFrom<L, C> for NonZeroU32 {
     }
 }
 
+impl<L: AsSlice<u8> + Drop, C: Context> ReadMany<L, C> for NonZeroU32 {}
+
 impl<L: AsSlice<u8> + Drop, C: Context> ReadFrom<L, C> for NonZeroU64 {
     #[inline]
     fn read_from<R: LendingReader<L, C>>(reader: &mut R) -> Result<NonZeroU64, C::Error> {
@@ -67,6 +73,8 @@ impl<L: AsSlice<u8> + Drop, C: Context> ReadFrom<L, C> for NonZeroU64 {
         8
     }
 }
+
+impl<L: AsSlice<u8> + Drop, C: Context> ReadMany<L, C> for NonZeroU64 {}
 
 impl<L: AsSlice<u8> + Drop, C: Context> ReadFrom<L, C> for NonZeroI8 {
     #[inline]
@@ -83,6 +91,8 @@ impl<L: AsSlice<u8> + Drop, C: Context> ReadFrom<L, C> for NonZeroI8 {
     }
 }
 
+impl<L: AsSlice<u8> + Drop, C: Context> ReadMany<L, C> for NonZeroI8 {}
+
 impl<L: AsSlice<u8> + Drop, C: Context> ReadFrom<L, C> for NonZeroI16 {
     #[inline]
     fn read_from<R: LendingReader<L, C>>(reader: &mut R) -> Result<NonZeroI16, C::Error> {
@@ -97,6 +107,8 @@ impl<L: AsSlice<u8> + Drop, C: Context> ReadFrom<L, C> for NonZeroI16 {
         2
     }
 }
+
+impl<L: AsSlice<u8> + Drop, C: Context> ReadMany<L, C> for NonZeroI16 {}
 
 impl<L: AsSlice<u8> + Drop, C: Context> ReadFrom<L, C> for NonZeroI32 {
     #[inline]
@@ -113,6 +125,8 @@ impl<L: AsSlice<u8> + Drop, C: Context> ReadFrom<L, C> for NonZeroI32 {
     }
 }
 
+impl<L: AsSlice<u8> + Drop, C: Context> ReadMany<L, C> for NonZeroI32 {}
+
 impl<L: AsSlice<u8> + Drop, C: Context> ReadFrom<L, C> for NonZeroI64 {
     #[inline]
     fn read_from<R: LendingReader<L, C>>(reader: &mut R) -> Result<NonZeroI64, C::Error> {
@@ -127,3 +141,5 @@ impl<L: AsSlice<u8> + Drop, C: Context> ReadFrom<L, C> for NonZeroI64 {
         8
     }
 }
+
+impl<L: AsSlice<u8> + Drop, C: Context> ReadMany<L, C> for NonZeroI64 {}

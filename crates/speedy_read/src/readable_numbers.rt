@@ -1,5 +1,5 @@
 //! How the wider numbers and the signed ones are read.
-use crate::readable::ReadFrom;
+use crate::readable::{ReadFrom, ReadMany};
 use crate::reader::LendingReader;
 use speedy_base::context::Context;
 use speedy_base::error::error_too_big_usize_for_this_architecture;
@@ -17,6 +17,8 @@ impl<L: AsSlice<u8> + Drop, C: Context> ReadFrom<L, C> for u64 {
     }
 }
 
+impl<L: AsSlice<u8> + Drop, C: Context> ReadMany<L, C> for u64 {}
+
 impl<L: AsSlice<u8> + Drop, C: Context> ReadFrom<L, C> for u128 {
     #[inline]
     fn read_from<R: LendingReader<L, C>>(reader: &mut R) -> Result<u128, C::Error> {
@@ -28,6 +30,8 @@ impl<L: AsSlice<u8> + Drop, C: Context> ReadFrom<L, C> for u128 {
         16
     }
 }
+
+impl<L: AsSlice<u8> + Drop, C: Context> ReadMany<L, C> for u128 {}
 
 impl<L: AsSlice<u8> + Drop, C: Context> ReadFrom<L, C> for i8 {
     #[inline]
@@ -41,6 +45,8 @@ impl<L: AsSlice<u8> + Drop, C: Context> ReadFrom<L, C> for i8 {
     }
 }
 
+impl<L: AsSlice<u8> + Drop, C: Context> ReadMany<L, C> for i8 {}
+
 impl<L: AsSlice<u8> + Drop, C: Context> ReadFrom<L, C> for i16 {
     #[inline]
     fn read_from<R: LendingReader<L, C>>(reader: &mut R) -> Result<i16, C::Error> {
@@ -52,6 +58,8 @@ impl<L: AsSlice<u8> + Drop, C: Context> ReadFrom<L, C> for i16 {
         2
     }
 }
+
+impl<L: AsSlice<u8> + Drop, C: Context> ReadMany<L, C> for i16 {}
 
 impl<L: AsSlice<u8> + Drop, C: Context> ReadFrom<L, C> for i32 {
     #[inline]
@@ -65,6 +73,8 @@ impl<L: AsSlice<u8> + Drop, C: Context> ReadFrom<L, C> for i32 {
     }
 }
 
+impl<L: AsSlice<u8> + Drop, C: Context> ReadMany<L, C> for i32 {}
+
 impl<L: AsSlice<u8> + Drop, C: Context> ReadFrom<L, C> for i64 {
     #[inline]
     fn read_from<R: LendingReader<L, C>>(reader: &mut R) -> Result<i64, C::Error> {
@@ -77,6 +87,8 @@ impl<L: AsSlice<u8> + Drop, C: Context> ReadFrom<L, C> for i64 {
     }
 }
 
+impl<L: AsSlice<u8> + Drop, C: Context> ReadMany<L, C> for i64 {}
+
 impl<L: AsSlice<u8> + Drop, C: Context> ReadFrom<L, C> for i128 {
     #[inline]
     fn read_from<R: LendingReader<L, C>>(reader: &mut R) -> Result<i128, C::Error> {
@@ -88,6 +100,8 @@ impl<L: AsSlice<u8> + Drop, C: Context> ReadFrom<L, C> for i128 {
         16
     }
 }
+
+impl<L: AsSlice<u8> + Drop, C: Context> ReadMany<L, C> for i128 {}
 
 impl<L: AsSlice<u8> + Drop, C: Context> ReadFrom<L, C> for usize {
     #[inline]
@@ -103,3 +117,5 @@ impl<L: AsSlice<u8> + Drop, C: Context> ReadFrom<L, C> for usize {
         8
     }
 }
+
+impl<L: AsSlice<u8> + Drop, C: Context> ReadMany<L, C> for usize {}

@@ -1,5 +1,5 @@
 //! How what owns its content is read.
-use crate::readable::ReadFrom;
+use crate::readable::{ReadFrom, ReadMany};
 use crate::reader::LendingReader;
 use speedy_base::context::Context;
 use speedy_base::error::error_out_of_memory;
@@ -22,6 +22,8 @@ impl<L: AsSlice<u8> + Drop, C: Context, T: ReadFrom<L, C>> ReadFrom<L, C> for Bo
     }
 }
 
+impl<L: AsSlice<u8> + Drop, C: Context, T: ReadFrom<L, C>> ReadMany<L, C> for Box<T> {}
+
 impl<L: AsSlice<u8> + Drop, C: Context> ReadFrom<L, C> for BoxedStr {
     #[inline]
     fn read_from<R: LendingReader<L, C>>(reader: &mut R) -> Result<BoxedStr, C::Error> {
@@ -35,7 +37,9 @@ impl<L: AsSlice<u8> + Drop, C: Context> ReadFrom<L, C> for BoxedStr {
     }
 }
 
-impl<L: AsSlice<u8> + Drop, C: Context, T: ReadFrom<L, C>> ReadFrom<L, C> for BoxedSlice<T> {
+impl<L: AsSlice<u8> + Drop, C: Context> ReadMany<L, C> for BoxedStr {}
+
+impl<L: AsSlice<u8> + Drop, C: Context, T: ReadMany<L, C>> ReadFrom<L, C> for BoxedSlice<T> {
     #[inline]
     fn read_from<R: LendingReader<L, C>>(reader: &mut R) -> Result<BoxedSlice<T>, C::Error> {
         let items: Vec<T> = reader.read_value()?;
@@ -48,7 +52,9 @@ impl<L: AsSlice<u8> + Drop, C: Context, T: ReadFrom<L, C>> ReadFrom<L, C> for Bo
     }
 }
 
-impl<L: AsSlice<u8> + Drop, C: Context, T: ReadFrom<L, C>, const N: usize> ReadFrom<L, C>
+impl<L: AsSlice<u8> + Drop, C: Context, T: ReadMany<L, C>> ReadMany<L, C> for BoxedSlice<T> {}
+
+impl<L: AsSlice<u8> + Drop, C: Context, T: ReadMany<L, C>, const N: usize> ReadFrom<L, C>
     for [T; N] {
     #[inline]
     fn read_from<R: LendingReader<L, C>>(reader: &mut R) -> Result<[T; N], C::Error> {
@@ -64,3 +70,6 @@ impl<L: AsSlice<u8> + Drop, C: Context, T: ReadFrom<L, C>, const N: usize> ReadF
         N.saturating_mul(T::minimum_bytes_needed())
     }
 }
+
+impl<L: AsSlice<u8> + Drop, C: Context, T: ReadMany<L, C>, const N: usize> ReadMany<L, C>
+    for [T; N] {}

@@ -4,7 +4,7 @@ ghost use Rattle.std.specs.Prelude.{◌≡◌, ◌+◌};
 ghost use Rattle.speedy_layout.specs.Composed.{saturated};
 ghost use Rattle.speedy_read.specs.Reading.{Reads};
 
-use crate::readable::ReadFrom;
+use crate::readable::{ReadFrom, ReadMany};
 use crate::reader::LendingReader;
 use speedy_base::context::Context;
 use speedy_layout::tuples;
@@ -23,6 +23,8 @@ impl<L: AsSlice<u8> + Drop, C: Context, T0: ReadFrom<L, C>> ReadFrom<L, C> for (
     }
 }
 
+impl<L: AsSlice<u8> + Drop, C: Context, T0: ReadFrom<L, C>> ReadMany<L, C> for (T0,) {}
+
 impl<L: AsSlice<u8> + Drop, C: Context, T0: ReadFrom<L, C>, T1: ReadFrom<L, C>> ReadFrom<L, C>
     for (T0, T1) {
     #[inline]
@@ -37,6 +39,9 @@ impl<L: AsSlice<u8> + Drop, C: Context, T0: ReadFrom<L, C>, T1: ReadFrom<L, C>> 
         T0::minimum_bytes_needed().saturating_add(T1::minimum_bytes_needed())
     }
 }
+
+impl<L: AsSlice<u8> + Drop, C: Context, T0: ReadFrom<L, C>, T1: ReadFrom<L, C>> ReadMany<L, C>
+    for (T0, T1) {}
 
 impl<
     L: AsSlice<u8> + Drop,
@@ -56,6 +61,14 @@ impl<
         <(T0, (T1, T2)) as ReadFrom<L, C>>::minimum_bytes_needed()
     }
 }
+
+impl<
+    L: AsSlice<u8> + Drop,
+    C: Context,
+    T0: ReadFrom<L, C>,
+    T1: ReadFrom<L, C>,
+    T2: ReadFrom<L, C>,
+> ReadMany<L, C> for (T0, T1, T2) {}
 
 impl<
     L: AsSlice<u8> + Drop,
@@ -84,6 +97,15 @@ impl<
     T1: ReadFrom<L, C>,
     T2: ReadFrom<L, C>,
     T3: ReadFrom<L, C>,
+> ReadMany<L, C> for (T0, T1, T2, T3) {}
+
+impl<
+    L: AsSlice<u8> + Drop,
+    C: Context,
+    T0: ReadFrom<L, C>,
+    T1: ReadFrom<L, C>,
+    T2: ReadFrom<L, C>,
+    T3: ReadFrom<L, C>,
     T4: ReadFrom<L, C>,
 > ReadFrom<L, C> for (T0, T1, T2, T3, T4) {
     #[inline]
@@ -97,6 +119,16 @@ impl<
         <(T0, (T1, T2, T3, T4)) as ReadFrom<L, C>>::minimum_bytes_needed()
     }
 }
+
+impl<
+    L: AsSlice<u8> + Drop,
+    C: Context,
+    T0: ReadFrom<L, C>,
+    T1: ReadFrom<L, C>,
+    T2: ReadFrom<L, C>,
+    T3: ReadFrom<L, C>,
+    T4: ReadFrom<L, C>,
+> ReadMany<L, C> for (T0, T1, T2, T3, T4) {}
 
 impl<
     L: AsSlice<u8> + Drop,
@@ -129,6 +161,17 @@ impl<
     T3: ReadFrom<L, C>,
     T4: ReadFrom<L, C>,
     T5: ReadFrom<L, C>,
+> ReadMany<L, C> for (T0, T1, T2, T3, T4, T5) {}
+
+impl<
+    L: AsSlice<u8> + Drop,
+    C: Context,
+    T0: ReadFrom<L, C>,
+    T1: ReadFrom<L, C>,
+    T2: ReadFrom<L, C>,
+    T3: ReadFrom<L, C>,
+    T4: ReadFrom<L, C>,
+    T5: ReadFrom<L, C>,
     T6: ReadFrom<L, C>,
 > ReadFrom<L, C> for (T0, T1, T2, T3, T4, T5, T6) {
     #[inline]
@@ -142,6 +185,18 @@ impl<
         <(T0, (T1, T2, T3, T4, T5, T6)) as ReadFrom<L, C>>::minimum_bytes_needed()
     }
 }
+
+impl<
+    L: AsSlice<u8> + Drop,
+    C: Context,
+    T0: ReadFrom<L, C>,
+    T1: ReadFrom<L, C>,
+    T2: ReadFrom<L, C>,
+    T3: ReadFrom<L, C>,
+    T4: ReadFrom<L, C>,
+    T5: ReadFrom<L, C>,
+    T6: ReadFrom<L, C>,
+> ReadMany<L, C> for (T0, T1, T2, T3, T4, T5, T6) {}
 
 impl<
     L: AsSlice<u8> + Drop,
@@ -180,6 +235,19 @@ impl<
     T5: ReadFrom<L, C>,
     T6: ReadFrom<L, C>,
     T7: ReadFrom<L, C>,
+> ReadMany<L, C> for (T0, T1, T2, T3, T4, T5, T6, T7) {}
+
+impl<
+    L: AsSlice<u8> + Drop,
+    C: Context,
+    T0: ReadFrom<L, C>,
+    T1: ReadFrom<L, C>,
+    T2: ReadFrom<L, C>,
+    T3: ReadFrom<L, C>,
+    T4: ReadFrom<L, C>,
+    T5: ReadFrom<L, C>,
+    T6: ReadFrom<L, C>,
+    T7: ReadFrom<L, C>,
     T8: ReadFrom<L, C>,
 > ReadFrom<L, C> for (T0, T1, T2, T3, T4, T5, T6, T7, T8) {
     #[inline]
@@ -195,6 +263,20 @@ impl<
         <(T0, (T1, T2, T3, T4, T5, T6, T7, T8)) as ReadFrom<L, C>>::minimum_bytes_needed()
     }
 }
+
+impl<
+    L: AsSlice<u8> + Drop,
+    C: Context,
+    T0: ReadFrom<L, C>,
+    T1: ReadFrom<L, C>,
+    T2: ReadFrom<L, C>,
+    T3: ReadFrom<L, C>,
+    T4: ReadFrom<L, C>,
+    T5: ReadFrom<L, C>,
+    T6: ReadFrom<L, C>,
+    T7: ReadFrom<L, C>,
+    T8: ReadFrom<L, C>,
+> ReadMany<L, C> for (T0, T1, T2, T3, T4, T5, T6, T7, T8) {}
 
 impl<
     L: AsSlice<u8> + Drop,
@@ -237,6 +319,21 @@ impl<
     T7: ReadFrom<L, C>,
     T8: ReadFrom<L, C>,
     T9: ReadFrom<L, C>,
+> ReadMany<L, C> for (T0, T1, T2, T3, T4, T5, T6, T7, T8, T9) {}
+
+impl<
+    L: AsSlice<u8> + Drop,
+    C: Context,
+    T0: ReadFrom<L, C>,
+    T1: ReadFrom<L, C>,
+    T2: ReadFrom<L, C>,
+    T3: ReadFrom<L, C>,
+    T4: ReadFrom<L, C>,
+    T5: ReadFrom<L, C>,
+    T6: ReadFrom<L, C>,
+    T7: ReadFrom<L, C>,
+    T8: ReadFrom<L, C>,
+    T9: ReadFrom<L, C>,
     T10: ReadFrom<L, C>,
 > ReadFrom<L, C> for (T0, T1, T2, T3, T4, T5, T6, T7, T8, T9, T10) {
     #[inline]
@@ -252,3 +349,19 @@ impl<
         <(T0, (T1, T2, T3, T4, T5, T6, T7, T8, T9, T10)) as ReadFrom<L, C>>::minimum_bytes_needed()
     }
 }
+
+impl<
+    L: AsSlice<u8> + Drop,
+    C: Context,
+    T0: ReadFrom<L, C>,
+    T1: ReadFrom<L, C>,
+    T2: ReadFrom<L, C>,
+    T3: ReadFrom<L, C>,
+    T4: ReadFrom<L, C>,
+    T5: ReadFrom<L, C>,
+    T6: ReadFrom<L, C>,
+    T7: ReadFrom<L, C>,
+    T8: ReadFrom<L, C>,
+    T9: ReadFrom<L, C>,
+    T10: ReadFrom<L, C>,
+> ReadMany<L, C> for (T0, T1, T2, T3, T4, T5, T6, T7, T8, T9, T10) {}

@@ -12,7 +12,7 @@ ghost use Rattle.speedy_layout.specs.Varint.{varint};
 ghost use Rattle.speedy_read.specs.Reading.{ReaderState, Reads, Peeks, IsRight};
 
 use crate::private::vec_to_string;
-use crate::readable::ReadFrom;
+use crate::readable::{ReadFrom, ReadMany};
 use speedy_base::context::Context;
 use speedy_base::endianness::Endianness;
 use speedy_base::error::{ErrorKind, error_end_of_input};
@@ -222,7 +222,7 @@ pub trait LendingReader<L: AsSlice<u8> + Drop, C: Context> {
     /// It is refused before any item where fewer bytes are to come than so many items have at least, if the
     /// reader says so, and where that many bytes are past `usize::MAX`.
     #[inline]
-    final fn read_vec<T: ReadFrom<L, C>>(&mut self, length: usize) -> Result<Vec<T>, C::Error>
+    final fn read_vec<T: ReadMany<L, C>>(&mut self, length: usize) -> Result<Vec<T>, C::Error>
     where
         Self: Sized,
         ensures reads { Reads C.Error.from_gives C.Error.eof (λ v. map T.seen v.items) (vector length (T.language (state self.old).form)) result (state self.old) (state self.new) }

@@ -1,11 +1,11 @@
 -- What a line is answered.
-use Rattle.std.specs.Prelude.{◌≡◌, ℕ, ◌<◌, ◌≤◌, List, [], ◌∷◌, ◌++◌, ◌⊎◌, length, IsTrue, codes}
+use Rattle.std.specs.Prelude.{◌≡◌, ℕ, ◌<◌, ◌≤◌, List, [], ◌∷◌, ◌++◌, ◌⊎◌, length, false, IsTrue, codes}
 use Rattle.std.specs.Fmt.{decimal}
 use Rattle.hex.specs.Hex.{encode_lower}
 use Rattle.speedy_base.specs.declared.error.ErrorKind.{ErrorKind}
 use Rattle.speedy_base.specs.declared.error.ErrorKind.TheVariants as kinds
 use Rattle.speedy_base.specs.declared.endianness.Endianness.{Endianness}
-use Rattle.speedy_base.specs.ErrorKind.{is_eof_kind}
+use Rattle.speedy_base.specs.ErrorKind.{is_eof_kind, EndsInput}
 use Rattle.speedy_base.specs.Form.{Form, plain_form}
 use Rattle.speedy_layout.specs.Language.{Language}
 use Rattle.speedy_vectors.specs.declared.line.TypeName.{TypeName}
@@ -63,13 +63,14 @@ module _ {V : Type 0} (least : ℕ) (L : Language V) (bytes answer : List ℕ) w
     pub written_is : L.writes value written
     pub answer_is : answer ≡ ok_text (length front) written
 
-  -- no front spells any: an end of input where more bytes may make a spelling, else that or a kind that the type names
+  -- no front spells any: an end of input where more bytes may make a spelling, a kind that the type names where its fault stands, and else one of the two
   pub record AnswersRefusal : Type 0 where
     pub kind : ErrorKind
     pub enough : least ≤ length bytes
     pub no_front : (v : V) (front rest : List ℕ) → bytes ≡ front ++ rest → L.spells v front → ⊥
-    pub kind_is : IsTrue (is_eof_kind kind) ⊎ L.names kind
+    pub kind_is : EndsInput false kind ⊎ L.names kind
     pub too_short : (v : V) (more : List ℕ) → L.spells v (bytes ++ more) → IsTrue (is_eof_kind kind)
+    pub at_fault : L.at_fault bytes → L.names kind
     pub answer_is : answer ≡ refused_text kind
 
   -- what the bytes of a line are answered, read as values of a language

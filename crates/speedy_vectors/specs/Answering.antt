@@ -1,19 +1,23 @@
 -- What a read answers is what a line is answered.
-use Rattle.std.specs.Prelude.{◌≡◌, ℕ, ◌≤◌, List, ◌⊎◌, length, IsTrue, Err}
+use Rattle.std.specs.Prelude.{◌≡◌, ℕ, ◌≤◌, List, ◌⊎◌, length, false, IsTrue, Err}
 use Rattle.std.proofs.Common.{sym, ◌∙◌, ap, subst, inl, inr}
 use Rattle.std.proofs.lemmas.Bool.{cases_lt}
 use Rattle.speedy_base.specs.declared.error.Error.{Error}
+use Rattle.speedy_base.specs.declared.error.ErrorKind.{ErrorKind}
 use Rattle.speedy_base.specs.declared.error.ErrorKind.TheVariants as kinds
 use Rattle.speedy_base.specs.Error.{kind_of, error_of, is_eof_error}
-use Rattle.speedy_base.specs.ErrorKind.{is_eof_kind}
+use Rattle.speedy_base.specs.ErrorKind.{EndsInput}
 use Rattle.speedy_layout.specs.Language.{Language}
-use Rattle.speedy_read.specs.Reading.{AnswersBuffer, RefusesBuffer, IsNamed}
+use Rattle.speedy_read.specs.Reading.{AnswersBuffer, RefusesBuffer, IsNamed, IsEnd}
 use Rattle.speedy_vectors.specs.Answer.{refused_text, AnswersBytes, AnswersRefusal}
 
 module _ {A V : Type 0} (seen : A → V) (least : ℕ) (L : Language V) (e : Error) (count : ℕ) (bytes answer : List ℕ) where
-  named_kind : IsTrue (is_eof_error e) ⊎ IsNamed (λ (x : Error) (y : Error). y ≡ x) is_eof_error L.names e → IsTrue (is_eof_kind (kind_of e)) ⊎ L.names (kind_of e)
-  named_kind (inl h) = inl h
-  named_kind (inr h) = inr (subst L.names (sym (ap kind_of h.2)) h.1)
+  its_kind : {names : ErrorKind → Type 0} → IsNamed (λ (x : Error) (y : Error). y ≡ x) is_eof_error names e → names (kind_of e)
+  its_kind {names = names} h = subst names (sym (ap kind_of h.2)) h.1
+
+  named_kind : IsEnd (λ (x : Error) (y : Error). y ≡ x) is_eof_error false e ⊎ IsNamed (λ (x : Error) (y : Error). y ≡ x) is_eof_error L.names e → EndsInput false (kind_of e) ⊎ L.names (kind_of e)
+  named_kind (inl h) = inl (its_kind h.0)
+  named_kind (inr h) = inr (its_kind h)
 
   refusal : (kind_of e ≡ kinds.OutOfMemory → ⊥) → answer ≡ refused_text (kind_of e) → least ≤ length bytes → ((e ≡ error_of kinds.OutOfMemory) × IsTrue L.takes_memory) ⊎ RefusesBuffer (λ (x : Error) (y : Error). y ≡ x) is_eof_error L e bytes → AnswersRefusal least L bytes answer
   refusal memory is enough (inl h) = absurd (memory (ap kind_of h.0))
@@ -23,6 +27,7 @@ module _ {A V : Type 0} (seen : A → V) (least : ℕ) (L : Language V) (e : Err
     no_front = h.because.no_front;
     kind_is = named_kind h.kind;
     too_short = h.because.too_short;
+    at_fault = λ fault. its_kind (h.because.at_fault fault);
     answer_is = is;
   }
 
