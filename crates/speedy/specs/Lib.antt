@@ -1,10 +1,12 @@
 -- The definitions that the contracts of the calls cite.
 pub use Rattle.speedy_base.specs.Device
+pub use Rattle.speedy_base.specs.Devices
 pub use Rattle.speedy_base.specs.Digits
 pub use Rattle.speedy_base.specs.Error
 pub use Rattle.speedy_base.specs.ErrorKind
 pub use Rattle.speedy_base.specs.Form
 pub use Rattle.speedy_base.specs.Signed
+pub use Rattle.speedy_layout.specs.Addresses
 pub use Rattle.speedy_layout.specs.Coding
 pub use Rattle.speedy_layout.specs.Composed
 pub use Rattle.speedy_layout.specs.Durations
@@ -13,12 +15,17 @@ pub use Rattle.speedy_layout.specs.Laws
 pub use Rattle.speedy_layout.specs.Leaves
 pub use Rattle.speedy_layout.specs.Lists
 pub use Rattle.speedy_layout.specs.Numbers
+pub use Rattle.speedy_layout.specs.Owned
 pub use Rattle.speedy_layout.specs.SignedNumbers
 pub use Rattle.speedy_layout.specs.TestedNumbers
 pub use Rattle.speedy_layout.specs.Texts
+pub use Rattle.speedy_layout.specs.Utf8
 pub use Rattle.speedy_layout.specs.Varint
 pub use Rattle.speedy_layout.specs.Zigzag
 pub use Rattle.speedy_read.specs.Reading
+pub use Rattle.speedy_read.specs.Buffers
+pub use Rattle.speedy_read.specs.RoundTrip
 pub use Rattle.speedy_write.specs.Ways
 pub use Rattle.speedy_write.specs.Writing
 pub use Rattle.speedy_write.specs.SignedWriting
+pub use Rattle.speedy_write.specs.Collectors

@@ -1,18 +1,29 @@
 //! Values to compact bytes and back, in either byte order, with every call proved.
 //!
 //! ```text
-//! let bytes = 258_u16.write_to_vec(alloc)?;            // [2, 1]
+//! let bytes = Writable::<LittleEndian>::write_to_vec(&258_u16, alloc)?;            // [2, 1]
 //! let value = <u16 as Readable<LittleEndian>>::read_from_buffer(alloc, &bytes)?;
 //! ```
 #![tactic(auto)]
 
 #[cfg(test)]
-mod lying;
+mod asserting;
+pub mod laws;
 pub mod private;
 #[cfg(test)]
-mod tests;
+mod round_trips;
+#[cfg(test)]
+mod tests_bytes;
 #[cfg(test)]
 mod tests_composed;
+#[cfg(test)]
+mod tests_devices;
+#[cfg(test)]
+mod tests_endianness;
+#[cfg(test)]
+mod tests_errors;
+#[cfg(test)]
+mod tests_laws;
 #[cfg(test)]
 mod tests_leaves;
 #[cfg(test)]
@@ -20,17 +31,23 @@ mod tests_numbers;
 #[cfg(test)]
 mod tests_owned;
 #[cfg(test)]
+mod tests_ranges;
+#[cfg(test)]
+mod tests_readers;
+#[cfg(test)]
 mod tests_varint;
+#[cfg(test)]
+mod tests_writers;
 
 pub use context::{BigEndian, Context, LittleEndian, PlainContext};
 pub use endianness::Endianness;
 pub use error::{Error, IsEof};
 pub use layout::Layout;
-pub use readable::{ReadFrom, Readable};
+pub use readable::{ReadFrom, ReadMany, Readable};
 pub use reader::{LendingReader, Reader};
 pub use speedy_base::{context, device, endianness, error};
-pub use speedy_layout::{laws, layout, varint};
-pub use speedy_read::{buffer_reader, readable, readable_impl, reader};
-pub use speedy_write::{collectors, writable, writable_impl, writer};
+pub use speedy_layout::{layout, varint};
+pub use speedy_read::{readable, readable_impl, reader};
+pub use speedy_write::{writable, writable_impl, writer};
 pub use writable::Writable;
 pub use writer::Writer;

@@ -5,7 +5,7 @@ ghost use Rattle.speedy_base.specs.Form.{plain_form};
 ghost use Rattle.speedy_write.specs.Writing.{WritesValue, WritesEach};
 ghost use Rattle.speedy_write.specs.Ways.{Needs, Stands, WritesToBuffer, WritesToVec};
 
-use crate::collectors::{BufferCollector, SizeCalculatorCollector};
+pub use crate::collectors::{BufferCollector, SizeCalculatorCollector};
 use crate::writer::Writer;
 use speedy_base::context::{Context, PlainContext};
 use speedy_base::endianness::Endianness;
