@@ -6,106 +6,87 @@ ghost use Rattle.speedy_layout.specs.Coding.{tested, tested_laws};
 ghost use Rattle.speedy_read.specs.Reading.{Reads};
 ghost use Rattle.speedy_write.specs.Writing.{WritesValue};
 
-use crate::buffer_reader::BufferReader;
+use crate::asserting::{
+    assert_encoding, assert_ok_items, assert_reads, assert_refused, assert_same, assert_unreadable,
+};
 use crate::context::Context;
 use crate::endianness::Endianness;
 use crate::layout::Layout;
-use crate::lying::{lies, reads_as};
-use crate::private::{ErrorKind, error_invalid_enum_variant, get_error_kind};
-use crate::readable::{ReadFrom, Readable};
+use crate::private::error_invalid_enum_variant;
+use crate::readable::{BufferReader, ReadFrom, ReadMany};
 use crate::reader::LendingReader;
 use crate::writable::Writable;
 use crate::writer::Writer;
 use std::convert::AsSlice;
 use std::net::{IpAddr, Ipv4Addr, Ipv6Addr};
-use std::test::Fail;
 
 #[test]
-fn flags_and_nothing(rt: HostRuntime) -> Result<(), Fail> {
+fn flags_and_nothing(rt: HostRuntime) {
     let alloc = rt.alloc();
-    lies(&rt, alloc, &false, &[0, 9], &[0, 9], 1)?;
-    lies(&rt, alloc, &true, &[1, 9], &[1, 9], 1)?;
-    reads_as(&rt, alloc, Endianness::LittleEndian, &true, &[255], 1)?;
-    lies(&rt, alloc, &(), &[9], &[9], 0)
+    let rows = [
+        (false, &[0, 9][..], &[0, 9][..]),
+        (true, &[1, 9][..], &[1, 9][..]),
+    ];
+    assert_encoding(&rt, alloc, 1, &rows);
+    assert_reads(&rt, alloc, Endianness::LittleEndian, &true, &[255], 1);
+    assert_encoding(&rt, alloc, 0, &[((), &[9], &[9])]);
 }
 
 #[test]
-fn options_and_results_begin_with_a_flag(rt: HostRuntime) -> Result<(), Fail> {
+fn options_begin_with_a_flag(rt: HostRuntime) {
     let alloc = rt.alloc();
-    lies(&rt, alloc, &Some(10_u16), &[1, 10, 0, 9], &[1, 0, 10, 9], 1)?;
-    lies(&rt, alloc, &None::<u16>, &[0, 9], &[0, 9], 1)?;
-    lies(
-        &rt,
-        alloc,
-        &Some(5_u16),
-        &[1, 5, 0, 255],
-        &[1, 0, 5, 255],
-        1,
-    )?;
-    reads_as(
-        &rt,
-        alloc,
-        Endianness::LittleEndian,
-        &Some(5_u16),
-        &[7, 5, 0, 255],
-        3,
-    )?;
-    let ten: Result<u16, u8> = Ok(10);
-    lies(&rt, alloc, &ten, &[1, 10, 0, 9], &[1, 0, 10, 9], 1)?;
-    let nine: Result<u16, u8> = Err(9);
-    lies(&rt, alloc, &nine, &[0, 9, 9], &[0, 9, 9], 1)
+    let order = Endianness::LittleEndian;
+    let rows = [
+        (Some(10_u16), &[1, 10, 0, 9][..], &[1, 0, 10, 9][..]),
+        (None, &[0, 9][..], &[0, 9][..]),
+        (Some(5), &[1, 5, 0, 255][..], &[1, 0, 5, 255][..]),
+    ];
+    assert_encoding(&rt, alloc, 1, &rows);
+    assert_reads(&rt, alloc, order, &Some(5_u16), &[7, 5, 0, 255], 3);
 }
 
 #[test]
-fn ranges_lie_as_their_ends(rt: HostRuntime) -> Result<(), Fail> {
-    let alloc = rt.alloc();
-    lies(
-        &rt,
-        alloc,
-        &(10_u16..11),
-        &[10, 0, 11, 0, 9],
-        &[0, 10, 0, 11, 9],
-        4,
-    )?;
-    lies(
-        &rt,
-        alloc,
-        &(10_u16..=11),
-        &[10, 0, 11, 0, 9],
-        &[0, 10, 0, 11, 9],
-        4,
-    )
+fn results_begin_with_a_flag(rt: HostRuntime) {
+    let rows: [(Result<u16, u8>, &[u8], &[u8]); 2] = [
+        (Ok(10), &[1, 10, 0, 9], &[1, 0, 10, 9]),
+        (Err(9), &[0, 9, 9], &[0, 9, 9]),
+    ];
+    assert_encoding(&rt, rt.alloc(), 1, &rows);
 }
 
 #[test]
-fn tuples_lie_part_by_part(rt: HostRuntime) -> Result<(), Fail> {
-    let alloc = rt.alloc();
-    lies(&rt, alloc, &(10_u16,), &[10, 0, 9], &[0, 10, 9], 2)?;
-    lies(
-        &rt,
-        alloc,
-        &(10_u16, 11_u16),
-        &[10, 0, 11, 0, 9],
-        &[0, 10, 0, 11, 9],
-        4,
-    )?;
-    lies(
-        &rt,
-        alloc,
-        &(1_u8, 2_u16, 3_u32),
-        &[1, 2, 0, 3, 0, 0, 0, 9],
-        &[1, 0, 2, 0, 0, 0, 3, 9],
-        7,
-    )
+fn ranges_lie_as_their_ends(rt: HostRuntime) {
+    let little = [10, 0, 11, 0, 9];
+    let big = [0, 10, 0, 11, 9];
+    assert_encoding(&rt, rt.alloc(), 4, &[(10_u16..11, &little, &big)]);
+    assert_encoding(&rt, rt.alloc(), 4, &[(10_u16..=11, &little, &big)]);
 }
+
+#[test]
+fn tuples_lie_part_by_part(rt: HostRuntime) {
+    let alloc = rt.alloc();
+    assert_encoding(&rt, alloc, 2, &[((10_u16,), &[10, 0, 9], &[0, 10, 9])]);
+    let rows = [(
+        (10_u16, 11_u16),
+        &[10, 0, 11, 0, 9][..],
+        &[0, 10, 0, 11, 9][..],
+    )];
+    assert_encoding(&rt, alloc, 4, &rows);
+    let little = [1, 2, 0, 3, 0, 0, 0, 9];
+    let big = [1, 0, 2, 0, 0, 0, 3, 9];
+    assert_encoding(&rt, alloc, 7, &[((1_u8, 2_u16, 3_u32), &little, &big)]);
+}
+
+/// Bytes that count up from 0, with one after them.
+const COUNTED: [u8; 61] = [
+    0, 1, 2, 3, 4, 5, 6, 7, 8, 9, 10, 11, 12, 13, 14, 15, 16, 17, 18, 19, 20, 21, 22, 23, 24, 25,
+    26, 27, 28, 29, 30, 31, 32, 33, 34, 35, 36, 37, 38, 39, 40, 41, 42, 43, 44, 45, 46, 47, 48, 49,
+    50, 51, 52, 53, 54, 55, 56, 57, 58, 59, 60,
+];
 
 // A tuple of each size from 4 on, whose parts are counted from 0.
 #[test]
-fn long_tuples_lie_part_by_part(rt: HostRuntime) -> Result<(), Fail> {
-    let mut bytes = [0_u8; 61];
-    for i in 0..61 {
-        bytes[i] = i as u8;
-    }
+fn long_tuples_lie_part_by_part(rt: HostRuntime) {
     let four = (0_u8, 1_u8, 2_u8, 3_u8);
     let five = (4_u8, 5_u8, 6_u8, 7_u8, 8_u8);
     let six = (9_u8, 10_u8, 11_u8, 12_u8, 13_u8, 14_u8);
@@ -121,58 +102,51 @@ fn long_tuples_lie_part_by_part(rt: HostRuntime) -> Result<(), Fail> {
         49_u8, 50_u8, 51_u8, 52_u8, 53_u8, 54_u8, 55_u8, 56_u8, 57_u8, 58_u8, 59_u8,
     );
     let all = (four, five, six, seven, eight, nine, ten, eleven);
-    lies(&rt, rt.alloc(), &all, &bytes, &bytes, 60)
+    assert_encoding(&rt, rt.alloc(), 60, &[(all, &COUNTED, &COUNTED)]);
 }
 
 #[test]
-fn composed_values_lie_within_each_other(rt: HostRuntime) -> Result<(), Fail> {
+fn options_of_texts_lie_within_a_vector(rt: HostRuntime) {
     let alloc = rt.alloc();
-    lies(
-        &rt,
-        alloc,
-        &vec![in alloc; Some(String::from_str(alloc, "Hi")?), None]?,
-        &[2, 0, 0, 0, 1, 2, 0, 0, 0, 72, 105, 0, 9],
-        &[0, 0, 0, 2, 1, 0, 0, 0, 2, 72, 105, 0, 9],
-        4,
-    )?;
-    lies(
-        &rt,
-        alloc,
-        &(7_u8, Some((2_u16, vec![in alloc; 3_u8]?))),
-        &[7, 1, 2, 0, 1, 0, 0, 0, 3, 9],
-        &[7, 1, 0, 2, 0, 0, 0, 1, 3, 9],
-        2,
-    )
+    let text = String::from_str(alloc, "Hi").expect(&rt, "a text");
+    let texts = vec![in alloc; Some(text), None].expect(&rt, "a vector");
+    let little = [2, 0, 0, 0, 1, 2, 0, 0, 0, 72, 105, 0, 9];
+    let big = [0, 0, 0, 2, 1, 0, 0, 0, 2, 72, 105, 0, 9];
+    assert_encoding(&rt, alloc, 4, &[(texts, &little, &big)]);
 }
 
 #[test]
-fn addresses_lie_after_their_tags(rt: HostRuntime) -> Result<(), Fail> {
+fn tuples_and_options_lie_within_each_other(rt: HostRuntime) {
     let alloc = rt.alloc();
-    lies(
-        &rt,
-        alloc,
-        &IpAddr::V4(Ipv4Addr::LOCALHOST),
-        &[0, 1, 0, 0, 127, 9],
-        &[0, 127, 0, 0, 1, 9],
-        5,
-    )?;
-    lies(
-        &rt,
-        alloc,
-        &IpAddr::V6(Ipv6Addr::new(0x2001, 0x720, 0x1500, 1, 0, 0, 0, 0xa100)),
-        &[
-            1, 0, 0xa1, 0, 0, 0, 0, 0, 0, 1, 0, 0, 0x15, 0x20, 7, 1, 0x20, 9,
-        ],
-        &[
-            1, 0x20, 1, 7, 0x20, 0x15, 0, 0, 1, 0, 0, 0, 0, 0, 0, 0xa1, 0, 9,
-        ],
-        5,
-    )?;
-    let order = Endianness::LittleEndian;
-    let outcome = IpAddr::read_from_buffer_with_ctx(alloc, order, &[2, 0, 0, 0, 0]);
-    let error = outcome.err().ok_or("no tag")?;
-    assert!(rt; matches!(get_error_kind(&error), ErrorKind::InvalidEnumVariant));
-    Ok(())
+    let bytes = vec![in alloc; 3_u8].expect(&rt, "a vector");
+    let little = [7, 1, 2, 0, 1, 0, 0, 0, 3, 9];
+    let big = [7, 1, 0, 2, 0, 0, 0, 1, 3, 9];
+    let nested = (7_u8, Some((2_u16, bytes)));
+    assert_encoding(&rt, alloc, 2, &[(nested, &little, &big)]);
+}
+
+#[test]
+fn addresses_lie_after_their_tags(rt: HostRuntime) {
+    let six = Ipv6Addr::new(0x2001, 0x720, 0x1500, 1, 0, 0, 0, 0xa100);
+    let rows = [
+        (
+            IpAddr::V4(Ipv4Addr::LOCALHOST),
+            &[0, 1, 0, 0, 127, 9][..],
+            &[0, 127, 0, 0, 1, 9][..],
+        ),
+        (
+            IpAddr::V6(six),
+            &[
+                1, 0, 0xa1, 0, 0, 0, 0, 0, 0, 1, 0, 0, 0x15, 0x20, 7, 1, 0x20, 9,
+            ][..],
+            &[
+                1, 0x20, 1, 7, 0x20, 0x15, 0, 0, 1, 0, 0, 0, 0, 0, 0, 0xa1, 0, 9,
+            ][..],
+        ),
+    ];
+    assert_encoding(&rt, rt.alloc(), 5, &rows);
+    let bytes = [2, 0, 0, 0, 0];
+    assert_unreadable::<IpAddr>(&rt, rt.alloc(), &bytes, &bytes, "InvalidEnumVariant");
 }
 
 /// A byte that is 0. It has no size in memory.
@@ -205,6 +179,8 @@ impl<L: AsSlice<u8> + Drop, C: Context> ReadFrom<L, C> for Mark {
     }
 }
 
+impl<L: AsSlice<u8> + Drop, C: Context> ReadMany<L, C> for Mark {}
+
 impl<C: Context> Writable<C> for Mark {
     fn write_to<W: Writer<C>>(&self, writer: &mut W) -> Result<(), C::Error> {
         writer.write_u8(0)
@@ -212,14 +188,14 @@ impl<C: Context> Writable<C> for Mark {
 }
 
 #[test]
-fn items_of_no_size_are_read_one_by_one(rt: HostRuntime) -> Result<(), Fail> {
-    let order = Endianness::LittleEndian;
-    let mut reader = BufferReader::new(rt.alloc(), order, &[0, 0, 0, 0, 9]);
-    let marks = reader.read_vec::<Mark>(3)?;
-    assert_eq!(rt; marks.len(), 3);
-    assert_eq!(rt; reader.len(), 2);
-    assert!(rt; reader.read_vec::<Mark>(2).is_err());
-    let written = marks.write_to_vec_with_ctx(rt.alloc(), order)?;
-    assert_eq!(rt; written.as_slice(), &[3, 0, 0, 0, 0, 0, 0][..]);
-    Ok(())
+fn items_of_no_size_are_read_one_by_one(rt: HostRuntime) {
+    let alloc = rt.alloc();
+    let mut reader = BufferReader::new(alloc, Endianness::LittleEndian, &[0, 0, 0, 0, 9]);
+    let marks = reader.read_vec::<Mark>(3).expect(&rt, "three items");
+    assert_same(&rt, marks.len(), 3);
+    assert_same(&rt, reader.len(), 2);
+    let outcome = reader.read_vec::<Mark>(2);
+    assert_refused(&rt, alloc, outcome, "InvalidEnumVariant");
+    let written = marks.write_to_vec_with_ctx(alloc, Endianness::LittleEndian);
+    assert_ok_items(&rt, written, &[3, 0, 0, 0, 0, 0, 0]);
 }

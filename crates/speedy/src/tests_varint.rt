@@ -1,109 +1,184 @@
-//! Integers of variable length: both orders, longer spellings, and peeks.
-use crate::buffer_reader::BufferReader;
-use crate::collectors::BufferCollector;
+//! Integers of variable length: how they are spelled, longer spellings, and peeks.
+use crate::asserting::{
+    assert_bytes, assert_encoding, assert_ok, assert_ok_items, assert_refused, assert_same,
+};
 use crate::endianness::Endianness;
-use crate::error::IsEof;
-use crate::private::{ErrorKind, VarInt64, get_error_kind};
-use crate::readable::Readable;
-use crate::reader::LendingReader;
-use crate::tests::lies_in_both_orders;
-use crate::writable::Writable;
+use crate::private::VarInt64;
+use crate::readable::{BufferReader, Readable};
+use crate::reader::{LendingReader, Reader};
+use crate::writable::{BufferCollector, Writable};
 use crate::writer::Writer;
-use std::test::Fail;
+use std::alloc::Global;
+use std::process::Abort;
 
-#[test]
-fn integers_of_variable_length_lie_alike_in_both_orders(rt: HostRuntime) -> Result<(), Fail> {
-    let rows: [(u64, &[u8]); 17] = [
-        (0, &[0x00, 9]),
-        (0x7f, &[0x7f, 9]),
-        (0x80, &[0x80, 0x80, 9]),
-        (0x3fff, &[0xbf, 0xff, 9]),
-        (0x4000, &[0xc0, 0x00, 0x40, 9]),
-        (0x1f_ffff, &[0xdf, 0xff, 0xff, 9]),
-        (0x20_0000, &[0xe0, 0x00, 0x00, 0x20, 9]),
-        (0xfff_ffff, &[0xef, 0xff, 0xff, 0xff, 9]),
-        (0x1000_0000, &[0xf0, 0x00, 0x00, 0x00, 0x10, 9]),
-        (0x7_ffff_ffff, &[0xf7, 0xff, 0xff, 0xff, 0xff, 9]),
-        (0x8_0000_0000, &[0xf8, 0, 0, 0, 0, 8, 9]),
-        (0x3ff_ffff_ffff, &[0xfb, 0xff, 0xff, 0xff, 0xff, 0xff, 9]),
-        (0x400_0000_0000, &[0xfc, 0, 0, 0, 0, 0, 4, 9]),
-        (0x2_0000_0000_0000, &[0xfe, 0, 0, 0, 0, 0, 0, 2, 9]),
-        (
-            0xff_ffff_ffff_ffff,
-            &[0xfe, 0xff, 0xff, 0xff, 0xff, 0xff, 0xff, 0xff, 9],
-        ),
-        (0x100_0000_0000_0000, &[0xff, 0, 0, 0, 0, 0, 0, 0, 1, 9]),
-        (
-            u64::MAX,
-            &[0xff, 0xff, 0xff, 0xff, 0xff, 0xff, 0xff, 0xff, 0xff, 9],
-        ),
-    ];
-    for (number, bytes) in rows {
-        lies_in_both_orders(&rt, rt.alloc(), &VarInt64::from(number), bytes, bytes)?;
+/// Numbers, each with what is written of it and a byte that follows.
+const WRITTEN: [(u64, &[u8]); 18] = [
+    (0, &[0x00, 9]),
+    (0x7f, &[0x7f, 9]),
+    (0x80, &[0x80, 0x80, 9]),
+    (0x3fff, &[0xbf, 0xff, 9]),
+    (0x4000, &[0xc0, 0x00, 0x40, 9]),
+    (0x1f_ffff, &[0xdf, 0xff, 0xff, 9]),
+    (0x20_0000, &[0xe0, 0x00, 0x00, 0x20, 9]),
+    (0xfff_ffff, &[0xef, 0xff, 0xff, 0xff, 9]),
+    (0x1000_0000, &[0xf0, 0x00, 0x00, 0x00, 0x10, 9]),
+    (0x7_ffff_ffff, &[0xf7, 0xff, 0xff, 0xff, 0xff, 9]),
+    (0x8_0000_0000, &[0xf8, 0, 0, 0, 0, 8, 9]),
+    (0x3ff_ffff_ffff, &[0xfb, 0xff, 0xff, 0xff, 0xff, 0xff, 9]),
+    (0x400_0000_0000, &[0xfc, 0, 0, 0, 0, 0, 4, 9]),
+    (
+        0x1_ffff_ffff_ffff,
+        &[0xfd, 0xff, 0xff, 0xff, 0xff, 0xff, 0xff, 9],
+    ),
+    (0x2_0000_0000_0000, &[0xfe, 0, 0, 0, 0, 0, 0, 2, 9]),
+    (
+        0xff_ffff_ffff_ffff,
+        &[0xfe, 0xff, 0xff, 0xff, 0xff, 0xff, 0xff, 0xff, 9],
+    ),
+    (0x100_0000_0000_0000, &[0xff, 0, 0, 0, 0, 0, 0, 0, 1, 9]),
+    (
+        u64::MAX,
+        &[0xff, 0xff, 0xff, 0xff, 0xff, 0xff, 0xff, 0xff, 0xff, 9],
+    ),
+];
+
+/// Longer spellings than a number needs, each with the number and with what is written of it.
+const LONGER: [(&[u8], u64, &[u8]); 4] = [
+    (&[0x80, 0x00], 0, &[0x00]),
+    (&[0xfe, 1, 0, 0, 0, 0, 0, 0], 1, &[0x01]),
+    (&[0xff, 1, 0, 0, 0, 0, 0, 0, 0], 1, &[0x01]),
+    (&[0xc0, 0x02, 0x01], 0x102, &[0x81, 0x02]),
+];
+
+/// Asserts that the number is written as these bytes.
+fn assert_written_as(rt: &impl Abort, number: u64, spelling: &[u8]) {
+    let (bytes, count) = VarInt64::from(number).encode();
+    assert_bytes(rt, &bytes[..count], spelling);
+}
+
+/// Asserts that the bytes are as many as the first one says, and that they spell the number.
+fn assert_spells(rt: &impl Abort, bytes: &[u8], number: u64) {
+    let (first, rest) = bytes.split_first().expect(rt, "a first byte");
+    let more = VarInt64::length_of(*first);
+    assert!(rt; rest.len() == more, "at {bytes:?}");
+    assert_same(rt, u64::from(VarInt64::decode(*first, rest)), number);
+}
+
+/// Asserts that each number becomes its bytes, and these become the number again.
+fn assert_become_each_other(rt: &impl Abort, rows: &[(u64, &[u8])]) {
+    for (number, followed) in rows {
+        let (_, spelling) = followed.split_last().expect(rt, "a byte that follows");
+        assert_written_as(rt, *number, spelling);
+        assert_spells(rt, spelling, *number);
     }
-    Ok(())
 }
 
 #[test]
-fn longer_spellings_are_read_and_written_short(rt: HostRuntime) -> Result<(), Fail> {
-    let rows: [(&[u8], u64, &[u8]); 2] = [
-        (&[0x80, 0x00], 0, &[0x00]),
-        (&[0xfe, 1, 0, 0, 0, 0, 0, 0], 1, &[0x01]),
-    ];
-    for (bytes, number, written) in rows {
+fn numbers_become_bytes_and_come_back(rt: HostRuntime) {
+    assert_become_each_other(&rt, &WRITTEN);
+}
+
+/// Asserts that each number lies as its bytes in both orders.
+fn assert_lie_alike(rt: &impl Abort, alloc: Global, rows: &[(u64, &'static [u8])]) {
+    for (number, followed) in rows {
+        assert_encoding(
+            rt,
+            alloc,
+            1,
+            &[(VarInt64::from(*number), followed, followed)],
+        );
+    }
+}
+
+#[test]
+fn integers_of_variable_length_lie_alike_in_both_orders(rt: HostRuntime) {
+    assert_lie_alike(&rt, rt.alloc(), &WRITTEN);
+}
+
+#[test]
+fn longer_spellings_are_read_and_written_short(rt: HostRuntime) {
+    let order = Endianness::BigEndian;
+    for (bytes, number, spelling) in LONGER {
+        assert_spells(&rt, bytes, number);
         let (outcome, count) = VarInt64::read_with_length_from_buffer_with_ctx(
             rt.alloc(),
-            Endianness::BigEndian,
+            order,
             bytes,
         );
-        let value = outcome?;
-        assert_eq!(rt; u64::from(value), number);
-        assert_eq!(rt; count, bytes.len());
-        let again = value.write_to_vec_with_ctx(rt.alloc(), Endianness::BigEndian)?;
-        assert_eq!(rt; again.as_slice(), written);
+        let value = outcome.expect(&rt, "a number");
+        assert_same(&rt, u64::from(value), number);
+        assert_same(&rt, count, bytes.len());
+        let written = value.write_to_vec_with_ctx(rt.alloc(), order);
+        assert_ok_items(&rt, written, spelling);
     }
-    Ok(())
 }
 
 #[test]
-fn a_peek_answers_what_the_read_does(rt: HostRuntime) -> Result<(), Fail> {
+fn small_signed_numbers_take_turns(rt: HostRuntime) {
+    assert_same(&rt, u64::from(VarInt64::from(0_i8)), 0);
+    assert_same(&rt, u64::from(VarInt64::from(-1_i8)), 1);
+    assert_same(&rt, u64::from(VarInt64::from(1_i32)), 2);
+    assert_same(&rt, u64::from(VarInt64::from(-33_i64)), 65);
+    assert_same(&rt, i64::from(VarInt64::from(-33_i64)), -33);
+    assert_same(&rt, u64::from(VarInt64::from(-300_i16)), 599);
+    assert_same(&rt, i64::from(VarInt64::from(-300_i16)), -300);
+}
+
+#[test]
+fn large_signed_numbers_take_turns(rt: HostRuntime) {
+    assert_same(&rt, i64::from(VarInt64::from(i32::MIN)), i32::MIN as i64);
+    assert_same(&rt, u64::from(VarInt64::from(i64::MIN)), u64::MAX);
+    assert_same(&rt, i64::from(VarInt64::from(i64::MIN)), i64::MIN);
+    assert_same(&rt, u64::from(VarInt64::from(i64::MAX)), u64::MAX - 1);
+    assert_same(&rt, i64::from(VarInt64::from(i64::MAX)), i64::MAX);
+}
+
+#[test]
+fn unsigned_numbers_stay_as_they_are(rt: HostRuntime) {
+    assert_same(&rt, u64::from(VarInt64::from(200_u8)), 200);
+    assert_same(&rt, u64::from(VarInt64::from(60000_u16)), 60000);
+    assert_same(&rt, u64::from(VarInt64::from(u32::MAX)), u32::MAX as u64);
+    assert!(rt; VarInt64::from(3_u8) < VarInt64::from(4_u64));
+}
+
+/// Asserts that two peeks, one after the other, answer the number.
+fn assert_peeked<'a>(rt: &impl Abort, reader: &mut impl Reader<'a, Endianness>, number: u64) {
+    assert_ok(rt, reader.peek_u64_varint(), number);
+    assert_ok(rt, reader.peek_u64_varint(), number);
+}
+
+#[test]
+fn a_peek_answers_what_the_read_does(rt: HostRuntime) {
     // The original's peek starts its later bytes at the first one, and so answers 0x3fbf here.
     let mut reader = BufferReader::new(rt.alloc(), Endianness::LittleEndian, &[0xbf, 0xff, 0xc0]);
-    assert_eq!(rt; reader.peek_u64_varint()?, 16383);
-    assert_eq!(rt; reader.peek_u64_varint()?, 16383);
-    assert_eq!(rt; reader.len(), 3);
-    assert_eq!(rt; reader.read_u64_varint()?, 16383);
-    for outcome in [reader.peek_u64_varint(), reader.peek_u64_varint()] {
-        let error = outcome.err().ok_or("two bytes are wanting")?;
-        assert!(rt; matches!(get_error_kind(&error), ErrorKind::UnexpectedEndOfInput));
-    }
-    assert_eq!(rt; reader.len(), 1);
-    let error = reader
-        .read_u64_varint()
-        .err()
-        .ok_or("two bytes are wanting")?;
-    assert!(rt; error.is_eof());
-    let mut empty = BufferReader::new(rt.alloc(), Endianness::LittleEndian, &[]);
-    let error = empty.peek_u64_varint().err().ok_or("no byte")?;
-    assert!(rt; error.is_eof());
-    Ok(())
+    assert_peeked(&rt, &mut reader, 16383);
+    assert_same(&rt, reader.len(), 3);
+    assert_ok(&rt, reader.read_u64_varint(), 16383);
+    assert_same(&rt, reader.len(), 1);
 }
 
 #[test]
-fn a_writer_takes_integers_of_variable_length(rt: HostRuntime) -> Result<(), Fail> {
+fn a_peek_is_refused_as_the_read_is(rt: HostRuntime) {
+    let alloc = rt.alloc();
+    // A first byte alone that wants two more, and none at all.
+    for bytes in [&[0xc0][..], &[][..]] {
+        let mut reader = BufferReader::new(alloc, Endianness::LittleEndian, bytes);
+        assert_refused(&rt, alloc, reader.peek_u64_varint(), "UnexpectedEndOfInput");
+        assert_refused(&rt, alloc, reader.peek_u64_varint(), "UnexpectedEndOfInput");
+        assert_same(&rt, reader.len(), bytes.len());
+        assert_refused(&rt, alloc, reader.read_u64_varint(), "UnexpectedEndOfInput");
+    }
+}
+
+#[test]
+fn a_writer_takes_integers_of_variable_length(rt: HostRuntime) {
     let mut context = Endianness::BigEndian;
     let mut buffer = [9; 4];
     let mut writer = BufferCollector::new(&mut context, &mut buffer);
-    writer.write_u64_varint(599)?;
-    let error = writer.write_u64_varint(0x4000).err().ok_or("no room")?;
-    assert!(rt;
-        matches!(
-            get_error_kind(&error),
-            ErrorKind::UnexpectedEndOfOutputBuffer
-        )
-    );
-    writer.write_u64_varint(7)?;
-    assert_eq!(rt; writer.finish(), 3);
-    assert_eq!(rt; buffer, [0x82, 0x57, 7, 9]);
-    Ok(())
+    assert_ok(&rt, writer.write_u64_varint(599), ());
+    let outcome = writer.write_u64_varint(0x4000);
+    assert_refused(&rt, rt.alloc(), outcome, "UnexpectedEndOfOutputBuffer");
+    assert_ok(&rt, writer.write_u64_varint(7), ());
+    assert_same(&rt, writer.finish(), 3);
+    assert_bytes(&rt, &buffer, &[0x82, 0x57, 7, 9]);
 }

@@ -6,7 +6,3 @@ pub mod device;
 pub mod endianness;
 pub mod error;
 pub mod swaps;
-#[cfg(test)]
-mod tests;
-#[cfg(test)]
-mod tests_numbers;

@@ -9,8 +9,6 @@ pub mod leaves;
 pub mod non_zero;
 pub mod numbers;
 pub mod owned;
-#[cfg(test)]
-mod tests;
 pub mod tuples;
 pub mod varint;
 

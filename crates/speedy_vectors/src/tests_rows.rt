@@ -1,9 +1,18 @@
 //! A line of each type, with its answer.
 use crate::answer_line;
-use std::test::Fail;
+use std::alloc::Global;
+use std::process::Abort;
 
-/// Lines, each with its answer.
-const ROWS: [(&str, &str); 46] = [
+/// Asserts that each line has its answer.
+fn assert_answers(rt: &impl Abort, alloc: Global, rows: &[(&str, &str)]) {
+    for (line, answer) in rows {
+        let answered = answer_line(alloc, line.as_bytes()).expect(rt, "an answer");
+        assert!(rt; answered.as_slice() == answer.as_bytes(), "{line}");
+    }
+}
+
+/// Unsigned numbers.
+const UNSIGNED: [(&str, &str); 6] = [
     ("be u8 21", "ok 1 21\n"),
     ("be u32 00000021", "ok 4 00000021\n"),
     ("le u64 2100000000000000ff", "ok 8 2100000000000000\n"),
@@ -11,6 +20,12 @@ const ROWS: [(&str, &str); 46] = [
         "be u128 0102030405060708090a0b0c0d0e0f10",
         "ok 16 0102030405060708090a0b0c0d0e0f10\n",
     ),
+    ("be usize 0000000000000021", "ok 8 0000000000000021\n"),
+    ("le varint 8000", "ok 2 00\n"),
+];
+
+/// Signed numbers, and those that are not 0.
+const SIGNED: [(&str, &str); 8] = [
     ("le i8 DF", "ok 1 df\n"),
     ("be i16 ffdf", "ok 2 ffdf\n"),
     ("le i32 dfffffff", "ok 4 dfffffff\n"),
@@ -19,17 +34,31 @@ const ROWS: [(&str, &str); 46] = [
         "le i128 dfffffffffffffffffffffffffffffff",
         "ok 16 dfffffffffffffffffffffffffffffff\n",
     ),
-    ("be usize 0000000000000021", "ok 8 0000000000000021\n"),
-    ("le varint 8000", "ok 2 00\n"),
+    ("le nonzero_u8 ff", "ok 1 ff\n"),
+    ("le nonzero_u16 0000", "refused ZeroNonZero\n"),
+    ("be nonzero_i32 fffffffe", "ok 4 fffffffe\n"),
+];
+
+/// Flags, characters, nothing, byte orders and durations.
+const LEAVES: [(&str, &str); 8] = [
     ("le bool 07", "ok 1 01\n"),
     ("le char 00d80000", "refused InvalidChar\n"),
     ("be char 000059b9", "ok 4 000059b9\n"),
     ("le unit -", "ok 0 -\n"),
-    ("le nonzero_u8 ff", "ok 1 ff\n"),
-    ("le nonzero_u16 0000", "refused ZeroNonZero\n"),
-    ("be nonzero_i32 fffffffe", "ok 4 fffffffe\n"),
     ("le endianness 01", "ok 1 01\n"),
     ("le endianness 02", "refused InvalidEnumVariant\n"),
+    (
+        "be duration 00000000000000013b9aca00",
+        "ok 12 000000000000000200000000\n",
+    ),
+    (
+        "le duration ffffffffffffffff00ca9a3b",
+        "refused InvalidSystemTime\n",
+    ),
+];
+
+/// Addresses.
+const ADDRESSES: [(&str, &str); 6] = [
     ("le ipv4 0100007f", "ok 4 0100007f\n"),
     (
         "be ipv6 2001072015000001000000000000a100",
@@ -39,14 +68,10 @@ const ROWS: [(&str, &str); 46] = [
     ("le ip 0101000000", "refused UnexpectedEndOfInput\n"),
     ("le ip 02", "refused InputBufferIsTooSmall 1 5\n"),
     ("le ip 0200000000", "refused InvalidEnumVariant\n"),
-    (
-        "be duration 00000000000000013b9aca00",
-        "ok 12 000000000000000200000000\n",
-    ),
-    (
-        "le duration ffffffffffffffff00ca9a3b",
-        "refused InvalidSystemTime\n",
-    ),
+];
+
+/// Values that are one part after another.
+const COMPOSED: [(&str, &str); 7] = [
     ("le opt_u16 070500ff", "ok 3 010500\n"),
     ("le res_u16_u8 0009", "ok 2 0009\n"),
     ("le range_u16 0a000b00", "ok 4 0a000b00\n"),
@@ -60,6 +85,10 @@ const ROWS: [(&str, &str); 46] = [
         "le array_u16_4 01000200030004",
         "refused InputBufferIsTooSmall 7 8\n",
     ),
+];
+
+/// What owns memory, and a name that no type has.
+const OWNED: [(&str, &str); 11] = [
     ("be boxed_str 000000024869", "ok 6 000000024869\n"),
     (
         "le boxed_str 050000004869",
@@ -86,10 +115,31 @@ const ROWS: [(&str, &str); 46] = [
 ];
 
 #[test]
-fn each_type_is_answered(rt: HostRuntime) -> Result<(), Fail> {
-    for (line, wanted) in ROWS {
-        let answer = answer_line(rt.alloc(), line.as_bytes())?;
-        assert_eq!(rt; answer.as_slice(), wanted.as_bytes(), "{line}");
-    }
-    Ok(())
+fn unsigned_numbers_are_answered(rt: HostRuntime) {
+    assert_answers(&rt, rt.alloc(), &UNSIGNED);
+}
+
+#[test]
+fn signed_numbers_are_answered(rt: HostRuntime) {
+    assert_answers(&rt, rt.alloc(), &SIGNED);
+}
+
+#[test]
+fn leaves_are_answered(rt: HostRuntime) {
+    assert_answers(&rt, rt.alloc(), &LEAVES);
+}
+
+#[test]
+fn addresses_are_answered(rt: HostRuntime) {
+    assert_answers(&rt, rt.alloc(), &ADDRESSES);
+}
+
+#[test]
+fn composed_values_are_answered(rt: HostRuntime) {
+    assert_answers(&rt, rt.alloc(), &COMPOSED);
+}
+
+#[test]
+fn what_owns_memory_is_answered(rt: HostRuntime) {
+    assert_answers(&rt, rt.alloc(), &OWNED);
 }

@@ -2,8 +2,6 @@
 #![tactic(auto)]
 
 pub mod collectors;
-#[cfg(test)]
-mod tests;
 pub mod writable;
 pub mod writable_addresses;
 pub mod writable_composed;

@@ -1,0 +1,362 @@
+//! What tests assert of values, of their bytes and of refusals.
+//!
+//! A test ends where one of these does not hold. They answer nothing, so a test has no other way out than its end,
+//! which is what makes it quick to prove.
+use crate::context::{BigEndian, Context, LittleEndian, PlainContext};
+use crate::endianness::Endianness;
+use crate::error::{Error, IsEof};
+use crate::private::get_error_kind;
+use crate::readable::Readable;
+use crate::writable::Writable;
+use std::alloc::Global;
+use std::fmt::Debug;
+use std::process::Abort;
+
+/// Asserts that two values are the same.
+pub(crate) fn assert_same<T: PartialEq + Debug + Drop>(rt: &impl Abort, actual: T, expected: T) {
+    assert_eq!(rt; actual, expected);
+}
+
+/// Asserts that two lists of bytes are the same.
+pub(crate) fn assert_bytes(rt: &impl Abort, actual: &[u8], expected: &[u8]) {
+    assert_eq!(rt; actual, expected);
+}
+
+/// Asserts that the outcome is the value.
+pub(crate) fn assert_ok<T: PartialEq + Debug + Drop>(
+    rt: &impl Abort,
+    outcome: Result<T, Error>,
+    expected: T,
+) {
+    assert_same(rt, outcome.expect(rt, "a value"), expected);
+}
+
+/// Asserts that the outcome is a vector of these items.
+pub(crate) fn assert_ok_items<T: PartialEq + Debug + Drop>(
+    rt: &impl Abort,
+    outcome: Result<Vec<T>, Error>,
+    expected: &[T],
+) {
+    assert_same(rt, outcome.expect(rt, "a vector").as_slice(), expected);
+}
+
+/// Asserts that the outcome is a refusal of the kind, as `Debug` prints it, and that it is an end of the bytes just
+/// where the kind is.
+pub(crate) fn assert_refused<T: Drop>(
+    rt: &impl Abort,
+    alloc: Global,
+    outcome: Result<T, Error>,
+    kind: &str,
+) {
+    let error = outcome.err().expect(rt, "it is refused");
+    assert_kind(rt, alloc, &error, kind);
+    assert_same(rt, error.is_eof(), kind.starts_with("UnexpectedEnd"));
+}
+
+/// Asserts that the error is of the kind, as `Debug` prints it.
+pub(crate) fn assert_kind(rt: &impl Abort, alloc: Global, error: &Error, kind: &str) {
+    let printed = format!(in alloc; "{:?}", get_error_kind(error)).expect(rt, "its kind");
+    assert_same(rt, printed.as_str(), kind);
+}
+
+/// Asserts that in both orders the bytes are refused with the kind.
+pub(crate) fn assert_unreadable<'a, T: Readable<'a, Endianness>>(
+    rt: &impl Abort,
+    alloc: Global,
+    little: &'a [u8],
+    big: &'a [u8],
+    kind: &str,
+) {
+    let outcome = T::read_from_buffer_with_ctx(alloc, Endianness::LittleEndian, little);
+    assert_refused(rt, alloc, outcome, kind);
+    let outcome = T::read_from_buffer_with_ctx(alloc, Endianness::BigEndian, big);
+    assert_refused(rt, alloc, outcome, kind);
+}
+
+/// The spelling: all of the bytes but the last, which follows it.
+fn spelling_of<'a>(rt: &impl Abort, followed: &'a [u8]) -> &'a [u8] {
+    let (_, spelling) = followed.split_last().expect(rt, "a byte that follows");
+    spelling
+}
+
+/// A buffer of so many bytes, each of them 9.
+fn make_buffer(rt: &impl Abort, alloc: Global, length: usize) -> Vec<u8> {
+    vec![in alloc; 9; length].expect(rt, "a buffer")
+}
+
+/// Asserts that the buffer holds the spelling, and that the byte after it is left as it was made.
+fn assert_at_front(rt: &impl Abort, buffer: &[u8], spelling: &[u8]) {
+    let (last, front) = buffer.split_last().expect(rt, "a byte that follows");
+    assert_bytes(rt, front, spelling);
+    assert_same(rt, *last, 9);
+}
+
+/// Asserts that under the context the value is written as all but the last of the bytes, to a vector.
+fn assert_written_to_vec<C: Context + Copy, T: Writable<C>>(
+    rt: &impl Abort,
+    alloc: Global,
+    context: C,
+    value: &T,
+    followed: &[u8],
+)
+where
+    C::Error: Debug,
+{
+    let spelling = spelling_of(rt, followed);
+    let written = value
+        .write_to_vec_with_ctx(alloc, context)
+        .expect(rt, "a vector");
+    assert_bytes(rt, written.as_slice(), spelling);
+    let mut held = context;
+    let written = value
+        .write_to_vec_with_ctx_mut(alloc, &mut held)
+        .expect(rt, "a vector");
+    assert_bytes(rt, written.as_slice(), spelling);
+}
+
+/// Asserts that under the context the value is written as all but the last of the bytes, to a buffer.
+fn assert_written_to_buffer<C: Context + Copy, T: Writable<C>>(
+    rt: &impl Abort,
+    alloc: Global,
+    context: C,
+    value: &T,
+    followed: &[u8],
+)
+where
+    C::Error: Debug,
+{
+    let spelling = spelling_of(rt, followed);
+    let mut buffer = make_buffer(rt, alloc, followed.len());
+    let outcome = value.write_to_buffer_with_ctx(context, buffer.as_mut_slice());
+    outcome.expect(rt, "a write");
+    assert_at_front(rt, buffer.as_slice(), spelling);
+    let mut held = context;
+    let mut buffer = make_buffer(rt, alloc, followed.len());
+    let outcome = value.write_to_buffer_with_ctx_mut(&mut held, buffer.as_mut_slice());
+    outcome.expect(rt, "a write");
+    assert_at_front(rt, buffer.as_slice(), spelling);
+}
+
+/// Asserts that under the context the value is written as all but the last of the bytes, in each way of writing.
+fn assert_written_under<C: Context + Copy, T: Writable<C>>(
+    rt: &impl Abort,
+    alloc: Global,
+    context: C,
+    value: &T,
+    followed: &[u8],
+)
+where
+    C::Error: Debug,
+{
+    let mut held = context;
+    let needed = value.bytes_needed(&mut held).expect(rt, "a size");
+    assert_same(rt, needed, spelling_of(rt, followed).len());
+    assert_written_to_vec(rt, alloc, context, value, followed);
+    assert_written_to_buffer(rt, alloc, context, value, followed);
+}
+
+/// Asserts that in both orders the value is written as all but the last of the bytes, in each way of writing.
+pub(crate) fn assert_written<T: Writable<Endianness>>(
+    rt: &impl Abort,
+    alloc: Global,
+    value: &T,
+    little: &[u8],
+    big: &[u8],
+) {
+    assert_written_under(rt, alloc, Endianness::LittleEndian, value, little);
+    assert_written_under(rt, alloc, Endianness::BigEndian, value, big);
+}
+
+/// Asserts that what was read of the bytes is the value.
+fn assert_value<T: PartialEq>(rt: &impl Abort, read: &T, value: &T, bytes: &[u8]) {
+    assert!(rt; read == value, "another value is read of {bytes:?}");
+}
+
+/// Asserts that under the context the value is what is read of so many bytes at the front, in each way of reading.
+pub(crate) fn assert_reads<'a, C: Context + Copy, T: Readable<'a, C> + PartialEq>(
+    rt: &impl Abort,
+    alloc: Global,
+    context: C,
+    value: &T,
+    bytes: &'a [u8],
+    count: usize,
+)
+where
+    C::Error: Debug,
+{
+    let read = T::read_from_buffer_with_ctx(alloc, context, bytes).expect(rt, "a value");
+    assert_value(rt, &read, value, bytes);
+    let (outcome, length) = T::read_with_length_from_buffer_with_ctx(alloc, context, bytes);
+    let read = outcome.expect(rt, "a value");
+    assert_value(rt, &read, value, bytes);
+    assert_same(rt, length, count);
+}
+
+/// Asserts that under the context what was read is written as all but the last of the bytes.
+fn assert_written_again<C: Context + Copy, T: Writable<C> + Drop>(
+    rt: &impl Abort,
+    alloc: Global,
+    context: C,
+    outcome: Result<T, C::Error>,
+    followed: &[u8],
+)
+where
+    C::Error: Debug,
+{
+    let read = outcome.expect(rt, "a value");
+    assert_written_under(rt, alloc, context, &read, followed);
+}
+
+/// Asserts that under the context all but the last of the bytes spell the value, and that they are what is written of
+/// what was read.
+fn assert_encoding_under<'a, C, T>(
+    rt: &impl Abort,
+    alloc: Global,
+    context: C,
+    value: &T,
+    followed: &'a [u8],
+)
+where
+    C: Context + Copy,
+    C::Error: Debug,
+    T: Readable<'a, C> + Writable<C> + PartialEq,
+{
+    let count = spelling_of(rt, followed).len();
+    assert_written_under(rt, alloc, context, value, followed);
+    assert_reads(rt, alloc, context, value, followed, count);
+    let outcome = T::read_from_buffer_with_ctx(alloc, context, followed);
+    assert_written_again(rt, alloc, context, outcome, followed);
+}
+
+/// Asserts that a byte less than the spelling is refused: as a buffer that is too small where it is shorter than the
+/// least size, and otherwise as an early end.
+fn assert_shorter_refused<'a, C: Context + Copy, T: Readable<'a, C>>(
+    rt: &impl Abort,
+    alloc: Global,
+    context: C,
+    followed: &'a [u8],
+    least: usize,
+) {
+    let Some((_, shorter)) = spelling_of(rt, followed).split_last() else {
+        return;
+    };
+    let outcome = T::read_from_buffer_with_ctx(alloc, context, shorter);
+    let error = outcome.err().expect(rt, "a byte is missing");
+    assert_same(rt, error.is_eof(), least <= shorter.len());
+}
+
+/// Asserts that a byte less than the spelling is refused with the kind that it should be.
+fn assert_shorter_refused_by_kind<'a, T: Readable<'a, Endianness>>(
+    rt: &impl Abort,
+    alloc: Global,
+    order: Endianness,
+    followed: &'a [u8],
+    least: usize,
+) {
+    let Some((_, shorter)) = spelling_of(rt, followed).split_last() else {
+        return;
+    };
+    let outcome = T::read_from_buffer_with_ctx(alloc, order, shorter);
+    let count = shorter.len();
+    if least <= count {
+        assert_refused(rt, alloc, outcome, "UnexpectedEndOfInput");
+        return;
+    }
+    let kind = format!(in alloc;
+        "InputBufferIsTooSmall {{ actual_size: {count}, expected_size: {least} }}"
+    );
+    assert_refused(rt, alloc, outcome, kind.expect(rt, "a kind").as_str());
+}
+
+/// Asserts that each value and its bytes in the little and in the big order belong together, in each way of writing
+/// and of reading. A byte follows each spelling, and is not taken. No spelling is shorter than the least size, and
+/// one byte less is refused.
+pub(crate) fn assert_encoding<'a, T>(
+    rt: &impl Abort,
+    alloc: Global,
+    least: usize,
+    rows: &[(T, &'a [u8], &'a [u8])],
+)
+where
+    T: Readable<'a, Endianness> + Writable<Endianness> + PartialEq,
+{
+    assert_same(rt, T::minimum_bytes_needed(), least);
+    for (value, little, big) in rows {
+        assert_encoding_in(rt, alloc, Endianness::LittleEndian, least, value, little);
+        assert_encoding_in(rt, alloc, Endianness::BigEndian, least, value, big);
+    }
+}
+
+/// Asserts that in the order the value and its bytes belong together.
+fn assert_encoding_in<'a, T>(
+    rt: &impl Abort,
+    alloc: Global,
+    order: Endianness,
+    least: usize,
+    value: &T,
+    followed: &'a [u8],
+)
+where
+    T: Readable<'a, Endianness> + Writable<Endianness> + PartialEq,
+{
+    assert_encoding_under(rt, alloc, order, value, followed);
+    assert_shorter_refused_by_kind::<T>(rt, alloc, order, followed, least);
+}
+
+/// Asserts the same of each of the contexts that are types, and of the ways that are given no context.
+pub(crate) fn assert_encoding_in_types<'a, T>(
+    rt: &impl Abort,
+    alloc: Global,
+    least: usize,
+    rows: &[(T, &'a [u8], &'a [u8])],
+)
+where
+    T: Readable<'a, LittleEndian> + Writable<LittleEndian>,
+    T: Readable<'a, BigEndian> + Writable<BigEndian> + PartialEq,
+{
+    for (value, little, big) in rows {
+        assert_encoding_under(rt, alloc, LittleEndian {}, value, little);
+        assert_encoding_under(rt, alloc, BigEndian {}, value, big);
+        assert_shorter_refused::<LittleEndian, T>(rt, alloc, LittleEndian {}, little, least);
+        assert_shorter_refused::<BigEndian, T>(rt, alloc, BigEndian {}, big, least);
+        assert_plain_writing::<LittleEndian, T>(rt, alloc, value, little);
+        assert_plain_reading::<LittleEndian, T>(rt, alloc, value, little);
+    }
+}
+
+/// Asserts that with no context the value is written as all but the last of the bytes.
+fn assert_plain_writing<C: PlainContext, T: Writable<C>>(
+    rt: &impl Abort,
+    alloc: Global,
+    value: &T,
+    followed: &[u8],
+)
+where
+    C::Error: Debug,
+{
+    let spelling = spelling_of(rt, followed);
+    let written = value.write_to_vec(alloc).expect(rt, "a vector");
+    assert_bytes(rt, written.as_slice(), spelling);
+    let mut buffer = make_buffer(rt, alloc, followed.len());
+    let outcome = value.write_to_buffer(buffer.as_mut_slice());
+    outcome.expect(rt, "a write");
+    assert_at_front(rt, buffer.as_slice(), spelling);
+}
+
+/// Asserts that with no context the value is read of all but the last of the bytes.
+fn assert_plain_reading<'a, C: PlainContext, T: Readable<'a, C> + PartialEq>(
+    rt: &impl Abort,
+    alloc: Global,
+    value: &T,
+    followed: &'a [u8],
+)
+where
+    C::Error: Debug,
+{
+    let read = T::read_from_buffer(alloc, followed).expect(rt, "a value");
+    assert_value(rt, &read, value, followed);
+    let (outcome, length) = T::read_with_length_from_buffer(alloc, followed);
+    let read = outcome.expect(rt, "a value");
+    assert_value(rt, &read, value, followed);
+    assert_same(rt, length, spelling_of(rt, followed).len());
+}

@@ -1,0 +1,25 @@
+//! The laws of layouts can be cited, at leaves and at types within each other.
+use crate::laws::{no_spelling_begins_another, one_value, spelled_is_written, written_is_shortest};
+use crate::varint::VarInt64;
+
+#[test]
+fn one_value_is_spelled_by_one_list_of_bytes() {
+    one_value::<u8>();
+    one_value::<u16>();
+    one_value::<u32>();
+    one_value::<String>();
+    one_value::<Vec<String>>();
+    one_value::<VarInt64>();
+}
+
+#[test]
+fn a_written_form_is_a_shortest_spelling() {
+    written_is_shortest::<Vec<String>>();
+    spelled_is_written::<Vec<String>>();
+    written_is_shortest::<VarInt64>();
+}
+
+#[test]
+fn spellings_of_nested_types_do_not_begin_each_other() {
+    no_spelling_begins_another::<Vec<String>>();
+}

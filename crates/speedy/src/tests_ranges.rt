@@ -1,0 +1,112 @@
+//! A range that is read can be walked: it has all of its numbers, both ends included.
+use crate::asserting::assert_same;
+use crate::context::{BigEndian, Context, LittleEndian};
+use crate::endianness::Endianness;
+use crate::readable::{BufferReader, ReadFrom, Readable};
+use crate::reader::LendingReader;
+use std::alloc::Global;
+use std::fmt::Debug;
+use std::ops::RangeInclusive;
+use std::process::Abort;
+
+type Numbers = RangeInclusive<u16>;
+
+/// The range from 10 to 12 in the little order, and in the big one.
+const LITTLE: [u8; 4] = [10, 0, 12, 0];
+
+const BIG: [u8; 4] = [0, 10, 0, 12];
+
+/// Asserts that the range yields these numbers and no other.
+fn assert_yields(rt: &impl Abort, alloc: Global, range: Numbers, expected: &[u16]) {
+    let mut numbers = Vec::new(alloc);
+    for number in range {
+        numbers.push(number).expect(rt, "room");
+    }
+    assert_same(rt, numbers.as_slice(), expected);
+}
+
+/// Asserts that the outcome is the range from 10 to 12.
+fn assert_whole<E: Debug>(rt: &impl Abort, alloc: Global, outcome: Result<Numbers, E>) {
+    let range = outcome.expect(rt, "a range");
+    assert!(rt; !range.is_empty());
+    assert!(rt; range.contains(&10) && range.contains(&11) && range.contains(&12));
+    assert!(rt; !range.contains(&9) && !range.contains(&13));
+    assert_yields(rt, alloc, range, &[10, 11, 12]);
+}
+
+/// Asserts that under the context the range is read of a buffer.
+fn assert_read_of_buffer<C: Context + Copy>(
+    rt: &impl Abort,
+    alloc: Global,
+    context: C,
+    bytes: &[u8],
+)
+where
+    C::Error: Debug,
+{
+    let outcome = Numbers::read_from_buffer_with_ctx(alloc, context, bytes);
+    assert_whole(rt, alloc, outcome);
+    let (outcome, count) = Numbers::read_with_length_from_buffer_with_ctx(alloc, context, bytes);
+    assert_whole(rt, alloc, outcome);
+    assert_same(rt, count, 4);
+}
+
+/// Asserts that under the context the range is read by a reader.
+fn assert_read_by_reader<C: Context + Copy>(
+    rt: &impl Abort,
+    alloc: Global,
+    context: C,
+    bytes: &[u8],
+)
+where
+    C::Error: Debug,
+{
+    let mut reader = BufferReader::new(alloc, context, bytes);
+    assert_whole(rt, alloc, reader.read_value());
+    let mut reader = BufferReader::new(alloc, context, bytes);
+    assert_whole(rt, alloc, Numbers::read_from(&mut reader));
+}
+
+#[test]
+fn ranges_of_a_buffer_are_whole(rt: HostRuntime) {
+    let alloc = rt.alloc();
+    assert_read_of_buffer(&rt, alloc, LittleEndian {}, &LITTLE);
+    assert_read_of_buffer(&rt, alloc, BigEndian {}, &BIG);
+    assert_read_of_buffer(&rt, alloc, Endianness::LittleEndian, &LITTLE);
+    assert_read_of_buffer(&rt, alloc, Endianness::BigEndian, &BIG);
+}
+
+#[test]
+fn ranges_of_a_reader_are_whole(rt: HostRuntime) {
+    let alloc = rt.alloc();
+    assert_read_by_reader(&rt, alloc, LittleEndian {}, &LITTLE);
+    assert_read_by_reader(&rt, alloc, BigEndian {}, &BIG);
+    assert_read_by_reader(&rt, alloc, Endianness::LittleEndian, &LITTLE);
+    assert_read_by_reader(&rt, alloc, Endianness::BigEndian, &BIG);
+}
+
+#[test]
+fn ranges_that_are_read_with_no_context_are_whole(rt: HostRuntime) {
+    let outcome = <Numbers as Readable<LittleEndian>>::read_from_buffer(rt.alloc(), &LITTLE);
+    assert_whole(&rt, rt.alloc(), outcome);
+    let (outcome, count) = <Numbers as Readable<LittleEndian>>::read_with_length_from_buffer(
+        rt.alloc(),
+        &LITTLE,
+    );
+    assert_whole(&rt, rt.alloc(), outcome);
+    assert_same(&rt, count, 4);
+}
+
+#[test]
+fn ranges_yield_their_numbers_wherever_they_end(rt: HostRuntime) {
+    for (bytes, numbers) in [
+        ([7, 0, 7, 0], &[7][..]),
+        ([3, 0, 1, 0], &[][..]),
+        ([254, 255, 255, 255], &[65534, 65535][..]),
+    ] {
+        let mut reader = BufferReader::new(rt.alloc(), Endianness::LittleEndian, &bytes);
+        let range: Numbers = reader.read_value().expect(&rt, "a range");
+        assert_same(&rt, range.is_empty(), numbers.is_empty());
+        assert_yields(&rt, rt.alloc(), range, numbers);
+    }
+}
