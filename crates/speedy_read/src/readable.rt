@@ -110,6 +110,7 @@ pub trait Readable<'a, C: Context>: ReadMany<&'a [u8], C> {
 impl<'a, C: Context, T: ReadMany<&'a [u8], C>> Readable<'a, C> for T {}
 
 // Reads so many values, each by itself. It stands outside the trait, so that it is proved once for all types.
+#[inline]
 fn read_each<T: ReadFrom<L, C>, L: AsSlice<u8> + Drop, C: Context, R: LendingReader<L, C>>(
     reader: &mut R,
     length: usize,
