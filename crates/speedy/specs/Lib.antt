@@ -1,31 +1,40 @@
--- The definitions that the contracts of the calls cite.
+-- The definitions that the contracts of the calls cite, and the lemmas that proofs about types of one's own cite.
 pub use Rattle.speedy_base.specs.Device
 pub use Rattle.speedy_base.specs.Devices
 pub use Rattle.speedy_base.specs.Digits
+pub use Rattle.speedy_base.specs.DigitsLemmas
+pub use Rattle.speedy_base.specs.Encoding
 pub use Rattle.speedy_base.specs.Error
 pub use Rattle.speedy_base.specs.ErrorKind
-pub use Rattle.speedy_base.specs.Form
 pub use Rattle.speedy_base.specs.Signed
 pub use Rattle.speedy_layout.specs.Addresses
-pub use Rattle.speedy_layout.specs.Coding
-pub use Rattle.speedy_layout.specs.Composed
-pub use Rattle.speedy_layout.specs.Durations
-pub use Rattle.speedy_layout.specs.Language
+pub use Rattle.speedy_layout.specs.Codes
+pub use Rattle.speedy_layout.specs.Flags
+pub use Rattle.speedy_layout.specs.Format
 pub use Rattle.speedy_layout.specs.Laws
 pub use Rattle.speedy_layout.specs.Leaves
 pub use Rattle.speedy_layout.specs.Lists
+pub use Rattle.speedy_layout.specs.NonZero
 pub use Rattle.speedy_layout.specs.Numbers
 pub use Rattle.speedy_layout.specs.Owned
-pub use Rattle.speedy_layout.specs.SignedNumbers
-pub use Rattle.speedy_layout.specs.TestedNumbers
+pub use Rattle.speedy_layout.specs.Sequences
 pub use Rattle.speedy_layout.specs.Texts
+pub use Rattle.speedy_layout.specs.Tuples
 pub use Rattle.speedy_layout.specs.Utf8
 pub use Rattle.speedy_layout.specs.Varint
 pub use Rattle.speedy_layout.specs.Zigzag
-pub use Rattle.speedy_read.specs.Reading
 pub use Rattle.speedy_read.specs.Buffers
+pub use Rattle.speedy_read.specs.Codes as ReadCodes
+pub use Rattle.speedy_read.specs.Exits
+pub use Rattle.speedy_read.specs.Flags as ReadFlags
+pub use Rattle.speedy_read.specs.Reading
+pub use Rattle.speedy_read.specs.ReadingLemmas
 pub use Rattle.speedy_read.specs.RoundTrip
-pub use Rattle.speedy_write.specs.Ways
-pub use Rattle.speedy_write.specs.Writing
-pub use Rattle.speedy_write.specs.SignedWriting
+pub use Rattle.speedy_read.specs.Sequences as ReadSequences
+pub use Rattle.speedy_write.specs.Codes as WriteCodes
+pub use Rattle.speedy_write.specs.CollectorLemmas
 pub use Rattle.speedy_write.specs.Collectors
+pub use Rattle.speedy_write.specs.CollectorViews
+pub use Rattle.speedy_write.specs.Sequences as WriteSequences
+pub use Rattle.speedy_write.specs.WaysOfWriting
+pub use Rattle.speedy_write.specs.Writing

@@ -12,6 +12,16 @@ use std::alloc::Global;
 use std::fmt::Debug;
 use std::process::Abort;
 
+/// A vector of these items.
+pub(crate) fn make_vec<T: Copy>(rt: &impl Abort, alloc: Global, items: &[T]) -> Vec<T> {
+    items.to_vec(alloc).expect(rt, "a vector")
+}
+
+/// A text of its own memory.
+pub(crate) fn make_text(rt: &impl Abort, alloc: Global, text: &str) -> String {
+    String::from_str(alloc, text).expect(rt, "a text")
+}
+
 /// Asserts that two values are the same.
 pub(crate) fn assert_same<T: PartialEq + Debug + Drop>(rt: &impl Abort, actual: T, expected: T) {
     assert_eq!(rt; actual, expected);

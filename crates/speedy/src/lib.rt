@@ -9,13 +9,13 @@
 #[cfg(test)]
 mod asserting;
 pub mod laws;
+#[cfg(test)]
+mod own_types;
 pub mod private;
 #[cfg(test)]
 mod round_trips;
 #[cfg(test)]
-mod tests_bytes;
-#[cfg(test)]
-mod tests_composed;
+mod tests_addresses;
 #[cfg(test)]
 mod tests_devices;
 #[cfg(test)]
@@ -23,9 +23,15 @@ mod tests_endianness;
 #[cfg(test)]
 mod tests_errors;
 #[cfg(test)]
+mod tests_flags;
+#[cfg(test)]
 mod tests_laws;
 #[cfg(test)]
 mod tests_leaves;
+#[cfg(test)]
+mod tests_lists;
+#[cfg(test)]
+mod tests_non_zero;
 #[cfg(test)]
 mod tests_numbers;
 #[cfg(test)]
@@ -35,10 +41,15 @@ mod tests_ranges;
 #[cfg(test)]
 mod tests_readers;
 #[cfg(test)]
+mod tests_texts;
+#[cfg(test)]
+mod tests_tuples;
+#[cfg(test)]
 mod tests_varint;
 #[cfg(test)]
 mod tests_writers;
 
+pub use buffer::Buffer;
 pub use context::{BigEndian, Context, LittleEndian, PlainContext};
 pub use endianness::Endianness;
 pub use error::{Error, IsEof};
@@ -47,7 +58,7 @@ pub use readable::{ReadFrom, ReadMany, Readable};
 pub use reader::{LendingReader, Reader};
 pub use speedy_base::{context, device, endianness, error};
 pub use speedy_layout::{layout, varint};
-pub use speedy_read::{readable, readable_impl, reader};
-pub use speedy_write::{writable, writable_impl, writer};
+pub use speedy_read::{buffer, readable, reader};
+pub use speedy_write::{writable, writer};
 pub use writable::Writable;
 pub use writer::Writer;

@@ -9,4 +9,4 @@ pub use speedy_base::error::{
 };
 pub use speedy_layout::varint::VarInt64;
 pub use speedy_read::private::vec_to_string;
-pub use speedy_write::writable_impl::write_length;
+pub use speedy_write::private::write_length;

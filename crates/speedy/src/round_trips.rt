@@ -1,14 +1,16 @@
 //! Callers that write and read back, with the contracts and the proofs that a user writes.
 ghost use Rattle.std.specs.Prelude.{◌≡◌, ◌++◌, ℕ, List, length as count, map, IsTrue, IfOk, IfErr, OnOk};
+ghost use Rattle.speedy.specs.Encoding.{plain_encoding};
 ghost use Rattle.speedy.specs.Error.{error_of};
-ghost use Rattle.speedy.specs.Language.{Each};
+ghost use Rattle.speedy.specs.Format.{Each};
+ghost use Rattle.speedy.specs.Reading.{Counts};
 
 use crate::laws::{written_is_answered, written_is_read, written_items_are_read};
 use crate::private::ErrorKind;
 use crate::readable::BufferReader;
 use crate::writable::BufferCollector;
 use crate::{
-    Context, Endianness, Error, Layout, LendingReader, ReadMany, Readable, Writable, Writer,
+    Buffer, Context, Endianness, Error, Layout, LendingReader, ReadMany, Readable, Writable, Writer,
 };
 use std::alloc::Global;
 use std::convert::AsSlice;
@@ -43,8 +45,8 @@ fn read_written<'a, C: Context, T: Readable<'a, C>>(
     context: C,
     bytes: &'a [u8],
 ) -> Result<T, C::Error>
-    ensures same { (v : T.Seen) → (T.language (C.form context)).writes v bytes.now → IfOk result (λ x. T.seen x ≡ v) }
-    ensures refused { (v : T.Seen) → (T.language (C.form context)).writes v bytes.now
+    ensures same { (v : T.Seen) → (T.format (C.encoding context)).writes v bytes.now → IfOk result (λ x. T.seen x ≡ v) }
+    ensures refused { (v : T.Seen) → (T.format (C.encoding context)).writes v bytes.now
         → IfErr result (C.Error.from_gives (error_of ErrorKind.OutOfMemory)) }
 {
     written_is_answered::<T, C>();
@@ -57,9 +59,9 @@ fn read_front<'a, C: Context, T: Readable<'a, C>>(
     context: C,
     bytes: &'a [u8],
 ) -> Result<(T, usize), C::Error>
-    ensures same { (v : T.Seen) (front rest : List ℕ) → (T.language (C.form context)).writes v front → bytes.now ≡ front ++ rest
+    ensures same { (v : T.Seen) (front rest : List ℕ) → (T.format (C.encoding context)).writes v front → bytes.now ≡ front ++ rest
         → IfOk result (λ x. (T.seen x.0 ≡ v) × (x.1 ≡ count rest)) }
-    ensures refused { (v : T.Seen) (front rest : List ℕ) → (T.language (C.form context)).writes v front → bytes.now ≡ front ++ rest
+    ensures refused { (v : T.Seen) (front rest : List ℕ) → (T.format (C.encoding context)).writes v front → bytes.now ≡ front ++ rest
         → IfErr result (C.Error.from_gives (error_of ErrorKind.OutOfMemory)) }
 {
     written_is_read::<T, C>();
@@ -74,7 +76,7 @@ fn read_slice<L: AsSlice<u8> + Drop, C: Context, R: LendingReader<L, C>, T: Read
     length: usize,
 ) -> Result<Vec<T>, C::Error>
     ensures { let state = R.state reader.old in
-        (items : List T.Seen) (bytes rest : List ℕ) → Each (T.language state.form).writes items bytes → length ≡ count items
+        (items : List T.Seen) (bytes rest : List ℕ) → Each (T.format state.encoding).writes items bytes → length ≡ count items
         → IsTrue state.tells → state.to_come ≡ bytes ++ rest
         → IfOk result (λ v. map T.seen v.items ≡ items) × OnOk result ((R.state reader.new).to_come ≡ rest) }
 {
@@ -99,6 +101,29 @@ fn slice_again<'a, C: Context + Copy, T: Writable<C> + Readable<'a, C>>(
     outcome?;
     let mut reader = BufferReader::new(alloc, context, buffer);
     reader.read_vec(items.len())
+}
+
+/// Reads a value of any type from bytes that a type names. So it needs no lifetime, and answers the crate's own error.
+fn load<L: Buffer<Endianness>, T: ReadMany<L, Endianness>>(
+    alloc: Global,
+    order: Endianness,
+    bytes: L,
+) -> Result<T, Error>
+    ensures { let format = T.format (plain_encoding order) in
+        IfOk result (λ x. (size : ℕ) × Counts (format.spells (T.seen x)) size (L.items bytes)) }
+{
+    bytes.read_front(alloc, order)
+}
+
+#[test]
+fn values_of_any_type_are_loaded(rt: HostRuntime) -> Result<(), Fail> {
+    let alloc = rt.alloc();
+    let bytes = [0, 0, 0, 2, 0, 10, 0, 11, 9];
+    let number: u32 = load(alloc, Endianness::BigEndian, bytes.as_slice())?;
+    assert_eq!(rt; number, 2);
+    let numbers: Vec<u16> = load(alloc, Endianness::BigEndian, bytes.as_slice())?;
+    assert_eq!(rt; numbers.as_slice(), [10, 11].as_slice());
+    Ok(())
 }
 
 #[test]

@@ -1,9 +1,8 @@
-//! Leaves that test or map what they are spelled as: bytes that come from outside, and each refusal once.
+//! Characters, byte orders and durations: bytes that come from outside, and each refusal once.
 use crate::asserting::{assert_encoding, assert_ok_items, assert_same, assert_unreadable};
 use crate::endianness::Endianness;
 use crate::readable::Readable;
 use crate::writable::Writable;
-use std::net::{Ipv4Addr, Ipv6Addr};
 use std::time::Duration;
 
 #[test]
@@ -39,24 +38,6 @@ fn byte_orders_are_one_byte(rt: HostRuntime) {
     ];
     assert_encoding(&rt, alloc, 1, &rows);
     assert_unreadable::<Endianness>(&rt, alloc, &[2], &[2], "InvalidEnumVariant");
-}
-
-#[test]
-fn addresses_lie_in_the_order_of_the_context(rt: HostRuntime) {
-    let rows = [(
-        Ipv4Addr::LOCALHOST,
-        &[1, 0, 0, 127, 9][..],
-        &[127, 0, 0, 1, 9][..],
-    )];
-    assert_encoding(&rt, rt.alloc(), 4, &rows);
-    let little = [
-        0, 0xa1, 0, 0, 0, 0, 0, 0, 1, 0, 0, 0x15, 0x20, 7, 1, 0x20, 9,
-    ];
-    let big = [
-        0x20, 1, 7, 0x20, 0x15, 0, 0, 1, 0, 0, 0, 0, 0, 0, 0xa1, 0, 9,
-    ];
-    let address = Ipv6Addr::new(0x2001, 0x720, 0x1500, 1, 0, 0, 0, 0xa100);
-    assert_encoding(&rt, rt.alloc(), 16, &[(address, &little, &big)]);
 }
 
 #[test]

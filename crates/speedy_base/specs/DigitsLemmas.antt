@@ -297,3 +297,19 @@ swapped-swap_bytes w order n is =
 pub little_from_not_big : (order : Endianness) (is_big : Bool) → (IsTrue is_big ↔ (order ≡ BigEndian)) → is_big ≡ false → order ≡ LittleEndian
 little_from_not_big LittleEndian is_big h e = refl
 little_from_not_big BigEndian is_big h e = absurd (true≢false (sym (h.1 refl) ∙ e))
+
+-- ---- one byte
+
+-- a byte is a number of one digit
+pub SpellsNumber-one_byte : (order : Endianness) (b : ℕ) → b < 256 → SpellsNumber 1 order b (b ∷ [])
+unfolding number
+SpellsNumber-one_byte LittleEndian b l = record { width_is = refl; are_bytes = (l, tt); value_is = omega arith }
+SpellsNumber-one_byte BigEndian b l = record { width_is = refl; are_bytes = (l, tt); value_is = omega arith }
+
+-- which has no other spelling
+pub SpellsNumber-is_one_byte : (order : Endianness) (n : ℕ) (bytes : List ℕ) → SpellsNumber 1 order n bytes → bytes ≡ n ∷ []
+unfolding number
+SpellsNumber-is_one_byte order n [] h = let l = h.width_is in absurd (omega arith)
+SpellsNumber-is_one_byte LittleEndian n (b ∷ []) h = ap (λ (x : ℕ). x ∷ []) (let e : b + 256 * 0 ≡ n = h.value_is in omega arith)
+SpellsNumber-is_one_byte BigEndian n (b ∷ []) h = ap (λ (x : ℕ). x ∷ []) (let e : b + 256 * 0 ≡ n = h.value_is in omega arith)
+SpellsNumber-is_one_byte order n (b ∷ c ∷ bytes) h = let l = h.width_is in absurd (omega arith)

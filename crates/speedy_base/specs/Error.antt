@@ -30,3 +30,11 @@ abbrev pub IsIoErrorOf : StdIoError → ErrorKind → Type 0
 IsIoErrorOf error (kinds.IoError boxed) = boxed.value ≡ error
 IsIoErrorOf error kinds.OutOfMemory = Unit {0}
 IsIoErrorOf error _ = ⊥
+
+-- an error that a refusal of a named kind became
+abbrev pub IsNamed : {E : Type 0} → (Error → E → Type 0) → (ErrorKind → Type 0) → E → Type 0
+IsNamed gives names e = (kind : ErrorKind) × names kind × gives (error_of kind) e
+
+-- what is of a named kind is of one that more names have
+pub IsNamed-more : {E : Type 0} (gives : Error → E → Type 0) {names more : ErrorKind → Type 0} (e : E) → ((kind : ErrorKind) → names kind → more kind) → IsNamed gives names e → IsNamed gives more e
+IsNamed-more gives e f n = (n.0, f n.0 n.1, n.2)

@@ -1,9 +1,10 @@
 pub mod Device
+pub mod DeviceLemmas
 pub mod Devices
 pub mod Digits
 pub mod DigitsLemmas
 pub mod Error
 pub mod ErrorKind
-pub mod Form
+pub mod Encoding
 pub mod Signed
 pub mod SignedLemmas

@@ -1,7 +1,7 @@
 //! Contexts: what reading and writing are told beside the bytes.
 ghost use Rattle.std.specs.Prelude.{◌≡◌};
 ghost use Rattle.std.proofs.Common.{ap};
-ghost use Rattle.speedy_base.specs.Form.{Form, plain_form};
+ghost use Rattle.speedy_base.specs.Encoding.{Encoding, plain_encoding};
 ghost use Rattle.speedy_base.specs.Error.{is_eof_error, Error as Refusal};
 ghost use Rattle.speedy_base.specs.declared.endianness.Endianness.TheVariants.{LittleEndian as LittleOrder, BigEndian as BigOrder};
 
@@ -16,11 +16,11 @@ pub trait Context: Drop {
     type Error: From<Error> + IsEof + Drop;
 
     /// What the context asks of the bytes.
-    ghost form: { Self → Form };
+    ghost encoding: { Self → Encoding };
 
     /// The byte order of numbers.
     fn endianness(&self) -> Endianness
-        ensures { result ≡ (form self.now).order };
+        ensures { result ≡ (encoding self.now).order };
 
     /// An end of input stays one when it is converted, and nothing else becomes one.
     ghost keeps_eof: { (e : Refusal) (x : Self.Error) → Self.Error.from_gives e x → Self.Error.eof x ≡ is_eof_error e };
@@ -30,13 +30,13 @@ pub trait Context: Drop {
 pub trait PlainContext: Context {
     /// The context itself, which asks for the little byte order alone.
     fn plain() -> Self
-        ensures { Self.form result ≡ plain_form Endianness.LittleEndian };
+        ensures { Self.encoding result ≡ plain_encoding Endianness.LittleEndian };
 }
 
 impl Context for Endianness {
     type Error = Error;
 
-    ghost form = { plain_form };
+    ghost encoding = { plain_encoding };
 
     ghost keeps_eof = { λ e x h. ap is_eof_error h };
 
@@ -57,7 +57,7 @@ pub struct BigEndian {}
 impl Context for LittleEndian {
     type Error = Error;
 
-    ghost form = { λ _. plain_form LittleOrder };
+    ghost encoding = { λ _. plain_encoding LittleOrder };
 
     ghost keeps_eof = { λ e x h. ap is_eof_error h };
 
@@ -70,7 +70,7 @@ impl Context for LittleEndian {
 impl Context for BigEndian {
     type Error = Error;
 
-    ghost form = { λ _. plain_form BigOrder };
+    ghost encoding = { λ _. plain_encoding BigOrder };
 
     ghost keeps_eof = { λ e x h. ap is_eof_error h };
 

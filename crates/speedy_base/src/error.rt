@@ -31,11 +31,11 @@ pub enum ErrorKind {
     UnexpectedEndOfInput,
     /// The buffer to write to ended too soon.
     UnexpectedEndOfOutputBuffer,
-    /// A buffer to read from is shorter than any spelling.
+    /// A buffer to read from is shorter than the type's least size.
     InputBufferIsTooSmall {
         /// The length of the buffer, in bytes.
         actual_size: usize,
-        /// The least length of a spelling, in bytes.
+        /// The type's least size, in bytes.
         expected_size: usize,
     },
     /// A buffer to write to is shorter than what is written.
@@ -296,7 +296,7 @@ pub fn error_end_of_output_buffer<T: From<Error>>() -> T
     T::from(Error::new(ErrorKind::UnexpectedEndOfOutputBuffer))
 }
 
-/// A buffer to read from that is shorter than any spelling, with both sizes in bytes.
+/// A buffer to read from that is shorter than the type's least size, with both sizes in bytes.
 #[cold]
 pub fn error_input_buffer_is_too_small<T: From<Error>>(
     actual_size: usize,

@@ -1,16 +1,17 @@
--- What the code of `VarInt64` computes is the language `varint`.
+-- What the code of `VarInt64` computes is the format `varint`.
 use Rattle.std.proofs.Common.{◌≡◌, ℕ, zero, suc, ◌+◌, ◌-◌, ◌*◌, ◌/◌, ◌%◌, ◌^◌, ◌<◌, ◌≤◌, List, [], ◌∷◌, ◌++◌, length, take, drop, min, inl, inr, lit<, add-one, refl, sym, ap, ap₂, ◌∙◌, subst, arith}
 use Rattle.std.proofs.Math.Pow.{pow_mono}
 use Rattle.std.proofs.Math.Nat.{pow-suc, one-le-pow, mul-zero}
 use Rattle.std.proofs.lemmas.Bool.{cases_lt}
 use Rattle.std.specs.Int.{w64, from_le_bytes}
-use Rattle.std.proofs.lemmas.Nat.{leading_length, mod-mul-add, div_below, div-add-mod', shl_whole}
+use Rattle.std.proofs.lemmas.Nat.{leading_length, mod-mul-add, div_below, shl_whole}
 use lib.Count.{count_leading_zeros}
 use Rattle.std.proofs.lemmas.List.{take-append-drop, length-take-le, length-append, length-drop}
 use Rattle.speedy_base.specs.declared.endianness.Endianness.TheVariants.{LittleEndian}
 use Rattle.speedy_base.specs.Digits.{SpellsNumber, number, little_number, AreBytes}
 use Rattle.speedy_base.specs.DigitsLemmas.{little_number-append, little_number-from_le_bytes, AreBytes-append_parts, little_number-below}
-use Rattle.speedy_layout.specs.Varint.{IsFirstByte, StartsVarint, HasNoShorter, SpellsVarint, varint, capacity}
+use Rattle.speedy_base.specs.Encoding.{Encoding}
+use Rattle.speedy_layout.specs.Varint.{IsFirstByte, StartsVarint, HasNoShorter, varint, varint-written, capacity}
 
 -- the mark of so many leading ones
 pub mark : (k : ℕ) → k ≤ 8 → 256 / 2 ^ k ≡ 2 ^ (8 - k)
@@ -139,24 +140,14 @@ no_low k n l m small =
     let below = low_below k n small in
     omega arith
 
-pub written : (n k low : ℕ) (bytes items : List ℕ) → k ≤ 8 → n < 2 ^ (7 - k) * 256 ^ k → HasNoShorter k n → low ≡ n / 256 ^ k → SpellsNumber 8 LittleEndian n bytes → items ≡ bytes → varint.writes n (take (k + 1) (((256 - 256 / 2 ^ k) + low) ∷ items))
-unfolding varint
-written n k low bytes items l small no_shorter low_is digits same = (
-  k,
-  record {
-    spelled = record {
-      low = low;
-      first = (256 - 256 / 2 ^ k) + low;
-      rest = n % 256 ^ k;
-      tail = take k bytes;
-      whole_is = ap₂ (λ (i : ℕ) (xs : List ℕ). take i (((256 - 256 / 2 ^ k) + low) ∷ xs)) (add-one k) same;
-      first_is = first_byte_is k low l (subst (λ (i : ℕ). i < 2 ^ (7 - k)) (sym low_is) (low_below k n small));
-      tail_is = SpellsNumber-front k 8 n bytes l digits;
-      value_is = sym (ap (λ (i : ℕ). i * 256 ^ k + n % 256 ^ k) low_is ∙ div-add-mod' n (256 ^ k));
-    };
-    no_shorter = no_shorter;
-  },
-)
+pub written : (encoding : Encoding) (n k low : ℕ) (bytes items : List ℕ) → k ≤ 8 → n < 2 ^ (7 - k) * 256 ^ k → HasNoShorter k n → low ≡ n / 256 ^ k → SpellsNumber 8 LittleEndian n bytes → items ≡ bytes → (varint encoding).writes n (take (k + 1) (((256 - 256 / 2 ^ k) + low) ∷ items))
+written encoding n k low bytes items l small no_shorter low_is digits same =
+    let first = (256 - 256 / 2 ^ k) + low in
+    let below = subst (λ (i : ℕ). i < 2 ^ (7 - k)) (sym low_is) (low_below k n small) in
+    let whole : take (k + 1) (first ∷ items) ≡ first ∷ take k bytes = ap₂ (λ (i : ℕ) (xs : List ℕ). take i (first ∷ xs)) (add-one k) same in
+    subst ((varint encoding).writes n) (sym whole)
+    (varint-written encoding k n first (take k bytes) (record { at_most_eight = l; enough = small; no_shorter = no_shorter })
+    (subst (λ (i : ℕ). IsFirstByte k i first) low_is (first_byte_is k low l below)) (SpellsNumber-front k 8 n bytes l digits))
 
 -- ---- decoding
 
@@ -207,19 +198,3 @@ high_below_eight k low x l h =
     let up : 2 ^ ((7 - k) + 8 * k) ≤ 2 ^ 64 = pow_mono {i = (7 - k) + 8 * k} {j = 64} (omega arith) in
     ap (λ (i : ℕ). (i * 2 ^ (8 * k)) % 2 ^ 64) (low_is k low x h)
     ∙ (shl_whole low (7 - k) (8 * k) 64 h.low_is_below (omega arith) ∙ ap (λ (i : ℕ). low * i) (byte_power k h.at_most_eight))
-
-pub SpellsVarint-from_parts : (low x r : ℕ) (bytes : List ℕ) → IsFirstByte (length bytes) low x → SpellsNumber (length bytes) LittleEndian r bytes → SpellsVarint (length bytes) (low * 256 ^ length bytes + r) (x ∷ bytes)
-SpellsVarint-from_parts low x r bytes h digits = record {
-  low = low;
-  first = x;
-  rest = r;
-  tail = bytes;
-  whole_is = refl;
-  first_is = h;
-  tail_is = digits;
-  value_is = refl;
-}
-
-pub decoded : (k n : ℕ) (bytes : List ℕ) → SpellsVarint k n bytes → varint.spells n bytes
-unfolding varint
-decoded k n bytes h = (k, h)

@@ -1,66 +1,92 @@
--- Addresses of either kind: a tag, and then the address of the kind that it names.
-use Rattle.std.specs.Prelude.{◌≡◌, ℕ, List, Bool, true, false, ◌⊎◌, refl}
-use Rattle.std.specs.Net.Addr.{ipv4_octets, ipv6_octets}
+-- Addresses: their octets. One of either kind has a tag before it.
+use Rattle.std.specs.Prelude.{◌≡◌, ℕ, ◌+◌, ◌-◌, ◌*◌, ◌/◌, ◌%◌, List, [], ◌∷◌, length, Bool, true, false, ◌⊎◌, refl}
+use Rattle.std.specs.Net.Addr.{ipv4_octets, ipv6_octets, octets_of, segments_of}
 use Rattle.std.specs.declared.net.ip_addr.IpAddr.{IpAddr}
 use Rattle.std.specs.declared.net.ip_addr.IpAddr.TheVariants.{V4, V6}
-use Rattle.std.proofs.Common.{sym, ◌∙◌, arith, inl, inr}
+use Rattle.std.proofs.Common.{sym, ◌∙◌, ap₂, arith, inl, inr}
+use Rattle.speedy_base.specs.declared.endianness.Endianness.TheVariants.{BigEndian}
 use Rattle.speedy_base.specs.declared.error.ErrorKind.TheVariants as kinds
-use Rattle.speedy_base.specs.Form.{Form}
-use Rattle.speedy_layout.specs.Language.{Language}
-use Rattle.speedy_layout.specs.Laws.{Laws}
-use Rattle.speedy_layout.specs.Numbers.{digits_language, digits_laws}
-use Rattle.speedy_layout.specs.Coding.{Code, IsCode, coded, coded_laws, exactly, exactly_is_code, one_kind}
-use Rattle.speedy_layout.specs.Leaves.{address, address_laws}
-use Rattle.speedy_layout.specs.Composed.{Chosen, flagged, flagged_laws, told_apart, Laws-less}
+use Rattle.speedy_base.specs.Digits.{SpellsNumber, AreBytes}
+use Rattle.speedy_base.specs.DigitsLemmas.{SpellsNumber-same_bytes, SpellsNumber-same_value}
+use Rattle.speedy_base.specs.Encoding.{Encoding}
+use Rattle.speedy_layout.specs.Format.{Format}
+use Rattle.speedy_layout.specs.Laws.{Laws, Laws-less}
+use Rattle.speedy_layout.specs.Codes.{Code, IsCode, coding, coding_laws, exact_code, exact_is_code, one_kind}
+use Rattle.speedy_layout.specs.Flags.{Branch, variant, variant_laws, told_apart}
+use Rattle.speedy_layout.specs.Numbers.{unsigned_number, unsigned_number_laws}
+
+-- octets, whose number has them as its digits, greatest first
+abbrev pub octets_code : ℕ → Code ℕ (List ℕ)
+octets_code width = exact_code (SpellsNumber width BigEndian) (λ kind. ⊥)
+
+-- addresses of so many octets: their number
+abbrev pub address : ℕ → Encoding → Format (List ℕ)
+address width encoding = coding (octets_code width) (unsigned_number width encoding)
+
+pub octets_is_code : (width : ℕ) (encoding : Encoding) → IsCode (octets_code width) (unsigned_number width encoding)
+octets_is_code width encoding =
+    exact_is_code (λ kind h. absurd h) (λ n v w h k. SpellsNumber-same_bytes width BigEndian n v w h k)
+    (λ n m v h k. SpellsNumber-same_value width BigEndian n m v h k) (unsigned_number_laws width encoding)
+
+pub address_laws : (width : ℕ) (encoding : Encoding) → Laws width (address width encoding)
+address_laws width encoding = coding_laws (unsigned_number_laws width encoding) (octets_is_code width encoding)
+
+-- octets that are joined in twos and taken apart again
+pub octets_of-segments_of : (k : ℕ) (octets : List ℕ) → length octets ≡ k * 2 → AreBytes octets → octets_of (segments_of octets) ≡ octets
+octets_of-segments_of k [] l h = refl
+octets_of-segments_of k (a ∷ []) l h = absurd (omega arith)
+octets_of-segments_of k (a ∷ b ∷ octets) l h =
+    let first : (a * 256 + b) / 256 ≡ a = omega (arith, h.1.0) in
+    let second : (a * 256 + b) % 256 ≡ b = omega (arith, h.1.0) in
+    ap₂ ◌∷◌ first (ap₂ ◌∷◌ second (octets_of-segments_of (k - 1) octets (omega arith) h.1.1))
 
 -- the number that stands for the kind: 1 for an address of 16 octets, 0 for one of 4
-abbrev pub tag_number : Bool → ℕ
-tag_number true = 1
-tag_number false = 0
+abbrev pub address_tag_number : Bool → ℕ
+address_tag_number true = 1
+address_tag_number false = 0
 
-abbrev pub tag_code : Code ℕ Bool
-tag_code = exactly (λ n is_long. n ≡ tag_number is_long) (λ kind. kind ≡ kinds.InvalidEnumVariant)
+abbrev pub address_tag_code : Code ℕ Bool
+address_tag_code = exact_code (λ n is_long. n ≡ address_tag_number is_long) (λ kind. kind ≡ kinds.InvalidEnumVariant)
 
 -- the kind of an address: one byte, which has the number of one
-abbrev pub tag : Form → Language Bool
-tag form = coded tag_code (digits_language 1 form)
+abbrev pub address_tag : Encoding → Format Bool
+address_tag encoding = coding address_tag_code (unsigned_number 1 encoding)
 
-one_tag : (a b : Bool) → tag_number a ≡ tag_number b → a ≡ b
+one_tag : (a b : Bool) → address_tag_number a ≡ address_tag_number b → a ≡ b
 one_tag true true e = refl
 one_tag false false e = refl
 one_tag true false e = absurd (cc)
 one_tag false true e = absurd (cc)
 
-pub tag_is_code : (form : Form) → IsCode tag_code (digits_language 1 form)
-tag_is_code form =
-    exactly_is_code (λ n is_long. n ≡ tag_number is_long) (λ kind. kind ≡ kinds.InvalidEnumVariant) (one_kind kinds.InvalidEnumVariant tt)
-    (λ n v w h k. one_tag v w (sym h ∙ k)) (λ n m v h k. h ∙ sym k) 1 (digits_language 1 form) (digits_laws 1 form)
+pub address_tag_is_code : (encoding : Encoding) → IsCode address_tag_code (unsigned_number 1 encoding)
+address_tag_is_code encoding =
+    exact_is_code (one_kind kinds.InvalidEnumVariant tt) (λ n v w h k. one_tag v w (sym h ∙ k)) (λ n m v h k. h ∙ sym k) (unsigned_number_laws 1 encoding)
 
-pub tag_laws : (form : Form) → Laws 1 (tag form)
-tag_laws form = coded_laws tag_code 1 (digits_language 1 form) (digits_laws 1 form) (tag_is_code form)
+pub address_tag_laws : (encoding : Encoding) → Laws 1 (address_tag encoding)
+address_tag_laws encoding = coding_laws (unsigned_number_laws 1 encoding) (address_tag_is_code encoding)
 
 -- the octets of an address, 4 or 16 of them
-abbrev pub either_octets : IpAddr → List ℕ ⊎ List ℕ
-either_octets (V4 a) = inl (ipv4_octets a)
-either_octets (V6 a) = inr (ipv6_octets a)
+abbrev pub ip_octets : IpAddr → List ℕ ⊎ List ℕ
+ip_octets (V4 a) = inl (ipv4_octets a)
+ip_octets (V6 a) = inr (ipv6_octets a)
 
-abbrev pub octets_parts : List ℕ ⊎ List ℕ → (is_long : Bool) × Chosen (List ℕ) (List ℕ) is_long
-octets_parts (inl octets) = (false, octets)
-octets_parts (inr octets) = (true, octets)
+abbrev pub ip_parts : List ℕ ⊎ List ℕ → (is_long : Bool) × Branch (List ℕ) (List ℕ) is_long
+ip_parts (inl octets) = (false, octets)
+ip_parts (inr octets) = (true, octets)
 
-abbrev pub octets_join : (is_long : Bool) → Chosen (List ℕ) (List ℕ) is_long → List ℕ ⊎ List ℕ
-octets_join false octets = inl octets
-octets_join true octets = inr octets
+abbrev pub ip_join : (is_long : Bool) → Branch (List ℕ) (List ℕ) is_long → List ℕ ⊎ List ℕ
+ip_join false octets = inl octets
+ip_join true octets = inr octets
 
 -- an address of either kind: 0 and the address of 4 octets, or 1 and that of 16
-abbrev pub either_address : Form → Language (List ℕ ⊎ List ℕ)
-either_address form = flagged octets_parts (tag form) (address 16 form) (address 4 form)
+abbrev pub ip_address : Encoding → Format (List ℕ ⊎ List ℕ)
+ip_address encoding = variant ip_parts (address_tag encoding) (address 16 encoding) (address 4 encoding)
 
-octets_back : (v : List ℕ ⊎ List ℕ) → octets_join (octets_parts v).0 (octets_parts v).1 ≡ v
-octets_back (inl octets) = refl
-octets_back (inr octets) = refl
+ip_back : (v : List ℕ ⊎ List ℕ) → ip_join (ip_parts v).0 (ip_parts v).1 ≡ v
+ip_back (inl octets) = refl
+ip_back (inr octets) = refl
 
-pub either_address_laws : (form : Form) → Laws 5 (either_address form)
-either_address_laws form =
-    flagged_laws octets_parts 1 4 (tag form) (address 16 form) (address 4 form) (tag_laws form) (Laws-less 16 4 (address 16 form) (omega arith) (address_laws 16 form)) (address_laws 4 form)
-    (told_apart octets_parts octets_join octets_back)
+pub ip_address_laws : (encoding : Encoding) → Laws 5 (ip_address encoding)
+ip_address_laws encoding =
+    variant_laws {least = 1} {n = 4} ip_parts (address_tag_laws encoding) (Laws-less (omega arith) (address_laws 16 encoding)) (address_laws 4 encoding)
+    (told_apart ip_parts ip_join ip_back)

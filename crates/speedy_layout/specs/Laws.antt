@@ -1,25 +1,64 @@
 -- What holds of each layout.
-use Rattle.std.specs.Prelude.{◌≡◌, ℕ, ◌≤◌, List, ◌++◌, length, false}
+use Rattle.std.specs.Prelude.{◌≡◌, ℕ, ◌-◌, ◌^◌, ◌≤◌, List, ◌++◌, length, min, false}
+use Rattle.std.proofs.Common.{ap, arith}
+use Rattle.std.proofs.Math.Nat.{min-le_left}
 use Rattle.speedy_base.specs.declared.error.ErrorKind.{ErrorKind}
-use Rattle.speedy_layout.specs.Language.{Language, IsOwnKind}
+use Rattle.speedy_layout.specs.Format.{Format, plain_format, IsOwnKind}
 
--- The laws of a language whose spellings have at least so many bytes.
-pub record Laws {V : Type 0} (least : ℕ) (L : Language V) : Type 0 where
+-- The laws of a format whose spellings have at least so many bytes.
+pub record Laws {V : Type 0} (least : ℕ) (F : Format V) : Type 0 where
   -- one list of bytes spells at most one value, and no spelling begins another
-  pub decodes : (v w : V) (s t r q : List ℕ) → L.spells v s → L.spells w t → s ++ r ≡ t ++ q → (v ≡ w) × (s ≡ t) × (r ≡ q)
+  pub decodes : (v w : V) (s t r q : List ℕ) → F.spells v s → F.spells w t → s ++ r ≡ t ++ q → (v ≡ w) × (s ≡ t) × (r ≡ q)
   -- what is written spells the value
-  pub written_spells : (v : V) (b : List ℕ) → L.writes v b → L.spells v b
+  pub written_spells : (v : V) (b : List ℕ) → F.writes v b → F.spells v b
   -- no spelling is shorter than what is written
-  pub shortest : (v : V) (b c : List ℕ) → L.writes v b → L.spells v c → length b ≤ length c
+  pub shortest : (v : V) (b c : List ℕ) → F.writes v b → F.spells v c → length b ≤ length c
   -- a spelling has at least the type's least size
-  pub least_size : (v : V) (b : List ℕ) → L.spells v b → least ≤ length b
+  pub least_size : (v : V) (b : List ℕ) → F.spells v b → least ≤ length b
   -- a value that has a spelling has a written one
-  pub has_written : (v : V) (b : List ℕ) → L.spells v b → (w : List ℕ) × L.writes v w
+  pub has_written : (v : V) (b : List ℕ) → F.spells v b → (w : List ℕ) × F.writes v w
   -- just one, where no part is hashed
-  pub one_written : L.hashed ≡ false → (v : V) (b c : List ℕ) → L.writes v b → L.writes v c → b ≡ c
+  pub one_written : F.hashed ≡ false → (v : V) (b c : List ℕ) → F.writes v b → F.writes v c → b ≡ c
   -- bytes at fault begin with no spelling
-  pub fault_unspelled : (v : V) (front rest : List ℕ) → L.at_fault (front ++ rest) → L.spells v front → ⊥
+  pub fault_unspelled : (v : V) (front rest : List ℕ) → F.at_fault (front ++ rest) → F.spells v front → ⊥
   -- the kinds that a type names are its own
-  pub names_own : (kind : ErrorKind) → L.names kind → IsOwnKind kind
+  pub names_own : (kind : ErrorKind) → F.names kind → IsOwnKind kind
   -- and so are those that its writing is refused with
-  pub refuses_own : (kind : ErrorKind) → L.refuses_writing kind → IsOwnKind kind
+  pub refuses_own : (kind : ErrorKind) → F.refuses_writing kind → IsOwnKind kind
+
+-- the laws of a plain format whose values have one spelling each
+pub plain_laws : {V : Type 0} {least : ℕ} {spells : V → List ℕ → Type 0} → ((v w : V) (s t r q : List ℕ) → spells v s → spells w t → s ++ r ≡ t ++ q → (v ≡ w) × (s ≡ t) × (r ≡ q))
+    → ((v : V) (b : List ℕ) → spells v b → least ≤ length b) → ((v : V) (b c : List ℕ) → spells v b → spells v c → b ≡ c) → Laws least (plain_format spells)
+plain_laws decodes least_size one = record {
+  decodes = decodes;
+  written_spells = λ _ _ h. h;
+  shortest = λ v b c h k. let e = ap length (one v b c h k) in omega arith;
+  least_size = least_size;
+  has_written = λ _ b h. (b, h);
+  one_written = λ _ v b c h k. one v b c h k;
+  fault_unspelled = λ _ _ _ h _. h;
+  names_own = λ kind h. absurd h;
+  refuses_own = λ kind h. absurd h;
+}
+
+-- a smaller least size
+pub Laws-less : {V : Type 0} {n m : ℕ} {F : Format V} → m ≤ n → Laws n F → Laws m F
+Laws-less less laws = record {
+  decodes = laws.decodes;
+  written_spells = laws.written_spells;
+  shortest = laws.shortest;
+  least_size = λ v b h. let l = laws.least_size v b h in omega arith;
+  has_written = laws.has_written;
+  one_written = laws.one_written;
+  fault_unspelled = laws.fault_unspelled;
+  names_own = laws.names_own;
+  refuses_own = laws.refuses_own;
+}
+
+-- the number, or `usize::MAX` where it passes that
+abbrev pub saturated_size : ℕ → ℕ
+saturated_size n = min n (2 ^ 64 - 1)
+
+-- and it is a least size too
+pub saturated_laws : {V : Type 0} {n : ℕ} {F : Format V} → Laws n F → Laws (saturated_size n) F
+saturated_laws {n = n} laws = Laws-less (min-le_left n (2 ^ 64 - 1)) laws

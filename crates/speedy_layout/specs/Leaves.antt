@@ -1,25 +1,28 @@
--- Leaves that test or map a number: characters, byte orders and addresses.
-use Rattle.std.specs.Prelude.{◌≡◌, ℕ, ◌+◌, ◌-◌, ◌*◌, ◌/◌, ◌%◌, List, [], ◌∷◌, length, refl}
+-- Characters, byte orders and durations.
+use Rattle.std.specs.Prelude.{◌≡◌, ℕ, ◌+◌, ◌*◌, ◌/◌, ◌%◌, ◌<◌, List, ◌++◌, length, refl}
 use Rattle.std.specs.Char.{InScalarRange}
-use Rattle.std.specs.Net.Addr.{octets_of, segments_of}
-use Rattle.std.proofs.Common.{sym, ◌∙◌, ap₂, arith}
+use Rattle.std.specs.Duration.{FitsDuration}
+use Rattle.std.proofs.Common.{sym, ◌∙◌, ap, ap₂, arith}
+use Rattle.std.proofs.lemmas.List.{length-append}
 use Rattle.speedy_base.specs.declared.endianness.Endianness.{Endianness}
 use Rattle.speedy_base.specs.declared.endianness.Endianness.TheVariants.{LittleEndian, BigEndian}
 use Rattle.speedy_base.specs.declared.error.ErrorKind.TheVariants as kinds
-use Rattle.speedy_base.specs.Digits.{SpellsNumber, AreBytes}
-use Rattle.speedy_base.specs.DigitsLemmas.{SpellsNumber-same_bytes, SpellsNumber-same_value}
-use Rattle.speedy_base.specs.Form.{Form}
-use Rattle.speedy_layout.specs.Language.{Language}
+use Rattle.speedy_base.specs.Digits.{digits}
+use Rattle.speedy_base.specs.DigitsLemmas.{SpellsNumber-digits}
+use Rattle.speedy_base.specs.Encoding.{Encoding}
+use Rattle.speedy_layout.specs.Format.{Format}
 use Rattle.speedy_layout.specs.Laws.{Laws}
-use Rattle.speedy_layout.specs.Numbers.{digits_language, digits_laws}
-use Rattle.speedy_layout.specs.Coding.{Code, IsCode, coded, coded_laws, exactly, exactly_is_code, one_kind, tested, tested_laws}
+use Rattle.speedy_layout.specs.Codes.{Code, IsCode, coding, coding_laws, exact_code, exact_is_code, one_kind, subset, subset_laws}
+use Rattle.speedy_layout.specs.Numbers.{unsigned_number, unsigned_number_laws}
+use Rattle.speedy_layout.specs.Sequences.{sequence}
+use Rattle.speedy_layout.specs.Tuples.{pair, pair_laws}
 
 -- characters: four digits, whose number is at most 10FFFF and none of D800 to DFFF
-abbrev pub character : Form → Language ℕ
-character form = tested InScalarRange kinds.InvalidChar (digits_language 4 form)
+abbrev pub character : Encoding → Format ℕ
+character encoding = subset InScalarRange kinds.InvalidChar (unsigned_number 4 encoding)
 
-pub character_laws : (form : Form) → Laws 4 (character form)
-character_laws form = tested_laws InScalarRange kinds.InvalidChar tt 4 (digits_language 4 form) (digits_laws 4 form)
+pub character_laws : (encoding : Encoding) → Laws 4 (character encoding)
+character_laws encoding = subset_laws InScalarRange kinds.InvalidChar tt (unsigned_number_laws 4 encoding)
 
 -- the number that stands for a byte order
 abbrev pub order_number : Endianness → ℕ
@@ -27,11 +30,11 @@ order_number LittleEndian = 0
 order_number BigEndian = 1
 
 abbrev pub order_code : Code ℕ Endianness
-order_code = exactly (λ n order. n ≡ order_number order) (λ kind. kind ≡ kinds.InvalidEnumVariant)
+order_code = exact_code (λ n order. n ≡ order_number order) (λ kind. kind ≡ kinds.InvalidEnumVariant)
 
 -- byte orders: one byte, which has the number of one
-abbrev pub byte_order : Form → Language Endianness
-byte_order form = coded order_code (digits_language 1 form)
+abbrev pub byte_order : Encoding → Format Endianness
+byte_order encoding = coding order_code (unsigned_number 1 encoding)
 
 one_order : (a b : Endianness) → order_number a ≡ order_number b → a ≡ b
 one_order LittleEndian LittleEndian e = refl
@@ -39,35 +42,77 @@ one_order LittleEndian BigEndian e = absurd (cc)
 one_order BigEndian LittleEndian e = absurd (cc)
 one_order BigEndian BigEndian e = refl
 
-pub order_is_code : (form : Form) → IsCode order_code (digits_language 1 form)
-order_is_code form =
-    exactly_is_code (λ n order. n ≡ order_number order) (λ kind. kind ≡ kinds.InvalidEnumVariant) (one_kind kinds.InvalidEnumVariant tt)
-    (λ n v w h k. one_order v w (sym h ∙ k)) (λ n m v h k. h ∙ sym k) 1 (digits_language 1 form) (digits_laws 1 form)
+pub order_is_code : (encoding : Encoding) → IsCode order_code (unsigned_number 1 encoding)
+order_is_code encoding =
+    exact_is_code (one_kind kinds.InvalidEnumVariant tt) (λ n v w h k. one_order v w (sym h ∙ k)) (λ n m v h k. h ∙ sym k) (unsigned_number_laws 1 encoding)
 
-pub byte_order_laws : (form : Form) → Laws 1 (byte_order form)
-byte_order_laws form = coded_laws order_code 1 (digits_language 1 form) (digits_laws 1 form) (order_is_code form)
+pub byte_order_laws : (encoding : Encoding) → Laws 1 (byte_order encoding)
+byte_order_laws encoding = coding_laws (unsigned_number_laws 1 encoding) (order_is_code encoding)
 
--- octets, whose number has them as its digits, greatest first
-abbrev pub octets_code : ℕ → Code ℕ (List ℕ)
-octets_code width = exactly (SpellsNumber width BigEndian) (λ kind. ⊥)
+-- seconds in eight digits, then nanoseconds in four
+abbrev pub seconds_and_nanos : Encoding → Format (ℕ × ℕ)
+seconds_and_nanos encoding = pair (unsigned_number 8 encoding) (unsigned_number 4 encoding)
 
--- addresses of so many octets: their number
-abbrev pub address : ℕ → Form → Language (List ℕ)
-address width form = coded (octets_code width) (digits_language width form)
+-- the seconds and the nanoseconds together, in nanoseconds
+abbrev pub together : ℕ × ℕ → ℕ
+together p = p.0 * 1_000_000_000 + p.1
 
-pub octets_is_code : (width : ℕ) (form : Form) → IsCode (octets_code width) (digits_language width form)
-octets_is_code width form =
-    exactly_is_code (SpellsNumber width BigEndian) (λ kind. ⊥) (λ kind h. absurd h)
-    (λ n v w h k. SpellsNumber-same_bytes width BigEndian n v w h k) (λ n m v h k. SpellsNumber-same_value width BigEndian n m v h k) width (digits_language width form) (digits_laws width form)
+-- they mean the duration of so many nanoseconds, if one can be so long; it is written with less than a second of nanoseconds
+abbrev pub duration_code : Code (ℕ × ℕ) ℕ
+duration_code = record {
+  means = λ p n. (n ≡ together p) × FitsDuration n;
+  chosen = λ p n. (n ≡ together p) × FitsDuration n × (p.1 < 1_000_000_000);
+  fault = λ kind. kind ≡ kinds.InvalidSystemTime;
+}
 
-pub address_laws : (width : ℕ) (form : Form) → Laws width (address width form)
-address_laws width form = coded_laws (octets_code width) width (digits_language width form) (digits_laws width form) (octets_is_code width form)
+abbrev pub duration : Encoding → Format ℕ
+duration encoding = coding duration_code (seconds_and_nanos encoding)
 
--- octets that are joined in twos and taken apart again
-pub octets_of-segments_of : (k : ℕ) (octets : List ℕ) → length octets ≡ k * 2 → AreBytes octets → octets_of (segments_of octets) ≡ octets
-octets_of-segments_of k [] l h = refl
-octets_of-segments_of k (a ∷ []) l h = absurd (omega arith)
-octets_of-segments_of k (a ∷ b ∷ octets) l h =
-    let first : (a * 256 + b) / 256 ≡ a = omega (arith, h.1.0) in
-    let second : (a * 256 + b) % 256 ≡ b = omega (arith, h.1.0) in
-    ap₂ ◌∷◌ first (ap₂ ◌∷◌ second (octets_of-segments_of (k - 1) octets (omega arith) h.1.1))
+pair_is : (p q : ℕ × ℕ) → p.0 ≡ q.0 → p.1 ≡ q.1 → p ≡ q
+pair_is p q h k = ap₂ (λ (a b : ℕ). let r : ℕ × ℕ = (a, b) in r) h k
+
+twelve : (encoding : Encoding) (p : ℕ × ℕ) (b : List ℕ) → (seconds_and_nanos encoding).spells p b → length b ≡ 12
+unfolding sequence unsigned_number
+twelve encoding p b h =
+    let l = ap length h.whole_is ∙ length-append h.front h.back in
+    let x = h.first_is.width_is in
+    let y = h.second_is.width_is in
+    omega arith
+
+pub seconds_and_nanos_laws : (encoding : Encoding) → Laws 12 (seconds_and_nanos encoding)
+seconds_and_nanos_laws encoding = pair_laws (unsigned_number_laws 8 encoding) (unsigned_number_laws 4 encoding)
+
+pub duration_is_code : (encoding : Encoding) → IsCode duration_code (seconds_and_nanos encoding)
+unfolding sequence unsigned_number
+duration_is_code encoding = record {
+  one_meaning = λ p n m h k. h.0 ∙ sym k.0;
+  one_chosen = λ _ p q n h k.
+      let e = h.0 in
+      let d = k.0 in
+      let a = h.2 in
+      let b = k.2 in
+      pair_is p q (omega arith) (omega arith);
+  chosen_means = λ p n h. (h.0, h.1);
+  has_chosen = λ n b h.
+      let s = n / 1_000_000_000 in
+      let m = n % 1_000_000_000 in
+      let fits = h.stands.1 in (
+        digits encoding.order 8 s ++ digits encoding.order 4 m,
+        record {
+          code = (s, m);
+          code_is = record {
+            front = digits encoding.order 8 s;
+            back = digits encoding.order 4 m;
+            whole_is = refl;
+            first_is = SpellsNumber-digits 8 encoding.order s (omega arith);
+            second_is = SpellsNumber-digits 4 encoding.order m (omega arith);
+          };
+          stands = (omega arith, fits, omega arith);
+        },
+      );
+  chosen_shortest = λ n b d h k. let l = twelve encoding h.code b h.code_is in let m = twelve encoding k.code d k.code_is in omega arith;
+  fault_own = one_kind kinds.InvalidSystemTime tt;
+}
+
+pub duration_laws : (encoding : Encoding) → Laws 12 (duration encoding)
+duration_laws encoding = coding_laws (seconds_and_nanos_laws encoding) (duration_is_code encoding)

@@ -1,25 +1,33 @@
--- Numbers, "as-is": so many digits in the order of the form.
-use Rattle.std.specs.Prelude.{◌≡◌, ℕ, List, ◌++◌, length, take, drop, false, refl}
-use Rattle.std.proofs.Common.{sym, ◌∙◌, ap, arith}
+-- Numbers, "as-is": so many digits in the order of the encoding. Signed ones are in two's complement.
+use Rattle.std.specs.Prelude.{◌≡◌, ℕ, ℤ, ◌-◌, ◌^◌, ◌≤◌, List, ◌++◌, length, take, drop, refl}
+use Rattle.std.proofs.Common.{sym, ◌∙◌, ap, subst, arith}
 use Rattle.std.proofs.lemmas.List.{take_at, drop_at}
+use Rattle.std.specs.Int.{Width, byte_len, cast_unsigned}
+use Rattle.speedy_base.specs.declared.error.ErrorKind.TheVariants as kinds
 use Rattle.speedy_base.specs.Digits.{SpellsNumber, number}
-use Rattle.speedy_base.specs.Form.{Form}
 use Rattle.speedy_base.specs.DigitsLemmas.{SpellsNumber-same_bytes}
-use Rattle.speedy_layout.specs.Language.{Language}
-use Rattle.speedy_layout.specs.Laws.{Laws}
+use Rattle.speedy_base.specs.Encoding.{Encoding}
+use Rattle.speedy_base.specs.Signed.{SpellsSigned}
+use Rattle.speedy_base.specs.SignedLemmas.{SpellsSigned-same_value}
+use Rattle.speedy_layout.specs.Format.{Format, plain_format}
+use Rattle.speedy_layout.specs.Laws.{Laws, plain_laws}
+use Rattle.speedy_layout.specs.Codes.{subset, subset_laws}
 
--- numbers of so many bytes, which add no refusal
-unfoldable pub digits_language : ℕ → Form → Language ℕ
-digits_language width form = record {
-  spells = SpellsNumber width form.order;
-  writes = SpellsNumber width form.order;
-  names = λ _. ⊥;
-  refuses_writing = λ _. ⊥;
-  at_fault = λ _. ⊥;
-  needs_lending = false;
-  hashed = false;
-  takes_memory = false;
-}
+-- numbers of so many bytes
+unfoldable pub unsigned_number : ℕ → Encoding → Format ℕ
+unsigned_number width encoding = plain_format (SpellsNumber width encoding.order)
+
+-- signed numbers of a width
+unfoldable pub signed_number : Width → Encoding → Format ℤ
+signed_number w encoding = plain_format (SpellsSigned w encoding.order)
+
+-- the number is at most `usize::MAX`
+abbrev pub FitsUsize : ℕ → Type 0
+FitsUsize n = n ≤ 2 ^ 64 - 1
+
+-- numbers of eight digits that a `usize` holds
+abbrev pub usize_number : Encoding → Format ℕ
+usize_number encoding = subset FitsUsize kinds.OutOfRangeUsize (unsigned_number 8 encoding)
 
 -- fronts of one length are one front
 pub same_fronts : (s t r q : List ℕ) → length s ≡ length t → s ++ r ≡ t ++ q → (s ≡ t) × (r ≡ q)
@@ -28,19 +36,27 @@ same_fronts s t r q l e = (
   sym (drop_at s r (length s) refl) ∙ (ap (drop (length s)) e ∙ drop_at t q (length s) (sym l)),
 )
 
--- the laws of numbers
-pub digits_laws : (width : ℕ) (form : Form) → Laws width (digits_language width form)
-unfolding digits_language
-digits_laws width form = record {
-  decodes = λ v w s t r q h k e.
-      let same = same_fronts s t r q (h.width_is ∙ sym k.width_is) e in
-      (sym h.value_is ∙ (ap (number form.order) same.0 ∙ k.value_is), same.0, same.1);
-  written_spells = λ _ _ h. h;
-  shortest = λ v b c h k. let l = h.width_is in let m = k.width_is in omega arith;
-  least_size = λ v b h. let l = h.width_is in omega arith;
-  has_written = λ v b h. (b, h);
-  one_written = λ _ v b c h k. SpellsNumber-same_bytes width form.order v b c h k;
-  fault_unspelled = λ _ _ _ h _. h;
-  names_own = λ kind h. absurd h;
-  refuses_own = λ kind h. absurd h;
-}
+pub unsigned_number_laws : (width : ℕ) (encoding : Encoding) → Laws width (unsigned_number width encoding)
+unfolding unsigned_number
+unsigned_number_laws width encoding =
+    plain_laws
+    (λ v w s t r q h k e.
+    let same = same_fronts s t r q (h.width_is ∙ sym k.width_is) e in
+    (sym h.value_is ∙ (ap (number encoding.order) same.0 ∙ k.value_is), same.0, same.1))
+    (λ v b h. let l = h.width_is in omega arith)
+    (λ v b c h k. SpellsNumber-same_bytes width encoding.order v b c h k)
+
+-- by the laws of their digits
+pub signed_number_laws : (w : Width) (encoding : Encoding) → Laws (byte_len w) (signed_number w encoding)
+unfolding signed_number unsigned_number
+signed_number_laws w encoding =
+    let laws = unsigned_number_laws (byte_len w) encoding in
+    plain_laws
+    (λ y z s t r q h k e.
+    let same = laws.decodes (cast_unsigned w y) (cast_unsigned w z) s t r q h.digits k.digits e in
+    (SpellsSigned-same_value w encoding.order y z t (subst (SpellsSigned w encoding.order y) same.1 h) k, same.1, same.2))
+    (λ z b h. laws.least_size (cast_unsigned w z) b h.digits)
+    (λ z b c h k. SpellsNumber-same_bytes (byte_len w) encoding.order (cast_unsigned w z) b c h.digits k.digits)
+
+pub usize_number_laws : (encoding : Encoding) → Laws 8 (usize_number encoding)
+usize_number_laws encoding = subset_laws FitsUsize kinds.OutOfRangeUsize tt (unsigned_number_laws 8 encoding)

@@ -1,50 +1,50 @@
 //! The laws of layouts, as functions that a user's proof can cite. Their bodies are empty.
 ghost use Rattle.std.specs.Prelude.{◌≡◌, ◌≤◌, List, ◌++◌, ℕ, length, [], false};
-ghost use Rattle.speedy_base.specs.Form.{Form};
+ghost use Rattle.speedy_base.specs.Encoding.{Encoding};
 
 use crate::layout::Layout;
 
 /// One list of bytes spells at most one value.
 pub fn one_value<T: Layout>()
-    ensures { (f : Form) (v w : T.Seen) (bytes : List ℕ) →
-        (T.language f).spells v bytes → (T.language f).spells w bytes → v ≡ w }
+    ensures { (f : Encoding) (v w : T.Seen) (bytes : List ℕ) →
+        (T.format f).spells v bytes → (T.format f).spells w bytes → v ≡ w }
 {}
 
 /// No spelling begins another.
 pub fn no_spelling_begins_another<T: Layout>()
-    ensures { (f : Form) (v w : T.Seen) (bytes more : List ℕ) →
-        (T.language f).spells v bytes → (T.language f).spells w (bytes ++ more) → more ≡ [] }
+    ensures { (f : Encoding) (v w : T.Seen) (bytes more : List ℕ) →
+        (T.format f).spells v bytes → (T.format f).spells w (bytes ++ more) → more ≡ [] }
 {}
 
 /// What is written spells the value, and no spelling of it is shorter.
 pub fn written_is_shortest<T: Layout>()
-    ensures spells { (f : Form) (v : T.Seen) (bytes : List ℕ) →
-        (T.language f).writes v bytes → (T.language f).spells v bytes }
-    ensures shortest { (f : Form) (v : T.Seen) (bytes others : List ℕ) →
-        (T.language f).writes v bytes → (T.language f).spells v others → length bytes ≤ length others }
+    ensures spells { (f : Encoding) (v : T.Seen) (bytes : List ℕ) →
+        (T.format f).writes v bytes → (T.format f).spells v bytes }
+    ensures shortest { (f : Encoding) (v : T.Seen) (bytes others : List ℕ) →
+        (T.format f).writes v bytes → (T.format f).spells v others → length bytes ≤ length others }
 {}
 
 /// A value that has a spelling has a written form.
 pub fn spelled_is_written<T: Layout>()
-    ensures { (f : Form) (v : T.Seen) (bytes : List ℕ) →
-        (T.language f).spells v bytes → (form : List ℕ) × (T.language f).writes v form }
+    ensures { (f : Encoding) (v : T.Seen) (bytes : List ℕ) →
+        (T.format f).spells v bytes → (written : List ℕ) × (T.format f).writes v written }
 {}
 
 /// No spelling is shorter than the type's least size.
 pub fn no_spelling_is_below_least<T: Layout>()
-    ensures { (f : Form) (v : T.Seen) (bytes : List ℕ) →
-        (T.language f).spells v bytes → T.least ≤ length bytes }
+    ensures { (f : Encoding) (v : T.Seen) (bytes : List ℕ) →
+        (T.format f).spells v bytes → T.least ≤ length bytes }
 {}
 
 /// A value has one written form, where nothing in it is hashed.
 pub fn one_written_form<T: Layout>()
-    ensures { (f : Form) (v : T.Seen) (bytes others : List ℕ) →
-        (T.language f).hashed ≡ false → (T.language f).writes v bytes → (T.language f).writes v others → bytes ≡ others }
+    ensures { (f : Encoding) (v : T.Seen) (bytes others : List ℕ) →
+        (T.format f).hashed ≡ false → (T.format f).writes v bytes → (T.format f).writes v others → bytes ≡ others }
 {}
 
 /// Two fronts of one list of bytes that spell are one front. They spell one value, and leave the same rest.
 pub fn one_front<T: Layout>()
-    ensures { (f : Form) (v w : T.Seen) (bytes more others left : List ℕ) →
-        (T.language f).spells v bytes → (T.language f).spells w others → bytes ++ more ≡ others ++ left →
+    ensures { (f : Encoding) (v w : T.Seen) (bytes more others left : List ℕ) →
+        (T.format f).spells v bytes → (T.format f).spells w others → bytes ++ more ≡ others ++ left →
         (v ≡ w) × (bytes ≡ others) × (more ≡ left) }
 {}

@@ -2,13 +2,16 @@
 #![tactic(auto)]
 
 pub mod addresses;
-pub mod composed;
+pub mod flags;
 pub mod laws;
 pub mod layout;
 pub mod leaves;
+pub mod lists;
 pub mod non_zero;
 pub mod numbers;
 pub mod owned;
+pub mod ranges;
+pub mod texts;
 pub mod tuples;
 pub mod varint;
 

@@ -1,22 +1,56 @@
-//! The layout of the wider numbers and of the signed ones: so many digits, in the order of the form.
+//! The layout of numbers: so many digits, in the order of the encoding.
 ghost use Rattle.std.specs.Prelude.{ℕ, ℤ};
+ghost use Rattle.speedy_layout.specs.Numbers.{unsigned_number, unsigned_number_laws, signed_number, signed_number_laws, usize_number, usize_number_laws};
 ghost use Rattle.std.specs.Int.{w8, w16, w32, w64, w128};
-ghost use Rattle.speedy_layout.specs.Numbers.{digits_language, digits_laws};
-ghost use Rattle.speedy_layout.specs.SignedNumbers.{signed_language, signed_laws};
-ghost use Rattle.speedy_layout.specs.TestedNumbers.{usize_language, usize_laws};
 
 use crate::layout::Layout;
+
+impl Layout for u8 {
+    ghost Seen = { ℕ };
+
+    ghost seen = { λ x. x };
+
+    ghost format = { unsigned_number 1 };
+
+    ghost least = { 1 };
+
+    ghost layout_laws = { unsigned_number_laws 1 };
+}
+
+impl Layout for u16 {
+    ghost Seen = { ℕ };
+
+    ghost seen = { λ x. x };
+
+    ghost format = { unsigned_number 2 };
+
+    ghost least = { 2 };
+
+    ghost layout_laws = { unsigned_number_laws 2 };
+}
+
+impl Layout for u32 {
+    ghost Seen = { ℕ };
+
+    ghost seen = { λ x. x };
+
+    ghost format = { unsigned_number 4 };
+
+    ghost least = { 4 };
+
+    ghost layout_laws = { unsigned_number_laws 4 };
+}
 
 impl Layout for u64 {
     ghost Seen = { ℕ };
 
     ghost seen = { λ x. x };
 
-    ghost language = { digits_language 8 };
+    ghost format = { unsigned_number 8 };
 
     ghost least = { 8 };
 
-    ghost layout_laws = { digits_laws 8 };
+    ghost layout_laws = { unsigned_number_laws 8 };
 }
 
 impl Layout for u128 {
@@ -24,11 +58,11 @@ impl Layout for u128 {
 
     ghost seen = { λ x. x };
 
-    ghost language = { digits_language 16 };
+    ghost format = { unsigned_number 16 };
 
     ghost least = { 16 };
 
-    ghost layout_laws = { digits_laws 16 };
+    ghost layout_laws = { unsigned_number_laws 16 };
 }
 
 impl Layout for i8 {
@@ -36,11 +70,11 @@ impl Layout for i8 {
 
     ghost seen = { λ x. x };
 
-    ghost language = { signed_language w8 };
+    ghost format = { signed_number w8 };
 
     ghost least = { 1 };
 
-    ghost layout_laws = { signed_laws w8 };
+    ghost layout_laws = { signed_number_laws w8 };
 }
 
 impl Layout for i16 {
@@ -48,11 +82,11 @@ impl Layout for i16 {
 
     ghost seen = { λ x. x };
 
-    ghost language = { signed_language w16 };
+    ghost format = { signed_number w16 };
 
     ghost least = { 2 };
 
-    ghost layout_laws = { signed_laws w16 };
+    ghost layout_laws = { signed_number_laws w16 };
 }
 
 impl Layout for i32 {
@@ -60,11 +94,11 @@ impl Layout for i32 {
 
     ghost seen = { λ x. x };
 
-    ghost language = { signed_language w32 };
+    ghost format = { signed_number w32 };
 
     ghost least = { 4 };
 
-    ghost layout_laws = { signed_laws w32 };
+    ghost layout_laws = { signed_number_laws w32 };
 }
 
 impl Layout for i64 {
@@ -72,11 +106,11 @@ impl Layout for i64 {
 
     ghost seen = { λ x. x };
 
-    ghost language = { signed_language w64 };
+    ghost format = { signed_number w64 };
 
     ghost least = { 8 };
 
-    ghost layout_laws = { signed_laws w64 };
+    ghost layout_laws = { signed_number_laws w64 };
 }
 
 impl Layout for i128 {
@@ -84,11 +118,11 @@ impl Layout for i128 {
 
     ghost seen = { λ x. x };
 
-    ghost language = { signed_language w128 };
+    ghost format = { signed_number w128 };
 
     ghost least = { 16 };
 
-    ghost layout_laws = { signed_laws w128 };
+    ghost layout_laws = { signed_number_laws w128 };
 }
 
 impl Layout for usize {
@@ -96,9 +130,9 @@ impl Layout for usize {
 
     ghost seen = { λ x. x };
 
-    ghost language = { usize_language };
+    ghost format = { usize_number };
 
     ghost least = { 8 };
 
-    ghost layout_laws = { usize_laws };
+    ghost layout_laws = { usize_number_laws };
 }

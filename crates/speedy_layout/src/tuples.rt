@@ -1,16 +1,29 @@
 //! The layout of tuples: the parts in order. A tuple of more than two parts is seen as its first part and the
 //! tuple of the others.
-ghost use Rattle.std.specs.Prelude.{ℕ, ◌+◌};
-ghost use Rattle.speedy_layout.specs.Composed.{saturated, both, both_laws};
+ghost use Rattle.std.specs.Prelude.{◌+◌};
+ghost use Rattle.speedy_layout.specs.Laws.{saturated_size};
+ghost use Rattle.speedy_layout.specs.Tuples.{pair, pair_laws, unit, unit_laws};
 
 use crate::layout::Layout;
+
+impl Layout for () {
+    ghost Seen = { Unit {0} };
+
+    ghost seen = { λ x. x };
+
+    ghost format = { λ _. unit };
+
+    ghost least = { 0 };
+
+    ghost layout_laws = { λ _. unit_laws };
+}
 
 impl<T0: Layout> Layout for (T0,) {
     ghost Seen = { T0.Seen };
 
     ghost seen = { λ t. T0.seen t.0 };
 
-    ghost language = { T0.language };
+    ghost format = { T0.format };
 
     ghost least = { T0.least };
 
@@ -22,11 +35,11 @@ impl<T0: Layout, T1: Layout> Layout for (T0, T1) {
 
     ghost seen = { λ t. (T0.seen t.0, T1.seen t.1) };
 
-    ghost language = { λ f. both (T0.language f) (T1.language f) };
+    ghost format = { λ f. pair (T0.format f) (T1.format f) };
 
-    ghost least = { saturated (T0.least + T1.least) };
+    ghost least = { saturated_size (T0.least + T1.least) };
 
-    ghost layout_laws = { λ f. both_laws (T0.layout_laws f) (T1.layout_laws f) };
+    ghost layout_laws = { λ f. pair_laws (T0.layout_laws f) (T1.layout_laws f) };
 }
 
 impl<T0: Layout, T1: Layout, T2: Layout> Layout for (T0, T1, T2) {
@@ -34,11 +47,11 @@ impl<T0: Layout, T1: Layout, T2: Layout> Layout for (T0, T1, T2) {
 
     ghost seen = { λ t. ⟦<(T0, (T1, T2)) as Layout>⟧.seen (t.0, (t.1, t.2)) };
 
-    ghost language = { ⟦<(T0, (T1, T2)) as Layout>⟧.language };
+    ghost format = { ⟦<(T0, (T1, T2)) as Layout>⟧.format };
 
     ghost least = { ⟦<(T0, (T1, T2)) as Layout>⟧.least };
 
-    ghost layout_laws = { λ f. both_laws (T0.layout_laws f) (both_laws (T1.layout_laws f) (T2.layout_laws f)) };
+    ghost layout_laws = { λ f. pair_laws (T0.layout_laws f) (pair_laws (T1.layout_laws f) (T2.layout_laws f)) };
 }
 
 impl<T0: Layout, T1: Layout, T2: Layout, T3: Layout> Layout for (T0, T1, T2, T3) {
@@ -46,11 +59,11 @@ impl<T0: Layout, T1: Layout, T2: Layout, T3: Layout> Layout for (T0, T1, T2, T3)
 
     ghost seen = { λ t. ⟦<(T0, (T1, T2, T3)) as Layout>⟧.seen (t.0, (t.1, t.2, t.3)) };
 
-    ghost language = { ⟦<(T0, (T1, T2, T3)) as Layout>⟧.language };
+    ghost format = { ⟦<(T0, (T1, T2, T3)) as Layout>⟧.format };
 
     ghost least = { ⟦<(T0, (T1, T2, T3)) as Layout>⟧.least };
 
-    ghost layout_laws = { λ f. both_laws (T0.layout_laws f) (both_laws (T1.layout_laws f) (both_laws (T2.layout_laws f) (T3.layout_laws f))) };
+    ghost layout_laws = { λ f. pair_laws (T0.layout_laws f) (pair_laws (T1.layout_laws f) (pair_laws (T2.layout_laws f) (T3.layout_laws f))) };
 }
 
 impl<T0: Layout, T1: Layout, T2: Layout, T3: Layout, T4: Layout> Layout for (T0, T1, T2, T3, T4) {
@@ -58,11 +71,11 @@ impl<T0: Layout, T1: Layout, T2: Layout, T3: Layout, T4: Layout> Layout for (T0,
 
     ghost seen = { λ t. ⟦<(T0, (T1, T2, T3, T4)) as Layout>⟧.seen (t.0, (t.1, t.2, t.3, t.4)) };
 
-    ghost language = { ⟦<(T0, (T1, T2, T3, T4)) as Layout>⟧.language };
+    ghost format = { ⟦<(T0, (T1, T2, T3, T4)) as Layout>⟧.format };
 
     ghost least = { ⟦<(T0, (T1, T2, T3, T4)) as Layout>⟧.least };
 
-    ghost layout_laws = { λ f. both_laws (T0.layout_laws f) (both_laws (T1.layout_laws f) (both_laws (T2.layout_laws f) (both_laws (T3.layout_laws f) (T4.layout_laws f)))) };
+    ghost layout_laws = { λ f. pair_laws (T0.layout_laws f) (pair_laws (T1.layout_laws f) (pair_laws (T2.layout_laws f) (pair_laws (T3.layout_laws f) (T4.layout_laws f)))) };
 }
 
 impl<T0: Layout, T1: Layout, T2: Layout, T3: Layout, T4: Layout, T5: Layout> Layout
@@ -71,11 +84,11 @@ impl<T0: Layout, T1: Layout, T2: Layout, T3: Layout, T4: Layout, T5: Layout> Lay
 
     ghost seen = { λ t. ⟦<(T0, (T1, T2, T3, T4, T5)) as Layout>⟧.seen (t.0, (t.1, t.2, t.3, t.4, t.5)) };
 
-    ghost language = { ⟦<(T0, (T1, T2, T3, T4, T5)) as Layout>⟧.language };
+    ghost format = { ⟦<(T0, (T1, T2, T3, T4, T5)) as Layout>⟧.format };
 
     ghost least = { ⟦<(T0, (T1, T2, T3, T4, T5)) as Layout>⟧.least };
 
-    ghost layout_laws = { λ f. both_laws (T0.layout_laws f) (both_laws (T1.layout_laws f) (both_laws (T2.layout_laws f) (both_laws (T3.layout_laws f) (both_laws (T4.layout_laws f) (T5.layout_laws f))))) };
+    ghost layout_laws = { λ f. pair_laws (T0.layout_laws f) (pair_laws (T1.layout_laws f) (pair_laws (T2.layout_laws f) (pair_laws (T3.layout_laws f) (pair_laws (T4.layout_laws f) (T5.layout_laws f))))) };
 }
 
 impl<T0: Layout, T1: Layout, T2: Layout, T3: Layout, T4: Layout, T5: Layout, T6: Layout> Layout
@@ -84,11 +97,11 @@ impl<T0: Layout, T1: Layout, T2: Layout, T3: Layout, T4: Layout, T5: Layout, T6:
 
     ghost seen = { λ t. ⟦<(T0, (T1, T2, T3, T4, T5, T6)) as Layout>⟧.seen (t.0, (t.1, t.2, t.3, t.4, t.5, t.6)) };
 
-    ghost language = { ⟦<(T0, (T1, T2, T3, T4, T5, T6)) as Layout>⟧.language };
+    ghost format = { ⟦<(T0, (T1, T2, T3, T4, T5, T6)) as Layout>⟧.format };
 
     ghost least = { ⟦<(T0, (T1, T2, T3, T4, T5, T6)) as Layout>⟧.least };
 
-    ghost layout_laws = { λ f. both_laws (T0.layout_laws f) (both_laws (T1.layout_laws f) (both_laws (T2.layout_laws f) (both_laws (T3.layout_laws f) (both_laws (T4.layout_laws f) (both_laws (T5.layout_laws f) (T6.layout_laws f)))))) };
+    ghost layout_laws = { λ f. pair_laws (T0.layout_laws f) (pair_laws (T1.layout_laws f) (pair_laws (T2.layout_laws f) (pair_laws (T3.layout_laws f) (pair_laws (T4.layout_laws f) (pair_laws (T5.layout_laws f) (T6.layout_laws f)))))) };
 }
 
 impl<
@@ -105,11 +118,11 @@ impl<
 
     ghost seen = { λ t. ⟦<(T0, (T1, T2, T3, T4, T5, T6, T7)) as Layout>⟧.seen (t.0, (t.1, t.2, t.3, t.4, t.5, t.6, t.7)) };
 
-    ghost language = { ⟦<(T0, (T1, T2, T3, T4, T5, T6, T7)) as Layout>⟧.language };
+    ghost format = { ⟦<(T0, (T1, T2, T3, T4, T5, T6, T7)) as Layout>⟧.format };
 
     ghost least = { ⟦<(T0, (T1, T2, T3, T4, T5, T6, T7)) as Layout>⟧.least };
 
-    ghost layout_laws = { λ f. both_laws (T0.layout_laws f) (both_laws (T1.layout_laws f) (both_laws (T2.layout_laws f) (both_laws (T3.layout_laws f) (both_laws (T4.layout_laws f) (both_laws (T5.layout_laws f) (both_laws (T6.layout_laws f) (T7.layout_laws f))))))) };
+    ghost layout_laws = { λ f. pair_laws (T0.layout_laws f) (pair_laws (T1.layout_laws f) (pair_laws (T2.layout_laws f) (pair_laws (T3.layout_laws f) (pair_laws (T4.layout_laws f) (pair_laws (T5.layout_laws f) (pair_laws (T6.layout_laws f) (T7.layout_laws f))))))) };
 }
 
 impl<
@@ -127,11 +140,11 @@ impl<
 
     ghost seen = { λ t. ⟦<(T0, (T1, T2, T3, T4, T5, T6, T7, T8)) as Layout>⟧.seen (t.0, (t.1, t.2, t.3, t.4, t.5, t.6, t.7, t.8)) };
 
-    ghost language = { ⟦<(T0, (T1, T2, T3, T4, T5, T6, T7, T8)) as Layout>⟧.language };
+    ghost format = { ⟦<(T0, (T1, T2, T3, T4, T5, T6, T7, T8)) as Layout>⟧.format };
 
     ghost least = { ⟦<(T0, (T1, T2, T3, T4, T5, T6, T7, T8)) as Layout>⟧.least };
 
-    ghost layout_laws = { λ f. both_laws (T0.layout_laws f) (both_laws (T1.layout_laws f) (both_laws (T2.layout_laws f) (both_laws (T3.layout_laws f) (both_laws (T4.layout_laws f) (both_laws (T5.layout_laws f) (both_laws (T6.layout_laws f) (both_laws (T7.layout_laws f) (T8.layout_laws f)))))))) };
+    ghost layout_laws = { λ f. pair_laws (T0.layout_laws f) (pair_laws (T1.layout_laws f) (pair_laws (T2.layout_laws f) (pair_laws (T3.layout_laws f) (pair_laws (T4.layout_laws f) (pair_laws (T5.layout_laws f) (pair_laws (T6.layout_laws f) (pair_laws (T7.layout_laws f) (T8.layout_laws f)))))))) };
 }
 
 impl<
@@ -150,11 +163,11 @@ impl<
 
     ghost seen = { λ t. ⟦<(T0, (T1, T2, T3, T4, T5, T6, T7, T8, T9)) as Layout>⟧.seen (t.0, (t.1, t.2, t.3, t.4, t.5, t.6, t.7, t.8, t.9)) };
 
-    ghost language = { ⟦<(T0, (T1, T2, T3, T4, T5, T6, T7, T8, T9)) as Layout>⟧.language };
+    ghost format = { ⟦<(T0, (T1, T2, T3, T4, T5, T6, T7, T8, T9)) as Layout>⟧.format };
 
     ghost least = { ⟦<(T0, (T1, T2, T3, T4, T5, T6, T7, T8, T9)) as Layout>⟧.least };
 
-    ghost layout_laws = { λ f. both_laws (T0.layout_laws f) (both_laws (T1.layout_laws f) (both_laws (T2.layout_laws f) (both_laws (T3.layout_laws f) (both_laws (T4.layout_laws f) (both_laws (T5.layout_laws f) (both_laws (T6.layout_laws f) (both_laws (T7.layout_laws f) (both_laws (T8.layout_laws f) (T9.layout_laws f))))))))) };
+    ghost layout_laws = { λ f. pair_laws (T0.layout_laws f) (pair_laws (T1.layout_laws f) (pair_laws (T2.layout_laws f) (pair_laws (T3.layout_laws f) (pair_laws (T4.layout_laws f) (pair_laws (T5.layout_laws f) (pair_laws (T6.layout_laws f) (pair_laws (T7.layout_laws f) (pair_laws (T8.layout_laws f) (T9.layout_laws f))))))))) };
 }
 
 impl<
@@ -174,9 +187,9 @@ impl<
 
     ghost seen = { λ t. ⟦<(T0, (T1, T2, T3, T4, T5, T6, T7, T8, T9, T10)) as Layout>⟧.seen (t.0, (t.1, t.2, t.3, t.4, t.5, t.6, t.7, t.8, t.9, t.10)) };
 
-    ghost language = { ⟦<(T0, (T1, T2, T3, T4, T5, T6, T7, T8, T9, T10)) as Layout>⟧.language };
+    ghost format = { ⟦<(T0, (T1, T2, T3, T4, T5, T6, T7, T8, T9, T10)) as Layout>⟧.format };
 
     ghost least = { ⟦<(T0, (T1, T2, T3, T4, T5, T6, T7, T8, T9, T10)) as Layout>⟧.least };
 
-    ghost layout_laws = { λ f. both_laws (T0.layout_laws f) (both_laws (T1.layout_laws f) (both_laws (T2.layout_laws f) (both_laws (T3.layout_laws f) (both_laws (T4.layout_laws f) (both_laws (T5.layout_laws f) (both_laws (T6.layout_laws f) (both_laws (T7.layout_laws f) (both_laws (T8.layout_laws f) (both_laws (T9.layout_laws f) (T10.layout_laws f)))))))))) };
+    ghost layout_laws = { λ f. pair_laws (T0.layout_laws f) (pair_laws (T1.layout_laws f) (pair_laws (T2.layout_laws f) (pair_laws (T3.layout_laws f) (pair_laws (T4.layout_laws f) (pair_laws (T5.layout_laws f) (pair_laws (T6.layout_laws f) (pair_laws (T7.layout_laws f) (pair_laws (T8.layout_laws f) (pair_laws (T9.layout_laws f) (T10.layout_laws f)))))))))) };
 }

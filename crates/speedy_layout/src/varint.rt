@@ -1,5 +1,6 @@
 //! Integers of a variable length: one to nine bytes, the fewer the smaller the number.
 ghost use Rattle.std.specs.Prelude.{◌≡◌, ◌+◌, ◌-◌, ◌*◌, ◌^◌, ◌<◌, ◌≤◌, ℕ, ◌∷◌, take, length};
+ghost use Rattle.speedy_base.specs.Encoding.{Encoding};
 ghost use Rattle.speedy_layout.specs.Varint.{varint, varint_laws, HasNoShorter, StartsVarint};
 ghost use Rattle.speedy_layout.specs.Zigzag.{varint_number, zigzag};
 
@@ -15,7 +16,7 @@ impl VarInt64 {
     pub fn encode(self) -> ([u8; 9], usize)
         ensures one_at_least { 1 ≤ result.1 }
         ensures nine_at_most { result.1 ≤ 9 }
-        ensures written { varint.writes (varint_number self) (take result.1 result.0) }
+        ensures written { (e : Encoding) → (varint e).writes (varint_number self) (take result.1 result.0) }
     {
         let more = more_bytes(self.0);
         let low = if more < 8 { self.0 >> (8 * more) } else { 0 };
@@ -42,7 +43,7 @@ impl VarInt64 {
     #[inline]
     pub fn decode(first: u8, rest: &[u8]) -> VarInt64
         requires { StartsVarint (length rest.now) first }
-        ensures { varint.spells (varint_number result) (first ∷ rest.now) }
+        ensures { (e : Encoding) → (varint e).spells (varint_number result) (first ∷ rest.now) }
     {
         let more = rest.len();
         let mut digits = [0; 8];
@@ -68,11 +69,11 @@ impl Layout for VarInt64 {
 
     ghost seen = { varint_number };
 
-    ghost language = { λ _. varint };
+    ghost format = { varint };
 
     ghost least = { 1 };
 
-    ghost layout_laws = { λ _. varint_laws };
+    ghost layout_laws = { varint_laws };
 }
 
 impl From<u8> for VarInt64 {

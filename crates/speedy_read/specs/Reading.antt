@@ -1,15 +1,16 @@
 -- What a read does.
-use Rattle.std.specs.Prelude.{◌≡◌, ℕ, ◌≤◌, ◌<◌, ◌-◌, ◌^◌, List, ◌++◌, length, Bool, false, IsTrue, ◌⊎◌, ◌↔◌, Option, Some, Result, MatchResult, IfOk, IfErr, IsErrAnd}
+use Rattle.std.specs.Prelude.{◌≡◌, ℕ, ℤ, ◌≤◌, ◌<◌, ◌-◌, ◌^◌, List, ◌++◌, length, Bool, false, IsTrue, ◌⊎◌, ◌↔◌, Option, Some, Result, MatchResult, IfOk, IfErr, IsErrAnd}
 use Rattle.std.specs.Borrow.{GName}
-use Rattle.speedy_base.specs.declared.error.ErrorKind.{ErrorKind}
+use Rattle.std.specs.Int.{Width}
 use Rattle.speedy_base.specs.declared.error.ErrorKind.TheVariants as kinds
 use Rattle.speedy_base.specs.declared.error.Error.{Error}
-use Rattle.speedy_base.specs.Error.{error_of}
+use Rattle.speedy_base.specs.Error.{error_of, IsNamed}
 use Rattle.speedy_base.specs.ErrorKind.{EndsInput}
 use Rattle.speedy_base.specs.Device.{HasGrown}
 use Rattle.speedy_base.specs.Digits.{AreBytes}
-use Rattle.speedy_base.specs.Form.{Form}
-use Rattle.speedy_layout.specs.Language.{Language}
+use Rattle.speedy_base.specs.Encoding.{Encoding}
+use Rattle.speedy_layout.specs.Format.{Format}
+use Rattle.speedy_layout.specs.Numbers.{unsigned_number, signed_number}
 
 -- A reader, as reads see it.
 pub record ReaderState : Type 0 where
@@ -27,7 +28,7 @@ pub record ReaderState : Type 0 where
   -- an end of its bytes may be answered as the device's own, an `IoError`, and not only as `UnexpectedEndOfInput`
   pub ends_by_device : Bool
   -- what its context asks of the bytes
-  pub form : Form
+  pub encoding : Encoding
   -- its device's number of failed calls
   pub faults : ℕ
   -- the `&mut`s that it holds
@@ -41,7 +42,7 @@ pub record Kept (old new : ReaderState) : Type 0 where
   pub buffers : new.buffers ≡ old.buffers
   pub takes_memory : new.takes_memory ≡ old.takes_memory
   pub ends_by_device : new.ends_by_device ≡ old.ends_by_device
-  pub form : new.form ≡ old.form
+  pub encoding : new.encoding ≡ old.encoding
   pub faults : old.faults ≤ new.faults
   pub targets : new.targets ≡ old.targets
   -- what is to come is a tail of what was to come
@@ -54,7 +55,7 @@ pub record KeptByPeek (old new : ReaderState) : Type 0 where
   pub buffers : new.buffers ≡ old.buffers
   pub takes_memory : new.takes_memory ≡ old.takes_memory
   pub ends_by_device : new.ends_by_device ≡ old.ends_by_device
-  pub form : new.form ≡ old.form
+  pub encoding : new.encoding ≡ old.encoding
   pub faults : old.faults ≤ new.faults
   pub targets : new.targets ≡ old.targets
   pub to_come : IsTrue old.tells → new.to_come ≡ old.to_come
@@ -73,7 +74,7 @@ pub record Ahead (spelled : List ℕ → Type 0) (old : ReaderState) : Type 0 wh
   pub stands : IsTrue old.tells → old.to_come ≡ front ++ rest
 
 -- the bytes are told, fewer than `usize::MAX` of them, and lent where the type needs it
-pub record IsTold {V : Type 0} (L : Language V) (old : ReaderState) : Type 0 where
+pub record IsTold {V : Type 0} (L : Format V) (old : ReaderState) : Type 0 where
   pub tells : IsTrue old.tells
   pub are_bytes : AreBytes old.to_come
   pub fit : length old.to_come < 2 ^ 64 - 1
@@ -87,47 +88,50 @@ pub record Counts (spelled : List ℕ → Type 0) (count : ℕ) (bytes : List �
   pub front_is : spelled front
   pub count_is : count ≡ length front
 
+-- want of memory, where memory may be asked for, or a failed call of the device
+abbrev pub Excused : {E : Type 0} → (Error → E → Type 0) → Bool → E → ReaderState → ReaderState → Type 0
+Excused gives takes e old new = (gives (error_of kinds.OutOfMemory) e × (IsTrue takes ⊎ IsTrue old.takes_memory)) ⊎ HasGrown old.faults new.faults
+
 module _ {E : Type 0} (gives : Error → E → Type 0) (eof : E → Bool) where
-  -- want of memory, where memory may be asked for, or a failed call of the device
-  abbrev pub Excused : Bool → E → ReaderState → ReaderState → Type 0
-  Excused takes e old new = (gives (error_of kinds.OutOfMemory) e × (IsTrue takes ⊎ IsTrue old.takes_memory)) ⊎ HasGrown old.faults new.faults
-
-  -- a refusal of a kind that is named
-  abbrev pub IsNamed : (ErrorKind → Type 0) → E → Type 0
-  IsNamed names e = (kind : ErrorKind) × names kind × gives (error_of kind) e
-
   -- the bytes ended, as the reader says it
   abbrev pub IsEnd : Bool → E → Type 0
-  IsEnd by_device e = IsNamed (EndsInput by_device) e × IsTrue (eof e)
+  IsEnd by_device e = IsNamed gives (EndsInput by_device) e × IsTrue (eof e)
 
   -- the bytes to come spell no value at their front, and the error says whether they may begin a spelling
-  pub record Unspelled {V : Type 0} (L : Language V) (e : E) (bytes : List ℕ) : Type 0 where
+  pub record Unspelled {V : Type 0} (L : Format V) (e : E) (bytes : List ℕ) : Type 0 where
     pub no_front : (v : V) (front rest : List ℕ) → bytes ≡ front ++ rest → L.spells v front → ⊥
     pub too_short : (v : V) (more : List ℕ) → L.spells v (bytes ++ more) → IsTrue (eof e)
-    pub at_fault : L.at_fault bytes → IsNamed L.names e
+    pub at_fault : L.at_fault bytes → IsNamed gives L.names e
 
   -- a clean refusal
-  pub record Refused {V : Type 0} (L : Language V) (e : E) (old : ReaderState) : Type 0 where
-    pub kind : IsEnd old.ends_by_device e ⊎ IsNamed L.names e
+  pub record Refused {V : Type 0} (L : Format V) (e : E) (old : ReaderState) : Type 0 where
+    pub kind : IsEnd old.ends_by_device e ⊎ IsNamed gives L.names e
     pub because : IsTold L old → Unspelled L e old.to_come
 
   -- bytes that spell no value at their front are refused: as `UnexpectedEndOfInput` where they may begin a spelling, and else so or with a kind that the type names
-  pub record RefusesBuffer {V : Type 0} (L : Language V) (e : E) (bytes : List ℕ) : Type 0 where
-    pub kind : IsEnd false e ⊎ IsNamed L.names e
+  pub record RefusesBuffer {V : Type 0} (L : Format V) (e : E) (bytes : List ℕ) : Type 0 where
+    pub kind : IsEnd false e ⊎ IsNamed gives L.names e
     pub because : Unspelled L e bytes
 
-  -- A read of a language's values. A value that is answered is spelled by a front of the bytes to come, and just that front is taken. A clean refusal means that no front spells any value.
-  pub record Reads {A V : Type 0} (seen : A → V) (L : Language V) (result : Result A E) (old new : ReaderState) : Type 0 where
+  -- A read of a format's values. A value that is answered is spelled by a front of the bytes to come, and just that front is taken. A clean refusal means that no front spells any value.
+  pub record Reads {A V : Type 0} (seen : A → V) (L : Format V) (result : Result A E) (old new : ReaderState) : Type 0 where
     pub kept : Kept old new
-    pub answer : MatchResult result (λ x. Got (L.spells (seen x)) old new) (λ e. Excused L.takes_memory e old new ⊎ Refused L e old)
+    pub answer : MatchResult result (λ x. Got (L.spells (seen x)) old new) (λ e. Excused gives L.takes_memory e old new ⊎ Refused L e old)
 
-  -- A peek of a language's values: as the read, but nothing is taken.
-  pub record Peeks {A V : Type 0} (seen : A → V) (L : Language V) (result : Result A E) (old new : ReaderState) : Type 0 where
+  -- a read of a number of so many digits, and of a signed one of a width, in the encoding of the reader
+  abbrev pub ReadsUnsigned : ℕ → Result ℕ E → ReaderState → ReaderState → Type 0
+  ReadsUnsigned width result old new = Reads (λ n. n) (unsigned_number width old.encoding) result old new
+
+  abbrev pub ReadsSigned : Width → Result ℤ E → ReaderState → ReaderState → Type 0
+  ReadsSigned w result old new = Reads (λ z. z) (signed_number w old.encoding) result old new
+
+  -- A peek of a format's values: as the read, but nothing is taken.
+  pub record Peeks {A V : Type 0} (seen : A → V) (L : Format V) (result : Result A E) (old new : ReaderState) : Type 0 where
     pub kept : KeptByPeek old new
-    pub answer : MatchResult result (λ x. Ahead (L.spells (seen x)) old) (λ e. Excused L.takes_memory e old new ⊎ Refused L e old)
+    pub answer : MatchResult result (λ x. Ahead (L.spells (seen x)) old) (λ e. Excused gives L.takes_memory e old new ⊎ Refused L e old)
 
-  -- What a form that reads from a buffer answers: a buffer that is shorter than any spelling is refused with both sizes; else a value is answered exactly when a front of the bytes spells it, and the count is the length of that front.
-  pub record AnswersBuffer {A V : Type 0} (seen : A → V) (least : ℕ) (L : Language V) (result : Result A E) (count : ℕ) (bytes : List ℕ) : Type 0 where
+  -- What a function that reads from a buffer answers: a buffer that is shorter than the least size is refused with both sizes; else a value is answered exactly when a front of the bytes spells it, and the count is the length of that front.
+  pub record AnswersBuffer {A V : Type 0} (seen : A → V) (least : ℕ) (L : Format V) (result : Result A E) (count : ℕ) (bytes : List ℕ) : Type 0 where
     pub too_small : length bytes < least → IsErrAnd result (λ e. gives (error_of (kinds.InputBufferIsTooSmall (length bytes) least)) e) × (count ≡ 0)
     pub value : IfOk result (λ x. Counts (L.spells (seen x)) count bytes)
     pub refused : least ≤ length bytes → IfErr result (λ e. (gives (error_of kinds.OutOfMemory) e × IsTrue L.takes_memory) ⊎ RefusesBuffer L e bytes)

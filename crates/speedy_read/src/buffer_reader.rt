@@ -1,7 +1,7 @@
 //! Reading from bytes in memory.
 ghost use Rattle.std.specs.Prelude.{◌≡◌, ◌↔◌, [], IsTrue, length, nat_le, Some, OnErr, refl};
 ghost use Rattle.std.specs.Borrow.{sem, Lends};
-ghost use Rattle.speedy_layout.specs.Texts.{bytes_of, any_bytes};
+ghost use Rattle.speedy_layout.specs.Texts.{raw_bytes, any_bytes};
 ghost use Rattle.speedy_read.specs.Reading.{Reads, Peeks};
 ghost use Rattle.speedy_read.specs.Buffers.{bytes_state};
 
@@ -25,8 +25,10 @@ impl<'a, C: Context> BufferReader<'a, C> {
     /// A reader at the front of the buffer.
     #[inline]
     pub fn new(alloc: Global, context: C, buffer: &'a [u8]) -> BufferReader<'a, C>
-        ensures context { ⟦<BufferReader<'a, C> as LendingReader<&'a [u8], C>>⟧.at result ≡ context }
-        ensures state { ⟦<BufferReader<'a, C> as LendingReader<&'a [u8], C>>⟧.state result ≡ bytes_state buffer.now (C.form context) }
+        ensures context { ⟦<BufferReader<'a, C> as LendingReader<&'a [u8], C>>⟧.at result
+            ≡ context }
+        ensures state { ⟦<BufferReader<'a, C> as LendingReader<&'a [u8], C>>⟧.state result
+            ≡ bytes_state buffer.now (C.encoding context) }
     {
         BufferReader {
             context,
@@ -39,7 +41,8 @@ impl<'a, C: Context> BufferReader<'a, C> {
     /// How many bytes are to come.
     #[inline]
     pub fn len(&self) -> usize
-        ensures { result ≡ length (⟦<BufferReader<'a, C> as LendingReader<&'a [u8], C>>⟧.state self.now).to_come }
+        ensures { result ≡ length
+            (⟦<BufferReader<'a, C> as LendingReader<&'a [u8], C>>⟧.state self.now).to_come }
     {
         self.rest.len()
     }
@@ -47,7 +50,8 @@ impl<'a, C: Context> BufferReader<'a, C> {
     /// Whether no bytes are to come.
     #[inline]
     pub fn is_empty(&self) -> bool
-        ensures { IsTrue result ↔ ((⟦<BufferReader<'a, C> as LendingReader<&'a [u8], C>>⟧.state self.now).to_come ≡ []) }
+        ensures { IsTrue result
+            ↔ ((⟦<BufferReader<'a, C> as LendingReader<&'a [u8], C>>⟧.state self.now).to_come ≡ []) }
     {
         self.rest.is_empty()
     }
@@ -58,14 +62,16 @@ impl<'a, C: Context> LendingReader<&'a [u8], C> for BufferReader<'a, C> {
 
     ghost with_context = { λ r c. record r { context = c } };
 
-    ghost state = { λ r. bytes_state r.rest.now (C.form r.context) };
+    ghost state = { λ r. bytes_state r.rest.now (C.encoding r.context) };
 
     ghost can_read = { λ r n. Some (nat_le n (length r.rest.now)) };
 
     #[inline(always)]
     fn read_bytes(&mut self, output: &mut [u8]) -> Result<(), C::Error>
-        ensures reads { Reads C.Error.from_gives C.Error.eof (λ _. output.new) (bytes_of (length output.old)) result
-            (⟦<BufferReader<'a, C> as LendingReader<&'a [u8], C>>⟧.state self.old) (⟦<BufferReader<'a, C> as LendingReader<&'a [u8], C>>⟧.state self.new) }
+        ensures reads { Reads C.Error.from_gives C.Error.eof (λ _. output.new)
+            (raw_bytes (length output.old)) result
+            (⟦<BufferReader<'a, C> as LendingReader<&'a [u8], C>>⟧.state self.old)
+            (⟦<BufferReader<'a, C> as LendingReader<&'a [u8], C>>⟧.state self.new) }
         ensures unchanged { OnErr result (self.new ≡ self.old) }
     {
         let length = output.len();
@@ -80,8 +86,10 @@ impl<'a, C: Context> LendingReader<&'a [u8], C> for BufferReader<'a, C> {
 
     #[inline(always)]
     fn peek_bytes(&mut self, output: &mut [u8]) -> Result<(), C::Error>
-        ensures peeks { Peeks C.Error.from_gives C.Error.eof (λ _. output.new) (bytes_of (length output.old)) result
-            (⟦<BufferReader<'a, C> as LendingReader<&'a [u8], C>>⟧.state self.old) (⟦<BufferReader<'a, C> as LendingReader<&'a [u8], C>>⟧.state self.new) }
+        ensures peeks { Peeks C.Error.from_gives C.Error.eof (λ _. output.new)
+            (raw_bytes (length output.old)) result
+            (⟦<BufferReader<'a, C> as LendingReader<&'a [u8], C>>⟧.state self.old)
+            (⟦<BufferReader<'a, C> as LendingReader<&'a [u8], C>>⟧.state self.new) }
         ensures unchanged { OnErr result (self.new ≡ self.old) }
     {
         let length = output.len();
@@ -95,7 +103,8 @@ impl<'a, C: Context> LendingReader<&'a [u8], C> for BufferReader<'a, C> {
     #[inline(always)]
     fn skip_bytes(&mut self, length: usize) -> Result<(), C::Error>
         ensures skips { Reads C.Error.from_gives C.Error.eof (λ x. x) (any_bytes length) result
-            (⟦<BufferReader<'a, C> as LendingReader<&'a [u8], C>>⟧.state self.old) (⟦<BufferReader<'a, C> as LendingReader<&'a [u8], C>>⟧.state self.new) }
+            (⟦<BufferReader<'a, C> as LendingReader<&'a [u8], C>>⟧.state self.old)
+            (⟦<BufferReader<'a, C> as LendingReader<&'a [u8], C>>⟧.state self.new) }
         ensures unchanged { OnErr result (self.new ≡ self.old) }
     {
         if self.rest.len() < length {
@@ -125,7 +134,7 @@ impl<'a, C: Context> LendingReader<&'a [u8], C> for BufferReader<'a, C> {
         &mut self.context
     }
 
-    ghost form_at = { λ r. refl };
+    ghost encoding_at = { λ r. refl };
 
     ghost state_with = { λ r c. refl };
 }

@@ -6,21 +6,21 @@ ghost use Rattle.speedy_read.specs.RoundTrip.{WrittenIsAnswered, WrittenIsRead, 
 use speedy_base::context::Context;
 use speedy_layout::layout::Layout;
 
-/// A form that reads from a buffer answers the value that was written to it, at its front or as the whole of
+/// A function that reads from a buffer answers the value that was written to it, at its front or as the whole of
 /// it, and refuses only for want of memory.
 pub fn written_is_answered<T: Layout, C: Context>()
-    ensures { WrittenIsAnswered C.Error.from_gives C.Error.eof T.seen T.least T.language }
+    ensures { WrittenIsAnswered C.Error.from_gives C.Error.eof T.seen T.least T.format }
 {}
 
 /// A read answers the value whose written form is to come, and takes just that form. It refuses only for want
 /// of memory or where a call of the device failed.
 pub fn written_is_read<T: Layout, C: Context>()
-    ensures { WrittenIsRead C.Error.from_gives C.Error.eof T.seen T.language }
+    ensures { WrittenIsRead C.Error.from_gives C.Error.eof T.seen T.format }
 {}
 
 /// A read of so many items answers those whose written forms are to come, one after the other, and takes just
 /// these forms. It refuses only for want of memory or where a call of the device failed.
 pub fn written_items_are_read<T: Layout, C: Context>()
     ensures { let seen : Vec T → List T.Seen = λ v. map T.seen v.items in
-        WrittenItemsAreRead C.Error.from_gives C.Error.eof seen T.language }
+        WrittenItemsAreRead C.Error.from_gives C.Error.eof seen T.format }
 {}

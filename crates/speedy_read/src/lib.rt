@@ -1,16 +1,20 @@
 //! Reading: readers, and the types that are read.
 #![tactic(auto)]
 
+pub mod addresses;
+pub mod buffer;
 pub mod buffer_reader;
+pub mod flags;
 pub mod laws;
+pub mod leaves;
+pub mod lists;
+pub mod non_zero;
+pub mod numbers;
+pub mod owned;
 pub mod private;
+pub mod ranges;
 pub mod readable;
-pub mod readable_addresses;
-pub mod readable_composed;
-pub mod readable_impl;
-pub mod readable_leaves;
-pub mod readable_non_zero;
-pub mod readable_numbers;
-pub mod readable_owned;
-pub mod readable_tuples;
 pub mod reader;
+pub mod texts;
+pub mod tuples;
+pub mod varint;

@@ -1,7 +1,7 @@
 //! What types that are read do.
 ghost use Rattle.std.specs.Prelude.{◌≡◌, ℕ, [], map, MatchResult};
 ghost use Rattle.speedy_base.specs.Error.{error_of};
-ghost use Rattle.speedy_base.specs.Form.{plain_form};
+ghost use Rattle.speedy_base.specs.Encoding.{plain_encoding};
 ghost use Rattle.speedy_layout.specs.Lists.{vector};
 ghost use Rattle.speedy_read.specs.Reading.{Reads, AnswersBuffer};
 
@@ -25,9 +25,11 @@ pub trait ReadFrom<L: AsSlice<u8> + Drop, C: Context>: Layout + Sized + Drop {
     /// A clean refusal, neither want of memory nor a failed call of the device, means that no front
     /// spells any value.
     fn read_from<R: LendingReader<L, C>>(reader: &mut R) -> Result<Self, C::Error>
-        ensures { Reads C.Error.from_gives C.Error.eof Self.seen (Self.language (R.state reader.old).form) result (R.state reader.old) (R.state reader.new) };
+        ensures { Reads C.Error.from_gives C.Error.eof Self.seen
+            (Self.format (R.state reader.old).encoding) result
+            (R.state reader.old) (R.state reader.new) };
 
-    /// The least number of bytes that spell a value.
+    /// The least size: no value is spelled by fewer bytes.
     fn minimum_bytes_needed() -> usize
         ensures { result ≡ Self.least };
 }
@@ -41,7 +43,9 @@ pub trait ReadMany<L: AsSlice<u8> + Drop, C: Context>: ReadFrom<L, C> {
         reader: &mut R,
         length: usize,
     ) -> Result<Vec<Self>, C::Error>
-        ensures { Reads C.Error.from_gives C.Error.eof (λ v. map Self.seen v.items) (vector length (Self.language (R.state reader.old).form)) result (R.state reader.old) (R.state reader.new) }
+        ensures { Reads C.Error.from_gives C.Error.eof (λ v. map Self.seen v.items)
+            (vector length (Self.format (R.state reader.old).encoding)) result
+            (R.state reader.old) (R.state reader.new) }
     {
         read_each::<Self, L, C, R>(reader, length)
     }
@@ -51,51 +55,55 @@ pub trait ReadMany<L: AsSlice<u8> + Drop, C: Context>: ReadFrom<L, C> {
 pub trait Readable<'a, C: Context>: ReadMany<&'a [u8], C> {
     /// The value that a front of the buffer spells in the little byte order.
     ///
-    /// A buffer that is shorter than any spelling is refused with `InputBufferIsTooSmall`.
+    /// A buffer that is shorter than the type's least size is refused with `InputBufferIsTooSmall`.
     final fn read_from_buffer(alloc: Global, buffer: &'a [u8]) -> Result<Self, C::Error>
     where
         C: PlainContext,
-        ensures { (count : ℕ) × AnswersBuffer C.Error.from_gives C.Error.eof Self.seen Self.least (Self.language (plain_form Endianness.LittleEndian)) result count buffer.now }
+        ensures { (count : ℕ) × AnswersBuffer C.Error.from_gives C.Error.eof Self.seen Self.least
+            (Self.format (plain_encoding Endianness.LittleEndian)) result count buffer.now }
     {
         Self::read_from_buffer_with_ctx(alloc, C::plain(), buffer)
     }
 
     /// The value that a front of the buffer spells in the little byte order, and how many bytes spell it.
     ///
-    /// A buffer that is shorter than any spelling is refused with `InputBufferIsTooSmall` and the count 0.
+    /// A buffer that is shorter than the type's least size is refused with `InputBufferIsTooSmall` and the count 0.
     final fn read_with_length_from_buffer(
         alloc: Global,
         buffer: &'a [u8],
     ) -> (Result<Self, C::Error>, usize)
     where
         C: PlainContext,
-        ensures { AnswersBuffer C.Error.from_gives C.Error.eof Self.seen Self.least (Self.language (plain_form Endianness.LittleEndian)) result.0 result.1 buffer.now }
+        ensures { AnswersBuffer C.Error.from_gives C.Error.eof Self.seen Self.least
+            (Self.format (plain_encoding Endianness.LittleEndian)) result.0 result.1 buffer.now }
     {
         Self::read_with_length_from_buffer_with_ctx(alloc, C::plain(), buffer)
     }
 
     /// The value that a front of the buffer spells under the context.
     ///
-    /// A buffer that is shorter than any spelling is refused with `InputBufferIsTooSmall`.
+    /// A buffer that is shorter than the type's least size is refused with `InputBufferIsTooSmall`.
     final fn read_from_buffer_with_ctx(
         alloc: Global,
         context: C,
         buffer: &'a [u8],
     ) -> Result<Self, C::Error>
-        ensures { (count : ℕ) × AnswersBuffer C.Error.from_gives C.Error.eof Self.seen Self.least (Self.language (C.form context)) result count buffer.now }
+        ensures { (count : ℕ) × AnswersBuffer C.Error.from_gives C.Error.eof Self.seen Self.least
+            (Self.format (C.encoding context)) result count buffer.now }
     {
         Self::read_with_length_from_buffer_with_ctx(alloc, context, buffer).0
     }
 
     /// The value that a front of the buffer spells under the context, and how many bytes spell it.
     ///
-    /// A buffer that is shorter than any spelling is refused with `InputBufferIsTooSmall` and the count 0.
+    /// A buffer that is shorter than the type's least size is refused with `InputBufferIsTooSmall` and the count 0.
     final fn read_with_length_from_buffer_with_ctx(
         alloc: Global,
         context: C,
         buffer: &'a [u8],
     ) -> (Result<Self, C::Error>, usize)
-        ensures { AnswersBuffer C.Error.from_gives C.Error.eof Self.seen Self.least (Self.language (C.form context)) result.0 result.1 buffer.now }
+        ensures { AnswersBuffer C.Error.from_gives C.Error.eof Self.seen Self.least
+            (Self.format (C.encoding context)) result.0 result.1 buffer.now }
     {
         let least = Self::minimum_bytes_needed();
         if buffer.len() < least {
@@ -115,7 +123,9 @@ fn read_each<T: ReadFrom<L, C>, L: AsSlice<u8> + Drop, C: Context, R: LendingRea
     reader: &mut R,
     length: usize,
 ) -> Result<Vec<T>, C::Error>
-    ensures { Reads C.Error.from_gives C.Error.eof (λ v. map T.seen v.items) (vector length (T.language (R.state reader.old).form)) result (R.state reader.old) (R.state reader.new) }
+    ensures { Reads C.Error.from_gives C.Error.eof (λ v. map T.seen v.items)
+        (vector length (T.format (R.state reader.old).encoding)) result
+        (R.state reader.old) (R.state reader.new) }
 {
     let mut items = vec_for::<T, L, C, R>(reader, T::minimum_bytes_needed(), length)?;
     for _i in 0..length {
@@ -133,7 +143,8 @@ pub(crate) fn vec_for<T, L: AsSlice<u8> + Drop, C: Context, R: LendingReader<L, 
     least: usize,
     length: usize,
 ) -> Result<Vec<T>, C::Error>
-    ensures { MatchResult result (λ v. v.items ≡ []) (C.Error.from_gives (error_of ErrorKind.OutOfMemory)) }
+    ensures { MatchResult result (λ v. v.items ≡ [])
+        (C.Error.from_gives (error_of ErrorKind.OutOfMemory)) }
 {
     let known = match least.checked_mul(length) {
         Some(size) => least > 0 && reader.can_read_at_least(size) == Some(true),

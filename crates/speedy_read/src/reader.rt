@@ -4,12 +4,11 @@ ghost use Rattle.std.specs.Borrow.{sem, Lends};
 ghost use Rattle.std.specs.Int.{w8, w16, w32, w64, w128};
 ghost use Rattle.std.specs.String.{string_bytes};
 ghost use Rattle.speedy_base.specs.Error.{error_of};
-ghost use Rattle.speedy_layout.specs.Texts.{bytes_of, any_bytes, text_of_length};
-ghost use Rattle.speedy_layout.specs.Numbers.{digits_language};
-ghost use Rattle.speedy_layout.specs.SignedNumbers.{signed_language};
+ghost use Rattle.speedy_layout.specs.Texts.{raw_bytes, any_bytes, text_of_length};
+ghost use Rattle.speedy_layout.specs.Numbers.{unsigned_number};
 ghost use Rattle.speedy_layout.specs.Lists.{vector};
 ghost use Rattle.speedy_layout.specs.Varint.{varint};
-ghost use Rattle.speedy_read.specs.Reading.{ReaderState, Reads, Peeks, IsRight};
+ghost use Rattle.speedy_read.specs.Reading.{ReaderState, Reads, ReadsUnsigned, ReadsSigned, Peeks, IsRight};
 
 use crate::private::vec_to_string;
 use crate::readable::{ReadFrom, ReadMany};
@@ -38,15 +37,18 @@ pub trait LendingReader<L: AsSlice<u8> + Drop, C: Context> {
 
     /// Fills the output with the next bytes. What a refused read leaves in the output is not said.
     fn read_bytes(&mut self, output: &mut [u8]) -> Result<(), C::Error>
-        ensures { Reads C.Error.from_gives C.Error.eof (λ _. output.new) (bytes_of (length output.old)) result (state self.old) (state self.new) };
+        ensures { Reads C.Error.from_gives C.Error.eof (λ _. output.new)
+            (raw_bytes (length output.old)) result (state self.old) (state self.new) };
 
     /// Fills the output with the next bytes, and takes none of them.
     fn peek_bytes(&mut self, output: &mut [u8]) -> Result<(), C::Error>
-        ensures { Peeks C.Error.from_gives C.Error.eof (λ _. output.new) (bytes_of (length output.old)) result (state self.old) (state self.new) };
+        ensures { Peeks C.Error.from_gives C.Error.eof (λ _. output.new)
+            (raw_bytes (length output.old)) result (state self.old) (state self.new) };
 
     /// Takes so many bytes. This body reads them, a chunk at a time.
     fn skip_bytes(&mut self, length: usize) -> Result<(), C::Error>
-        ensures { Reads C.Error.from_gives C.Error.eof (λ x. x) (any_bytes length) result (state self.old) (state self.new) }
+        ensures { Reads C.Error.from_gives C.Error.eof (λ x. x) (any_bytes length) result
+            (state self.old) (state self.new) }
     {
         let mut chunk = [0u8; 1024];
         let mut left = length;
@@ -72,12 +74,13 @@ pub trait LendingReader<L: AsSlice<u8> + Drop, C: Context> {
 
     /// The context, to change it.
     fn context_mut(&mut self) -> &mut C
-        ensures* writes_back { sem 𝓛 (Lends Self.row C.row self.entry result (with_context self.old)) }
+        ensures* writes_back { sem 𝓛
+            (Lends Self.row C.row self.entry result (with_context self.old)) }
         ensures value { result.now ≡ at self.old };
 
     /// The byte order of numbers.
     final fn endianness(&self) -> Endianness
-        ensures { result ≡ (state self.now).form.order }
+        ensures { result ≡ (state self.now).encoding.order }
     {
         self.context().endianness()
     }
@@ -85,7 +88,8 @@ pub trait LendingReader<L: AsSlice<u8> + Drop, C: Context> {
     /// The next byte as a number in the context's order.
     #[inline]
     final fn read_u8(&mut self) -> Result<u8, C::Error>
-        ensures { Reads C.Error.from_gives C.Error.eof (λ x. x) (digits_language 1 (state self.old).form) result (state self.old) (state self.new) }
+        ensures { ReadsUnsigned C.Error.from_gives C.Error.eof 1 result
+            (state self.old) (state self.new) }
     {
         let mut bytes = [0u8; 1];
         self.read_bytes(&mut bytes)?;
@@ -95,7 +99,8 @@ pub trait LendingReader<L: AsSlice<u8> + Drop, C: Context> {
     /// The next 2 bytes as a number in the context's order.
     #[inline]
     final fn read_u16(&mut self) -> Result<u16, C::Error>
-        ensures { Reads C.Error.from_gives C.Error.eof (λ x. x) (digits_language 2 (state self.old).form) result (state self.old) (state self.new) }
+        ensures { ReadsUnsigned C.Error.from_gives C.Error.eof 2 result
+            (state self.old) (state self.new) }
     {
         let mut bytes = [0u8; 2];
         self.read_bytes(&mut bytes)?;
@@ -105,7 +110,8 @@ pub trait LendingReader<L: AsSlice<u8> + Drop, C: Context> {
     /// The next 4 bytes as a number in the context's order.
     #[inline]
     final fn read_u32(&mut self) -> Result<u32, C::Error>
-        ensures { Reads C.Error.from_gives C.Error.eof (λ x. x) (digits_language 4 (state self.old).form) result (state self.old) (state self.new) }
+        ensures { ReadsUnsigned C.Error.from_gives C.Error.eof 4 result
+            (state self.old) (state self.new) }
     {
         let mut bytes = [0u8; 4];
         self.read_bytes(&mut bytes)?;
@@ -115,7 +121,8 @@ pub trait LendingReader<L: AsSlice<u8> + Drop, C: Context> {
     /// The next 8 bytes as a number in the context's order.
     #[inline]
     final fn read_u64(&mut self) -> Result<u64, C::Error>
-        ensures { Reads C.Error.from_gives C.Error.eof (λ x. x) (digits_language 8 (state self.old).form) result (state self.old) (state self.new) }
+        ensures { ReadsUnsigned C.Error.from_gives C.Error.eof 8 result
+            (state self.old) (state self.new) }
     {
         let mut bytes = [0u8; 8];
         self.read_bytes(&mut bytes)?;
@@ -125,7 +132,8 @@ pub trait LendingReader<L: AsSlice<u8> + Drop, C: Context> {
     /// The next 16 bytes as a number in the context's order.
     #[inline]
     final fn read_u128(&mut self) -> Result<u128, C::Error>
-        ensures { Reads C.Error.from_gives C.Error.eof (λ x. x) (digits_language 16 (state self.old).form) result (state self.old) (state self.new) }
+        ensures { ReadsUnsigned C.Error.from_gives C.Error.eof 16 result
+            (state self.old) (state self.new) }
     {
         let mut bytes = [0u8; 16];
         self.read_bytes(&mut bytes)?;
@@ -135,7 +143,8 @@ pub trait LendingReader<L: AsSlice<u8> + Drop, C: Context> {
     /// The next byte as a signed number.
     #[inline]
     final fn read_i8(&mut self) -> Result<i8, C::Error>
-        ensures { Reads C.Error.from_gives C.Error.eof (λ x. x) (signed_language w8 (state self.old).form) result (state self.old) (state self.new) }
+        ensures { ReadsSigned C.Error.from_gives C.Error.eof w8 result
+            (state self.old) (state self.new) }
     {
         Ok(self.read_u8()?.cast_signed())
     }
@@ -143,7 +152,8 @@ pub trait LendingReader<L: AsSlice<u8> + Drop, C: Context> {
     /// The next 2 bytes as a signed number in the context's order.
     #[inline]
     final fn read_i16(&mut self) -> Result<i16, C::Error>
-        ensures { Reads C.Error.from_gives C.Error.eof (λ x. x) (signed_language w16 (state self.old).form) result (state self.old) (state self.new) }
+        ensures { ReadsSigned C.Error.from_gives C.Error.eof w16 result
+            (state self.old) (state self.new) }
     {
         Ok(self.read_u16()?.cast_signed())
     }
@@ -151,7 +161,8 @@ pub trait LendingReader<L: AsSlice<u8> + Drop, C: Context> {
     /// The next 4 bytes as a signed number in the context's order.
     #[inline]
     final fn read_i32(&mut self) -> Result<i32, C::Error>
-        ensures { Reads C.Error.from_gives C.Error.eof (λ x. x) (signed_language w32 (state self.old).form) result (state self.old) (state self.new) }
+        ensures { ReadsSigned C.Error.from_gives C.Error.eof w32 result
+            (state self.old) (state self.new) }
     {
         Ok(self.read_u32()?.cast_signed())
     }
@@ -159,7 +170,8 @@ pub trait LendingReader<L: AsSlice<u8> + Drop, C: Context> {
     /// The next 8 bytes as a signed number in the context's order.
     #[inline]
     final fn read_i64(&mut self) -> Result<i64, C::Error>
-        ensures { Reads C.Error.from_gives C.Error.eof (λ x. x) (signed_language w64 (state self.old).form) result (state self.old) (state self.new) }
+        ensures { ReadsSigned C.Error.from_gives C.Error.eof w64 result
+            (state self.old) (state self.new) }
     {
         Ok(self.read_u64()?.cast_signed())
     }
@@ -167,7 +179,8 @@ pub trait LendingReader<L: AsSlice<u8> + Drop, C: Context> {
     /// The next 16 bytes as a signed number in the context's order.
     #[inline]
     final fn read_i128(&mut self) -> Result<i128, C::Error>
-        ensures { Reads C.Error.from_gives C.Error.eof (λ x. x) (signed_language w128 (state self.old).form) result (state self.old) (state self.new) }
+        ensures { ReadsSigned C.Error.from_gives C.Error.eof w128 result
+            (state self.old) (state self.new) }
     {
         Ok(self.read_u128()?.cast_signed())
     }
@@ -175,7 +188,8 @@ pub trait LendingReader<L: AsSlice<u8> + Drop, C: Context> {
     /// The next byte, which is not taken.
     #[inline]
     final fn peek_u8(&mut self) -> Result<u8, C::Error>
-        ensures { Peeks C.Error.from_gives C.Error.eof (λ x. x) (digits_language 1 (state self.old).form) result (state self.old) (state self.new) }
+        ensures { Peeks C.Error.from_gives C.Error.eof (λ x. x)
+            (unsigned_number 1 (state self.old).encoding) result (state self.old) (state self.new) }
     {
         let mut bytes = [0u8; 1];
         self.peek_bytes(&mut bytes)?;
@@ -186,7 +200,8 @@ pub trait LendingReader<L: AsSlice<u8> + Drop, C: Context> {
     /// the number needs is read too.
     #[inline]
     final fn read_u64_varint(&mut self) -> Result<u64, C::Error>
-        ensures { Reads C.Error.from_gives C.Error.eof (λ x. x) varint result (state self.old) (state self.new) }
+        ensures { Reads C.Error.from_gives C.Error.eof (λ x. x) (varint (state self.old).encoding)
+            result (state self.old) (state self.new) }
     {
         let first = self.read_u8()?;
         let mut bytes = [0u8; 8];
@@ -198,7 +213,8 @@ pub trait LendingReader<L: AsSlice<u8> + Drop, C: Context> {
     /// What [`read_u64_varint`](Self::read_u64_varint) answers, of which nothing is taken.
     #[inline]
     final fn peek_u64_varint(&mut self) -> Result<u64, C::Error>
-        ensures { Peeks C.Error.from_gives C.Error.eof (λ x. x) varint result (state self.old) (state self.new) }
+        ensures { Peeks C.Error.from_gives C.Error.eof (λ x. x) (varint (state self.old).encoding)
+            result (state self.old) (state self.new) }
     {
         let first = self.peek_u8()?;
         let mut bytes = [0u8; 9];
@@ -212,7 +228,8 @@ pub trait LendingReader<L: AsSlice<u8> + Drop, C: Context> {
     final fn read_value<T: ReadFrom<L, C>>(&mut self) -> Result<T, C::Error>
     where
         Self: Sized,
-        ensures { Reads C.Error.from_gives C.Error.eof T.seen (T.language (state self.old).form) result (state self.old) (state self.new) }
+        ensures { Reads C.Error.from_gives C.Error.eof T.seen (T.format (state self.old).encoding)
+            result (state self.old) (state self.new) }
     {
         T::read_from(self)
     }
@@ -225,9 +242,12 @@ pub trait LendingReader<L: AsSlice<u8> + Drop, C: Context> {
     final fn read_vec<T: ReadMany<L, C>>(&mut self, length: usize) -> Result<Vec<T>, C::Error>
     where
         Self: Sized,
-        ensures reads { Reads C.Error.from_gives C.Error.eof (λ v. map T.seen v.items) (vector length (T.language (state self.old).form)) result (state self.old) (state self.new) }
+        ensures reads { Reads C.Error.from_gives C.Error.eof (λ v. map T.seen v.items)
+            (vector length (T.format (state self.old).encoding)) result
+            (state self.old) (state self.new) }
         ensures early { ((2 ^ 64 ≤ T.least * length) ⊎ (can_read self.old (T.least * length) ≡ Some false))
-            → IsErrAnd result (λ e. C.Error.from_gives (error_of ErrorKind.UnexpectedEndOfInput) e) × (self.new ≡ self.old) }
+            → IsErrAnd result (λ e. C.Error.from_gives (error_of ErrorKind.UnexpectedEndOfInput) e)
+            × (self.new ≡ self.old) }
     {
         if ends_before::<L, C, Self>(self, T::minimum_bytes_needed(), length) {
             return Err(error_end_of_input());
@@ -240,16 +260,18 @@ pub trait LendingReader<L: AsSlice<u8> + Drop, C: Context> {
     final fn read_string(&mut self, length: usize) -> Result<String, C::Error>
     where
         Self: Sized,
-        ensures { Reads C.Error.from_gives C.Error.eof string_bytes (text_of_length length) result (state self.old) (state self.new) }
+        ensures { Reads C.Error.from_gives C.Error.eof string_bytes (text_of_length length) result
+            (state self.old) (state self.new) }
     {
         vec_to_string(self.read_vec(length)?)
     }
 
-    /// The form that reads see is what the context asks.
-    ghost form_at: { (r : Self) → (state r).form ≡ C.form (at r) };
+    /// The encoding that reads see is what the context asks.
+    ghost encoding_at: { (r : Self) → (state r).encoding ≡ C.encoding (at r) };
 
-    /// Another context changes nothing but the form.
-    ghost state_with: { (r : Self) (c : C) → state (with_context r c) ≡ record (state r) { form = C.form c } };
+    /// Another context changes nothing but the encoding.
+    ghost state_with: { (r : Self) (c : C) →
+        state (with_context r c) ≡ record (state r) { encoding = C.encoding c } };
 }
 
 /// Readers that may lend parts of their bytes for `'a`.
@@ -272,8 +294,10 @@ fn ends_before<L: AsSlice<u8> + Drop, C: Context, R: LendingReader<L, C>>(
     least: usize,
     length: usize,
 ) -> bool
-    ensures test { IsTrue result ↔ ((2 ^ 64 ≤ least * length) ⊎ (R.can_read reader.now (least * length) ≡ Some false)) }
-    ensures fewer { IsTrue result → IsTrue (R.state reader.now).tells → count (R.state reader.now).to_come < 2 ^ 64 - 1
+    ensures test { IsTrue result
+        ↔ ((2 ^ 64 ≤ least * length) ⊎ (R.can_read reader.now (least * length) ≡ Some false)) }
+    ensures fewer { IsTrue result → IsTrue (R.state reader.now).tells
+        → count (R.state reader.now).to_come < 2 ^ 64 - 1
         → count (R.state reader.now).to_come < length * least }
 {
     match least.checked_mul(length) {

@@ -6,8 +6,8 @@ use Rattle.speedy_base.specs.declared.error.ErrorKind.{ErrorKind}
 use Rattle.speedy_base.specs.declared.error.ErrorKind.TheVariants as kinds
 use Rattle.speedy_base.specs.declared.endianness.Endianness.{Endianness}
 use Rattle.speedy_base.specs.ErrorKind.{is_eof_kind, EndsInput}
-use Rattle.speedy_base.specs.Form.{Form, plain_form}
-use Rattle.speedy_layout.specs.Language.{Language}
+use Rattle.speedy_base.specs.Encoding.{Encoding, plain_encoding}
+use Rattle.speedy_layout.specs.Format.{Format}
 use Rattle.speedy_vectors.specs.declared.line.TypeName.{TypeName}
 use Rattle.speedy_vectors.specs.Names.{named}
 use Rattle.speedy_vectors.specs.Line.{IsLine, IsBad}
@@ -51,7 +51,7 @@ pub record AnswersTooSmall (least : ℕ) (bytes answer : List ℕ) : Type 0 wher
   pub fewer : length bytes < least
   pub answer_is : answer ≡ refused_text (kinds.InputBufferIsTooSmall (length bytes) least)
 
-module _ {V : Type 0} (least : ℕ) (L : Language V) (bytes answer : List ℕ) where
+module _ {V : Type 0} (least : ℕ) (L : Format V) (bytes answer : List ℕ) where
   -- a front of the bytes spells a value
   pub record AnswersValue : Type 0 where
     pub value : V
@@ -73,13 +73,13 @@ module _ {V : Type 0} (least : ℕ) (L : Language V) (bytes answer : List ℕ) w
     pub at_fault : L.at_fault bytes → L.names kind
     pub answer_is : answer ≡ refused_text kind
 
-  -- what the bytes of a line are answered, read as values of a language
+  -- what the bytes of a line are answered, read as values of a format
   abbrev pub AnswersBytes : Type 0
   AnswersBytes = AnswersTooSmall least bytes answer ⊎ (AnswersValue ⊎ AnswersRefusal)
 
 -- what the bytes of a line are answered, by the type's name
-abbrev pub AnswersAs : TypeName → Form → List ℕ → List ℕ → Type 0
-AnswersAs name form = AnswersBytes (named name).least ((named name).language form)
+abbrev pub AnswersAs : TypeName → Encoding → List ℕ → List ℕ → Type 0
+AnswersAs name encoding = AnswersBytes (named name).least ((named name).format encoding)
 
 -- the answer of a line that is of the form
 pub record AnswersGoodLine (line answer : List ℕ) : Type 0 where
@@ -87,7 +87,7 @@ pub record AnswersGoodLine (line answer : List ℕ) : Type 0 where
   pub name : TypeName
   pub bytes : List ℕ
   pub says : IsLine line order name bytes
-  pub answers : AnswersAs name (plain_form order) bytes answer
+  pub answers : AnswersAs name (plain_encoding order) bytes answer
 
 -- the answer of a line: `bad line` exactly where it isn't of the form
 abbrev pub AnswersLine : List ℕ → List ℕ → Type 0

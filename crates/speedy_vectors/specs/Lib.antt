@@ -1,7 +1,5 @@
 pub mod Names
+pub mod Split
 pub mod Line
 pub mod Answer
-pub mod Lines
-pub mod Answering
 pub mod Run
-pub mod Running

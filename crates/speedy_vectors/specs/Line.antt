@@ -1,6 +1,5 @@
 -- What a line of the program says.
 use Rattle.std.specs.Prelude.{◌≡◌, ◌≢◌, ℕ, List, [], ◌∷◌, ◌++◌, ◌⊎◌, Ok, codes}
-use Rattle.std.specs.List.{AllByRecursion}
 use Rattle.hex.specs.Hex.{decode_of}
 use Rattle.speedy_base.specs.declared.endianness.Endianness.{Endianness}
 use Rattle.speedy_base.specs.declared.endianness.Endianness.TheVariants.{LittleEndian, BigEndian}
@@ -33,12 +32,3 @@ pub record IsLine (line : List ℕ) (order : Endianness) (name : TypeName) (byte
 -- the line is not of this form
 abbrev pub IsBad : List ℕ → Type 0
 IsBad line = (order : Endianness) (name : TypeName) (bytes : List ℕ) → IsLine line order name bytes → ⊥
-
--- no byte is a space
-abbrev pub NoSpace : List ℕ → Type 0
-NoSpace text = AllByRecursion (λ b. b ≢ space) text
-
--- the text is a field, a space and more
-pub record SplitsAtSpace (text field rest : List ℕ) : Type 0 where
-  pub text_is : text ≡ field ++ space ∷ rest
-  pub field_is : NoSpace field

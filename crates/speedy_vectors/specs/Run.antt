@@ -1,12 +1,11 @@
 -- What the program does with a whole input.
-use Rattle.std.specs.Prelude.{◌≡◌, ◌≢◌, ◌==◌, if◌then◌else◌, ℕ, ◌-◌, ◌^◌, ◌≤◌, List, [], ◌∷◌, ◌++◌, ◌⊎◌, length, IsTrue, Result, OnOk, OnErr, IfErr}
-use Rattle.std.specs.List.{AllByRecursion}
+use Rattle.std.specs.Prelude.{◌≡◌, ◌==◌, if◌then◌else◌, ℕ, ◌-◌, ◌^◌, ◌≤◌, List, [], ◌∷◌, ◌++◌, ◌⊎◌, length, IsTrue, Result, OnOk, OnErr, IfErr}
 use Rattle.std.specs.declared.io.Error.{Error as StdIoError}
 use Rattle.speedy_base.specs.declared.error.Error.{Error}
 use Rattle.speedy_base.specs.declared.error.ErrorKind.TheVariants as kinds
 use Rattle.speedy_base.specs.Error.{error_of, kind_of, IsIoErrorOf}
 use Rattle.speedy_base.specs.Device.{SourceState, SinkState, HasGrown}
-use Rattle.speedy_layout.specs.Language.{Each}
+use Rattle.speedy_layout.specs.Format.{Each}
 use Rattle.speedy_vectors.specs.Answer.{AnswersLine}
 
 -- the byte that ends a line
@@ -22,15 +21,6 @@ with_first b (line ∷ lines) = (b ∷ line) ∷ lines
 abbrev pub lines_of : List ℕ → List (List ℕ)
 lines_of [] = []
 lines_of (b ∷ bytes) = if b == line_feed then [] ∷ lines_of bytes else with_first b (lines_of bytes)
-
--- no byte is a line feed
-abbrev pub NoFeed : List ℕ → Type 0
-NoFeed text = AllByRecursion (λ b. b ≢ line_feed) text
-
--- the text is a line, a line feed and more
-pub record SplitsAtFeed (text line rest : List ℕ) : Type 0 where
-  pub text_is : text ≡ line ++ line_feed ∷ rest
-  pub line_is : NoFeed line
 
 -- a source that tells its bytes goes on doing so, and no failed call of it is forgotten
 pub record SourceKept (old new : SourceState) : Type 0 where

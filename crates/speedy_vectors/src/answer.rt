@@ -1,13 +1,50 @@
 //! Answers of the program: what bytes spell, written again.
-ghost use Rattle.std.specs.Prelude.{◌≡◌, ◌++◌, IfOk, Some};
+ghost use Rattle.std.specs.Prelude.{◌≡◌, ◌++◌, IfOk, MatchResult, Some};
 ghost use Rattle.std.specs.String.{string_bytes};
-ghost use Rattle.speedy_base.specs.Form.{plain_form};
-ghost use Rattle.speedy_vectors.specs.Answer.{hex_of, kind_name, ok_text, refused_text, AnswersBytes};
+ghost use Rattle.speedy_base.specs.Encoding.{plain_encoding};
+ghost use Rattle.speedy_base.specs.Error.{error_of};
+ghost use Rattle.speedy_vectors.specs.Answer.{hex_of, kind_name, ok_text, refused_text, AnswersAs, AnswersBytes, AnswersLine};
 
+use crate::line::{Line, TypeName, for_each_name, parse_line};
 use speedy::private::{ErrorKind, get_error_kind};
-use speedy::{Endianness, Readable, Writable};
+use speedy::varint::VarInt64;
+use speedy::{Endianness, Error, Readable, Writable};
 use std::alloc::{AllocError, Global};
+use std::boxed::{BoxedSlice, BoxedStr};
 use std::fmt;
+use std::net::{IpAddr, Ipv4Addr, Ipv6Addr};
+use std::num::{NonZeroI32, NonZeroU8, NonZeroU16};
+use std::ops::{Range, RangeInclusive};
+use std::time::Duration;
+
+/// The answer to a line, with its line feed. The line comes without one.
+///
+/// The one refusal is want of memory.
+pub fn answer_line(alloc: Global, line: &[u8]) -> Result<Vec<u8>, Error>
+    ensures { MatchResult result (λ answer. AnswersLine line.now answer.items)
+        (λ e. e ≡ error_of ErrorKind.OutOfMemory) }
+{
+    match parse_line(alloc, line)? {
+        Some(line) => Ok(answer_good_line(alloc, &line)?),
+        None => Ok(b"bad line\n".to_vec(alloc)?),
+    }
+}
+
+// The answer to a line that is of the form, by its type.
+fn answer_good_line(alloc: Global, line: &Line) -> Result<Vec<u8>, AllocError>
+    ensures { let asked = plain_encoding line.now.order in
+        IfOk result (λ answer. AnswersAs line.now.name asked line.now.bytes.items answer.items) }
+{
+    let (order, bytes) = (line.order, line.bytes.as_slice());
+    macro_rules! answer {
+        ($($text:literal $name:ident $type:ty;)*) => {
+            match line.name {
+                $(TypeName::$name => answer_as::<$type>(alloc, order, bytes),)*
+            }
+        };
+    }
+    for_each_name!(answer)
+}
 
 // Bytes in hexadecimal digits, `-` for none.
 fn hex_text(alloc: Global, bytes: &[u8]) -> Result<String, AllocError>
@@ -75,13 +112,13 @@ fn refused_answer(alloc: Global, kind: &ErrorKind) -> Result<Vec<u8>, AllocError
 }
 
 // What bytes are answered, read as values of a type. It fails by want of memory alone.
-pub(crate) fn answer_as<'a, T: Readable<'a, Endianness> + Writable<Endianness>>(
+fn answer_as<'a, T: Readable<'a, Endianness> + Writable<Endianness>>(
     alloc: Global,
     order: Endianness,
     bytes: &'a [u8],
 ) -> Result<Vec<u8>, AllocError>
-    ensures { let language = T.language (plain_form order) in
-        IfOk result (λ text. AnswersBytes T.least language bytes.now text.items) }
+    ensures { let format = T.format (plain_encoding order) in
+        IfOk result (λ text. AnswersBytes T.least format bytes.now text.items) }
 {
     let (result, count) = T::read_with_length_from_buffer_with_ctx(alloc, order, bytes);
     match result {

@@ -3,7 +3,8 @@ ghost use Rattle.std.specs.Prelude.{◌≡◌, ◌≢◌, ◌∷◌, ◌++◌, �
 ghost use Rattle.speedy_base.specs.Error.{error_of};
 ghost use Rattle.speedy_base.specs.declared.endianness.Endianness.{Endianness};
 ghost use Rattle.speedy_vectors.specs.declared.line.TypeName.{TypeName};
-ghost use Rattle.speedy_vectors.specs.Line.{order_text, name_text, IsHex, IsLine, IsBad, NoSpace, SplitsAtSpace};
+ghost use Rattle.speedy_vectors.specs.Line.{space, order_text, name_text, IsHex, IsLine, IsBad};
+ghost use Rattle.speedy_vectors.specs.Split.{IsFreeOf, SplitsAt};
 
 use hex::FromHexError;
 use speedy_base::endianness::Endianness;
@@ -50,7 +51,7 @@ pub enum TypeName {
     /// `NonZeroI32`.
     NonZeroI32,
     /// `Endianness`.
-    Order,
+    Endianness,
     /// `Ipv4Addr`.
     Ipv4,
     /// `Ipv6Addr`.
@@ -70,9 +71,9 @@ pub enum TypeName {
     /// `(u8, u16, u32)`.
     TupleU8U16U32,
     /// `[u16; 4]`.
-    ArrayU16,
+    ArrayU16x4,
     /// `String`.
-    Text,
+    String,
     /// `BoxedStr`.
     BoxedStr,
     /// `Box<u16>`.
@@ -113,7 +114,7 @@ macro_rules! for_each_name {
             b"nonzero_u8" NonZeroU8 NonZeroU8;
             b"nonzero_u16" NonZeroU16 NonZeroU16;
             b"nonzero_i32" NonZeroI32 NonZeroI32;
-            b"endianness" Order Endianness;
+            b"endianness" Endianness Endianness;
             b"ipv4" Ipv4 Ipv4Addr;
             b"ipv6" Ipv6 Ipv6Addr;
             b"ip" Ip IpAddr;
@@ -123,8 +124,8 @@ macro_rules! for_each_name {
             b"range_u16" RangeU16 Range<u16>;
             b"range_incl_u16" RangeInclU16 RangeInclusive<u16>;
             b"tuple_u8_u16_u32" TupleU8U16U32 (u8, u16, u32);
-            b"array_u16_4" ArrayU16 [u16; 4];
-            b"string" Text String;
+            b"array_u16_4" ArrayU16x4 [u16; 4];
+            b"string" String String;
             b"boxed_str" BoxedStr BoxedStr;
             b"box_u16" BoxU16 Box<u16>;
             b"vec_u8" VecU8 Vec<u8>;
@@ -152,7 +153,8 @@ pub struct Line {
 
 // The bytes before the first space, and those after it.
 fn split_at_space(text: &[u8]) -> Option<(&[u8], &[u8])>
-    ensures { MatchOption result (NoSpace text.now) (λ p. SplitsAtSpace text.now p.0.now p.1.now) }
+    ensures { MatchOption result (IsFreeOf space text.now)
+        (λ p. SplitsAt space text.now p.0.now p.1.now) }
 {
     let at = text.iter().position(|byte| *byte == b' ')?;
     Some((&text[..at], &text[at + 1..]))
@@ -192,7 +194,7 @@ fn name_of(field: &[u8]) -> Option<TypeName>
 }
 
 // The bytes that a field of hexadecimal digits says.
-fn bytes_of(alloc: Global, hex: &[u8]) -> Result<Option<Vec<u8>>, Error>
+fn bytes_from_hex(alloc: Global, hex: &[u8]) -> Result<Option<Vec<u8>>, Error>
     ensures { MatchResult result (λ found. MatchOption found ((bytes : List ℕ) → IsHex hex.now bytes → ⊥) (λ v. IsHex hex.now v.items)) (λ e. e ≡ error_of ErrorKind.OutOfMemory) }
 {
     match hex {
@@ -222,7 +224,7 @@ pub fn parse_line(alloc: Global, line: &[u8]) -> Result<Option<Line>, Error>
     let Some(name) = name_of(name) else {
         return Ok(None);
     };
-    match bytes_of(alloc, hex)? {
+    match bytes_from_hex(alloc, hex)? {
         Some(bytes) => Ok(Some(Line { order, name, bytes })),
         None => Ok(None),
     }

@@ -1,8 +1,9 @@
 //! The program over a whole input.
 ghost use Rattle.std.specs.Prelude.{◌≡◌, [], ◌++◌, ◌∷◌, MatchOption, IsTrue, OnOk, List, ℕ};
-ghost use Rattle.speedy_vectors.specs.Run.{lines_of, NoFeed, SplitsAtFeed, Answering, Pushing, Runs};
+ghost use Rattle.speedy_vectors.specs.Split.{IsFreeOf, SplitsAt};
+ghost use Rattle.speedy_vectors.specs.Run.{line_feed, lines_of, Answering, Pushing, Runs};
 
-use crate::answer_line;
+use crate::answer::answer_line;
 use speedy::Error;
 use speedy::device::{Sink, Source};
 use speedy::private::error_out_of_range_length;
@@ -38,8 +39,8 @@ fn answer_piece<W: Sink>(
     piece: &[u8],
     output: &mut W,
 ) -> Result<(), Error>
-    requires { NoFeed pending.old.items }
-    ensures waits { OnOk result (NoFeed pending.new.items) }
+    requires { IsFreeOf line_feed pending.old.items }
+    ensures waits { OnOk result (IsFreeOf line_feed pending.new.items) }
     ensures answers { (more : List ℕ) → Answering result (lines_of (pending.old.items ++ (piece.now ++ more))) (lines_of (pending.new.items ++ more)) (W.sink output.old) (W.sink output.new) }
 {
     let mut rest = piece;
@@ -72,7 +73,8 @@ fn answer_waiting<W: Sink>(
 
 // The bytes before the first line feed, and those after it.
 fn split_at_line_feed(text: &[u8]) -> Option<(&[u8], &[u8])>
-    ensures { MatchOption result (NoFeed text.now) (λ p. SplitsAtFeed text.now p.0.now p.1.now) }
+    ensures { MatchOption result (IsFreeOf line_feed text.now)
+        (λ p. SplitsAt line_feed text.now p.0.now p.1.now) }
 {
     let at = text.iter().position(|byte| *byte == b'\n')?;
     Some((&text[..at], &text[at + 1..]))
@@ -80,7 +82,7 @@ fn split_at_line_feed(text: &[u8]) -> Option<(&[u8], &[u8])>
 
 // Answers a last line that has no line feed, if there is one, and flushes.
 fn finish<W: Sink>(alloc: Global, pending: &[u8], output: &mut W) -> Result<(), Error>
-    requires { NoFeed pending.now }
+    requires { IsFreeOf line_feed pending.now }
     ensures answers { Answering result (lines_of pending.now) [] (W.sink output.old) (W.sink output.new) }
     ensures settled { OnOk result (IsTrue (W.sink output.new).settled) }
 {

@@ -1,1 +1,7 @@
-pub mod Answering
+pub mod FillLemmas
+pub mod ListLemmas
+pub mod NonZeroLemmas
+pub mod NumberLemmas
+pub mod OptionLemmas
+pub mod OwnedLemmas
+pub mod TextLemmas

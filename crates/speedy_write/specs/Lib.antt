@@ -1,11 +1,7 @@
 pub mod Writing
-pub mod SignedWriting
+pub mod WaysOfWriting
 pub mod Collectors
-pub mod Joining
-pub mod NumberWrites
-pub mod Listed
-pub mod Ways
-pub mod Coding
-pub mod Owned
-pub mod Composed
-pub mod NonZeroWrites
+pub mod CollectorLemmas
+pub mod CollectorViews
+pub mod Sequences
+pub mod Codes

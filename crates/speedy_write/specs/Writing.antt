@@ -1,19 +1,21 @@
 -- What a write does.
-use Rattle.std.specs.Prelude.{◌≡◌, ◌≢◌, ℕ, ◌+◌, ◌-◌, ◌≤◌, List, ◌++◌, length, take, drop, Bool, IsTrue, ◌⊎◌, ◌↔◌, Option, Some, None, Result, MatchResult, IfErr}
+use Rattle.std.specs.Prelude.{◌≡◌, ◌≢◌, ℕ, ℤ, ◌-◌, ◌≤◌, List, ◌++◌, length, map, Bool, IsTrue, ◌⊎◌, ◌↔◌, Option, Some, None, Result, MatchResult, IfErr}
 use Rattle.std.specs.Borrow.{GName}
+use Rattle.std.specs.Int.{Width}
 use Rattle.speedy_base.specs.declared.error.ErrorKind.{ErrorKind}
 use Rattle.speedy_base.specs.declared.error.ErrorKind.TheVariants as kinds
 use Rattle.speedy_base.specs.declared.error.Error.{Error}
-use Rattle.speedy_base.specs.Error.{error_of}
+use Rattle.speedy_base.specs.Error.{error_of, IsNamed}
 use Rattle.speedy_base.specs.Device.{HasGrown}
-use Rattle.speedy_base.specs.Digits.{SpellsNumber}
-use Rattle.speedy_base.specs.Form.{Form}
-use Rattle.speedy_layout.specs.Language.{Language, Each}
+use Rattle.speedy_base.specs.Encoding.{Encoding}
+use Rattle.speedy_layout.specs.Format.{Format, plain_format}
+use Rattle.speedy_layout.specs.Lists.{repeat}
+use Rattle.speedy_layout.specs.Numbers.{unsigned_number, signed_number}
 
 -- A writer, as writes see it.
 pub record WriterState : Type 0 where
   -- what its context asks of the bytes
-  pub form : Form
+  pub encoding : Encoding
   -- its device's number of failed calls
   pub faults : ℕ
   -- how many more bytes fit, where there is a bound
@@ -35,7 +37,7 @@ less (Some space) n = Some (space - n)
 
 -- what every write keeps, a refused one too
 pub record Kept (old new : WriterState) : Type 0 where
-  pub form : new.form ≡ old.form
+  pub encoding : new.encoding ≡ old.encoding
   pub full : new.full ≡ old.full
   pub targets : new.targets ≡ old.targets
   pub faults : old.faults ≤ new.faults
@@ -59,47 +61,43 @@ pub record Begun (writes : List ℕ → Type 0) (appended : List ℕ → Type 0)
 abbrev pub Just : List ℕ → List ℕ → Type 0
 Just bytes b = b ≡ bytes
 
--- no kind
-abbrev pub NoKind : ErrorKind → Type 0
-NoKind kind = ⊥
-
 module _ {E : Type 0} (gives : Error → E → Type 0) where
-  -- a refusal of a kind that is named
-  abbrev pub IsNamed : (ErrorKind → Type 0) → E → Type 0
-  IsNamed names e = (kind : ErrorKind) × names kind × gives (error_of kind) e
+  -- the refusal of a value that has no written form, or none of so few bytes that they can be counted
+  abbrev pub IsOutOfRange : (ErrorKind → Type 0) → E → Type 0
+  IsOutOfRange names e = gives (error_of kinds.OutOfRangeLength) e ⊎ IsNamed gives names e
 
   -- why a write was refused though no call of the device failed: no written form fits
-  pub record Unwritten (names : ErrorKind → Type 0) (writes spells : List ℕ → Type 0) (e : E) (old : WriterState) : Type 0 where
-    pub no_fit : (b : List ℕ) → writes b → Fits (length b) old.space → ⊥
+  pub record Unwritten {V : Type 0} (F : Format V) (v : V) (e : E) (old : WriterState) : Type 0 where
+    pub no_fit : (b : List ℕ) → F.writes v b → Fits (length b) old.space → ⊥
     -- without a bound there is no spelling at all
-    pub no_spelling : old.space ≡ None → (b : List ℕ) → spells b → ⊥
-    pub kind : ((old.space ≢ None) × gives (error_of old.full) e) ⊎ (gives (error_of kinds.OutOfRangeLength) e ⊎ IsNamed names e)
+    pub no_spelling : old.space ≡ None → (b : List ℕ) → F.spells v b → ⊥
+    pub kind : ((old.space ≢ None) × gives (error_of old.full) e) ⊎ IsOutOfRange F.refuses_writing e
 
   -- a refusal
-  pub record Refused (names : ErrorKind → Type 0) (writes spells : List ℕ → Type 0) (e : E) (old new : WriterState) (appended : List ℕ → Type 0) : Type 0 where
-    pub beginning : (b : List ℕ) → writes b → Begun writes appended
-    pub because : HasGrown old.faults new.faults ⊎ Unwritten names writes spells e old
+  pub record Refused {V : Type 0} (F : Format V) (v : V) (e : E) (old new : WriterState) (appended : List ℕ → Type 0) : Type 0 where
+    pub beginning : (b : List ℕ) → F.writes v b → Begun (F.writes v) appended
+    pub because : HasGrown old.faults new.faults ⊎ Unwritten F v e old
 
-  -- A write of what has these written forms and these spellings. What succeeds appends a written form that fits. What is refused appends a beginning of one, where there is one; and either a call of the device failed, or no written form fits.
-  pub record Writes (names : ErrorKind → Type 0) (writes spells : List ℕ → Type 0) (result : Result (Unit {0}) E) (old new : WriterState) (appended : List ℕ → Type 0) : Type 0 where
+  -- The write of a value, in the format of the writer's encoding. What succeeds appends a written form that fits. What is refused appends a beginning of one, where there is one; and either a call of the device failed, or no written form fits.
+  pub record Writes {V : Type 0} (F : Encoding → Format V) (v : V) (result : Result (Unit {0}) E) (old new : WriterState) (appended : List ℕ → Type 0) : Type 0 where
     pub kept : Kept old new
-    pub answer : MatchResult result (λ _. Put writes old new appended) (λ e. Refused names writes spells e old new appended)
+    pub answer : MatchResult result (λ _. Put ((F old.encoding).writes v) old new appended) (λ e. Refused (F old.encoding) v e old new appended)
 
-  -- the write of a value of a language
-  abbrev pub WritesValue : {V : Type 0} → Language V → V → Result (Unit {0}) E → WriterState → WriterState → (List ℕ → Type 0) → Type 0
-  WritesValue L v = Writes L.refuses_writing (L.writes v) (L.spells v)
-
-  -- the write of values of a language, one after the other
-  abbrev pub WritesEach : {V : Type 0} → Language V → List V → Result (Unit {0}) E → WriterState → WriterState → (List ℕ → Type 0) → Type 0
-  WritesEach L vs = Writes L.refuses_writing (Each L.writes vs) (Each L.spells vs)
+  -- the write of items, seen as values of a format, one after the other
+  abbrev pub WritesEach : {A V : Type 0} → (Encoding → Format V) → (A → V) → List A → Result (Unit {0}) E → WriterState → WriterState → (List ℕ → Type 0) → Type 0
+  WritesEach F seen items = Writes (λ encoding. repeat (length items) (F encoding)) (map seen items)
 
   -- the write of these bytes
   abbrev pub WritesBytes : List ℕ → Result (Unit {0}) E → WriterState → WriterState → (List ℕ → Type 0) → Type 0
-  WritesBytes bytes = Writes NoKind (Just bytes) (Just bytes)
+  WritesBytes = Writes (λ _. plain_format Just)
 
   -- the write of a number of so many bytes
   abbrev pub WritesNumber : ℕ → ℕ → Result (Unit {0}) E → WriterState → WriterState → (List ℕ → Type 0) → Type 0
-  WritesNumber width n result old = let spelled = SpellsNumber width old.form.order n in Writes NoKind spelled spelled result old
+  WritesNumber width = Writes (unsigned_number width)
+
+  -- the write of a signed number of a width
+  abbrev pub WritesSigned : Width → ℤ → Result (Unit {0}) E → WriterState → WriterState → (List ℕ → Type 0) → Type 0
+  WritesSigned w = Writes (signed_number w)
 
   -- a write of bytes that is refused though no call of the device failed has passed the space
   abbrev pub RefusesFull : Result (Unit {0}) E → WriterState → WriterState → Type 0
@@ -108,9 +106,3 @@ module _ {E : Type 0} (gives : Error → E → Type 0) where
 -- what a writer says of its space is right
 abbrev pub IsRight : Option Bool → ℕ → Option ℕ → Type 0
 IsRight answer n space = (b : Bool) → answer ≡ Some b → IsTrue b ↔ Fits n space
-
--- these bytes were put into the buffer from the one position to the other
-pub record BufferAppends (position : ℕ) (buffer bytes : List ℕ) (end : ℕ) (after : List ℕ) : Type 0 where
-  pub end_is : end ≡ position + length bytes
-  pub within : end ≤ length buffer
-  pub after_is : after ≡ take position buffer ++ (bytes ++ drop end buffer)

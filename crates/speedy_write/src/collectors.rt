@@ -1,7 +1,8 @@
 //! The writers that the ways of writing need: one into a buffer, and one that only counts.
 ghost use Rattle.std.specs.Prelude.{◌≡◌, ◌-◌, ◌^◌, ◌≤◌, [], ◌∷◌, length, Some, OnErr, nat_le, refl};
-ghost use Rattle.speedy_write.specs.Writing.{WritesBytes, RefusesFull, BufferAppends};
-ghost use Rattle.speedy_write.specs.Collectors.{buffer_nothing, buffer_additive, buffer_state, size_state, SizeAppends, size_nothing, size_additive};
+ghost use Rattle.speedy_write.specs.Writing.{WritesBytes, RefusesFull};
+ghost use Rattle.speedy_write.specs.Collectors.{buffer_state, BufferAppends, size_state, SizeAppends};
+ghost use Rattle.speedy_write.specs.CollectorLemmas.{buffer_nothing, buffer_additive, size_nothing, size_additive};
 
 use crate::writer::Writer;
 use speedy_base::context::Context;
@@ -17,14 +18,16 @@ pub struct BufferCollector<'a, C> {
 }
 
 impl<'a, C> BufferCollector<'a, C> {
+    ghost use Rattle.speedy_write.specs.CollectorViews.{buffer_view};
+
     /// Has the whole buffer ahead.
     #[inline]
     pub fn new(context: &'a mut C, buffer: &'a mut [u8]) -> BufferCollector<'a, C>
-        ensures same_context { result.context.ghost_name ≡ context.entry.ghost_name }
-        ensures context { result.context.now ≡ context.old }
-        ensures same_buffer { result.buffer.ghost_name ≡ buffer.entry.ghost_name }
-        ensures buffer { result.buffer.now ≡ buffer.old }
-        ensures position { result.position ≡ 0 }
+        ensures same_context { (buffer_view result).context_name ≡ context.entry.ghost_name }
+        ensures context { (buffer_view result).context ≡ context.old }
+        ensures same_buffer { (buffer_view result).buffer_name ≡ buffer.entry.ghost_name }
+        ensures buffer { (buffer_view result).buffer ≡ buffer.old }
+        ensures position { (buffer_view result).position ≡ 0 }
     {
         BufferCollector {
             context,
@@ -36,9 +39,9 @@ impl<'a, C> BufferCollector<'a, C> {
     /// Gives the context and the buffer back, and says how many bytes were written.
     #[inline]
     pub fn finish(self) -> usize
-        ensures position { result ≡ self.entry.position }
-        ensures context { self.exit.0.now ≡ self.entry.context.now }
-        ensures buffer { self.exit.1.0.now ≡ self.entry.buffer.now }
+        ensures position { result ≡ (buffer_view self.entry).position }
+        ensures context { self.exit.0.now ≡ (buffer_view self.entry).context }
+        ensures buffer { self.exit.1.0.now ≡ (buffer_view self.entry).buffer }
     {
         self.position
     }
@@ -49,28 +52,29 @@ impl<'a, C: Context> Writer<C> for BufferCollector<'a, C> {
 
     ghost with_context = { λ w c. record w { context = record w.context { now = c } } };
 
-    ghost state = { λ w. buffer_state (C.form w.context.now) (w.context.ghost_name ∷ w.buffer.ghost_name ∷ []) (length w.buffer.now - w.position) };
+    ghost state = { λ w. buffer_state (C.encoding w.context.now)
+        (w.context.ghost_name ∷ w.buffer.ghost_name ∷ []) (length w.buffer.now - w.position) };
 
     ghost appends = { λ a s b. BufferAppends a.position a.buffer.now s b.position b.buffer.now };
 
     ghost can_write = { λ w n. Some (nat_le n (length w.buffer.now - w.position)) };
 
-    ghost form_at = { λ w. refl };
+    ghost encoding_at = { λ w. refl };
 
     ghost state_with = { λ w c. refl };
 
     ghost nothing = { λ w. buffer_nothing w.position w.buffer.now w.in_range };
 
-    ghost additive = { λ a b c s t h k. buffer_additive a.position a.buffer.now s b.position b.buffer.now t c.position c.buffer.now h k };
+    ghost additive = { λ a b c s t h k. buffer_additive h k };
 
     ghost appends_with = { λ a b s c h. (h, h) };
 
     /// Writes all the bytes, or none where they do not fit.
     #[inline]
     fn write_bytes(&mut self, slice: &[u8]) -> Result<(), C::Error>
-        ensures writes { let writer = ⟦<BufferCollector<'a, C> as Writer<C>>⟧ in let before = self.old in let after = self.new in
-            WritesBytes C.Error.from_gives slice.now result
-            (writer.state before) (writer.state after) (λ b. writer.appends before b after) }
+        ensures writes { let writer = ⟦<BufferCollector<'a, C> as Writer<C>>⟧ in
+            WritesBytes C.Error.from_gives slice.now result (writer.state self.old)
+            (writer.state self.new) (λ b. writer.appends self.old b self.new) }
         ensures full { let writer = ⟦<BufferCollector<'a, C> as Writer<C>>⟧ in
             RefusesFull C.Error.from_gives result (writer.state self.old) (writer.state self.new) }
         ensures unchanged { OnErr result (self.new ≡ self.old) }
@@ -109,12 +113,14 @@ pub struct SizeCalculatorCollector<'a, C> {
 }
 
 impl<'a, C> SizeCalculatorCollector<'a, C> {
+    ghost use Rattle.speedy_write.specs.CollectorViews.{size_view};
+
     /// Starts at zero.
     #[inline]
     pub fn new(context: &'a mut C) -> SizeCalculatorCollector<'a, C>
-        ensures same_context { result.context.ghost_name ≡ context.entry.ghost_name }
-        ensures context { result.context.now ≡ context.old }
-        ensures size { result.size ≡ 0 }
+        ensures same_context { (size_view result).context_name ≡ context.entry.ghost_name }
+        ensures context { (size_view result).context ≡ context.old }
+        ensures size { (size_view result).size ≡ 0 }
     {
         SizeCalculatorCollector { context, size: 0 }
     }
@@ -122,8 +128,8 @@ impl<'a, C> SizeCalculatorCollector<'a, C> {
     /// Gives the context back, and says how many bytes were counted.
     #[inline]
     pub fn finish(self) -> usize
-        ensures context { self.exit.0.now ≡ self.entry.context.now }
-        ensures size { result ≡ self.entry.size }
+        ensures context { self.exit.0.now ≡ (size_view self.entry).context }
+        ensures size { result ≡ (size_view self.entry).size }
     {
         self.size
     }
@@ -134,13 +140,13 @@ impl<'a, C: Context> Writer<C> for SizeCalculatorCollector<'a, C> {
 
     ghost with_context = { λ w c. record w { context = record w.context { now = c } } };
 
-    ghost state = { λ w. size_state (C.form w.context.now) (w.context.ghost_name ∷ []) w.size };
+    ghost state = { λ w. size_state (C.encoding w.context.now) (w.context.ghost_name ∷ []) w.size };
 
     ghost appends = { λ a s b. SizeAppends a.size s b.size };
 
     ghost can_write = { λ w n. Some (nat_le n (2 ^ 64 - 1 - w.size)) };
 
-    ghost form_at = { λ w. refl };
+    ghost encoding_at = { λ w. refl };
 
     ghost state_with = { λ w c. refl };
 

@@ -1,16 +1,20 @@
 //! Writing: writers, and the types that are written.
 #![tactic(auto)]
 
+pub mod addresses;
 pub mod collectors;
+pub mod flags;
+pub mod leaves;
+pub mod lists;
+pub mod non_zero;
+pub mod numbers;
+pub mod owned;
+pub mod private;
+pub mod ranges;
+pub mod texts;
+pub mod tuples;
+pub mod varint;
 pub mod writable;
-pub mod writable_addresses;
-pub mod writable_composed;
-pub mod writable_impl;
-pub mod writable_leaves;
-pub mod writable_non_zero;
-pub mod writable_numbers;
-pub mod writable_owned;
-pub mod writable_tuples;
 pub mod writer;
 
 pub use writable::Writable;

@@ -1,9 +1,9 @@
 //! What can be written, and the ways of writing it.
-ghost use Rattle.std.specs.Prelude.{◌≡◌, ◌≤◌, ℕ, List, length, map, vec_len, MatchResult, IsOk};
+ghost use Rattle.std.specs.Prelude.{◌≡◌, ◌≤◌, ℕ, List, length, vec_len, MatchResult, IsOk};
 ghost use Rattle.speedy_base.specs.Error.{error_of};
-ghost use Rattle.speedy_base.specs.Form.{plain_form};
-ghost use Rattle.speedy_write.specs.Writing.{WritesValue, WritesEach};
-ghost use Rattle.speedy_write.specs.Ways.{Needs, Stands, WritesToBuffer, WritesToVec};
+ghost use Rattle.speedy_base.specs.Encoding.{plain_encoding};
+ghost use Rattle.speedy_write.specs.Writing.{Writes, WritesEach};
+ghost use Rattle.speedy_write.specs.WaysOfWriting.{Needs, Stands, WritesToBuffer, WritesToVec};
 
 pub use crate::collectors::{BufferCollector, SizeCalculatorCollector};
 use crate::writer::Writer;
@@ -21,21 +21,15 @@ pub trait Writable<C: Context>: Layout {
     ///
     /// After a refusal the first parts of a written form may have been written.
     fn write_to<W: Writer<C>>(&self, writer: &mut W) -> Result<(), C::Error>
-        ensures { let before = writer.old in let after = writer.new in
-            let gives = C.Error.from_gives in
-            let language = Self.language (W.state before).form in
-            WritesValue gives language (Self.seen self.now) result
-            (W.state before) (W.state after) (λ b. W.appends before b after) };
+        ensures { Writes C.Error.from_gives Self.format (Self.seen self.now) result
+            (W.state writer.old) (W.state writer.new) (λ b. W.appends writer.old b writer.new) };
 
     /// Writes the values, one after the other and with no count.
     fn write_many<W: Writer<C>>(items: &[Self], writer: &mut W) -> Result<(), C::Error>
     where
         Self: Sized,
-        ensures { let before = writer.old in let after = writer.new in
-            let gives = C.Error.from_gives in
-            let language = Self.language (W.state before).form in
-            WritesEach gives language (map Self.seen items.now) result
-            (W.state before) (W.state after) (λ b. W.appends before b after) }
+        ensures { WritesEach C.Error.from_gives Self.format Self.seen items.now result
+            (W.state writer.old) (W.state writer.new) (λ b. W.appends writer.old b writer.new) }
     {
         for item in items {
             item.write_to(writer)?;
@@ -45,9 +39,9 @@ pub trait Writable<C: Context>: Layout {
 
     /// How many bytes the value needs. A sum past `usize::MAX` is refused as `OutOfRangeLength`.
     fn bytes_needed(&self, context: &mut C) -> Result<usize, C::Error>
-        ensures form { C.form context.new ≡ C.form context.old }
-        ensures needs { let language = Self.language (C.form context.old) in
-            Needs C.Error.from_gives language (Self.seen self.now) result }
+        ensures encoding { C.encoding context.new ≡ C.encoding context.old }
+        ensures needs { let format = Self.format (C.encoding context.old) in
+            Needs C.Error.from_gives format (Self.seen self.now) result }
     {
         let mut counter = SizeCalculatorCollector::new(context);
         let outcome = self.write_to(&mut counter);
@@ -63,8 +57,9 @@ pub trait Writable<C: Context>: Layout {
     final fn write_to_buffer(&self, buffer: &mut [u8]) -> Result<(), C::Error>
     where
         C: PlainContext,
-        ensures { let language = Self.language (plain_form Endianness.LittleEndian) in
-            WritesToBuffer C.Error.from_gives language (Self.seen self.now) result buffer.old buffer.new }
+        ensures { let format = Self.format (plain_encoding Endianness.LittleEndian) in
+            WritesToBuffer C.Error.from_gives format (Self.seen self.now) result
+            buffer.old buffer.new }
     {
         self.write_to_buffer_with_ctx(C::plain(), buffer)
     }
@@ -74,8 +69,9 @@ pub trait Writable<C: Context>: Layout {
     /// A buffer that is too short is refused as `OutputBufferIsTooSmall`, with both sizes in bytes.
     #[inline]
     final fn write_to_buffer_with_ctx(&self, context: C, buffer: &mut [u8]) -> Result<(), C::Error>
-        ensures { let language = Self.language (C.form context) in
-            WritesToBuffer C.Error.from_gives language (Self.seen self.now) result buffer.old buffer.new }
+        ensures { let format = Self.format (C.encoding context) in
+            WritesToBuffer C.Error.from_gives format (Self.seen self.now) result
+            buffer.old buffer.new }
     {
         let mut context = context;
         self.write_to_buffer_with_ctx_mut(&mut context, buffer)
@@ -89,9 +85,10 @@ pub trait Writable<C: Context>: Layout {
         context: &mut C,
         buffer: &mut [u8],
     ) -> Result<(), C::Error>
-        ensures form { C.form context.new ≡ C.form context.old }
-        ensures writes { let language = Self.language (C.form context.old) in
-            WritesToBuffer C.Error.from_gives language (Self.seen self.now) result buffer.old buffer.new }
+        ensures encoding { C.encoding context.new ≡ C.encoding context.old }
+        ensures writes { let format = Self.format (C.encoding context.old) in
+            WritesToBuffer C.Error.from_gives format (Self.seen self.now) result
+            buffer.old buffer.new }
     {
         let needed = self.bytes_needed(context)?;
         let length = buffer.len();
@@ -106,8 +103,8 @@ pub trait Writable<C: Context>: Layout {
     final fn write_to_vec(&self, alloc: Global) -> Result<Vec<u8>, C::Error>
     where
         C: PlainContext,
-        ensures { let language = Self.language (plain_form Endianness.LittleEndian) in
-            WritesToVec C.Error.from_gives language (Self.seen self.now) (λ vec. vec.items) result }
+        ensures { let format = Self.format (plain_encoding Endianness.LittleEndian) in
+            WritesToVec C.Error.from_gives format (Self.seen self.now) (λ vec. vec.items) result }
     {
         self.write_to_vec_with_ctx(alloc, C::plain())
     }
@@ -115,8 +112,8 @@ pub trait Writable<C: Context>: Layout {
     /// Writes the value to a vector, as the context says.
     #[inline]
     final fn write_to_vec_with_ctx(&self, alloc: Global, context: C) -> Result<Vec<u8>, C::Error>
-        ensures { let language = Self.language (C.form context) in
-            WritesToVec C.Error.from_gives language (Self.seen self.now) (λ vec. vec.items) result }
+        ensures { let format = Self.format (C.encoding context) in
+            WritesToVec C.Error.from_gives format (Self.seen self.now) (λ vec. vec.items) result }
     {
         let mut context = context;
         self.write_to_vec_with_ctx_mut(alloc, &mut context)
@@ -128,9 +125,9 @@ pub trait Writable<C: Context>: Layout {
         alloc: Global,
         context: &mut C,
     ) -> Result<Vec<u8>, C::Error>
-        ensures form { C.form context.new ≡ C.form context.old }
-        ensures writes { let language = Self.language (C.form context.old) in
-            WritesToVec C.Error.from_gives language (Self.seen self.now) (λ vec. vec.items) result }
+        ensures encoding { C.encoding context.new ≡ C.encoding context.old }
+        ensures writes { let format = Self.format (C.encoding context.old) in
+            WritesToVec C.Error.from_gives format (Self.seen self.now) (λ vec. vec.items) result }
     {
         let needed = self.bytes_needed(context)?;
         let mut bytes = zeroed(alloc, needed)?;
@@ -145,11 +142,13 @@ fn fill<C: Context, T: Writable<C>>(
     context: &mut C,
     buffer: &mut [u8],
 ) -> Result<(), C::Error>
-    requires { let language = T.language (C.form context.old) in
-        ((bytes : List ℕ) × language.writes (T.seen value.now) bytes × (length bytes ≤ length buffer.old)) }
-    ensures form { C.form context.new ≡ C.form context.old }
+    requires { let format = T.format (C.encoding context.old) in
+        ((bytes : List ℕ) × format.writes (T.seen value.now) bytes
+        × (length bytes ≤ length buffer.old)) }
+    ensures encoding { C.encoding context.new ≡ C.encoding context.old }
     ensures succeeds { IsOk result }
-    ensures stands { Stands (T.language (C.form context.old)) (T.seen value.now) buffer.old buffer.new }
+    ensures stands { let format = T.format (C.encoding context.old) in
+        Stands format (T.seen value.now) buffer.old buffer.new }
 {
     let mut collector = BufferCollector::new(context, buffer);
     let outcome = value.write_to(&mut collector);
@@ -159,7 +158,8 @@ fn fill<C: Context, T: Writable<C>>(
 
 // So many zeros.
 fn zeroed<E: From<Error>>(alloc: Global, length: usize) -> Result<Vec<u8>, E>
-    ensures { MatchResult result (λ vec. vec_len vec ≡ length) (λ e. E.from_gives (error_of ErrorKind.OutOfMemory) e) }
+    ensures { MatchResult result (λ vec. vec_len vec ≡ length)
+        (λ e. E.from_gives (error_of ErrorKind.OutOfMemory) e) }
 {
     match vec![in alloc; 0; length] {
         Ok(bytes) => Ok(bytes),

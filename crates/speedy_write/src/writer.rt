@@ -1,10 +1,9 @@
 //! Writers: where the bytes of values go.
-ghost use Rattle.std.specs.Prelude.{◌≡◌, ℕ, [], ◌++◌, List, map, Option, Bool};
+ghost use Rattle.std.specs.Prelude.{◌≡◌, ℕ, [], ◌++◌, List, Option, Bool};
 ghost use Rattle.std.specs.Borrow.{sem, Lends};
 ghost use Rattle.speedy_layout.specs.Varint.{varint};
 ghost use Rattle.std.specs.Int.{w8, w16, w32, w64, w128};
-ghost use Rattle.speedy_write.specs.SignedWriting.{WritesSigned};
-ghost use Rattle.speedy_write.specs.Writing.{WriterState, WritesBytes, WritesNumber, WritesValue, WritesEach, RefusesFull, IsRight};
+ghost use Rattle.speedy_write.specs.Writing.{WriterState, Writes, WritesEach, WritesBytes, WritesNumber, WritesSigned, RefusesFull, IsRight};
 
 use crate::writable::Writable;
 use speedy_base::context::Context;
@@ -30,9 +29,8 @@ pub trait Writer<C: Context> {
 
     /// Writes all the bytes. A refused call may have written some of the first ones.
     fn write_bytes(&mut self, slice: &[u8]) -> Result<(), C::Error>
-        ensures writes { let before = self.old in let after = self.new in
-            WritesBytes C.Error.from_gives slice.now result
-            (state before) (state after) (λ b. appends before b after) }
+        ensures writes { WritesBytes C.Error.from_gives slice.now result
+            (state self.old) (state self.new) (λ b. appends self.old b self.new) }
         ensures full { RefusesFull C.Error.from_gives result (state self.old) (state self.new) };
 
     /// The context that numbers are written under.
@@ -41,7 +39,8 @@ pub trait Writer<C: Context> {
 
     /// The context, to be changed.
     fn context_mut(&mut self) -> &mut C
-        ensures* writes_back { sem 𝓛 (Lends Self.row C.row self.entry result (with_context self.old)) }
+        ensures* writes_back { sem 𝓛
+            (Lends Self.row C.row self.entry result (with_context self.old)) }
         ensures value { result.now ≡ at self.old };
 
     /// Whether so many bytes fit, where the writer knows it.
@@ -49,25 +48,28 @@ pub trait Writer<C: Context> {
         ensures says { result ≡ can_write self.now size }
         ensures right { IsRight result size (state self.now).space };
 
-    /// The form is the context's.
-    ghost form_at: { (w : Self) → (state w).form ≡ C.form (at w) };
+    /// The encoding is the context's.
+    ghost encoding_at: { (w : Self) → (state w).encoding ≡ C.encoding (at w) };
 
-    /// Another context changes the form alone.
-    ghost state_with: { (w : Self) (c : C) → state (with_context w c) ≡ record (state w) { form = C.form c } };
+    /// Another context changes the encoding alone.
+    ghost state_with: { (w : Self) (c : C) →
+        state (with_context w c) ≡ record (state w) { encoding = C.encoding c } };
 
     /// Between a state and itself lies nothing.
     ghost nothing: { (w : Self) → appends w [] w };
 
     /// What lies between is joined.
-    ghost additive: { (a b c : Self) (s t : List ℕ) → appends a s b → appends b t c → appends a (s ++ t) c };
+    ghost additive: { (a b c : Self) (s t : List ℕ) →
+        appends a s b → appends b t c → appends a (s ++ t) c };
 
     /// Another context writes nothing and unwrites nothing.
-    ghost appends_with: { (a b : Self) (s : List ℕ) (c : C) → appends a s b → appends a s (with_context b c) × appends (with_context a c) s b };
+    ghost appends_with: { (a b : Self) (s : List ℕ) (c : C) →
+        appends a s b → appends a s (with_context b c) × appends (with_context a c) s b };
 
     /// The byte order of numbers.
     #[inline(always)]
     final fn endianness(&self) -> Endianness
-        ensures { result ≡ (state self.now).form.order }
+        ensures { result ≡ (state self.now).encoding.order }
     {
         self.context().endianness()
     }
@@ -75,9 +77,8 @@ pub trait Writer<C: Context> {
     /// Writes a byte.
     #[inline(always)]
     final fn write_u8(&mut self, value: u8) -> Result<(), C::Error>
-        ensures writes { let before = self.old in let after = self.new in
-            WritesNumber C.Error.from_gives 1 value result
-            (state before) (state after) (λ b. appends before b after) }
+        ensures writes { WritesNumber C.Error.from_gives 1 value result
+            (state self.old) (state self.new) (λ b. appends self.old b self.new) }
         ensures full { RefusesFull C.Error.from_gives result (state self.old) (state self.new) }
     {
         self.write_bytes(&[value])
@@ -86,9 +87,8 @@ pub trait Writer<C: Context> {
     /// Writes two bytes, in the context's order.
     #[inline(always)]
     final fn write_u16(&mut self, value: u16) -> Result<(), C::Error>
-        ensures writes { let before = self.old in let after = self.new in
-            WritesNumber C.Error.from_gives 2 value result
-            (state before) (state after) (λ b. appends before b after) }
+        ensures writes { WritesNumber C.Error.from_gives 2 value result
+            (state self.old) (state self.new) (λ b. appends self.old b self.new) }
         ensures full { RefusesFull C.Error.from_gives result (state self.old) (state self.new) }
     {
         let bytes = self.endianness().bytes_of_u16(value);
@@ -98,9 +98,8 @@ pub trait Writer<C: Context> {
     /// Writes four bytes, in the context's order.
     #[inline(always)]
     final fn write_u32(&mut self, value: u32) -> Result<(), C::Error>
-        ensures writes { let before = self.old in let after = self.new in
-            WritesNumber C.Error.from_gives 4 value result
-            (state before) (state after) (λ b. appends before b after) }
+        ensures writes { WritesNumber C.Error.from_gives 4 value result
+            (state self.old) (state self.new) (λ b. appends self.old b self.new) }
         ensures full { RefusesFull C.Error.from_gives result (state self.old) (state self.new) }
     {
         let bytes = self.endianness().bytes_of_u32(value);
@@ -110,9 +109,8 @@ pub trait Writer<C: Context> {
     /// Writes an integer of variable length, in one to nine bytes: as few as hold it.
     #[inline]
     final fn write_u64_varint(&mut self, value: u64) -> Result<(), C::Error>
-        ensures writes { let before = self.old in let after = self.new in
-            WritesValue C.Error.from_gives varint value result
-            (state before) (state after) (λ b. appends before b after) }
+        ensures writes { Writes C.Error.from_gives varint value result
+            (state self.old) (state self.new) (λ b. appends self.old b self.new) }
         ensures full { RefusesFull C.Error.from_gives result (state self.old) (state self.new) }
     {
         let (bytes, count) = VarInt64::from(value).encode();
@@ -122,9 +120,8 @@ pub trait Writer<C: Context> {
     /// Writes eight bytes, in the context's order.
     #[inline(always)]
     final fn write_u64(&mut self, value: u64) -> Result<(), C::Error>
-        ensures writes { let before = self.old in let after = self.new in
-            WritesNumber C.Error.from_gives 8 value result
-            (state before) (state after) (λ b. appends before b after) }
+        ensures writes { WritesNumber C.Error.from_gives 8 value result
+            (state self.old) (state self.new) (λ b. appends self.old b self.new) }
         ensures full { RefusesFull C.Error.from_gives result (state self.old) (state self.new) }
     {
         let bytes = self.endianness().bytes_of_u64(value);
@@ -134,9 +131,8 @@ pub trait Writer<C: Context> {
     /// Writes sixteen bytes, in the context's order.
     #[inline(always)]
     final fn write_u128(&mut self, value: u128) -> Result<(), C::Error>
-        ensures writes { let before = self.old in let after = self.new in
-            WritesNumber C.Error.from_gives 16 value result
-            (state before) (state after) (λ b. appends before b after) }
+        ensures writes { WritesNumber C.Error.from_gives 16 value result
+            (state self.old) (state self.new) (λ b. appends self.old b self.new) }
         ensures full { RefusesFull C.Error.from_gives result (state self.old) (state self.new) }
     {
         let bytes = self.endianness().bytes_of_u128(value);
@@ -146,9 +142,8 @@ pub trait Writer<C: Context> {
     /// Writes a signed number as a byte.
     #[inline(always)]
     final fn write_i8(&mut self, value: i8) -> Result<(), C::Error>
-        ensures writes { let before = self.old in let after = self.new in
-            WritesSigned C.Error.from_gives w8 value result
-            (state before) (state after) (λ b. appends before b after) }
+        ensures writes { WritesSigned C.Error.from_gives w8 value result
+            (state self.old) (state self.new) (λ b. appends self.old b self.new) }
         ensures full { RefusesFull C.Error.from_gives result (state self.old) (state self.new) }
     {
         self.write_u8(value.cast_unsigned())
@@ -157,9 +152,8 @@ pub trait Writer<C: Context> {
     /// Writes a signed number as two bytes, in the context's order.
     #[inline(always)]
     final fn write_i16(&mut self, value: i16) -> Result<(), C::Error>
-        ensures writes { let before = self.old in let after = self.new in
-            WritesSigned C.Error.from_gives w16 value result
-            (state before) (state after) (λ b. appends before b after) }
+        ensures writes { WritesSigned C.Error.from_gives w16 value result
+            (state self.old) (state self.new) (λ b. appends self.old b self.new) }
         ensures full { RefusesFull C.Error.from_gives result (state self.old) (state self.new) }
     {
         self.write_u16(value.cast_unsigned())
@@ -168,9 +162,8 @@ pub trait Writer<C: Context> {
     /// Writes a signed number as four bytes, in the context's order.
     #[inline(always)]
     final fn write_i32(&mut self, value: i32) -> Result<(), C::Error>
-        ensures writes { let before = self.old in let after = self.new in
-            WritesSigned C.Error.from_gives w32 value result
-            (state before) (state after) (λ b. appends before b after) }
+        ensures writes { WritesSigned C.Error.from_gives w32 value result
+            (state self.old) (state self.new) (λ b. appends self.old b self.new) }
         ensures full { RefusesFull C.Error.from_gives result (state self.old) (state self.new) }
     {
         self.write_u32(value.cast_unsigned())
@@ -179,9 +172,8 @@ pub trait Writer<C: Context> {
     /// Writes a signed number as eight bytes, in the context's order.
     #[inline(always)]
     final fn write_i64(&mut self, value: i64) -> Result<(), C::Error>
-        ensures writes { let before = self.old in let after = self.new in
-            WritesSigned C.Error.from_gives w64 value result
-            (state before) (state after) (λ b. appends before b after) }
+        ensures writes { WritesSigned C.Error.from_gives w64 value result
+            (state self.old) (state self.new) (λ b. appends self.old b self.new) }
         ensures full { RefusesFull C.Error.from_gives result (state self.old) (state self.new) }
     {
         self.write_u64(value.cast_unsigned())
@@ -190,9 +182,8 @@ pub trait Writer<C: Context> {
     /// Writes a signed number as sixteen bytes, in the context's order.
     #[inline(always)]
     final fn write_i128(&mut self, value: i128) -> Result<(), C::Error>
-        ensures writes { let before = self.old in let after = self.new in
-            WritesSigned C.Error.from_gives w128 value result
-            (state before) (state after) (λ b. appends before b after) }
+        ensures writes { WritesSigned C.Error.from_gives w128 value result
+            (state self.old) (state self.new) (λ b. appends self.old b self.new) }
         ensures full { RefusesFull C.Error.from_gives result (state self.old) (state self.new) }
     {
         self.write_u128(value.cast_unsigned())
@@ -203,11 +194,8 @@ pub trait Writer<C: Context> {
     final fn write_value<T: Writable<C>>(&mut self, item: &T) -> Result<(), C::Error>
     where
         Self: Sized,
-        ensures { let before = self.old in let after = self.new in
-            let gives = C.Error.from_gives in
-            let language = T.language (state before).form in
-            WritesValue gives language (T.seen item.now) result
-            (state before) (state after) (λ b. appends before b after) }
+        ensures { Writes C.Error.from_gives T.format (T.seen item.now) result
+            (state self.old) (state self.new) (λ b. appends self.old b self.new) }
     {
         item.write_to(self)
     }
@@ -217,11 +205,8 @@ pub trait Writer<C: Context> {
     final fn write_slice<T: Writable<C>>(&mut self, slice: &[T]) -> Result<(), C::Error>
     where
         Self: Sized,
-        ensures { let before = self.old in let after = self.new in
-            let gives = C.Error.from_gives in
-            let language = T.language (state before).form in
-            WritesEach gives language (map T.seen slice.now) result
-            (state before) (state after) (λ b. appends before b after) }
+        ensures { WritesEach C.Error.from_gives T.format T.seen slice.now result
+            (state self.old) (state self.new) (λ b. appends self.old b self.new) }
     {
         T::write_many(slice, self)
     }

@@ -1,4 +1,4 @@
-use Rattle.speedy_read.specs.RoundTrip.{written_is_read}
+use Rattle.speedy_read.proofs.RoundTripLemmas.{written_is_read}
 use Rattle.speedy_read.proofs.laws.written_is_read.Goals as goal
 
 pub returns : goal.returns

@@ -1,4 +1,4 @@
-use Rattle.speedy_read.specs.RoundTrip.{written_items_are_read}
+use Rattle.speedy_read.proofs.RoundTripLemmas.{written_items_are_read}
 use Rattle.speedy_read.proofs.laws.written_items_are_read.Goals as goal
 
 pub returns : goal.returns

@@ -1,6 +1,10 @@
-use Rattle.std.proofs.Common.{map}
-use Rattle.speedy_read.specs.Items.{ReadSoFar}
+use Rattle.std.proofs.Common.{◌≡◌, length, map}
+use Rattle.speedy_layout.specs.Format.{Each}
+use Rattle.speedy_read.specs.ReadingLemmas.{ReadSoFar}
 use Rattle.speedy_read.proofs.readable.read_each.Given as goal
 
 abbrev pub invariant-loop-i : goal.invariant-loop-i
-invariant-loop-i g l = ReadSoFar (g.T.Layout.language (g.R.LendingReader.state l.fn.reader).form) (map g.T.Layout.seen l.items.items) l._i (g.R.LendingReader.state l.fn.reader) (g.R.LendingReader.state l.reader)
+invariant-loop-i g l =
+    let old = g.R.LendingReader.state l.fn.reader in
+    let items = map g.T.Layout.seen l.items.items in
+    (length items ≡ l._i) × ReadSoFar (Each (g.T.Layout.format old.encoding).spells items) old (g.R.LendingReader.state l.reader)

@@ -1,5 +1,5 @@
 use Rattle.std.proofs.Common.{length}
-use Rattle.speedy_vectors.specs.Running.{PieceSoFar}
+use Rattle.speedy_vectors.proofs.RunLemmas.{PieceSoFar}
 use Rattle.speedy_vectors.proofs.run.answer_piece.Given as goal
 
 abbrev pub invariant-loop-line : goal.invariant-loop-line

@@ -1,4 +1,4 @@
-use Rattle.speedy_vectors.specs.Running.{flushed, flush_failed}
+use Rattle.speedy_vectors.proofs.RunLemmas.{flushed, flush_failed}
 use Rattle.speedy_vectors.proofs.run.flush.Goals as goal
 
 pub returns-in-Ok : goal.returns-in-Ok

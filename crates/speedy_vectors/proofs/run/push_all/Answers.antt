@@ -1,4 +1,4 @@
-use Rattle.speedy_vectors.specs.Running.{none_pushed, more_pushed, fewer_to_push, not_empty, is_empty, all_pushed, push_failed}
+use Rattle.speedy_vectors.proofs.RunLemmas.{none_pushed, more_pushed, fewer_to_push, not_empty, is_empty, all_pushed, push_failed}
 use Rattle.speedy_vectors.proofs.run.push_all.Goals as goal
 
 pub loop-rest-init : goal.loop-rest-init

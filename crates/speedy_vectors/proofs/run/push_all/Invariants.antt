@@ -1,5 +1,5 @@
 use Rattle.std.proofs.Common.{length}
-use Rattle.speedy_vectors.specs.Running.{PushedSoFar}
+use Rattle.speedy_vectors.proofs.RunLemmas.{PushedSoFar}
 use Rattle.speedy_vectors.proofs.run.push_all.Given as goal
 
 abbrev pub invariant-loop-rest : goal.invariant-loop-rest

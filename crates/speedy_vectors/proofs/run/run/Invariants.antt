@@ -1,4 +1,4 @@
-use Rattle.speedy_vectors.specs.Running.{RunSoFar}
+use Rattle.speedy_vectors.proofs.RunLemmas.{RunSoFar}
 use Rattle.speedy_vectors.proofs.run.run.Given as goal
 
 abbrev pub invariant-loop-i : goal.invariant-loop-i

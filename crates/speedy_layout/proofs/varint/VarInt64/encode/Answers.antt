@@ -35,8 +35,8 @@ low_is_still c =
     ]
 
 pub returns-clause-written : goal.returns-clause-written
-returns-clause-written c =
+returns-clause-written c = λ e.
     let n = varint_number c.args.self in
     let digits = SpellsNumber-to_le_bytes w64 LittleEndian n c.to_le_bytes-digits.result refl (capacity-below_64 c.more_bytes-more.result n c.more_bytes-more.ensures.eight_at_most c.more_bytes-more.ensures.enough) c.to_le_bytes-digits.ensures in
     let width = digits.width_is in
-    written n c.more_bytes-more.result c.if-more-lt8.low c.to_le_bytes-digits.result _ c.more_bytes-more.ensures.eight_at_most c.more_bytes-more.ensures.enough c.more_bytes-more.ensures.no_shorter (low_is_still c) digits (listed-all c.to_le_bytes-digits.result 8 width)
+    written e n c.more_bytes-more.result c.if-more-lt8.low c.to_le_bytes-digits.result _ c.more_bytes-more.ensures.eight_at_most c.more_bytes-more.ensures.enough c.more_bytes-more.ensures.no_shorter (low_is_still c) digits (listed-all c.to_le_bytes-digits.result 8 width)

@@ -1,5 +1,5 @@
 use Rattle.std.proofs.Common.{◌≡◌, ◌-◌, ◌≤◌, length}
-use Rattle.speedy_read.specs.Skipping.{SkippedSoFar}
+use Rattle.speedy_read.proofs.ByteLemmas.{SkippedSoFar}
 use Rattle.speedy_read.proofs.reader.LendingReader.skip_bytes.Given as goal
 
 abbrev pub invariant-loop-left : goal.invariant-loop-left

@@ -1,10 +1,10 @@
-use Rattle.std.proofs.Common.{map, take}
-use Rattle.speedy_write.specs.Joining.{SoFar}
+use Rattle.std.proofs.Common.{take, Ok}
+use Rattle.speedy_write.specs.Writing.{WritesEach}
 use Rattle.speedy_write.proofs.writable.Writable.write_many.Given as goal
 
+-- the first items are written
 abbrev pub invariant-loop-item : goal.invariant-loop-item
 invariant-loop-item g l =
     let W = g.W.Writer in
-    let layout = g.Self.Layout in
     let before = l.initial.writer in
-    SoFar (layout.language (W.state before).form).writes (take l.item-index (map layout.seen l.items)) (W.state before) (W.state l.writer) (λ b. W.appends before b l.writer)
+    WritesEach g.C.Error.From.from_gives g.Self.Layout.format g.Self.Layout.seen (take l.item-index l.items) (Ok tt) (W.state before) (W.state l.writer) (λ b. W.appends before b l.writer)

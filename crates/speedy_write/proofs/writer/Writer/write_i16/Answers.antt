@@ -1,6 +1,6 @@
 use Rattle.std.specs.Int.{w16}
-use Rattle.speedy_write.specs.NumberWrites.{signed_written}
+use Rattle.speedy_write.proofs.NumberLemmas.{signed_written}
 use Rattle.speedy_write.proofs.writer.Writer.write_i16.Goals as goal
 
 pub returns-clause-writes : goal.returns-clause-writes
-returns-clause-writes g c = signed_written _ w16 _ _ _ _ _ c.ranges.value c.cast_unsigned.ensures c.write_u16.ensures.writes
+returns-clause-writes g c = signed_written w16 c.ranges.value c.cast_unsigned.ensures c.write_u16.ensures.writes

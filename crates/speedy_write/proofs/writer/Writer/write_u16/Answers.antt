@@ -1,9 +1,5 @@
-use Rattle.std.proofs.Common.{subst}
-use Rattle.speedy_base.specs.Digits.{SpellsNumber}
-use Rattle.speedy_write.specs.Joining.{Writes-number}
+use Rattle.speedy_write.proofs.NumberLemmas.{number_written}
 use Rattle.speedy_write.proofs.writer.Writer.write_u16.Goals as goal
 
 pub returns-clause-writes : goal.returns-clause-writes
-returns-clause-writes g c =
-    Writes-number g.C.Error.From.from_gives 2 _ _ c.bytes_of_u16-bytes.result _ _ _
-    (subst (λ order. SpellsNumber 2 order c.args.value c.bytes_of_u16-bytes.result) c.endianness.ensures c.bytes_of_u16-bytes.ensures) c.write_bytes.ensures.writes
+returns-clause-writes g c = number_written c.endianness.ensures c.bytes_of_u16-bytes.ensures c.write_bytes.ensures.writes

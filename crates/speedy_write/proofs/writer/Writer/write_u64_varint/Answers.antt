@@ -1,9 +1,11 @@
-use Rattle.std.specs.Prelude.{ℕ, take}
-use Rattle.std.proofs.Common.{subst}
+use Rattle.std.proofs.Common.{◌≡◌, ℕ, List, subst}
+use Rattle.speedy_base.specs.Encoding.{Encoding}
 use Rattle.speedy_layout.specs.Varint.{varint, varint_laws}
-use Rattle.speedy_write.specs.Joining.{Writes-form}
+use Rattle.speedy_write.specs.Sequences.{form_written}
 use Rattle.speedy_write.proofs.writer.Writer.write_u64_varint.Goals as goal
 
+renamed : (encoding : Encoding) (m n : ℕ) (bytes : List ℕ) → m ≡ n → (varint encoding).writes m bytes → (varint encoding).writes n bytes
+renamed encoding m n bytes same h = subst (λ (i : ℕ). (varint encoding).writes i bytes) same h
+
 pub returns-clause-writes : goal.returns-clause-writes
-returns-clause-writes g c =
-    Writes-form g.C.Error.From.from_gives 1 varint varint_laws _ _ _ _ _ (subst (λ (n : ℕ). varint.writes n (take c.encode-count.result.1 c.encode-count.result.0)) c.from.ensures c.encode-count.ensures.written) c.write_bytes.ensures.writes
+returns-clause-writes g c = form_written varint_laws (renamed _ _ _ _ c.from.ensures (c.encode-count.ensures.written _)) c.write_bytes.ensures.writes

@@ -1,0 +1,155 @@
+//! Lists and arrays. Bytes are read a chunk at a time, wherever the last chunk ends.
+use crate::asserting::{
+    assert_encoding, assert_encoding_in_types, assert_reads, assert_same, assert_written,
+    make_text, make_vec,
+};
+use crate::endianness::Endianness;
+use crate::readable::BufferReader;
+use crate::reader::LendingReader;
+use crate::writable::Writable;
+use std::alloc::Global;
+use std::process::Abort;
+
+#[test]
+fn vectors_of_bytes_lie_after_their_counts(rt: HostRuntime) {
+    let alloc = rt.alloc();
+    let bytes = make_vec(&rt, alloc, &[10_u8, 11]);
+    let rows = [(
+        bytes,
+        &[2, 0, 0, 0, 10, 11, 1][..],
+        &[0, 0, 0, 2, 10, 11, 1][..],
+    )];
+    assert_encoding(&rt, alloc, 4, &rows);
+    assert_encoding_in_types(&rt, alloc, 4, &rows);
+}
+
+#[test]
+fn vectors_of_short_numbers_lie_after_their_counts(rt: HostRuntime) {
+    let alloc = rt.alloc();
+    let rows = [
+        (
+            make_vec(&rt, alloc, &[10_u16, 11]),
+            &[2, 0, 0, 0, 10, 0, 11, 0, 1][..],
+            &[0, 0, 0, 2, 0, 10, 0, 11, 1][..],
+        ),
+        (
+            make_vec(&rt, alloc, &[1_u16, 2]),
+            &[2, 0, 0, 0, 1, 0, 2, 0, 1][..],
+            &[0, 0, 0, 2, 0, 1, 0, 2, 1][..],
+        ),
+    ];
+    assert_encoding(&rt, alloc, 4, &rows);
+    assert_encoding_in_types(&rt, alloc, 4, &rows);
+}
+
+#[test]
+fn vectors_of_numbers_lie_after_their_counts(rt: HostRuntime) {
+    let alloc = rt.alloc();
+    let rows = [(
+        make_vec(&rt, alloc, &[10_u32, 11]),
+        &[2, 0, 0, 0, 10, 0, 0, 0, 11, 0, 0, 0, 1][..],
+        &[0, 0, 0, 2, 0, 0, 0, 10, 0, 0, 0, 11, 1][..],
+    )];
+    assert_encoding(&rt, alloc, 4, &rows);
+    assert_encoding_in_types(&rt, alloc, 4, &rows);
+}
+
+#[test]
+fn vectors_of_wide_numbers_lie_after_their_counts(rt: HostRuntime) {
+    let little = [
+        2, 0, 0, 0, 10, 0, 0, 0, 0, 0, 0, 0, 11, 0, 0, 0, 0, 0, 0, 0, 1,
+    ];
+    let big = [
+        0, 0, 0, 2, 0, 0, 0, 0, 0, 0, 0, 10, 0, 0, 0, 0, 0, 0, 0, 11, 1,
+    ];
+    let numbers = make_vec(&rt, rt.alloc(), &[10_u64, 11]);
+    assert_encoding(&rt, rt.alloc(), 4, &[(numbers, &little, &big)]);
+}
+
+#[test]
+fn vectors_of_vectors_lie_within_each_other(rt: HostRuntime) {
+    let alloc = rt.alloc();
+    let texts = vec![in alloc; make_text(&rt, alloc, "a"), String::new(alloc)];
+    let nested = vec![in alloc; texts.expect(&rt, "a vector"), Vec::new(alloc)];
+    let rows = [(
+        nested.expect(&rt, "a vector"),
+        &[
+            2, 0, 0, 0, 2, 0, 0, 0, 1, 0, 0, 0, 97, 0, 0, 0, 0, 0, 0, 0, 0, 1,
+        ][..],
+        &[
+            0, 0, 0, 2, 0, 0, 0, 2, 0, 0, 0, 1, 97, 0, 0, 0, 0, 0, 0, 0, 0, 1,
+        ][..],
+    )];
+    assert_encoding(&rt, alloc, 4, &rows);
+    assert_encoding_in_types(&rt, alloc, 4, &rows);
+}
+
+#[test]
+fn arrays_of_numbers_lie_item_after_item(rt: HostRuntime) {
+    let rows = [([1_u16, 1024], &[1, 0, 0, 4, 1][..], &[0, 1, 4, 0, 1][..])];
+    assert_encoding(&rt, rt.alloc(), 4, &rows);
+    let bytes: [u8; 32] = [
+        10, 11, 12, 13, 14, 15, 16, 17, 18, 19, 20, 21, 22, 23, 24, 25, 26, 27, 28, 29, 30, 31, 32,
+        33, 34, 35, 36, 37, 38, 39, 40, 41,
+    ];
+    let mut followed = [1; 33];
+    followed[..32].copy_from_slice(&bytes);
+    assert_encoding(&rt, rt.alloc(), 32, &[(bytes, &followed, &followed)]);
+}
+
+#[test]
+fn slices_and_borrowed_texts_are_written_after_their_counts(rt: HostRuntime) {
+    let items = [10_u8, 11];
+    let little = [2, 0, 0, 0, 10, 11, 1];
+    let big = [0, 0, 0, 2, 10, 11, 1];
+    assert_written(&rt, rt.alloc(), &items.as_slice(), &little, &big);
+    let little = [5, 0, 0, 0, 72, 101, 108, 108, 111, 1];
+    let big = [0, 0, 0, 5, 72, 101, 108, 108, 111, 1];
+    assert_written(&rt, rt.alloc(), &"Hello", &little, &big);
+}
+
+#[test]
+fn options_of_texts_lie_within_a_vector(rt: HostRuntime) {
+    let alloc = rt.alloc();
+    let text = String::from_str(alloc, "Hi").expect(&rt, "a text");
+    let texts = vec![in alloc; Some(text), None].expect(&rt, "a vector");
+    let little = [2, 0, 0, 0, 1, 2, 0, 0, 0, 72, 105, 0, 9];
+    let big = [0, 0, 0, 2, 1, 0, 0, 0, 2, 72, 105, 0, 9];
+    assert_encoding(&rt, alloc, 4, &[(texts, &little, &big)]);
+}
+
+/// So many bytes that count up from 0, again and again.
+fn make_bytes(rt: &impl Abort, alloc: Global, count: usize) -> Vec<u8> {
+    let mut bytes = Vec::new(alloc);
+    let mut next = 0_u8;
+    for _ in 0..count {
+        bytes.push(next).expect(rt, "room");
+        next = next.wrapping_add(1) % 251;
+    }
+    bytes
+}
+
+/// Asserts that so many bytes are read as they were written, where a byte follows.
+fn assert_read_whole(rt: &impl Abort, alloc: Global, order: Endianness, count: usize) {
+    let bytes = make_bytes(rt, alloc, count);
+    let mut written = bytes
+        .write_to_vec_with_ctx(alloc, order)
+        .expect(rt, "a vector");
+    let length = written.len();
+    written.push(9).expect(rt, "room");
+    assert_reads(rt, alloc, order, &bytes, written.as_slice(), length);
+}
+
+#[test]
+fn bytes_are_read_whole_whatever_their_number(rt: HostRuntime) {
+    for count in [0, 1, 511, 512, 513, 1024, 1500] {
+        assert_read_whole(&rt, rt.alloc(), Endianness::BigEndian, count);
+    }
+}
+
+#[test]
+fn a_count_that_no_buffer_holds_asks_for_no_room(rt: HostRuntime) {
+    let mut reader = BufferReader::new(rt.alloc(), Endianness::LittleEndian, &[1, 2, 3]);
+    assert!(rt; reader.read_vec::<u8>(usize::MAX).is_err());
+    assert_same(&rt, reader.len(), 3);
+}

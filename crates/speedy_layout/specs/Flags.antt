@@ -1,0 +1,141 @@
+-- Flags, tags, and values of the format that one chooses.
+use Rattle.std.specs.Prelude.{◌≡◌, ℕ, ◌+◌, ◌^◌, ◌<◌, Bool, true, false, IsTrue, ◌||◌, Option, Some, None, Result, Ok, Err, refl}
+use Rattle.std.proofs.Common.{sym, ◌∙◌, ap, subst, arith}
+use Rattle.speedy_base.specs.Digits.{digits}
+use Rattle.speedy_base.specs.DigitsLemmas.{SpellsNumber-digits}
+use Rattle.speedy_base.specs.Encoding.{Encoding}
+use Rattle.speedy_layout.specs.Format.{Format}
+use Rattle.speedy_layout.specs.Laws.{Laws, Laws-less}
+use Rattle.speedy_layout.specs.Codes.{Code, IsCode, coding, coding_laws}
+use Rattle.speedy_layout.specs.Numbers.{unsigned_number, unsigned_number_laws}
+use Rattle.speedy_layout.specs.Sequences.{asks_of, either_asks, Suffices, sequence, sequence_laws, or_left, or_right}
+use Rattle.speedy_layout.specs.Tuples.{unit, unit_laws}
+
+-- ---- flags
+
+-- the bytes of a flag
+abbrev pub IsFlag : Bool → ℕ → Type 0
+IsFlag true n = 0 < n
+IsFlag false n = n ≡ 0
+
+-- how a flag is written
+abbrev pub written_flag : Bool → ℕ
+written_flag true = 1
+written_flag false = 0
+
+-- a byte stands for true unless it is 0, and true is written as 1
+abbrev pub flag_code : Code ℕ Bool
+flag_code = record { means = λ n b. IsFlag b n; chosen = λ n b. n ≡ written_flag b; fault = λ _. ⊥ }
+
+-- a flag: one byte
+abbrev pub flag : Encoding → Format Bool
+flag encoding = coding flag_code (unsigned_number 1 encoding)
+
+one_flag : (b c : Bool) (n : ℕ) → IsFlag b n → IsFlag c n → b ≡ c
+one_flag true true n h k = refl
+one_flag false false n h k = refl
+one_flag true false n h k = absurd (omega arith)
+one_flag false true n h k = absurd (omega arith)
+
+written_flag_is : (b : Bool) → IsFlag b (written_flag b)
+written_flag_is true = omega arith
+written_flag_is false = refl
+
+written_flag-below : (b : Bool) → written_flag b < 256 ^ 1
+written_flag-below true = omega arith
+written_flag-below false = omega arith
+
+pub flag_is_code : (encoding : Encoding) → IsCode flag_code (unsigned_number 1 encoding)
+unfolding unsigned_number
+flag_is_code encoding = record {
+  one_meaning = λ n v w h k. one_flag v w n h k;
+  one_chosen = λ _ n m v h k. h ∙ sym k;
+  chosen_means = λ n v h. subst (IsFlag v) (sym h) (written_flag_is v);
+  has_chosen = λ v b h. (digits encoding.order 1 (written_flag v), record { code = written_flag v; code_is = SpellsNumber-digits 1 encoding.order (written_flag v) (written_flag-below v); stands = refl });
+  chosen_shortest = λ v b d h k. let l = h.code_is.width_is in let m = k.code_is.width_is in omega arith;
+  fault_own = λ kind h. absurd h;
+}
+
+pub flag_laws : (encoding : Encoding) → Laws 1 (flag encoding)
+flag_laws encoding = coding_laws (unsigned_number_laws 1 encoding) (flag_is_code encoding)
+
+-- ---- a value that a flag or a tag chooses
+
+-- what follows one that is true, and one that is false
+abbrev pub Branch : Type 0 → Type 0 → Bool → Type 0
+Branch V W true = V
+Branch V W false = W
+
+abbrev pub branch : {V W : Type 0} → Format V → Format W → (b : Bool) → Format (Branch V W b)
+branch L M true = L
+branch L M false = M
+
+-- a flag or a tag, then a value of the format that it chooses
+abbrev pub variant : {U V W : Type 0} → (U → (b : Bool) × Branch V W b) → Format Bool → Format V → Format W → Format U
+variant split tags L M = sequence split tags (either_asks (asks_of L) (asks_of M)) (branch L M)
+
+pub branch_suffices : {V W : Type 0} (L : Format V) (M : Format W) → Suffices (either_asks (asks_of L) (asks_of M)) (branch L M)
+branch_suffices {V = V} {W = W} L M = record { lending = lending; hashed = hashed; memory = memory } where
+  lending : (b : Bool) → IsTrue (branch L M b).needs_lending → IsTrue (L.needs_lending || M.needs_lending)
+  lending true = or_left L.needs_lending M.needs_lending
+  lending false = or_right L.needs_lending M.needs_lending
+
+  hashed : (b : Bool) → IsTrue (branch L M b).hashed → IsTrue (L.hashed || M.hashed)
+  hashed true = or_left L.hashed M.hashed
+  hashed false = or_right L.hashed M.hashed
+
+  memory : (b : Bool) → IsTrue (branch L M b).takes_memory → IsTrue (L.takes_memory || M.takes_memory)
+  memory true = or_left L.takes_memory M.takes_memory
+  memory false = or_right L.takes_memory M.takes_memory
+
+-- its least size is that of the tag and so many bytes more as each of the two has
+pub variant_laws : {U V W : Type 0} {least n : ℕ} {tags : Format Bool} {L : Format V} {M : Format W} (split : U → (b : Bool) × Branch V W b) → Laws least tags → Laws n L → Laws n M → ((v w : U) → split v ≡ split w → v ≡ w) → Laws (least + n) (variant split tags L M)
+variant_laws {L = L} {M = M} split laws first second injective = sequence_laws laws (elim [ true ↦ first | false ↦ second ]) (branch_suffices L M) injective
+
+-- values that can be put together again from their parts differ in their parts
+pub told_apart : {U V : Type 0} {W : U → Type 0} (split : V → (u : U) × W u) (join : (u : U) → W u → V) → ((v : V) → join (split v).0 (split v).1 ≡ v) → (v w : V) → split v ≡ split w → v ≡ w
+told_apart {U = U} {W = W} split join back v w e = sym (back v) ∙ (ap (λ (p : (u : U) × W u). join p.0 p.1) e ∙ back w)
+
+-- ---- options and results
+
+-- a value that may be absent: true and the value, or false
+abbrev pub option_parts : {V : Type 0} → Option V → (b : Bool) × Branch V (Unit {0}) b
+option_parts (Some v) = (true, v)
+option_parts None = (false, tt)
+
+abbrev pub option_join : {V : Type 0} → (b : Bool) → Branch V (Unit {0}) b → Option V
+option_join true v = Some v
+option_join false _ = None
+
+abbrev pub option : {V : Type 0} → Encoding → Format V → Format (Option V)
+option encoding L = variant option_parts (flag encoding) L unit
+
+-- one of two values: true and the first, or false and the second
+abbrev pub alternative_parts : {V W : Type 0} → Result V W → (b : Bool) × Branch V W b
+alternative_parts (Ok v) = (true, v)
+alternative_parts (Err w) = (false, w)
+
+abbrev pub alternative_join : {V W : Type 0} → (b : Bool) → Branch V W b → Result V W
+alternative_join true v = Ok v
+alternative_join false w = Err w
+
+abbrev pub alternative : {V W : Type 0} → Encoding → Format V → Format W → Format (Result V W)
+alternative encoding L M = variant alternative_parts (flag encoding) L M
+
+option_back : {V : Type 0} (v : Option V) → option_join (option_parts v).0 (option_parts v).1 ≡ v
+option_back (Some v) = refl
+option_back None = refl
+
+alternative_back : {V W : Type 0} (v : Result V W) → alternative_join (alternative_parts v).0 (alternative_parts v).1 ≡ v
+alternative_back (Ok v) = refl
+alternative_back (Err w) = refl
+
+pub option_laws : {V : Type 0} {n : ℕ} {L : Format V} → Laws n L → (encoding : Encoding) → Laws 1 (option encoding L)
+option_laws laws encoding =
+    variant_laws {least = 1} {n = 0} option_parts (flag_laws encoding) (Laws-less (omega arith) laws) unit_laws
+    (told_apart option_parts option_join option_back)
+
+pub alternative_laws : {V W : Type 0} {n m : ℕ} {L : Format V} {M : Format W} → Laws n L → Laws m M → (encoding : Encoding) → Laws 1 (alternative encoding L M)
+alternative_laws laws more encoding =
+    variant_laws {least = 1} {n = 0} alternative_parts (flag_laws encoding) (Laws-less (omega arith) laws) (Laws-less (omega arith) more)
+    (told_apart alternative_parts alternative_join alternative_back)

@@ -1,0 +1,125 @@
+-- One part after another, where the second may depend on what the first is.
+use Rattle.std.specs.Prelude.{◌≡◌, ℕ, ◌+◌, List, ◌++◌, length, Bool, true, false, IsTrue, ◌||◌, ◌⊎◌, refl}
+use Rattle.std.proofs.Common.{sym, ◌∙◌, ap, subst, arith, inl, inr}
+use Rattle.std.proofs.lemmas.List.{append_assoc, length-append}
+use Rattle.speedy_layout.specs.Format.{Format, Parts}
+use Rattle.speedy_layout.specs.Laws.{Laws}
+
+-- what a format asks beside its bytes
+pub record Asks : Type 0 where
+  pub lending : Bool
+  pub hashed : Bool
+  pub memory : Bool
+
+abbrev pub asks_of : {V : Type 0} → Format V → Asks
+asks_of L = record { lending = L.needs_lending; hashed = L.hashed; memory = L.takes_memory }
+
+-- what either of two asks
+abbrev pub either_asks : Asks → Asks → Asks
+either_asks a b = record { lending = a.lending || b.lending; hashed = a.hashed || b.hashed; memory = a.memory || b.memory }
+
+-- no format of these asks more
+pub record Suffices {U : Type 0} {W : U → Type 0} (asks : Asks) (M : (u : U) → Format (W u)) : Type 0 where
+  pub lending : (u : U) → IsTrue (M u).needs_lending → IsTrue asks.lending
+  pub hashed : (u : U) → IsTrue (M u).hashed → IsTrue asks.hashed
+  pub memory : (u : U) → IsTrue (M u).takes_memory → IsTrue asks.memory
+
+-- a value that is split into two parts: a spelling of the first, then one of the second in the format that the first chooses
+unfoldable pub sequence : {U V : Type 0} {W : U → Type 0} → (V → (u : U) × W u) → Format U → Asks → ((u : U) → Format (W u)) → Format V
+sequence {U = U} split L asks M = record {
+  spells = λ v. Parts (L.spells (split v).0) ((M (split v).0).spells (split v).1);
+  writes = λ v. Parts (L.writes (split v).0) ((M (split v).0).writes (split v).1);
+  names = λ kind. L.names kind ⊎ ((u : U) × (M u).names kind);
+  refuses_writing = λ kind. L.refuses_writing kind ⊎ ((u : U) × (M u).refuses_writing kind);
+  at_fault = λ bytes. L.at_fault bytes ⊎ ((u : U) × Parts (L.spells u) (M u).at_fault bytes);
+  needs_lending = L.needs_lending || asks.lending;
+  hashed = L.hashed || asks.hashed;
+  takes_memory = L.takes_memory || asks.memory;
+}
+
+pub or_left : (a b : Bool) → IsTrue a → IsTrue (a || b)
+or_left true b h = refl
+or_left false b h = absurd (cc)
+
+pub or_right : (a b : Bool) → IsTrue b → IsTrue (a || b)
+or_right true b h = refl
+or_right false b h = h
+
+neither : (a b : Bool) → (a || b) ≡ false → (a ≡ false) × (b ≡ false)
+neither true b h = absurd (cc)
+neither false b h = (refl, h)
+
+not_asked : (a b : Bool) → (IsTrue a → IsTrue b) → b ≡ false → a ≡ false
+not_asked true b f h = absurd (let t = f refl in (cc))
+not_asked false b f h = refl
+
+-- two lists of two parts, each followed by more, joined the other way round
+pub across : (s t r q a b c d : List ℕ) → s ≡ a ++ b → t ≡ c ++ d → s ++ r ≡ t ++ q → a ++ (b ++ r) ≡ c ++ (d ++ q)
+across s t r q a b c d h k e = sym (append_assoc a b r) ∙ (ap (λ x. x ++ r) (sym h) ∙ (e ∙ (ap (λ x. x ++ q) k ∙ append_assoc c d q)))
+
+-- once the first parts are the same, the second parts decode
+second_decodes : {U : Type 0} {W : U → Type 0} (M : (u : U) → Format (W u)) (m : ℕ) → ((u : U) → Laws m (M u)) → (s t r q : List ℕ) (p : (u : U) × W u) → (M p.0).spells p.1 s → s ++ r ≡ t ++ q → (u : U) → p.0 ≡ u → (w : W u) → (M u).spells w t → let whole : (u : U) × W u = (u, w) in (p ≡ whole) × (s ≡ t) × (r ≡ q)
+second_decodes {U = U} {W = W} M m more s t r q p h e u same =
+    subst (λ (u : U). (w : W u) → (M u).spells w t → let whole : (u : U) × W u = (u, w) in (p ≡ whole) × (s ≡ t) × (r ≡ q)) same
+    (λ w k. let d = (more p.0).decodes p.1 w s t r q h k e in (ap (λ (x : W p.0). let whole : (u : U) × W u = (p.0, x) in whole) d.0, d.1, d.2))
+
+module _ {U V : Type 0} {W : U → Type 0} {split : V → (u : U) × W u} {L : Format U} {asks : Asks} {M : (u : U) → Format (W u)} {n m : ℕ} where
+  -- the laws of two parts, one after the other
+  pub sequence_laws : Laws n L → ((u : U) → Laws m (M u)) → Suffices asks M → ((v w : V) → split v ≡ split w → v ≡ w) → Laws (n + m) (sequence split L asks M)
+  unfolding sequence
+  sequence_laws laws more suffices injective = record {
+    decodes = λ v w s t r q h k e.
+        let joined = across s t r q h.front h.back k.front k.back h.whole_is k.whole_is e in
+        let first = laws.decodes (split v).0 (split w).0 h.front k.front (h.back ++ r) (k.back ++ q) h.first_is k.first_is joined in
+        let second = second_decodes M m more h.back k.back r q (split v) h.second_is first.2 (split w).0 first.0 (split w).1 k.second_is in
+        (injective v w second.0, h.whole_is ∙ (let a = first.1 in let b = second.1 in (cc)) ∙ sym k.whole_is, second.2);
+    written_spells = λ v b h. record {
+      front = h.front;
+      back = h.back;
+      whole_is = h.whole_is;
+      first_is = laws.written_spells (split v).0 h.front h.first_is;
+      second_is = (more (split v).0).written_spells (split v).1 h.back h.second_is;
+    };
+    shortest = λ v b c h k.
+        let first = laws.shortest (split v).0 h.front k.front h.first_is k.first_is in
+        let second = (more (split v).0).shortest (split v).1 h.back k.back h.second_is k.second_is in
+        let l = ap length h.whole_is ∙ length-append h.front h.back in
+        let o = ap length k.whole_is ∙ length-append k.front k.back in
+        omega arith;
+    least_size = λ v b h.
+        let first = laws.least_size (split v).0 h.front h.first_is in
+        let second = (more (split v).0).least_size (split v).1 h.back h.second_is in
+        let l = ap length h.whole_is ∙ length-append h.front h.back in
+        omega arith;
+    has_written = λ v b h.
+        let first = laws.has_written (split v).0 h.front h.first_is in
+        let second = (more (split v).0).has_written (split v).1 h.back h.second_is in
+        (first.0 ++ second.0, record { front = first.0; back = second.0; whole_is = refl; first_is = first.1; second_is = second.1 });
+    one_written = λ u v b c h k.
+        let no = neither L.hashed asks.hashed u in
+        let first = laws.one_written no.0 (split v).0 h.front k.front h.first_is k.first_is in
+        let second = (more (split v).0).one_written (not_asked (M (split v).0).hashed asks.hashed (suffices.hashed (split v).0) no.1) (split v).1 h.back k.back h.second_is k.second_is in
+        h.whole_is ∙ (cc) ∙ sym k.whole_is;
+    fault_unspelled = λ v front rest fault k.
+        let joined : front ++ rest ≡ k.front ++ (k.back ++ rest) = ap (λ x. x ++ rest) k.whole_is ∙ append_assoc k.front k.back rest in
+        elim fault [
+          | inl h ↦ laws.fault_unspelled (split v).0 k.front (k.back ++ rest) (subst L.at_fault joined h) k.first_is
+          | inr h ↦
+              let first = laws.decodes h.0 (split v).0 h.1.front k.front h.1.back (k.back ++ rest) h.1.first_is k.first_is (sym h.1.whole_is ∙ joined) in
+              (more (split v).0).fault_unspelled (split v).1 k.back rest (subst (λ (x : List ℕ). (M (split v).0).at_fault x) first.2 (subst (λ (u : U). (M u).at_fault h.1.back) first.0 h.1.second_is)) k.second_is
+        ];
+    names_own = λ kind named.
+        elim named [
+          | inl h ↦ laws.names_own kind h
+          | inr h ↦ (more h.0).names_own kind h.1
+        ];
+    refuses_own = λ kind refused.
+        elim refused [
+          | inl h ↦ laws.refuses_own kind h
+          | inr h ↦ (more h.0).refuses_own kind h.1
+        ];
+  }
+
+-- values that can be put together again from their parts differ in their parts
+pub told_apart : {U V : Type 0} {W : U → Type 0} (split : V → (u : U) × W u) (join : (u : U) → W u → V) → ((v : V) → join (split v).0 (split v).1 ≡ v) → (v w : V) → split v ≡ split w → v ≡ w
+told_apart {U = U} {W = W} split join back v w e = sym (back v) ∙ (ap (λ (p : (u : U) × W u). join p.0 p.1) e ∙ back w)

@@ -1,0 +1,94 @@
+-- Bytes that are read or skipped a chunk at a time.
+use Rattle.std.specs.Prelude.{◌≡◌, ℕ, ◌+◌, ◌-◌, ◌<◌, ◌≤◌, List, ◌++◌, length, take, drop, replicate, Bool, Ok, Err, refl}
+use Rattle.std.proofs.Common.{sym, ◌∙◌, ap, ap₂, subst, arith, inl, inr}
+use Rattle.std.proofs.lemmas.Bool.{cases_lt}
+use Rattle.std.proofs.lemmas.List.{length-append, length-take-le, length-replicate, take-append-drop}
+use Rattle.std.proofs.Math.Seq.{take-append_seam}
+use Rattle.speedy_base.specs.declared.error.Error.{Error}
+use Rattle.speedy_base.specs.Digits.{SpellsNumber, AreBytes}
+use Rattle.speedy_base.specs.Encoding.{Encoding}
+use Rattle.speedy_layout.specs.Format.{Each}
+use Rattle.speedy_layout.specs.Lists.{vector, repeat}
+use Rattle.speedy_layout.specs.Numbers.{unsigned_number}
+use Rattle.speedy_layout.specs.Owned.{owned_content}
+use Rattle.speedy_layout.specs.Texts.{raw_bytes, any_bytes, each_byte, each_byte_is}
+use Rattle.speedy_read.specs.Reading.{ReaderState, Reads, Unspelled}
+use Rattle.speedy_read.specs.ReadingLemmas.{Kept-after, IsTold-after, part_refused, ReadSoFar, more_so_far, all_so_far}
+use Rattle.speedy_read.specs.Codes.{Covers, refused_covered}
+
+-- the front of a chunk that was filled
+pub front_of : (n : ℕ) (xs ys : List ℕ) → length xs ≡ n → take n (xs ++ ys) ≡ xs
+front_of n xs ys e = subst (λ (m : ℕ). take m (xs ++ ys) ≡ xs) e (take-append_seam xs ys)
+
+-- so many bytes were taken so far
+abbrev pub SkippedSoFar : ℕ → ReaderState → ReaderState → Type 0
+SkippedSoFar count old new = ReadSoFar (λ s. length s ≡ count) old new
+
+-- just these bytes were
+abbrev pub BytesSoFar : List ℕ → ReaderState → ReaderState → Type 0
+BytesSoFar bytes old new = ReadSoFar (λ s. s ≡ bytes) old new
+
+-- numbers of one digit are read where as many bytes are
+any_bytes_cover : (n : ℕ) (encoding : Encoding) → Covers (any_bytes n) (vector n (unsigned_number 1 encoding))
+unfolding any_bytes vector owned_content repeat unsigned_number
+any_bytes_cover n encoding = record {
+  under = λ v s h. (tt, ap length (sym (each_byte_is encoding.order v s h.1)) ∙ h.0);
+  names = λ kind h. absurd h;
+  faults = λ bytes are h. absurd h;
+  takes = λ _. refl;
+  lends = λ t. t;
+}
+
+short_of : {E : Type 0} {gives : Error → E → Type 0} {eof : E → Bool} {e : E} (size : ℕ) (bytes : List ℕ) → Unspelled gives eof (raw_bytes size) e bytes → length bytes < size
+unfolding raw_bytes
+short_of size bytes un =
+    elim (cases_lt (length bytes) size) [
+      | inl h ↦ h
+      | inr h ↦ absurd (un.no_front (take size bytes) (take size bytes) (drop size bytes) (sym (take-append-drop size bytes)) (refl, length-take-le size bytes h))
+    ]
+
+module _ {E : Type 0} {gives : Error → E → Type 0} {eof : E → Bool} {old mid new : ReaderState} {A : Type 0} {seen : A → List ℕ} (size : ℕ) where
+  -- a chunk more was taken
+  pub more_skipped : {x : A} (count all : ℕ) → SkippedSoFar count old mid → Reads gives eof seen (raw_bytes size) (Ok x) mid new → count + size ≡ all → SkippedSoFar all old new
+  unfolding raw_bytes
+  more_skipped count all so_far read is = more_so_far so_far read (λ s t h k. length-append s t ∙ (ap₂ ◌+◌ h k.1 ∙ is))
+
+  pub more_bytes : {x : A} (bytes all : List ℕ) → BytesSoFar bytes old mid → Reads gives eof seen (raw_bytes size) (Ok x) mid new → all ≡ bytes ++ seen x → BytesSoFar all old new
+  unfolding raw_bytes
+  more_bytes bytes all so_far read is = more_so_far so_far read (λ s t h k. ap₂ ◌++◌ h (sym k.0) ∙ sym is)
+
+  -- a chunk was refused
+  pub chunk_refused : {B : Type 0} {view : B → Unit {0}} {e : E} {total : ℕ} (count : ℕ) → count + size ≤ total → SkippedSoFar count old mid → Reads gives eof seen (raw_bytes size) (Err e) mid new → Reads gives eof view (any_bytes total) (Err e) old new
+  unfolding raw_bytes any_bytes
+  chunk_refused {e = e} {total = total} count within so_far read = record {
+    kept = Kept-after so_far.kept read.kept;
+    answer = part_refused new so_far.kept.ends_by_device so_far.kept.takes_memory so_far.kept.faults (λ t. t) (λ kind h. h)
+        (λ told because.
+        let un = because (IsTold-after so_far.kept (λ t. t) told) in
+        let short = short_of size mid.to_come un in
+        let sizes : length old.to_come ≡ count + length mid.to_come = ap length (so_far.got.taken told.tells) ∙ (length-append so_far.got.front mid.to_come ∙ ap (λ n. n + length mid.to_come) so_far.got.front_is) in
+        record {
+          no_front = λ v front rest is l. let m = ap length is ∙ length-append front rest in let s = short in let k = sizes in absurd (omega arith);
+          too_short = λ v more l.
+              let missing = replicate (size - length mid.to_come) 0 in
+              un.too_short (mid.to_come ++ missing) missing (refl, length-append mid.to_come missing ∙ (ap (λ n. length mid.to_come + n) (length-replicate (size - length mid.to_come) 0) ∙ omega (arith, short)));
+          at_fault = λ fault. absurd fault;
+        })
+        read.answer;
+  }
+
+  pub bytes_refused : {B : Type 0} {view : B → List ℕ} {e : E} {total : ℕ} (encoding : Encoding) (count : ℕ) (bytes : List ℕ) → length bytes ≡ count → count + size ≤ total → BytesSoFar bytes old mid → Reads gives eof seen (raw_bytes size) (Err e) mid new → Reads gives eof view (vector total (unsigned_number 1 encoding)) (Err e) old new
+  bytes_refused {total = total} encoding count bytes l within so_far read =
+      let skipped : SkippedSoFar count old mid = record { kept = so_far.kept; got = record { front = so_far.got.front; front_is = ap length so_far.got.front_is ∙ l; taken = so_far.got.taken } } in
+      refused_covered (any_bytes_cover total encoding) (chunk_refused {view = λ (u : Unit {0}). u} count within skipped read)
+
+module _ {E : Type 0} {gives : Error → E → Type 0} {eof : E → Bool} {B : Type 0} {old new : ReaderState} where
+  -- all were taken
+  pub all_skipped : {view : B → Unit {0}} {x : B} {count : ℕ} → SkippedSoFar count old new → Reads gives eof view (any_bytes count) (Ok x) old new
+  unfolding any_bytes
+  all_skipped so_far = all_so_far so_far (λ s h. h)
+
+  pub all_bytes : {view : B → List ℕ} {y : B} {n : ℕ} (encoding : Encoding) → BytesSoFar (view y) old new → length (view y) ≡ n → AreBytes (view y) → Reads gives eof view (vector n (unsigned_number 1 encoding)) (Ok y) old new
+  unfolding vector owned_content repeat unsigned_number
+  all_bytes {view = view} {y = y} encoding so_far l are =
+      all_so_far so_far (λ s h. (l, subst (λ (x : List ℕ). Each (SpellsNumber 1 encoding.order) (view y) x) (sym h) (each_byte encoding.order (view y) are)))

@@ -1,0 +1,10 @@
+pub mod NumberLemmas
+pub mod NonZeroLemmas
+pub mod OwnedLemmas
+pub mod ListLemmas
+pub mod ByteLemmas
+pub mod TextLemmas
+pub mod VarintLemmas
+pub mod AddressLemmas
+pub mod BufferLemmas
+pub mod RoundTripLemmas

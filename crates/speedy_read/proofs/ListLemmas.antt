@@ -1,0 +1,100 @@
+-- Reads of items, one after another.
+use Rattle.std.specs.Prelude.{map, if◌then◌else◌, is_ok, is_err, ◌≡◌, ℕ, ◌*◌, ◌-◌, ◌^◌, ◌<◌, List, [], ◌∷◌, ◌++◌, length, Bool, false, IsTrue, Result, Ok, Err, refl}
+use Rattle.std.proofs.Common.{sym, ◌∙◌, ap, subst, arith, inl, inr}
+use Rattle.std.proofs.lemmas.List.{map-append, append_assoc, append-nil}
+use Rattle.speedy_base.specs.declared.error.ErrorKind.TheVariants as kinds
+use Rattle.speedy_base.specs.declared.error.Error.{Error}
+use Rattle.speedy_base.specs.Error.{error_of}
+use Rattle.speedy_base.specs.Encoding.{Encoding}
+use Rattle.speedy_layout.specs.Format.{Format, Each}
+use Rattle.speedy_layout.specs.Laws.{Laws}
+use Rattle.speedy_layout.specs.Lists.{repeat, vector, vector_length, vector_laws, list, list_parts, list_suffices}
+use Rattle.speedy_layout.specs.Owned.{owned_content}
+use Rattle.speedy_layout.specs.Numbers.{unsigned_number}
+use Rattle.speedy_layout.specs.Sequences.{across}
+use Rattle.speedy_read.specs.Reading.{ReaderState, Kept, Reads, IsEnd}
+use Rattle.speedy_read.specs.ReadingLemmas.{fronts_nest, Kept-same, Kept-after, IsTold-after, part_refused, ends_early, ReadSoFar, more_so_far, all_so_far}
+use Rattle.speedy_read.specs.Sequences.{Composes, sequence_composes}
+use Rattle.speedy_read.proofs.OwnedLemmas.{memory_refused}
+
+-- a list of items and one item more
+each_more : {V : Type 0} (spells : V → List ℕ → Type 0) (vs : List V) (v : V) (s t : List ℕ) → Each spells vs s → spells v t → Each spells (vs ++ v ∷ []) (s ++ t)
+each_more spells [] v s t h k = record { front = t; back = []; whole_is = ap (λ x. x ++ t) h ∙ sym (append-nil t); first_is = k; second_is = refl }
+each_more spells (w ∷ vs) v s t h k = record {
+  front = h.front;
+  back = h.back ++ t;
+  whole_is = ap (λ x. x ++ t) h.whole_is ∙ append_assoc h.front h.back t;
+  first_is = h.first_is;
+  second_is = each_more spells vs v h.back t h.second_is k;
+}
+
+-- what is seen of the items after a push that succeeded
+pub seen_pushed : {T E X V : Type 0} (seen : X → V) (r : Result T E) (xs zs : List X) (x : X) → is_err r ≡ false → zs ≡ (if is_ok r then xs ++ x ∷ [] else xs) → map seen zs ≡ map seen xs ++ seen x ∷ []
+seen_pushed seen (Ok t) xs zs x h e = ap (λ ys. map seen ys) e ∙ map-append seen xs (x ∷ [])
+seen_pushed seen (Err d) xs zs x h e = absurd (cc)
+
+module _ {V : Type 0} {least : ℕ} {L : Format V} (laws : Laws least L) where
+  -- where more items are spelled than were read, the next one is spelled by what is left
+  next_item : (vs ws : List V) (s t r q : List ℕ) → length vs < length ws → Each L.spells vs s → Each L.spells ws t → s ++ r ≡ t ++ q → (w : V) × (front rest : List ℕ) × (r ≡ front ++ rest) × L.spells w front
+  next_item vs [] s t r q l h k e = absurd (omega arith)
+  next_item [] (w ∷ ws) s t r q l h k e =
+      (w, k.front, k.back ++ q, ap (λ x. x ++ r) (sym h) ∙ (e ∙ (ap (λ x. x ++ q) k.whole_is ∙ append_assoc k.front k.back q)), k.first_is)
+  next_item (v ∷ vs) (w ∷ ws) s t r q l h k e =
+      let joined = across s t r q h.front h.back k.front k.back h.whole_is k.whole_is e in
+      let first = laws.decodes v w h.front k.front (h.back ++ r) (k.back ++ q) h.first_is k.first_is joined in
+      let fewer : length vs < length ws = omega arith in
+      next_item vs ws h.back k.back r q fewer h.second_is k.second_is first.2
+
+  -- a list is read as its length, and then so many items
+  pub list_composes : (encoding : Encoding) → Composes (unsigned_number 4 encoding) (λ n. vector n L) (list encoding L) (λ n vs. vs)
+  unfolding list
+  list_composes encoding = sequence_composes list_parts (list_suffices laws) (λ n vs s h. ap (λ (m : ℕ). let whole : ℕ × List V = (m, vs) in whole) (vector_length n L vs s h))
+
+  module _ {E : Type 0} {gives : Error → E → Type 0} {eof : E → Bool} {B : Type 0} {view : B → List V} (n : ℕ) {old : ReaderState} where
+    -- fewer bytes are to come than so many items have at least
+    pub refused_early : {e : E} → IsEnd gives eof old.ends_by_device e → (IsTrue old.tells → length old.to_come < 2 ^ 64 - 1 → length old.to_come < n * least) → Reads gives eof view (vector n L) (Err e) old old
+    unfolding vector owned_content repeat
+    refused_early ended fewer = record { kept = Kept-same; answer = inr (ends_early (n * least) (vector_laws laws n).least_size (λ _ fault. fault) ended fewer) }
+
+    -- where an item is refused, the vector is
+    pub refused_item : {A : Type 0} {seen : A → V} (vs : List V) {e : E} {mid new : ReaderState} → length vs < n → ReadSoFar (Each L.spells vs) old mid → Reads gives eof seen L (Err e) mid new → Reads gives eof view (vector n L) (Err e) old new
+    unfolding vector owned_content repeat
+    refused_item vs {e = e} {mid = mid} {new = new} fewer so_far r =
+        let got = so_far.got in
+        record {
+          kept = Kept-after so_far.kept r.kept;
+          answer = part_refused new so_far.kept.ends_by_device so_far.kept.takes_memory so_far.kept.faults (λ _. refl) (λ kind h. h)
+              (λ told because.
+              let un = because (IsTold-after so_far.kept (λ need. need) told) in
+              record {
+                no_front = λ ws front rest is sp.
+                    let item = next_item vs ws got.front front mid.to_come rest (subst (λ (m : ℕ). length vs < m) (sym sp.0) fewer) got.front_is sp.1 (sym (got.taken told.tells) ∙ is) in
+                    un.no_front item.0 item.1 item.2 item.3 item.4;
+                too_short = λ ws more sp.
+                    let whole = old.to_come ++ more in
+                    let joined = sym (append_assoc got.front mid.to_come more) ∙ (ap (λ x. x ++ more) (sym (got.taken told.tells)) ∙ sym (append-nil whole)) in
+                    let item = next_item vs ws got.front whole (mid.to_come ++ more) [] (subst (λ (m : ℕ). length vs < m) (sym sp.0) fewer) got.front_is sp.1 joined in
+                    elim (fronts_nest mid.to_come more item.1 item.2 item.3) [
+                      | inl h ↦ un.too_short item.0 h.0 (subst (L.spells item.0) h.1 item.4)
+                      | inr h ↦ absurd (un.no_front item.0 item.1 h.0 h.1 item.4)
+                    ];
+                at_fault = λ fault. absurd fault;
+              })
+              r.answer;
+        }
+
+module _ {E : Type 0} {gives : Error → E → Type 0} {eof : E → Bool} {V : Type 0} (L : Format V) {old new : ReaderState} where
+  -- one item more was read
+  pub item_more : {A : Type 0} {seen : A → V} {x : A} (vs : List V) {ws : List V} {mid : ReaderState} → ReadSoFar (Each L.spells vs) old mid → Reads gives eof seen L (Ok x) mid new → ws ≡ vs ++ seen x ∷ [] → ReadSoFar (Each L.spells ws) old new
+  item_more {seen = seen} {x = x} vs so_far read is =
+      subst (λ (us : List V). ReadSoFar (Each L.spells us) old new) (sym is) (more_so_far so_far read (λ s t h k. each_more L.spells vs (seen x) s t h k))
+
+  -- all items were read
+  pub got_items : {B : Type 0} {view : B → List V} {y : B} (n : ℕ) → ReadSoFar (Each L.spells (view y)) old new → length (view y) ≡ n → Reads gives eof view (vector n L) (Ok y) old new
+  unfolding vector owned_content repeat
+  got_items n so_far l = all_so_far so_far (λ s h. (l, h))
+
+-- want of memory for an item
+pub refused_room : {E : Type 0} {gives : Error → E → Type 0} {eof : E → Bool} {V : Type 0} (n : ℕ) (L : Format V) {old new : ReaderState} {B : Type 0} {view : B → List V} {e : E} → Kept old new → gives (error_of kinds.OutOfMemory) e → Reads gives eof view (vector n L) (Err e) old new
+unfolding vector
+refused_room n L k g = memory_refused (repeat n L) k g

@@ -1,0 +1,86 @@
+-- What was written is what is read, by the laws of the layout.
+use Rattle.std.specs.Prelude.{◌≡◌, ℕ, ◌+◌, ◌*◌, List, [], ◌++◌, length, Bool, IsTrue, ◌⊎◌, Result, Ok, Err, refl}
+use Rattle.std.proofs.Common.{sym, ◌∙◌, ap, subst, arith, inl, inr}
+use Rattle.std.proofs.lemmas.List.{length-append, append-nil}
+use Rattle.speedy_base.specs.declared.error.Error.{Error}
+use Rattle.speedy_base.specs.declared.error.ErrorKind.TheVariants as kinds
+use Rattle.speedy_base.specs.Error.{error_of}
+use Rattle.speedy_base.specs.DigitsLemmas.{AreBytes-slice}
+use Rattle.speedy_base.specs.Encoding.{Encoding}
+use Rattle.speedy_layout.specs.Format.{Format}
+use Rattle.speedy_layout.specs.Laws.{Laws}
+use Rattle.speedy_layout.specs.Lists.{repeat, vector, vector_laws}
+use Rattle.speedy_layout.specs.Owned.{owned_content}
+use Rattle.speedy_read.specs.Buffers.{bytes_state}
+use Rattle.speedy_read.specs.Reading.{ReaderState, IsTold, Excused, Refused, RefusesBuffer, Reads, AnswersBuffer}
+use Rattle.speedy_read.specs.RoundTrip.{AnswersWritten, ReadsWritten, ReadsWrittenFirst, WrittenIsAnswered, WrittenIsRead, WrittenItemsAreRead}
+
+module _ {E A V : Type 0} (gives : Error → E → Type 0) (eof : E → Bool) (seen : A → V) (least : ℕ) where
+  module _ (L : Format V) (laws : Laws least L) (v : V) (bytes rest : List ℕ) (written : L.writes v bytes) where
+    front_answered : (result : Result A E) (count : ℕ) (buffer : List ℕ) → buffer ≡ bytes ++ rest → AnswersBuffer gives eof seen least L result count buffer → AnswersWritten gives seen L v (length bytes) result count
+    front_answered (Ok x) count buffer e a =
+        let k = a.value in
+        let one : (seen x ≡ v) × (k.front ≡ bytes) × (k.rest ≡ rest) = laws.decodes (seen x) v k.front bytes k.rest rest k.front_is (laws.written_spells v bytes written) (sym k.whole_is ∙ e) in
+        record { same = one.0; counted = k.count_is ∙ ap length one.1; refused = tt; takes_memory = tt }
+    front_answered (Err x) count buffer e a =
+        let size = laws.least_size v bytes (laws.written_spells v bytes written) in
+        let l : length buffer ≡ length bytes + length rest = ap length e ∙ length-append bytes rest in
+        let want = refusal (a.refused (omega arith)) in
+        record { same = tt; counted = tt; refused = want.0; takes_memory = want.1 } where
+          refusal : (gives (error_of kinds.OutOfMemory) x × IsTrue L.takes_memory) ⊎ RefusesBuffer gives eof L x buffer → gives (error_of kinds.OutOfMemory) x × IsTrue L.takes_memory
+          refusal (inl m) = m
+          refusal (inr r) = absurd (r.because.no_front v bytes rest e (laws.written_spells v bytes written))
+
+    read_back : (result : Result A E) (old new : ReaderState) → IsTrue old.tells → old.to_come ≡ bytes ++ rest → Reads gives eof seen L result old new → ReadsWritten gives eof seen L v rest result old new
+    read_back (Ok x) old new told e a =
+        let k = a.answer in
+        let one : (seen x ≡ v) × (k.front ≡ bytes) × (new.to_come ≡ rest) = laws.decodes (seen x) v k.front bytes new.to_come rest k.front_is (laws.written_spells v bytes written) (sym (k.taken told) ∙ e) in
+        record { same = one.0; rest_is = one.2; refused = λ _. tt }
+    read_back (Err x) old new told e a = record { same = tt; rest_is = tt; refused = λ known. refusal known a.answer } where
+      refusal : IsTold L old → Excused gives L.takes_memory x old new ⊎ Refused gives eof L x old → Excused gives L.takes_memory x old new
+      refusal known (inl m) = m
+      refusal known (inr r) = absurd ((r.because known).no_front v bytes rest e (laws.written_spells v bytes written))
+
+    -- a reader of bytes in memory has no failed calls
+    first_read : (result : Result A E) (old : ReaderState) (buffer left : List ℕ) (at after : Encoding) → old ≡ bytes_state buffer at → ReadsWritten gives eof seen L v rest result old (bytes_state left after) → ReadsWrittenFirst gives seen v rest buffer result left
+    first_read (Ok x) old buffer left at after s r = record { same = r.same; rest_is = r.rest_is; refused = λ _ _. tt }
+    first_read (Err x) old buffer left at after s r = record {
+      same = tt;
+      rest_is = tt;
+      refused = λ bytes fit. want (r.refused (subst (IsTold L) (sym s) (record { tells = refl; are_bytes = AreBytes-slice buffer bytes; fit = fit; lends = λ _. refl })));
+    } where
+      want : Excused gives L.takes_memory x old (bytes_state left after) → gives (error_of kinds.OutOfMemory) x
+      want (inl (g, _)) = g
+      want (inr (inl h)) = absurd (omega arith)
+      want (inr (inr h)) = absurd (omega arith)
+
+  module _ (format : Encoding → Format V) (laws : (encoding : Encoding) → Laws least (format encoding)) where
+    -- the laws of the functions over buffers follow from those of the layout
+    pub written_is_answered : WrittenIsAnswered gives eof seen least format
+    written_is_answered = record {
+      front = λ {encoding} {v} {bytes} rest {buffer} {result} {count} h e a. front_answered (format encoding) (laws encoding) v bytes rest h result count buffer e a;
+      whole = λ {encoding} {v} {bytes} {buffer} {result} {count} h e a. front_answered (format encoding) (laws encoding) v bytes [] h result count buffer (e ∙ sym (append-nil bytes)) a;
+    }
+
+    -- and so do those of reads
+    pub written_is_read : WrittenIsRead gives eof seen format
+    written_is_read =
+        let reads : (encoding : Encoding) (v : V) (bytes rest : List ℕ) (result : Result A E) (old new : ReaderState) → (format encoding).writes v bytes → IsTrue old.tells → old.encoding ≡ encoding → old.to_come ≡ bytes ++ rest → Reads gives eof seen (format old.encoding) result old new → ReadsWritten gives eof seen (format encoding) v rest result old new =
+        λ encoding v bytes rest result old new h told f e a. read_back (format encoding) (laws encoding) v bytes rest h result old new told e (subst (λ (f : Encoding). Reads gives eof seen (format f) result old new) f a) in
+        record {
+          told = λ {encoding} {v} {bytes} {rest} {result} {old} {new} h t f e a. reads encoding v bytes rest result old new h t f e a;
+          made = λ {encoding} {at} {after} {v} {bytes} {rest} {buffer} {left} {result} {old} h e s f a.
+              let read = reads encoding v bytes rest result old (bytes_state left after) h (ap (λ x. x.tells) s) (ap (λ x. x.encoding) s ∙ f) (ap (λ x. x.to_come) s ∙ e) a in
+              first_read (format encoding) (laws encoding) v bytes rest h result old buffer left at after s read;
+        }
+
+module _ {E A V : Type 0} (gives : Error → E → Type 0) (eof : E → Bool) (seen : A → List V) (least : ℕ) (format : Encoding → Format V) (laws : (encoding : Encoding) → Laws least (format encoding)) where
+  -- items are read as a vector is
+  pub written_items_are_read : WrittenItemsAreRead gives eof seen format
+  unfolding vector owned_content repeat
+  written_items_are_read =
+      let vectors : (n : ℕ) → WrittenIsRead gives eof seen (λ encoding. vector n (format encoding)) = λ n. written_is_read gives eof seen (n * least) (λ encoding. vector n (format encoding)) (λ encoding. vector_laws (laws encoding) n) in
+      record {
+        told = λ {encoding} {vs} bytes {rest} {n} h l t f e a. (vectors n).told (sym l, h) t f e a;
+        made = λ {encoding} {at} {after} {vs} bytes {rest} {buffer} {left} {n} h l e s f a. (vectors n).made (sym l, h) e s f a;
+      }

@@ -1,0 +1,13 @@
+use Rattle.speedy_read.specs.Codes.{code_refused}
+use Rattle.speedy_read.specs.Exits.{exit_is}
+use Rattle.speedy_read.proofs.NonZeroLemmas.{non_zero_read, zero_refused}
+use Rattle.speedy_read.proofs.non_zero.NonZeroU32ReadFrom.read_from.Goals as goal
+
+pub returns-in_err-read_u32 : goal.returns-in_err-read_u32
+returns-in_err-read_u32 g c = rw (exit_is c.from_residual.result c.from_residual.ensures.1) (code_refused _ c.in_err-read_u32.ensures)
+
+pub returns-in-Some : goal.returns-in-Some
+returns-in-Some g c = non_zero_read 4 c.in-Some.ensures c.in-Some.number.ok c.in_ok-read_u32.ensures
+
+pub returns-in-None : goal.returns-in-None
+returns-in-None g c = zero_refused 4 c.in-None.ensures c.error_zero_non_zero.ensures c.in_ok-read_u32.ensures

@@ -1,9 +1,0 @@
-use Rattle.std.proofs.Common.{◌≡◌, ◌-◌, ◌≤◌, length}
-use Rattle.speedy_read.specs.Skipping.{ReadSoFar}
-use Rattle.speedy_read.proofs.readable_impl.U8ReadMany.read_many.Given as goal
-
-abbrev pub invariant-loop-left : goal.invariant-loop-left
-invariant-loop-left g l = (l.left ≤ l.length) × (length l.chunk ≡ 512) × ReadSoFar l.bytes.items (l.length - l.left) (g.R.LendingReader.state l.fn.reader) (g.R.LendingReader.state l.reader)
-
-abbrev pub decreases-loop-left : goal.decreases-loop-left
-decreases-loop-left g l = l.left

@@ -1,0 +1,164 @@
+-- What holds of reads and of the states of readers.
+use Rattle.std.specs.Prelude.{◌≡◌, ℕ, ◌≤◌, ◌<◌, ◌-◌, ◌^◌, List, [], ◌∷◌, ◌++◌, length, Bool, IsTrue, ◌⊎◌, Ok, Err, refl}
+use Rattle.std.proofs.Common.{sym, ◌∙◌, ap, subst, arith, inl, inr}
+use Rattle.std.proofs.lemmas.List.{append_assoc, length-append}
+use Rattle.speedy_base.specs.declared.error.ErrorKind.{ErrorKind}
+use Rattle.speedy_base.specs.declared.error.ErrorKind.TheVariants as kinds
+use Rattle.speedy_base.specs.declared.error.Error.{Error}
+use Rattle.speedy_base.specs.Error.{error_of, IsNamed-more}
+use Rattle.speedy_base.specs.Digits.{AreBytes}
+use Rattle.speedy_base.specs.DigitsLemmas.{AreBytes-append_parts}
+use Rattle.speedy_base.specs.DeviceLemmas.{HasGrown-after}
+use Rattle.speedy_layout.specs.Format.{Format}
+use Rattle.speedy_read.specs.Reading.{ReaderState, Kept, KeptByPeek, Got, IsTold, Excused, IsEnd, Unspelled, Refused, Reads}
+
+-- ---- states
+
+-- a reader that stays as it is
+pub Kept-same : {a : ReaderState} → Kept a a
+Kept-same = record {
+  tells = refl;
+  lends = refl;
+  tidy = λ t. t;
+  buffers = refl;
+  takes_memory = refl;
+  ends_by_device = refl;
+  encoding = refl;
+  faults = omega arith;
+  targets = refl;
+  tail = λ _. ([], refl);
+}
+
+-- one read after another keeps what each keeps
+pub Kept-after : {a b c : ReaderState} → Kept a b → Kept b c → Kept a c
+Kept-after {c = c} h k = record {
+  tells = k.tells ∙ h.tells;
+  lends = k.lends ∙ h.lends;
+  tidy = λ t. k.tidy (h.tidy t);
+  buffers = k.buffers ∙ h.buffers;
+  takes_memory = k.takes_memory ∙ h.takes_memory;
+  ends_by_device = k.ends_by_device ∙ h.ends_by_device;
+  encoding = k.encoding ∙ h.encoding;
+  faults = let x = h.faults in let y = k.faults in omega arith;
+  targets = k.targets ∙ h.targets;
+  tail = λ told.
+      let first = h.tail told in
+      let second = k.tail (subst IsTrue (sym h.tells) told) in
+      (first.0 ++ second.0, first.1 ∙ (ap (λ x. first.0 ++ x) second.1 ∙ sym (append_assoc first.0 second.0 c.to_come)));
+}
+
+-- the same of peeks
+pub KeptByPeek-same : {a : ReaderState} → KeptByPeek a a
+KeptByPeek-same = record { tells = refl; lends = refl; buffers = refl; takes_memory = refl; ends_by_device = refl; encoding = refl; faults = omega arith; targets = refl; to_come = λ _. refl }
+
+pub KeptByPeek-after : {a b c : ReaderState} → KeptByPeek a b → KeptByPeek b c → KeptByPeek a c
+KeptByPeek-after h k = record {
+  tells = k.tells ∙ h.tells;
+  lends = k.lends ∙ h.lends;
+  buffers = k.buffers ∙ h.buffers;
+  takes_memory = k.takes_memory ∙ h.takes_memory;
+  ends_by_device = k.ends_by_device ∙ h.ends_by_device;
+  encoding = k.encoding ∙ h.encoding;
+  faults = let x = h.faults in let y = k.faults in omega arith;
+  targets = k.targets ∙ h.targets;
+  to_come = λ told. k.to_come (subst IsTrue (sym h.tells) told) ∙ h.to_come told;
+}
+
+-- bytes that are told to a whole are told to its part, also after a read
+pub IsTold-after : {U V : Type 0} {N : Format V} {M : Format U} {old mid : ReaderState} → Kept old mid → (IsTrue M.needs_lending → IsTrue N.needs_lending) → IsTold N old → IsTold M mid
+IsTold-after {mid = mid} k needs told = record {
+  tells = subst IsTrue (sym k.tells) told.tells;
+  are_bytes = let t = k.tail told.tells in (AreBytes-append_parts t.0 mid.to_come (subst AreBytes t.1 told.are_bytes)).1;
+  fit = let t = k.tail told.tells in let l = ap length t.1 ∙ length-append t.0 mid.to_come in let f = told.fit in omega arith;
+  lends = λ need. subst IsTrue (sym k.lends) (told.lends (needs need));
+}
+
+pub IsTold-part : {U V : Type 0} {N : Format V} {M : Format U} {old : ReaderState} → (IsTrue M.needs_lending → IsTrue N.needs_lending) → IsTold N old → IsTold M old
+IsTold-part needs told = record { tells = told.tells; are_bytes = told.are_bytes; fit = told.fit; lends = λ need. told.lends (needs need) }
+
+-- of two fronts of one list, one is a front of the other
+pub fronts_nest : (a b c d : List ℕ) → a ++ b ≡ c ++ d → ((r : List ℕ) × (c ≡ a ++ r)) ⊎ ((r : List ℕ) × (a ≡ c ++ r))
+fronts_nest [] b c d e = inl (c, refl)
+fronts_nest (x ∷ a) b [] d e = inr (x ∷ a, refl)
+fronts_nest (x ∷ a) b (y ∷ c) d e =
+    let tails : a ++ b ≡ c ++ d = (cc) in
+    let heads : x ≡ y = (cc) in
+    elim (fronts_nest a b c d tails) [
+      | inl h ↦ inl (h.0, (let l = h.1 in (cc)))
+      | inr h ↦ inr (h.0, (let l = h.1 in (cc)))
+    ]
+
+-- ---- refusals
+
+-- an error that says that the input ended
+pub input_ended : {E : Type 0} (gives : Error → E → Type 0) (eof : E → Bool) (by_device : Bool) (e : E) → gives (error_of kinds.UnexpectedEndOfInput) e → IsTrue (eof e) → IsEnd gives eof by_device e
+input_ended gives eof by_device e g h = ((kinds.UnexpectedEndOfInput, tt, g), h)
+
+-- what excuses a part that is read from `mid` on excuses the whole
+excused_after : {E : Type 0} (gives : Error → E → Type 0) (takes more : Bool) (e : E) (old mid new : ReaderState) → mid.takes_memory ≡ old.takes_memory → old.faults ≤ mid.faults → (IsTrue takes → IsTrue more) → Excused gives takes e mid new → Excused gives more e old new
+excused_after gives takes more e old mid new same l f (inl (g, inl t)) = inl (g, inl (f t))
+excused_after gives takes more e old mid new same l f (inl (g, inr t)) = inl (g, inr (subst IsTrue same t))
+excused_after gives takes more e old mid new same l f (inr h) = inr (HasGrown-after l h)
+
+-- a part L that is refused from `mid` on refuses the whole N, where what L says of the bytes says it of N
+pub part_refused : {E : Type 0} {gives : Error → E → Type 0} {eof : E → Bool} {U V : Type 0} {L : Format U} {N : Format V} {e : E} {old mid : ReaderState} (new : ReaderState) → mid.ends_by_device ≡ old.ends_by_device → mid.takes_memory ≡ old.takes_memory → old.faults ≤ mid.faults
+    → (IsTrue L.takes_memory → IsTrue N.takes_memory) → ((kind : ErrorKind) → L.names kind → N.names kind)
+    → (IsTold N old → (IsTold L mid → Unspelled gives eof L e mid.to_come) → Unspelled gives eof N e old.to_come)
+    → Excused gives L.takes_memory e mid new ⊎ Refused gives eof L e mid → Excused gives N.takes_memory e old new ⊎ Refused gives eof N e old
+part_refused {gives = gives} {L = L} {N = N} {e = e} {old = old} {mid = mid} new ends memory faults takes names un (inl x) = inl (excused_after gives L.takes_memory N.takes_memory e old mid new memory faults takes x)
+part_refused {gives = gives} {eof = eof} {L = L} {N = N} {e = e} new ends memory faults takes names un (inr x) = inr (record {
+  kind = elim x.kind [ inl h ↦ inl (subst (λ (by_device : Bool). IsEnd gives eof by_device e) ends h) | inr h ↦ inr (IsNamed-more gives e names h) ];
+  because = λ told. un told x.because;
+})
+
+-- an input that ended before the least size of a format without faults
+pub ends_early : {E : Type 0} {gives : Error → E → Type 0} {eof : E → Bool} {V : Type 0} {L : Format V} {e : E} {old : ReaderState} (least : ℕ) → ((v : V) (s : List ℕ) → L.spells v s → least ≤ length s) → ((bytes : List ℕ) → L.at_fault bytes → ⊥) → IsEnd gives eof old.ends_by_device e
+    → (IsTrue old.tells → length old.to_come < 2 ^ 64 - 1 → length old.to_come < least) → Refused gives eof L e old
+ends_early least size no_fault ended fewer = record {
+  kind = inl ended;
+  because = λ told. record {
+    no_front = λ v front rest is h. let k = size v front h in let l = ap length is ∙ length-append front rest in let f = fewer told.tells told.fit in absurd (omega arith);
+    too_short = λ _ _ _. ended.1;
+    at_fault = λ fault. absurd (no_fault _ fault);
+  };
+}
+
+-- ---- what was read so far
+
+-- from old to new a front was taken that is spelled so
+pub record ReadSoFar (spelled : List ℕ → Type 0) (old new : ReaderState) : Type 0 where
+  pub kept : Kept old new
+  pub got : Got spelled old new
+
+pub none_so_far : {spelled : List ℕ → Type 0} {old : ReaderState} → spelled [] → ReadSoFar spelled old old
+none_so_far h = record { kept = Kept-same; got = record { front = []; front_is = h; taken = λ _. refl } }
+
+module _ {E : Type 0} {gives : Error → E → Type 0} {eof : E → Bool} {A V : Type 0} {seen : A → V} {x : A} {L : Format V} {spelled : List ℕ → Type 0} where
+  -- and a value more
+  pub more_so_far : {more : List ℕ → Type 0} {old mid new : ReaderState} → ReadSoFar spelled old mid → Reads gives eof seen L (Ok x) mid new → ((s t : List ℕ) → spelled s → L.spells (seen x) t → more (s ++ t)) → ReadSoFar more old new
+  more_so_far {new = new} h r f = record {
+    kept = Kept-after h.kept r.kept;
+    got = record {
+      front = h.got.front ++ r.answer.front;
+      front_is = f h.got.front r.answer.front h.got.front_is r.answer.front_is;
+      taken = λ told. h.got.taken told ∙ (ap (λ s. h.got.front ++ s) (r.answer.taken (subst IsTrue (sym h.kept.tells) told)) ∙ sym (append_assoc h.got.front r.answer.front new.to_come));
+    };
+  }
+
+  -- the front is a value
+  pub all_so_far : {old new : ReaderState} → ReadSoFar spelled old new → ((s : List ℕ) → spelled s → L.spells (seen x) s) → Reads gives eof seen L (Ok x) old new
+  all_so_far h f = record { kept = h.kept; answer = record { front = h.got.front; front_is = f h.got.front h.got.front_is; taken = h.got.taken } }
+
+-- ---- another value of the same format
+
+module _ {E : Type 0} {gives : Error → E → Type 0} {eof : E → Bool} {A B V : Type 0} {seen : A → V} {view : B → V} {L : Format V} {old new : ReaderState} where
+  -- what was refused as one value is refused as another
+  pub refused_as : {e : E} → Reads gives eof seen L (Err e) old new → Reads gives eof view L (Err e) old new
+  refused_as r = record { kept = r.kept; answer = r.answer }
+
+  -- and answered, where the same is seen of it
+  pub got_as : {x : A} {y : B} → view y ≡ seen x → Reads gives eof seen L (Ok x) old new → Reads gives eof view L (Ok y) old new
+  got_as same r = record {
+    kept = r.kept;
+    answer = record { front = r.answer.front; front_is = subst (λ (v : V). L.spells v r.answer.front) (sym same) r.answer.front_is; taken = r.answer.taken };
+  }

@@ -1,0 +1,123 @@
+-- Reads of two parts make reads of wholes.
+use Rattle.std.specs.Prelude.{◌≡◌, ℕ, List, ◌++◌, IsTrue, ◌⊎◌, Result, Ok, Err, Bool, refl}
+use Rattle.std.proofs.Common.{sym, ◌∙◌, ap, subst, arith, inl, inr}
+use Rattle.std.proofs.lemmas.List.{append_assoc}
+use Rattle.speedy_base.specs.declared.error.ErrorKind.{ErrorKind}
+use Rattle.speedy_base.specs.declared.error.Error.{Error}
+use Rattle.speedy_base.specs.Error.{IsNamed-more}
+use Rattle.speedy_layout.specs.Format.{Format, Parts}
+use Rattle.speedy_layout.specs.Laws.{Laws}
+use Rattle.speedy_layout.specs.Sequences.{Asks, Suffices, sequence, or_left, or_right}
+use Rattle.speedy_layout.specs.Tuples.{pair, pair_suffices}
+use Rattle.speedy_read.specs.Reading.{ReaderState, Unspelled, Reads, Peeks}
+use Rattle.speedy_read.specs.ReadingLemmas.{Kept-after, IsTold-after, IsTold-part, fronts_nest, part_refused, more_so_far, all_so_far}
+
+-- a value of N is one of L and then one of M, which may depend on it
+pub record Composes {U V : Type 0} {W : U → Type 0} (L : Format U) (M : (u : U) → Format (W u)) (N : Format V) (join : (u : U) → W u → V) : Type 0 where
+  pub joins : (u : U) (w : W u) (s t : List ℕ) → L.spells u s → (M u).spells w t → N.spells (join u w) (s ++ t)
+  pub splits : (v : V) (s : List ℕ) → N.spells v s → (u : U) × (w : W u) × Parts (L.spells u) ((M u).spells w) s
+  pub names_first : (kind : ErrorKind) → L.names kind → N.names kind
+  pub names_second : (u : U) (kind : ErrorKind) → (M u).names kind → N.names kind
+  pub faults : (bytes : List ℕ) → N.at_fault bytes → L.at_fault bytes ⊎ ((u : U) × Parts (L.spells u) ((M u).at_fault) bytes)
+  pub takes_first : IsTrue L.takes_memory → IsTrue N.takes_memory
+  pub takes_second : (u : U) → IsTrue (M u).takes_memory → IsTrue N.takes_memory
+  pub lends_first : IsTrue L.needs_lending → IsTrue N.needs_lending
+  pub lends_second : (u : U) → IsTrue (M u).needs_lending → IsTrue N.needs_lending
+
+-- a sequence is read as its first part and then its second; what is joined splits again where the second part is spelled
+pub sequence_composes : {U V : Type 0} {W : U → Type 0} (split : V → (u : U) × W u) {join : (u : U) → W u → V} {L : Format U} {asks : Asks} {M : (u : U) → Format (W u)} → Suffices asks M
+    → ((u : U) (w : W u) (s : List ℕ) → (M u).spells w s → let whole : (u : U) × W u = (u, w) in split (join u w) ≡ whole) → Composes L M (sequence split L asks M) join
+unfolding sequence
+sequence_composes {U = U} {W = W} split {L = L} {asks = asks} {M = M} suffices back = record {
+  joins = λ u w s t h k.
+      let whole : (u : U) × W u = (u, w) in
+      subst (λ (p : (u : U) × W u). Parts (L.spells p.0) ((M p.0).spells p.1) (s ++ t)) (sym (back u w t k))
+      (record { front = s; back = t; whole_is = refl; first_is = h; second_is = k });
+  splits = λ v s h. ((split v).0, (split v).1, h);
+  names_first = λ kind h. inl h;
+  names_second = λ u kind h. inr (u, h);
+  faults = λ bytes h. h;
+  takes_first = or_left L.takes_memory asks.memory;
+  takes_second = λ u t. or_right L.takes_memory asks.memory (suffices.memory u t);
+  lends_first = or_left L.needs_lending asks.lending;
+  lends_second = λ u t. or_right L.needs_lending asks.lending (suffices.lending u t);
+}
+
+-- two values are read one after the other
+pub pair_composes : {U W : Type 0} {L : Format U} {M : Format W} → Composes L (λ _. M) (pair L M) (λ u w. (u, w))
+pair_composes {M = M} = sequence_composes (λ p. p) (pair_suffices M) (λ u w s h. refl)
+
+module _ {U V : Type 0} {W : U → Type 0} {L : Format U} {M : (u : U) → Format (W u)} {N : Format V} {join : (u : U) → W u → V} (c : Composes L M N join) {E : Type 0} {gives : Error → E → Type 0} {eof : E → Bool} where
+  unspelled_first : {e : E} {bytes : List ℕ} → Unspelled gives eof L e bytes → Unspelled gives eof N e bytes
+  unspelled_first {e = e} {bytes = bytes} un = record {
+    no_front = λ v front rest is sp.
+        let parts = c.splits v front sp in
+        un.no_front parts.0 parts.2.front (parts.2.back ++ rest) (is ∙ (ap (λ x. x ++ rest) parts.2.whole_is ∙ append_assoc parts.2.front parts.2.back rest)) parts.2.first_is;
+    too_short = λ v more sp.
+        let parts = c.splits v (bytes ++ more) sp in
+        elim (fronts_nest bytes more parts.2.front parts.2.back parts.2.whole_is) [
+          | inl h ↦ un.too_short parts.0 h.0 (subst (L.spells parts.0) h.1 parts.2.first_is)
+          | inr h ↦ absurd (un.no_front parts.0 parts.2.front h.0 h.1 parts.2.first_is)
+        ];
+    at_fault = λ fault.
+        elim (c.faults bytes fault) [
+          | inl h ↦ IsNamed-more gives e c.names_first (un.at_fault h)
+          | inr h ↦ absurd (un.no_front h.0 h.1.front h.1.back h.1.whole_is h.1.first_is)
+        ];
+  }
+
+  -- where the first part is refused, the whole is
+  pub refused_first : {A B : Type 0} {seen : A → U} {view : B → V} {e : E} {old new : ReaderState} → Reads gives eof seen L (Err e) old new → Reads gives eof view N (Err e) old new
+  refused_first {new = new} r = record {
+    kept = r.kept;
+    answer = part_refused new refl refl (omega arith) c.takes_first c.names_first (λ told un. unspelled_first (un (IsTold-part c.lends_first told))) r.answer;
+  }
+
+  pub peek_refused_first : {A B : Type 0} {seen : A → U} {view : B → V} {e : E} {old new : ReaderState} → Peeks gives eof seen L (Err e) old new → Peeks gives eof view N (Err e) old new
+  peek_refused_first {new = new} r = record {
+    kept = r.kept;
+    answer = part_refused new refl refl (omega arith) c.takes_first c.names_first (λ told un. unspelled_first (un (IsTold-part c.lends_first told))) r.answer;
+  }
+
+  unspelled_second : {least : ℕ} → Laws least L → (u : U) {e : E} (front rest : List ℕ) → L.spells u front → Unspelled gives eof (M u) e rest → Unspelled gives eof N e (front ++ rest)
+  unspelled_second laws u {e = e} front rest first un = record {
+    no_front = λ v whole tail is sp.
+        let parts = c.splits v whole sp in
+        let same = laws.decodes u parts.0 front parts.2.front rest (parts.2.back ++ tail) first parts.2.first_is (is ∙ (ap (λ x. x ++ tail) parts.2.whole_is ∙ append_assoc parts.2.front parts.2.back tail)) in
+        let second = subst (λ (x : U). (w : W x) × (M x).spells w parts.2.back) (sym same.0) (parts.1, parts.2.second_is) in
+        un.no_front second.0 parts.2.back tail same.2 second.1;
+    too_short = λ v more sp.
+        let parts = c.splits v ((front ++ rest) ++ more) sp in
+        let same = laws.decodes u parts.0 front parts.2.front (rest ++ more) parts.2.back first parts.2.first_is (sym (append_assoc front rest more) ∙ parts.2.whole_is) in
+        let second = subst (λ (x : U). (w : W x) × (M x).spells w parts.2.back) (sym same.0) (parts.1, parts.2.second_is) in
+        un.too_short second.0 more (subst (λ (x : List ℕ). (M u).spells second.0 x) (sym same.2) second.1);
+    at_fault = λ fault.
+        elim (c.faults (front ++ rest) fault) [
+          | inl h ↦ absurd (laws.fault_unspelled u front rest h first)
+          | inr h ↦
+              let same = laws.decodes u h.0 front h.1.front rest h.1.back first h.1.first_is h.1.whole_is in
+              IsNamed-more gives e (c.names_second u) (un.at_fault (subst (λ (x : List ℕ). (M u).at_fault x) (sym same.2) (subst (λ (x : U). (M x).at_fault h.1.back) (sym same.0) h.1.second_is)))
+        ];
+  }
+
+  -- where the second part is refused, the whole is
+  pub refused_second : {least : ℕ} → Laws least L → {A B D : Type 0} {first : D → U} {x : D} {seen : A → W (first x)} {view : B → V} {e : E} {old mid new : ReaderState} → Reads gives eof first L (Ok x) old mid → Reads gives eof seen (M (first x)) (Err e) mid new → Reads gives eof view N (Err e) old new
+  refused_second laws {first = first} {x = x} {e = e} {mid = mid} {new = new} h k = record {
+    kept = Kept-after h.kept k.kept;
+    answer = part_refused new h.kept.ends_by_device h.kept.takes_memory h.kept.faults (c.takes_second (first x)) (c.names_second (first x))
+        (λ told un.
+        subst (λ (bytes : List ℕ). Unspelled gives eof N e bytes) (sym (h.answer.taken told.tells))
+        (unspelled_second laws (first x) h.answer.front mid.to_come h.answer.front_is (un (IsTold-after h.kept (c.lends_second (first x)) told))))
+        k.answer;
+  }
+
+  -- both parts are read
+  pub got_both : {A B D : Type 0} {first : D → U} {x : D} {seen : A → W (first x)} {y : A} {view : B → V} {z : B} {old mid new : ReaderState} → Reads gives eof first L (Ok x) old mid → Reads gives eof seen (M (first x)) (Ok y) mid new → view z ≡ join (first x) (seen y) → Reads gives eof view N (Ok z) old new
+  got_both {first = first} {x = x} {seen = seen} {y = y} h k e =
+      all_so_far (more_so_far {more = N.spells (join (first x) (seen y))} (record { kept = h.kept; got = h.answer }) k (c.joins (first x) (seen y)))
+      (λ s sp. subst (λ (v : V). N.spells v s) (sym e) sp)
+
+  -- the second part decides
+  pub second_decides : {least : ℕ} → Laws least L → {A D : Type 0} {first : D → U} {x : D} {seen : A → W (first x)} {view : A → V} {r : Result A E} {old mid new : ReaderState} → Reads gives eof first L (Ok x) old mid → Reads gives eof seen (M (first x)) r mid new → ((y : A) → view y ≡ join (first x) (seen y)) → Reads gives eof view N r old new
+  second_decides laws {r = Ok y} h k same = got_both h k (same y)
+  second_decides laws {r = Err e} h k same = refused_second laws h k

@@ -1,0 +1,63 @@
+//! How addresses are read.
+use crate::readable::{ReadFrom, ReadMany};
+use crate::reader::LendingReader;
+use speedy_base::context::Context;
+use speedy_base::endianness::Endianness;
+use speedy_base::error::error_invalid_enum_variant;
+use std::convert::AsSlice;
+use std::net::{IpAddr, Ipv4Addr, Ipv6Addr};
+
+impl<L: AsSlice<u8> + Drop, C: Context> ReadFrom<L, C> for Ipv4Addr {
+    #[inline]
+    fn read_from<R: LendingReader<L, C>>(reader: &mut R) -> Result<Ipv4Addr, C::Error> {
+        let number = reader.read_u32()?;
+        Ok(Ipv4Addr::from(Endianness::BigEndian.bytes_of_u32(number)))
+    }
+
+    #[inline]
+    fn minimum_bytes_needed() -> usize {
+        4
+    }
+}
+
+impl<L: AsSlice<u8> + Drop, C: Context> ReadMany<L, C> for Ipv4Addr {}
+
+impl<L: AsSlice<u8> + Drop, C: Context> ReadFrom<L, C> for Ipv6Addr {
+    #[inline]
+    fn read_from<R: LendingReader<L, C>>(reader: &mut R) -> Result<Ipv6Addr, C::Error> {
+        let number = reader.read_u128()?;
+        Ok(Ipv6Addr::from(Endianness::BigEndian.bytes_of_u128(number)))
+    }
+
+    #[inline]
+    fn minimum_bytes_needed() -> usize {
+        16
+    }
+}
+
+impl<L: AsSlice<u8> + Drop, C: Context> ReadMany<L, C> for Ipv6Addr {}
+
+impl<L: AsSlice<u8> + Drop, C: Context> ReadFrom<L, C> for IpAddr {
+    #[inline]
+    fn read_from<R: LendingReader<L, C>>(reader: &mut R) -> Result<IpAddr, C::Error> {
+        let tag = reader.read_u8()?;
+        match tag {
+            0 => {
+                let short = reader.read_value::<Ipv4Addr>()?;
+                Ok(IpAddr::V4(short))
+            }
+            1 => {
+                let long = reader.read_value::<Ipv6Addr>()?;
+                Ok(IpAddr::V6(long))
+            }
+            _ => Err(error_invalid_enum_variant()),
+        }
+    }
+
+    #[inline]
+    fn minimum_bytes_needed() -> usize {
+        5
+    }
+}
+
+impl<L: AsSlice<u8> + Drop, C: Context> ReadMany<L, C> for IpAddr {}

@@ -1,0 +1,49 @@
+//! Bytes that are named by a type, for callers that are generic in what they read.
+ghost use Rattle.std.specs.Prelude.{ℕ};
+ghost use Rattle.speedy_read.specs.Reading.{AnswersBuffer};
+
+use crate::readable::{ReadMany, Readable};
+use speedy_base::context::Context;
+use std::alloc::Global;
+use std::convert::AsSlice;
+
+/// Bytes that lend parts of themselves: `&'a [u8]`.
+///
+/// A function that is generic in what it reads names its bytes by a type parameter, as `L: Buffer<C>` and
+/// `T: ReadMany<L, C>`, and no lifetime.
+pub trait Buffer<C: Context>: AsSlice<u8> + Drop + Sized {
+    /// The value that a front of the bytes spells under the context, and how many bytes spell it.
+    ///
+    /// Bytes that are fewer than the type's least size are refused with `InputBufferIsTooSmall` and the count 0.
+    fn read_with_length<T: ReadMany<Self, C>>(
+        self,
+        alloc: Global,
+        context: C,
+    ) -> (Result<T, C::Error>, usize)
+        ensures { let format = T.format (C.encoding context) in
+            AnswersBuffer C.Error.from_gives C.Error.eof T.seen T.least format result.0 result.1 (Self.items self) };
+
+    /// The value that a front of the bytes spells under the context.
+    ///
+    /// Bytes that are fewer than the type's least size are refused with `InputBufferIsTooSmall`.
+    final fn read_front<T: ReadMany<Self, C>>(
+        self,
+        alloc: Global,
+        context: C,
+    ) -> Result<T, C::Error>
+        ensures { let format = T.format (C.encoding context) in
+            (count : ℕ) × AnswersBuffer C.Error.from_gives C.Error.eof T.seen T.least format result count (Self.items self) }
+    {
+        self.read_with_length::<T>(alloc, context).0
+    }
+}
+
+impl<'a, C: Context> Buffer<C> for &'a [u8] {
+    fn read_with_length<T: ReadMany<&'a [u8], C>>(
+        self,
+        alloc: Global,
+        context: C,
+    ) -> (Result<T, C::Error>, usize) {
+        <T as Readable<'a, C>>::read_with_length_from_buffer_with_ctx(alloc, context, self)
+    }
+}

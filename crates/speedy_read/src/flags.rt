@@ -1,0 +1,64 @@
+//! How flags, and values that a flag chooses, are read.
+ghost use Rattle.std.specs.Prelude.{◌+◌};
+
+use crate::readable::{ReadFrom, ReadMany};
+use crate::reader::LendingReader;
+use speedy_base::context::Context;
+use std::convert::AsSlice;
+
+impl<L: AsSlice<u8> + Drop, C: Context> ReadFrom<L, C> for bool {
+    #[inline]
+    fn read_from<R: LendingReader<L, C>>(reader: &mut R) -> Result<bool, C::Error> {
+        let number = reader.read_u8()?;
+        Ok(number != 0)
+    }
+
+    #[inline]
+    fn minimum_bytes_needed() -> usize {
+        1
+    }
+}
+
+impl<L: AsSlice<u8> + Drop, C: Context> ReadMany<L, C> for bool {}
+
+impl<L: AsSlice<u8> + Drop, C: Context, T: ReadFrom<L, C>> ReadFrom<L, C> for Option<T> {
+    #[inline]
+    fn read_from<R: LendingReader<L, C>>(reader: &mut R) -> Result<Option<T>, C::Error> {
+        let is_some = reader.read_value::<bool>()?;
+        if !is_some {
+            return Ok(None);
+        }
+        let value = reader.read_value::<T>()?;
+        Ok(Some(value))
+    }
+
+    #[inline]
+    fn minimum_bytes_needed() -> usize {
+        1
+    }
+}
+
+impl<L: AsSlice<u8> + Drop, C: Context, T: ReadFrom<L, C>> ReadMany<L, C> for Option<T> {}
+
+impl<L: AsSlice<u8> + Drop, C: Context, T: ReadFrom<L, C>, U: ReadFrom<L, C>> ReadFrom<L, C>
+    for Result<T, U> {
+    #[inline]
+    fn read_from<R: LendingReader<L, C>>(reader: &mut R) -> Result<Result<T, U>, C::Error> {
+        let is_ok = reader.read_value::<bool>()?;
+        if is_ok {
+            let value = reader.read_value()?;
+            Ok(Ok(value))
+        } else {
+            let error = reader.read_value()?;
+            Ok(Err(error))
+        }
+    }
+
+    #[inline]
+    fn minimum_bytes_needed() -> usize {
+        1
+    }
+}
+
+impl<L: AsSlice<u8> + Drop, C: Context, T: ReadFrom<L, C>, U: ReadFrom<L, C>> ReadMany<L, C>
+    for Result<T, U> {}

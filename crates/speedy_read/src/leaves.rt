@@ -1,0 +1,68 @@
+//! How characters, byte orders and durations are read.
+ghost use Rattle.speedy_read.specs.Reading.{Reads};
+
+use crate::readable::{ReadFrom, ReadMany};
+use crate::reader::LendingReader;
+use speedy_base::context::Context;
+use speedy_base::endianness::Endianness;
+use speedy_base::error::{
+    error_invalid_enum_variant, error_invalid_system_time, error_out_of_range_char,
+};
+use std::convert::AsSlice;
+use std::time::Duration;
+
+impl<L: AsSlice<u8> + Drop, C: Context> ReadFrom<L, C> for char {
+    #[inline]
+    fn read_from<R: LendingReader<L, C>>(reader: &mut R) -> Result<char, C::Error> {
+        let code = reader.read_u32()?;
+        match char::from_u32(code) {
+            Some(character) => Ok(character),
+            None => Err(error_out_of_range_char()),
+        }
+    }
+
+    #[inline]
+    fn minimum_bytes_needed() -> usize {
+        4
+    }
+}
+
+impl<L: AsSlice<u8> + Drop, C: Context> ReadMany<L, C> for char {}
+
+impl<L: AsSlice<u8> + Drop, C: Context> ReadFrom<L, C> for Endianness {
+    #[inline]
+    fn read_from<R: LendingReader<L, C>>(reader: &mut R) -> Result<Endianness, C::Error> {
+        match reader.read_u8()? {
+            0 => Ok(Endianness::LittleEndian),
+            1 => Ok(Endianness::BigEndian),
+            _ => Err(error_invalid_enum_variant()),
+        }
+    }
+
+    #[inline]
+    fn minimum_bytes_needed() -> usize {
+        1
+    }
+}
+
+impl<L: AsSlice<u8> + Drop, C: Context> ReadMany<L, C> for Endianness {}
+
+impl<L: AsSlice<u8> + Drop, C: Context> ReadFrom<L, C> for Duration {
+    /// Reads seconds and nanoseconds. Nanoseconds of a second and more carry into the seconds.
+    #[inline]
+    fn read_from<R: LendingReader<L, C>>(reader: &mut R) -> Result<Duration, C::Error> {
+        let (seconds, nanos) = reader.read_value::<(u64, u32)>()?;
+        let carried = (nanos / 1_000_000_000) as u64;
+        if u64::MAX - seconds < carried {
+            return Err(error_invalid_system_time());
+        }
+        Ok(Duration::new(seconds, nanos))
+    }
+
+    #[inline]
+    fn minimum_bytes_needed() -> usize {
+        12
+    }
+}
+
+impl<L: AsSlice<u8> + Drop, C: Context> ReadMany<L, C> for Duration {}

@@ -1,0 +1,126 @@
+-- Items are written one after the other.
+use Rattle.std.specs.Prelude.{◌≡◌, ℕ, suc, ◌+◌, ◌<◌, List, [], ◌∷◌, ◌++◌, length, map, take, drop, Result, Ok, Err, IsErrAnd, refl}
+use Rattle.std.proofs.Common.{sym, ◌∙◌, ap, subst, inl, inr}
+use Rattle.std.proofs.Math.ListN.{get_or}
+use Rattle.std.proofs.Math.Seq.{drop-cons}
+use Rattle.std.proofs.lemmas.List.{append_assoc, append-nil, length-map, map-append, map-id, take_more, take-append-drop}
+use Rattle.speedy_base.specs.declared.error.Error.{Error}
+use Rattle.speedy_base.specs.Digits.{AreBytes}
+use Rattle.speedy_base.specs.Encoding.{Encoding}
+use Rattle.speedy_layout.specs.Format.{Format, Parts, Each}
+use Rattle.speedy_layout.specs.Laws.{Laws}
+use Rattle.speedy_layout.specs.Lists.{repeat, repeat_laws}
+use Rattle.speedy_layout.specs.Numbers.{unsigned_number, unsigned_number_laws}
+use Rattle.speedy_layout.specs.Sequences.{sequence}
+use Rattle.speedy_layout.specs.Texts.{each_byte}
+use Rattle.speedy_layout.specs.Tuples.{pair}
+use Rattle.speedy_write.specs.Writing.{WriterState, Writes, WritesEach, WritesBytes}
+use Rattle.speedy_write.specs.Sequences.{Kept-same, Kept-after, Put-as, Put-nothing, Put-both, Writes-as, Writes-at, is_sequence, first_refused, second_written, form_written}
+
+module _ {V : Type 0} (R : V → List ℕ → Type 0) where
+  Each-append : (xs ys : List V) (b : List ℕ) → Parts (Each R xs) (Each R ys) b → Each R (xs ++ ys) b
+  Each-append [] ys b p = subst (Each R ys) (sym (p.whole_is ∙ ap (λ x. x ++ p.back) p.first_is)) p.second_is
+  Each-append (x ∷ xs) ys b p = record {
+    front = p.first_is.front;
+    back = p.first_is.back ++ p.back;
+    whole_is = p.whole_is ∙ (ap (λ z. z ++ p.back) p.first_is.whole_is ∙ append_assoc p.first_is.front p.first_is.back p.back);
+    first_is = p.first_is.first_is;
+    second_is = Each-append xs ys (p.first_is.back ++ p.back) (record { front = p.first_is.back; back = p.back; whole_is = refl; first_is = p.first_is.second_is; second_is = p.second_is });
+  }
+
+  Each-parts : (xs ys : List V) (b : List ℕ) → Each R (xs ++ ys) b → Parts (Each R xs) (Each R ys) b
+  Each-parts [] ys b h = record { front = []; back = b; whole_is = refl; first_is = refl; second_is = h }
+  Each-parts (x ∷ xs) ys b h =
+      let r = Each-parts xs ys h.back h.second_is in
+      record {
+        front = h.front ++ r.front;
+        back = r.back;
+        whole_is = h.whole_is ∙ (ap (λ z. h.front ++ z) r.whole_is ∙ sym (append_assoc h.front r.front r.back));
+        first_is = record { front = h.front; back = r.front; whole_is = refl; first_is = h.first_is; second_is = r.first_is };
+        second_is = r.second_is;
+      }
+
+  Each-one : (x : V) (b : List ℕ) → R x b → Each R (x ∷ []) b
+  Each-one x b h = record { front = b; back = []; whole_is = sym (append-nil b); first_is = h; second_is = refl }
+
+  -- the items before one, that one, and those after it
+  abbrev Three : ℕ → List V → V → List V → List ℕ → Type 0
+  Three n vs v rest = Parts (λ b. (length vs ≡ n) × Each R vs b) (Parts (R v) (λ b. (length rest ≡ length rest) × Each R rest b))
+
+  Three-each : (n : ℕ) (vs : List V) (v : V) (rest : List V) (b : List ℕ) → Three n vs v rest b → Each R (vs ++ v ∷ rest) b
+  Three-each n vs v rest b h =
+      let s = h.second_is in
+      Each-append vs (v ∷ rest) b (record {
+        front = h.front;
+        back = h.back;
+        whole_is = h.whole_is;
+        first_is = h.first_is.1;
+        second_is = record { front = s.front; back = s.back; whole_is = s.whole_is; first_is = s.first_is; second_is = s.second_is.1 };
+      })
+
+  Each-three : (n : ℕ) (vs : List V) (v : V) (rest : List V) (b : List ℕ) → length vs ≡ n → Each R (vs ++ v ∷ rest) b → Three n vs v rest b
+  Each-three n vs v rest b l h =
+      let p = Each-parts vs (v ∷ rest) b h in
+      let s = p.second_is in
+      record {
+        front = p.front;
+        back = p.back;
+        whole_is = p.whole_is;
+        first_is = (l, p.first_is);
+        second_is = record { front = s.front; back = s.back; whole_is = s.whole_is; first_is = s.first_is; second_is = (refl, s.second_is) };
+      }
+
+-- the items as far as the next one, and all of them
+first_items : {A : Type 0} (items : List A) (i : ℕ) {x : A} → i < length items → x ≡ get_or items i x → take (i + 1) items ≡ take i items ++ x ∷ []
+first_items items i {x} within is = take_more items i x within ∙ ap (λ y. take i items ++ y ∷ []) (sym is)
+
+all_items : {A : Type 0} (items : List A) (i : ℕ) {x : A} → i < length items → x ≡ get_or items i x → take i items ++ x ∷ drop (suc i) items ≡ items
+all_items items i {x} within is = ap (λ y. take i items ++ y ∷ drop (suc i) items) is ∙ (ap (λ y. take i items ++ y) (sym (drop-cons items i x within)) ∙ take-append-drop i items)
+
+-- no item is written yet
+pub no_items_written : {E : Type 0} {gives : Error → E → Type 0} {A V : Type 0} {old : WriterState} {appended : List ℕ → Type 0} (F : Encoding → Format V) (seen : A → V) → appended [] → WritesEach gives F seen [] (Ok tt) old old appended
+unfolding repeat
+no_items_written {old = old} F seen h = record { kept = Kept-same old; answer = Put-as (λ b k. (refl, k)) (Put-nothing old h) }
+
+module _ {E : Type 0} {gives : Error → E → Type 0} {A V : Type 0} {F : Encoding → Format V} {x : A} {old mid new : WriterState} {front back whole : List ℕ → Type 0} (join : (a b : List ℕ) → front a → back b → whole (a ++ b)) (seen : A → V) (items : List A) (i : ℕ) (within : i < length items) (is : x ≡ get_or items i x) where
+  -- one more item is written
+  pub one_more_written : {done : Unit {0}} → WritesEach gives F seen (take i items) (Ok tt) old mid front → Writes gives F (seen x) (Ok done) mid new back → WritesEach gives F seen (take (i + 1) items) (Ok tt) old new whole
+  unfolding repeat
+  one_more_written h w =
+      let R = (F old.encoding).writes in
+      let vs = map seen (take i items) in
+      let parts : map seen (take (i + 1) items) ≡ vs ++ seen x ∷ [] = ap (map seen) (first_items items i within is) ∙ map-append seen (take i items) (x ∷ []) in
+      let item = Put-as (Each-one R (seen x)) (Writes-at h.kept w).answer in
+      let all = Put-as (Each-append R vs (seen x ∷ [])) (Put-both join (Put-as (λ b k. k.1) h.answer) item) in
+      record {
+        kept = Kept-after h.kept w.kept;
+        answer = Put-as (λ b k. (length-map (take (i + 1) items) seen, subst (λ (us : List V). Each R us b) (sym parts) k)) all;
+      }
+
+  -- where the next item is refused, the items before it, that one and those after it are
+  three_refused : {least : ℕ} {e : E} {result : Result (Unit {0}) E} → ((encoding : Encoding) → Laws least (F encoding)) → IsErrAnd result (λ r. r ≡ e) → WritesEach gives F seen (take i items) (Ok tt) old mid front → Writes gives F (seen x) (Err e) mid new back
+      → let rest : List V = map seen (drop (suc i) items) in let n = length (take i items) in Writes gives (λ encoding. pair (repeat n (F encoding)) (pair (F encoding) (repeat (length rest) (F encoding)))) (map seen (take i items), (seen x, rest)) result old new whole
+  three_refused laws passed h w =
+      second_written is_sequence refl (λ encoding. repeat_laws (laws encoding) (length (take i items))) join h (first_refused is_sequence refl passed w)
+
+  -- and so are all
+  pub items_refused : {least : ℕ} {e : E} {result : Result (Unit {0}) E} → ((encoding : Encoding) → Laws least (F encoding)) → IsErrAnd result (λ r. r ≡ e)
+      → WritesEach gives F seen (take i items) (Ok tt) old mid front → Writes gives F (seen x) (Err e) mid new back → WritesEach gives F seen items result old new whole
+  unfolding repeat sequence
+  items_refused laws passed h w =
+      let n = length (take i items) in
+      let vs = map seen (take i items) in
+      let rest = map seen (drop (suc i) items) in
+      let parts : map seen items ≡ vs ++ seen x ∷ rest = ap (map seen) (sym (all_items items i within is)) ∙ map-append seen (take i items) (x ∷ drop (suc i) items) in
+      let R = (F old.encoding).writes in
+      let turned : (S : V → List ℕ → Type 0) (b : List ℕ) → Each S (map seen items) b → Three S n vs (seen x) rest b = λ S b k. Each-three S n vs (seen x) rest b (length-map (take i items) seen) (subst (λ (us : List V). Each S us b) parts k) in
+      Writes-as (λ kind k. elim k [ inl y ↦ y | inr y ↦ elim y.1 [ inl z ↦ z | inr z ↦ z.1 ] ])
+      (λ b k. (length-map items seen, subst (λ (us : List V). Each R us b) (sym parts) (Three-each R n vs (seen x) rest b k)))
+      (λ b k. (b, turned R b k.1, refl)) (λ b k. (b, turned (F old.encoding).spells b k.1)) (three_refused laws passed h w)
+
+-- bytes are written at once as they are item by item
+pub byte_items_written : {E : Type 0} {gives : Error → E → Type 0} {items : List ℕ} {result : Result (Unit {0}) E} {old new : WriterState} {appended : List ℕ → Type 0} → AreBytes items → WritesBytes gives items result old new appended → WritesEach gives (unsigned_number 1) (λ n. n) items result old new appended
+unfolding repeat unsigned_number
+byte_items_written {items = items} {old = old} h w =
+    form_written (λ e. repeat_laws (unsigned_number_laws 1 e) (length items))
+    (length-map items (λ n. n), subst (λ (vs : List ℕ). Each (unsigned_number 1 old.encoding).writes vs items) (sym (map-id items)) (each_byte old.encoding.order items h)) w

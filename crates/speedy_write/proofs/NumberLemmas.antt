@@ -1,0 +1,46 @@
+-- Writes of bytes make writes of numbers, and these make writes of signed numbers, at each width.
+use Rattle.std.specs.Prelude.{◌≡◌, ℕ, ℤ, ◌^◌, ◌≤◌, List, Result, Err, refl}
+use Rattle.std.proofs.Common.{subst, sym, ap, ◌∙◌, arith, inr, inl}
+use mir.ValLaws.{to_z-of_z}
+use Rattle.std.specs.Int.{Width, byte_len, cast_unsigned, cast_signed}
+use Rattle.std.specs.Int.RustNames.{FitsSigned}
+use Rattle.speedy_base.specs.declared.error.ErrorKind.TheVariants as kinds
+use Rattle.speedy_base.specs.declared.error.Error.{Error}
+use Rattle.speedy_base.specs.declared.endianness.Endianness.{Endianness}
+use Rattle.speedy_base.specs.Digits.{SpellsNumber}
+use Rattle.speedy_base.specs.DigitsLemmas.{SpellsNumber-below}
+use Rattle.speedy_base.specs.Error.{error_of}
+use Rattle.speedy_layout.specs.Numbers.{unsigned_number, unsigned_number_laws, signed_number}
+use Rattle.speedy_write.specs.Writing.{WriterState, WritesBytes, WritesNumber, WritesSigned}
+use Rattle.speedy_write.specs.Sequences.{Kept-same, Writes-as, form_written}
+
+module _ {E : Type 0} {gives : Error → E → Type 0} {result : Result (Unit {0}) E} {old new : WriterState} {appended : List ℕ → Type 0} where
+  -- bytes that spell the number in the writer's order are written as the number is
+  pub number_written : {width n : ℕ} {bytes : List ℕ} {order : Endianness} → order ≡ old.encoding.order → SpellsNumber width order n bytes → WritesBytes gives bytes result old new appended → WritesNumber gives width n result old new appended
+  unfolding unsigned_number
+  number_written {width = width} {n = n} {bytes = bytes} same spelled w = form_written (unsigned_number_laws width) (subst (λ (o : Endianness). SpellsNumber width o n bytes) same spelled) w
+
+  -- the unsigned number of the same bits is written as the signed one is
+  pub signed_written : {n : ℕ} {z : ℤ} (w : Width) → FitsSigned w z → n ≡ cast_unsigned w (cast_signed w (cast_unsigned w z)) → WritesNumber gives (byte_len w) n result old new appended → WritesSigned gives w z result old new appended
+  unfolding unsigned_number signed_number
+  signed_written {n = n} {z = z} w range e h =
+      let same : n ≡ cast_unsigned w z = e ∙ ap (cast_unsigned w) (to_z-of_z w z range) in
+      let spells : ℕ → List ℕ → Type 0 = SpellsNumber (byte_len w) old.encoding.order in
+      Writes-as (λ _ k. k) (λ b k. record { range = range; digits = subst (λ (m : ℕ). spells m b) same k }) (λ b k. (b, subst (λ (m : ℕ). spells m b) (sym same) k.digits, refl)) (λ b k. (b, subst (λ (m : ℕ). spells m b) (sym same) k.digits)) h
+
+  -- a signed number is what its bits stand for
+  pub signed_value_written : {z : ℤ} (w : Width) → FitsSigned w z → WritesSigned gives w (cast_signed w (cast_unsigned w z)) result old new appended → WritesSigned gives w z result old new appended
+  signed_value_written {z = z} w range h = subst (λ (y : ℤ). WritesSigned gives w y result old new appended) (to_z-of_z w z range) h
+
+-- a number past its width is refused before anything is written
+pub too_long_refused : {E : Type 0} {gives : Error → E → Type 0} {n : ℕ} {e : E} {old : WriterState} {appended : List ℕ → Type 0} → 2 ^ 32 ≤ n → gives (error_of kinds.OutOfRangeLength) e → WritesNumber gives 4 n (Err e) old old appended
+unfolding unsigned_number
+too_long_refused {n = n} {old = old} long given =
+    let unspelled : (b : List ℕ) → SpellsNumber 4 old.encoding.order n b → ⊥ = λ b h. let below = SpellsNumber-below 4 old.encoding.order n b h in omega arith in
+    record {
+      kept = Kept-same old;
+      answer = record {
+        beginning = λ b h. absurd (unspelled b h);
+        because = inr (record { no_fit = λ b h _. unspelled b h; no_spelling = λ _ b h. unspelled b h; kind = inr (inl given) });
+      };
+    }

@@ -1,4 +1,0 @@
-use Rattle.speedy_write.proofs.writable_tuples.Tuple3Writable.write_to.Goals as goal
-
-pub returns : goal.returns
-returns g c = c.write_value.ensures

@@ -1,0 +1,31 @@
+-- What the collectors show.
+use Rattle.std.specs.Prelude.{ℕ, List}
+use Rattle.std.specs.Borrow.{GName}
+use Rattle.speedy_write.specs.declared.collectors.BufferCollector.{BufferCollector}
+use Rattle.speedy_write.specs.declared.collectors.SizeCalculatorCollector.{SizeCalculatorCollector}
+
+-- the context and the buffer that a collector borrows, and how many bytes it has written at the buffer's front
+pub record BufferView (C : Type 0) : Type 0 where
+  pub context : C
+  pub context_name : GName
+  pub buffer : List ℕ
+  pub buffer_name : GName
+  pub position : ℕ
+
+abbrev pub buffer_view : {C : Type 0} → BufferCollector C → BufferView C
+buffer_view w = record {
+  context = w.context.now;
+  context_name = w.context.ghost_name;
+  buffer = w.buffer.now;
+  buffer_name = w.buffer.ghost_name;
+  position = w.position;
+}
+
+-- the context that the collector of sizes borrows, and the sum
+pub record SizeView (C : Type 0) : Type 0 where
+  pub context : C
+  pub context_name : GName
+  pub size : ℕ
+
+abbrev pub size_view : {C : Type 0} → SizeCalculatorCollector C → SizeView C
+size_view w = record { context = w.context.now; context_name = w.context.ghost_name; size = w.size }

@@ -1,0 +1,49 @@
+-- What the ways of writing answer.
+use Rattle.std.specs.Prelude.{◌≡◌, ℕ, ◌-◌, ◌^◌, ◌<◌, ◌≤◌, List, ◌++◌, length, drop, ◌⊎◌, Result, IsOk, IfOk, OnOk, OnErr, IfErr, IsOkAnd, IsErrAnd}
+use Rattle.speedy_base.specs.declared.error.ErrorKind.TheVariants as kinds
+use Rattle.speedy_base.specs.declared.error.Error.{Error}
+use Rattle.speedy_base.specs.Error.{error_of}
+use Rattle.speedy_layout.specs.Format.{Format}
+use Rattle.speedy_write.specs.Writing.{IsOutOfRange}
+
+-- the bytes are a written form of the value, and no spelling of it is shorter
+pub record IsShortest {V : Type 0} (L : Format V) (v : V) (bytes : List ℕ) : Type 0 where
+  pub is_written : L.writes v bytes
+  pub shortest : (others : List ℕ) → L.spells v others → length bytes ≤ length others
+
+-- a shortest written form stands at the buffer's front, and what lies past it is as it was
+pub record Stands {V : Type 0} (L : Format V) (v : V) (old new : List ℕ) : Type 0 where
+  pub bytes : List ℕ
+  pub is_shortest : IsShortest L v bytes
+  pub new_is : new ≡ bytes ++ drop (length bytes) old
+
+module _ {E : Type 0} (gives : Error → E → Type 0) where
+  -- what `bytes_needed` answers
+  pub record Needs {V : Type 0} (L : Format V) (v : V) (result : Result ℕ E) : Type 0 where
+    -- a number that is answered is the length of a written form
+    pub written : IfOk result (λ n. (bytes : List ℕ) × L.writes v bytes × (n ≡ length bytes))
+    -- the length of a written form is answered, if it is below `usize::MAX`
+    pub answers : (bytes : List ℕ) → L.writes v bytes → length bytes < 2 ^ 64 - 1 → IsOkAnd result (λ n. n ≡ length bytes)
+    pub refused : IfErr result (IsOutOfRange gives L.refuses_writing)
+
+  -- a buffer of this size is refused, and so many bytes were needed
+  abbrev pub IsTooSmall : ℕ → ℕ → E → Type 0
+  IsTooSmall actual expected e = gives (error_of (kinds.OutputBufferIsTooSmall actual expected)) e
+
+  -- what the ways of writing to a buffer do
+  pub record WritesToBuffer {V : Type 0} (L : Format V) (v : V) (result : Result (Unit {0}) E) (old new : List ℕ) : Type 0 where
+    pub written : OnOk result (Stands L v old new)
+    -- a value whose written form fits is never refused
+    pub fits : (bytes : List ℕ) → L.writes v bytes → length bytes < 2 ^ 64 - 1 → length bytes ≤ length old → IsOk result
+    -- a shorter buffer is refused, with both sizes
+    pub too_small : (bytes : List ℕ) → L.writes v bytes → length bytes < 2 ^ 64 - 1 → length old < length bytes → IsErrAnd result (IsTooSmall (length old) (length bytes))
+    -- there is no other refusal than that one and that of a value that cannot be written
+    pub refused : IfErr result (λ e. ((bytes : List ℕ) × L.writes v bytes × (length old < length bytes) × IsTooSmall (length old) (length bytes) e) ⊎ IsOutOfRange gives L.refuses_writing e)
+    -- what is refused leaves the buffer as it was
+    pub unchanged : OnErr result (new ≡ old)
+
+  -- what the ways of writing to a vector answer
+  pub record WritesToVec {V A : Type 0} (L : Format V) (v : V) (items : A → List ℕ) (result : Result A E) : Type 0 where
+    pub written : IfOk result (λ vec. IsShortest L v (items vec))
+    -- a refusal means want of memory, or that the value has no spelling that can be counted
+    pub refused : IfErr result (λ e. gives (error_of kinds.OutOfMemory) e ⊎ (((bytes : List ℕ) → L.spells v bytes → length bytes < 2 ^ 64 - 1 → ⊥) × IsOutOfRange gives L.refuses_writing e))

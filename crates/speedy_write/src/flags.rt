@@ -1,0 +1,40 @@
+//! How flags, and values that a flag chooses, are written.
+use crate::writable::Writable;
+use crate::writer::Writer;
+use speedy_base::context::Context;
+
+impl<C: Context> Writable<C> for bool {
+    #[inline(always)]
+    fn write_to<W: Writer<C>>(&self, writer: &mut W) -> Result<(), C::Error> {
+        writer.write_u8(u8::from(*self))
+    }
+}
+
+impl<C: Context, T: Writable<C>> Writable<C> for Option<T> {
+    #[inline]
+    fn write_to<W: Writer<C>>(&self, writer: &mut W) -> Result<(), C::Error> {
+        match self {
+            Some(value) => {
+                writer.write_value(&true)?;
+                writer.write_value(value)
+            }
+            None => writer.write_value(&false),
+        }
+    }
+}
+
+impl<C: Context, T: Writable<C>, U: Writable<C>> Writable<C> for Result<T, U> {
+    #[inline]
+    fn write_to<W: Writer<C>>(&self, writer: &mut W) -> Result<(), C::Error> {
+        match self {
+            Ok(value) => {
+                writer.write_value(&true)?;
+                writer.write_value(value)
+            }
+            Err(error) => {
+                writer.write_value(&false)?;
+                writer.write_value(error)
+            }
+        }
+    }
+}

@@ -1,0 +1,52 @@
+//! How lists are written.
+ghost use Rattle.std.specs.Prelude.{◌<◌, map};
+ghost use Rattle.speedy_layout.specs.Lists.{list};
+ghost use Rattle.speedy_write.specs.Writing.{Writes};
+
+use crate::private::write_length;
+use crate::writable::Writable;
+use crate::writer::Writer;
+use speedy_base::context::Context;
+use std::boxed::BoxedSlice;
+
+impl<C: Context, T: Writable<C>> Writable<C> for Vec<T> {
+    #[inline]
+    fn write_to<W: Writer<C>>(&self, writer: &mut W) -> Result<(), C::Error> {
+        let items = self.as_slice();
+        write_counted(items, writer)
+    }
+}
+
+impl<'a, C: Context, T: Writable<C>> Writable<C> for &'a [T] {
+    #[inline]
+    fn write_to<W: Writer<C>>(&self, writer: &mut W) -> Result<(), C::Error> {
+        write_counted(*self, writer)
+    }
+}
+
+impl<C: Context, T: Writable<C>> Writable<C> for BoxedSlice<T> {
+    #[inline]
+    fn write_to<W: Writer<C>>(&self, writer: &mut W) -> Result<(), C::Error> {
+        write_counted(self.as_slice(), writer)
+    }
+}
+
+impl<C: Context, T: Writable<C>, const N: usize> Writable<C> for [T; N] {
+    #[inline]
+    fn write_to<W: Writer<C>>(&self, writer: &mut W) -> Result<(), C::Error> {
+        T::write_many(self.as_slice(), writer)
+    }
+}
+
+// The number of items, and then the items.
+#[inline]
+fn write_counted<C: Context, T: Writable<C>, W: Writer<C>>(
+    items: &[T],
+    writer: &mut W,
+) -> Result<(), C::Error>
+    ensures { Writes C.Error.from_gives (λ e. list e (T.format e)) (map T.seen items.now) result
+        (W.state writer.old) (W.state writer.new) (λ b. W.appends writer.old b writer.new) }
+{
+    write_length(items.len(), writer)?;
+    T::write_many(items, writer)
+}

@@ -1,0 +1,63 @@
+//! How numbers that are not 0 are written.
+use crate::writable::Writable;
+use crate::writer::Writer;
+use speedy_base::context::Context;
+use std::num::{
+    NonZeroI8, NonZeroI16, NonZeroI32, NonZeroI64, NonZeroU8, NonZeroU16, NonZeroU32, NonZeroU64,
+};
+
+impl<C: Context> Writable<C> for NonZeroU8 {
+    #[inline(always)]
+    fn write_to<W: Writer<C>>(&self, writer: &mut W) -> Result<(), C::Error> {
+        writer.write_u8(self.get())
+    }
+}
+
+impl<C: Context> Writable<C> for NonZeroU16 {
+    #[inline(always)]
+    fn write_to<W: Writer<C>>(&self, writer: &mut W) -> Result<(), C::Error> {
+        writer.write_u16(self.get())
+    }
+}
+
+impl<C: Context> Writable<C> for NonZeroU32 {
+    #[inline(always)]
+    fn write_to<W: Writer<C>>(&self, writer: &mut W) -> Result<(), C::Error> {
+        writer.write_u32(self.get())
+    }
+}
+
+impl<C: Context> Writable<C> for NonZeroU64 {
+    #[inline(always)]
+    fn write_to<W: Writer<C>>(&self, writer: &mut W) -> Result<(), C::Error> {
+        writer.write_u64(self.get())
+    }
+}
+
+impl<C: Context> Writable<C> for NonZeroI8 {
+    #[inline(always)]
+    fn write_to<W: Writer<C>>(&self, writer: &mut W) -> Result<(), C::Error> {
+        writer.write_i8(self.get())
+    }
+}
+
+impl<C: Context> Writable<C> for NonZeroI16 {
+    #[inline(always)]
+    fn write_to<W: Writer<C>>(&self, writer: &mut W) -> Result<(), C::Error> {
+        writer.write_i16(self.get())
+    }
+}
+
+impl<C: Context> Writable<C> for NonZeroI32 {
+    #[inline(always)]
+    fn write_to<W: Writer<C>>(&self, writer: &mut W) -> Result<(), C::Error> {
+        writer.write_i32(self.get())
+    }
+}
+
+impl<C: Context> Writable<C> for NonZeroI64 {
+    #[inline(always)]
+    fn write_to<W: Writer<C>>(&self, writer: &mut W) -> Result<(), C::Error> {
+        writer.write_i64(self.get())
+    }
+}

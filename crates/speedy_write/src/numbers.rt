@@ -1,0 +1,89 @@
+//! How numbers are written.
+ghost use Rattle.std.specs.Prelude.{◌<◌};
+
+use crate::writable::Writable;
+use crate::writer::Writer;
+use speedy_base::context::Context;
+
+impl<C: Context> Writable<C> for u8 {
+    #[inline(always)]
+    fn write_to<W: Writer<C>>(&self, writer: &mut W) -> Result<(), C::Error> {
+        writer.write_u8(*self)
+    }
+
+    /// Writes all the bytes at once.
+    #[inline]
+    fn write_many<W: Writer<C>>(items: &[u8], writer: &mut W) -> Result<(), C::Error> {
+        writer.write_bytes(items)
+    }
+}
+
+impl<C: Context> Writable<C> for u16 {
+    #[inline(always)]
+    fn write_to<W: Writer<C>>(&self, writer: &mut W) -> Result<(), C::Error> {
+        writer.write_u16(*self)
+    }
+}
+
+impl<C: Context> Writable<C> for u32 {
+    #[inline(always)]
+    fn write_to<W: Writer<C>>(&self, writer: &mut W) -> Result<(), C::Error> {
+        writer.write_u32(*self)
+    }
+}
+
+impl<C: Context> Writable<C> for u64 {
+    #[inline(always)]
+    fn write_to<W: Writer<C>>(&self, writer: &mut W) -> Result<(), C::Error> {
+        writer.write_u64(*self)
+    }
+}
+
+impl<C: Context> Writable<C> for u128 {
+    #[inline(always)]
+    fn write_to<W: Writer<C>>(&self, writer: &mut W) -> Result<(), C::Error> {
+        writer.write_u128(*self)
+    }
+}
+
+impl<C: Context> Writable<C> for i8 {
+    #[inline(always)]
+    fn write_to<W: Writer<C>>(&self, writer: &mut W) -> Result<(), C::Error> {
+        writer.write_i8(*self)
+    }
+}
+
+impl<C: Context> Writable<C> for i16 {
+    #[inline(always)]
+    fn write_to<W: Writer<C>>(&self, writer: &mut W) -> Result<(), C::Error> {
+        writer.write_i16(*self)
+    }
+}
+
+impl<C: Context> Writable<C> for i32 {
+    #[inline(always)]
+    fn write_to<W: Writer<C>>(&self, writer: &mut W) -> Result<(), C::Error> {
+        writer.write_i32(*self)
+    }
+}
+
+impl<C: Context> Writable<C> for i64 {
+    #[inline(always)]
+    fn write_to<W: Writer<C>>(&self, writer: &mut W) -> Result<(), C::Error> {
+        writer.write_i64(*self)
+    }
+}
+
+impl<C: Context> Writable<C> for i128 {
+    #[inline(always)]
+    fn write_to<W: Writer<C>>(&self, writer: &mut W) -> Result<(), C::Error> {
+        writer.write_i128(*self)
+    }
+}
+
+impl<C: Context> Writable<C> for usize {
+    #[inline(always)]
+    fn write_to<W: Writer<C>>(&self, writer: &mut W) -> Result<(), C::Error> {
+        writer.write_u64(*self as u64)
+    }
+}
