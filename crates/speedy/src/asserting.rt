@@ -219,7 +219,7 @@ where
 
 /// Asserts that under the context all but the last of the bytes spell the value, and that they are what is written of
 /// what was read.
-fn assert_encoding_under<'a, C, T>(
+pub(crate) fn assert_encoding_under<'a, C, T>(
     rt: &impl Abort,
     alloc: Global,
     context: C,

@@ -41,6 +41,8 @@ mod tests_ranges;
 #[cfg(test)]
 mod tests_readers;
 #[cfg(test)]
+mod tests_strict;
+#[cfg(test)]
 mod tests_texts;
 #[cfg(test)]
 mod tests_tuples;
@@ -50,7 +52,9 @@ mod tests_varint;
 mod tests_writers;
 
 pub use buffer::Buffer;
-pub use context::{BigEndian, Context, LittleEndian, PlainContext};
+pub use context::{
+    BigEndian, Context, LittleEndian, PlainContext, StrictBigEndian, StrictLittleEndian,
+};
 pub use endianness::Endianness;
 pub use error::{Error, IsEof};
 pub use layout::Layout;

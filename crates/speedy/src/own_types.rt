@@ -26,11 +26,12 @@ impl Layout for Mark {
 
     ghost seen = { λ _. 0 };
 
-    ghost format = { λ f. subset (λ n. n ≡ 0) InvalidEnumVariant (unsigned_number 1 f) };
+    ghost format = { λ f. subset f (λ n. n ≡ 0) InvalidEnumVariant (unsigned_number 1 f) };
 
     ghost least = { 1 };
 
-    ghost layout_laws = { λ f. subset_laws (λ n. n ≡ 0) InvalidEnumVariant tt (unsigned_number_laws 1 f) };
+    ghost layout_laws = { λ f.
+        subset_laws f (λ n. n ≡ 0) InvalidEnumVariant tt (unsigned_number_laws 1 f) };
 }
 
 impl<L: AsSlice<u8> + Drop, C: Context> ReadFrom<L, C> for Mark {

@@ -3,8 +3,8 @@ pub use speedy_base::error::{
     ErrorKind, error_end_of_input, error_end_of_output_buffer, error_endianness_mismatch,
     error_expected_constant, error_input_buffer_is_too_small, error_invalid_enum_variant,
     error_invalid_str_utf8, error_invalid_string_utf8, error_invalid_system_time,
-    error_length_is_not_the_same_as_length_attribute, error_out_of_memory, error_out_of_range_char,
-    error_out_of_range_length, error_output_buffer_is_too_small,
+    error_length_is_not_the_same_as_length_attribute, error_not_written_form, error_out_of_memory,
+    error_out_of_range_char, error_out_of_range_length, error_output_buffer_is_too_small,
     error_too_big_usize_for_this_architecture, error_unsized, error_zero_non_zero, get_error_kind,
 };
 pub use speedy_layout::varint::VarInt64;

@@ -1,16 +1,20 @@
 //! Callers that write and read back, with the contracts and the proofs that a user writes.
 ghost use Rattle.std.specs.Prelude.{◌≡◌, ◌++◌, ℕ, List, length as count, map, IsTrue, IfOk, IfErr, OnOk};
-ghost use Rattle.speedy.specs.Encoding.{plain_encoding};
+ghost use Rattle.speedy.specs.Encoding.{plain_encoding, strict_encoding};
 ghost use Rattle.speedy.specs.Error.{error_of};
 ghost use Rattle.speedy.specs.Format.{Each};
 ghost use Rattle.speedy.specs.Reading.{Counts};
 
-use crate::laws::{written_is_answered, written_is_read, written_items_are_read};
+use crate::asserting::{assert_ok_items, assert_refused};
+use crate::laws::{
+    written_form_alone, written_is_answered, written_is_read, written_items_are_read,
+};
 use crate::private::ErrorKind;
 use crate::readable::BufferReader;
 use crate::writable::BufferCollector;
 use crate::{
-    Buffer, Context, Endianness, Error, Layout, LendingReader, ReadMany, Readable, Writable, Writer,
+    Buffer, Context, Endianness, Error, Layout, LendingReader, ReadMany, Readable,
+    StrictLittleEndian, Writable, Writer,
 };
 use std::alloc::Global;
 use std::convert::AsSlice;
@@ -18,7 +22,8 @@ use std::test::Fail;
 
 /// Writes a value to a vector, and reads it back.
 fn again(alloc: Global, order: Endianness, value: &Option<String>) -> Result<Option<String>, Error>
-    ensures { let seen = ⟦<Option<String> as Layout>⟧.seen in IfOk result (λ x. seen x ≡ seen value.now) }
+    ensures { let seen = ⟦<Option<String> as Layout>⟧.seen in
+        IfOk result (λ x. seen x ≡ seen value.now) }
 {
     written_is_answered::<Option<String>, Endianness>();
     let bytes = value.write_to_vec_with_ctx(alloc, order)?;
@@ -45,7 +50,8 @@ fn read_written<'a, C: Context, T: Readable<'a, C>>(
     context: C,
     bytes: &'a [u8],
 ) -> Result<T, C::Error>
-    ensures same { (v : T.Seen) → (T.format (C.encoding context)).writes v bytes.now → IfOk result (λ x. T.seen x ≡ v) }
+    ensures same { (v : T.Seen) → (T.format (C.encoding context)).writes v bytes.now
+        → IfOk result (λ x. T.seen x ≡ v) }
     ensures refused { (v : T.Seen) → (T.format (C.encoding context)).writes v bytes.now
         → IfErr result (C.Error.from_gives (error_of ErrorKind.OutOfMemory)) }
 {
@@ -59,9 +65,11 @@ fn read_front<'a, C: Context, T: Readable<'a, C>>(
     context: C,
     bytes: &'a [u8],
 ) -> Result<(T, usize), C::Error>
-    ensures same { (v : T.Seen) (front rest : List ℕ) → (T.format (C.encoding context)).writes v front → bytes.now ≡ front ++ rest
+    ensures same { (v : T.Seen) (front rest : List ℕ) →
+        (T.format (C.encoding context)).writes v front → bytes.now ≡ front ++ rest
         → IfOk result (λ x. (T.seen x.0 ≡ v) × (x.1 ≡ count rest)) }
-    ensures refused { (v : T.Seen) (front rest : List ℕ) → (T.format (C.encoding context)).writes v front → bytes.now ≡ front ++ rest
+    ensures refused { (v : T.Seen) (front rest : List ℕ) →
+        (T.format (C.encoding context)).writes v front → bytes.now ≡ front ++ rest
         → IfErr result (C.Error.from_gives (error_of ErrorKind.OutOfMemory)) }
 {
     written_is_read::<T, C>();
@@ -76,9 +84,11 @@ fn read_slice<L: AsSlice<u8> + Drop, C: Context, R: LendingReader<L, C>, T: Read
     length: usize,
 ) -> Result<Vec<T>, C::Error>
     ensures { let state = R.state reader.old in
-        (items : List T.Seen) (bytes rest : List ℕ) → Each (T.format state.encoding).writes items bytes → length ≡ count items
+        (items : List T.Seen) (bytes rest : List ℕ) →
+        Each (T.format state.encoding).writes items bytes → length ≡ count items
         → IsTrue state.tells → state.to_come ≡ bytes ++ rest
-        → IfOk result (λ v. map T.seen v.items ≡ items) × OnOk result ((R.state reader.new).to_come ≡ rest) }
+        → IfOk result (λ v. map T.seen v.items ≡ items)
+        × OnOk result ((R.state reader.new).to_come ≡ rest) }
 {
     written_items_are_read::<T, C>();
     reader.read_vec(length)
@@ -101,6 +111,23 @@ fn slice_again<'a, C: Context + Copy, T: Writable<C> + Readable<'a, C>>(
     outcome?;
     let mut reader = BufferReader::new(alloc, context, buffer);
     reader.read_vec(items.len())
+}
+
+/// Reads a value from the front of a buffer and writes it again. The context accepts the written form alone, so these are
+/// the very bytes that were read.
+fn again_the_same_bytes(alloc: Global, bytes: &[u8]) -> Result<Vec<u8>, Error>
+    ensures { let layout = ⟦<Option<String> as Layout>⟧ in
+        let format = layout.format (strict_encoding Endianness.LittleEndian) in
+        IfOk result (λ written. (value : layout.Seen) × (rest : List ℕ)
+        × format.spells value written.items × (bytes.now ≡ written.items ++ rest)) }
+{
+    written_form_alone::<Option<String>>();
+    let context = StrictLittleEndian {};
+    let value = <Option<String> as Readable<StrictLittleEndian>>::read_from_buffer_with_ctx(
+        alloc, context, bytes,
+    )?;
+    let written = value.write_to_vec_with_ctx(alloc, context)?;
+    Ok(written)
 }
 
 /// Reads a value of any type from bytes that a type names. So it needs no lifetime, and answers the crate's own error.
@@ -142,6 +169,15 @@ fn values_come_back(rt: HostRuntime) -> Result<(), Fail> {
     assert_eq!(rt; first, 2);
     assert_eq!(rt; left, 4);
     Ok(())
+}
+
+#[test]
+fn the_same_bytes_are_written_again(rt: HostRuntime) {
+    let alloc = rt.alloc();
+    let bytes = [1, 2, 0, 0, 0, b'H', b'i', 9];
+    assert_ok_items(&rt, again_the_same_bytes(alloc, &bytes), &bytes[..7]);
+    let outcome = again_the_same_bytes(alloc, &[2, 2, 0, 0, 0, b'H', b'i']);
+    assert_refused(&rt, alloc, outcome, "NotWrittenForm");
 }
 
 #[test]

@@ -1,7 +1,11 @@
-//! Byte orders: the orders of the contexts, the digits of numbers, and numbers swapped in place.
+//! Byte orders: what contexts ask for, the digits of numbers, and numbers swapped in place.
 use crate::asserting::assert_same;
-use crate::context::{BigEndian, Context, LittleEndian, PlainContext};
+use crate::context::{
+    BigEndian, Context, LittleEndian, PlainContext, StrictBigEndian, StrictLittleEndian,
+};
 use crate::endianness::Endianness;
+use std::alloc::Global;
+use std::fmt::Debug;
 use std::process::Abort;
 
 const LITTLE: Endianness = Endianness::LittleEndian;
@@ -12,18 +16,43 @@ const EIGHT: u64 = 0x0102_0304_0506_0708;
 
 const SIXTEEN: u128 = 0x0102_0304_0506_0708_090a_0b0c_0d0e_0f10;
 
-fn order_of<C: Context>(context: C) -> Endianness {
-    context.endianness()
+/// Asserts the order of the context, and whether it demands the written form.
+fn assert_context<C: Context>(rt: &impl Abort, context: C, order: Endianness, demands: bool) {
+    assert_same(rt, context.endianness(), order);
+    assert_same(rt, context.demands_written_form(), demands);
 }
 
 #[test]
-fn contexts_have_their_orders(rt: HostRuntime) {
+fn contexts_have_their_orders_and_demands(rt: HostRuntime) {
     assert_same(&rt, Endianness::NATIVE, LITTLE);
-    assert_same(&rt, order_of(LITTLE), LITTLE);
-    assert_same(&rt, order_of(BIG), BIG);
-    assert_same(&rt, order_of(LittleEndian {}), LITTLE);
-    assert_same(&rt, order_of(BigEndian {}), BIG);
-    assert_same(&rt, order_of(LittleEndian::plain()), LITTLE);
+    assert_context(&rt, LITTLE, LITTLE, false);
+    assert_context(&rt, BIG, BIG, false);
+    assert_context(&rt, LittleEndian {}, LITTLE, false);
+    assert_context(&rt, BigEndian {}, BIG, false);
+    assert_context(&rt, LittleEndian::plain(), LITTLE, false);
+    assert_context(&rt, StrictLittleEndian {}, LITTLE, true);
+    assert_context(&rt, StrictBigEndian {}, BIG, true);
+}
+
+/// Asserts that the context is the default of its type, that a copy of it is the same, and what is printed of it.
+fn assert_derived<C: Copy + Debug + Default + PartialEq>(
+    rt: &impl Abort,
+    alloc: Global,
+    context: C,
+    name: &str,
+) {
+    let copy = context;
+    assert_same(rt, copy, context);
+    assert_same(rt, context.clone().expect(rt, "a clone"), C::default());
+    let printed = format!(in alloc; "{context:?}").expect(rt, "its name");
+    assert_same(rt, printed.as_str(), name);
+}
+
+#[test]
+fn contexts_are_copied_and_printed(rt: HostRuntime) {
+    let alloc = rt.alloc();
+    assert_derived(&rt, alloc, StrictLittleEndian {}, "StrictLittleEndian");
+    assert_derived(&rt, alloc, StrictBigEndian {}, "StrictBigEndian");
 }
 
 #[test]

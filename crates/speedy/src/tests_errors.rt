@@ -159,6 +159,9 @@ fn refusals_of_forms_have_their_kinds_and_texts(rt: HostRuntime) {
         "EndiannessMismatch",
         text,
     );
+    let text = "spelling is not the written one";
+    let error = error_not_written_form();
+    assert_refusal(&rt, alloc, error, "NotWrittenForm", text);
 }
 
 #[test]

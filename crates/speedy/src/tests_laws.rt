@@ -1,5 +1,8 @@
 //! The laws of layouts can be cited, at leaves and at types within each other.
-use crate::laws::{no_spelling_begins_another, one_value, spelled_is_written, written_is_shortest};
+use crate::laws::{
+    no_spelling_begins_another, one_value, spelled_is_written, written_form_alone,
+    written_is_shortest,
+};
 use crate::varint::VarInt64;
 
 #[test]
@@ -22,4 +25,10 @@ fn a_written_form_is_a_shortest_spelling() {
 #[test]
 fn spellings_of_nested_types_do_not_begin_each_other() {
     no_spelling_begins_another::<Vec<String>>();
+}
+
+#[test]
+fn under_a_demand_a_spelling_is_a_written_form() {
+    written_form_alone::<Vec<String>>();
+    written_form_alone::<VarInt64>();
 }

@@ -43,7 +43,7 @@ const WRITTEN: [(u64, &[u8]); 18] = [
 ];
 
 /// Longer spellings than a number needs, each with the number and with what is written of it.
-const LONGER: [(&[u8], u64, &[u8]); 4] = [
+pub(crate) const LONGER: [(&[u8], u64, &[u8]); 4] = [
     (&[0x80, 0x00], 0, &[0x00]),
     (&[0xfe, 1, 0, 0, 0, 0, 0, 0], 1, &[0x01]),
     (&[0xff, 1, 0, 0, 0, 0, 0, 0, 0], 1, &[0x01]),

@@ -44,6 +44,7 @@ text_of (kinds.LengthIsNotTheSameAsLengthAttribute field) = Some (codes "the len
 text_of (kinds.ExpectedConstant constant) = Some (codes "expected a predefined " ++ (decimal (length constant.now) ++ codes " bytes(s) long constant"))
 text_of kinds.Unsized = Some (codes "type is unsized hence requires zero-copy deserialization; use `read_from_buffer` or similar to deserialize it")
 text_of kinds.EndiannessMismatch = Some (codes "endianness mismatch")
+text_of kinds.NotWrittenForm = Some (codes "spelling is not the written one")
 text_of (kinds.IoError e) = None
 text_of kinds.OutOfMemory = Some (codes "out of memory")
 text_of (kinds.Custom text) = Some (string_bytes text)

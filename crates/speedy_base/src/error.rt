@@ -59,6 +59,8 @@ pub enum ErrorKind {
     Unsized,
     /// Numbers lie in another byte order than a view of them needs.
     EndiannessMismatch,
+    /// Bytes spell a value, but another spelling of it is the written one, and the context demands that.
+    NotWrittenForm,
     /// A source or a sink failed.
     IoError(Box<io::Error>),
     /// A request for memory was refused.
@@ -179,6 +181,7 @@ impl fmt::Display for Error {
                 "type is unsized hence requires zero-copy deserialization; use `read_from_buffer` or similar to deserialize it"
             ),
             ErrorKind::EndiannessMismatch => write!(f, "endianness mismatch"),
+            ErrorKind::NotWrittenForm => write!(f, "spelling is not the written one"),
             ErrorKind::IoError(error) => write!(f, "{error}"),
             ErrorKind::OutOfMemory => write!(f, "out of memory"),
             ErrorKind::Custom(text) => write!(f, "{text}"),
@@ -243,7 +246,8 @@ pub fn error_invalid_str_utf8<T: From<Error>>() -> T
 pub fn error_length_is_not_the_same_as_length_attribute<T: From<Error>>(
     field_name: &'static str,
 ) -> T
-    ensures { T.from_gives (error_of (ErrorKind.LengthIsNotTheSameAsLengthAttribute field_name.entry)) result }
+    ensures { let kind = ErrorKind.LengthIsNotTheSameAsLengthAttribute field_name.entry in
+        T.from_gives (error_of kind) result }
 {
     T::from(Error::new(ErrorKind::LengthIsNotTheSameAsLengthAttribute { field_name }))
 }
@@ -302,7 +306,8 @@ pub fn error_input_buffer_is_too_small<T: From<Error>>(
     actual_size: usize,
     expected_size: usize,
 ) -> T
-    ensures { T.from_gives (error_of (ErrorKind.InputBufferIsTooSmall actual_size expected_size)) result }
+    ensures { let kind = ErrorKind.InputBufferIsTooSmall actual_size expected_size in
+        T.from_gives (error_of kind) result }
 {
     T::from(Error::new(ErrorKind::InputBufferIsTooSmall {
         actual_size,
@@ -316,7 +321,8 @@ pub fn error_output_buffer_is_too_small<T: From<Error>>(
     actual_size: usize,
     expected_size: usize,
 ) -> T
-    ensures { T.from_gives (error_of (ErrorKind.OutputBufferIsTooSmall actual_size expected_size)) result }
+    ensures { let kind = ErrorKind.OutputBufferIsTooSmall actual_size expected_size in
+        T.from_gives (error_of kind) result }
 {
     T::from(Error::new(ErrorKind::OutputBufferIsTooSmall {
         actual_size,
@@ -362,6 +368,14 @@ pub fn error_endianness_mismatch<T: From<Error>>() -> T
     ensures { T.from_gives (error_of ErrorKind.EndiannessMismatch) result }
 {
     T::from(Error::new(ErrorKind::EndiannessMismatch))
+}
+
+/// A spelling that is not the written one, where the context demands that.
+#[cold]
+pub fn error_not_written_form<T: From<Error>>() -> T
+    ensures { T.from_gives (error_of ErrorKind.NotWrittenForm) result }
+{
+    T::from(Error::new(ErrorKind::NotWrittenForm))
 }
 
 /// A refused request for memory.

@@ -21,15 +21,15 @@ octets_code width = exact_code (SpellsNumber width BigEndian) (λ kind. ⊥)
 
 -- addresses of so many octets: their number
 abbrev pub address : ℕ → Encoding → Format (List ℕ)
-address width encoding = coding (octets_code width) (unsigned_number width encoding)
+address width encoding = coding encoding (octets_code width) (unsigned_number width encoding)
 
 pub octets_is_code : (width : ℕ) (encoding : Encoding) → IsCode (octets_code width) (unsigned_number width encoding)
 octets_is_code width encoding =
     exact_is_code (λ kind h. absurd h) (λ n v w h k. SpellsNumber-same_bytes width BigEndian n v w h k)
     (λ n m v h k. SpellsNumber-same_value width BigEndian n m v h k) (unsigned_number_laws width encoding)
 
-pub address_laws : (width : ℕ) (encoding : Encoding) → Laws width (address width encoding)
-address_laws width encoding = coding_laws (unsigned_number_laws width encoding) (octets_is_code width encoding)
+pub address_laws : (width : ℕ) (encoding : Encoding) → Laws encoding.strict width (address width encoding)
+address_laws width encoding = coding_laws encoding (unsigned_number_laws width encoding) (octets_is_code width encoding)
 
 -- octets that are joined in twos and taken apart again
 pub octets_of-segments_of : (k : ℕ) (octets : List ℕ) → length octets ≡ k * 2 → AreBytes octets → octets_of (segments_of octets) ≡ octets
@@ -50,7 +50,7 @@ address_tag_code = exact_code (λ n is_long. n ≡ address_tag_number is_long) (
 
 -- the kind of an address: one byte, which has the number of one
 abbrev pub address_tag : Encoding → Format Bool
-address_tag encoding = coding address_tag_code (unsigned_number 1 encoding)
+address_tag encoding = coding encoding address_tag_code (unsigned_number 1 encoding)
 
 one_tag : (a b : Bool) → address_tag_number a ≡ address_tag_number b → a ≡ b
 one_tag true true e = refl
@@ -62,8 +62,8 @@ pub address_tag_is_code : (encoding : Encoding) → IsCode address_tag_code (uns
 address_tag_is_code encoding =
     exact_is_code (one_kind kinds.InvalidEnumVariant tt) (λ n v w h k. one_tag v w (sym h ∙ k)) (λ n m v h k. h ∙ sym k) (unsigned_number_laws 1 encoding)
 
-pub address_tag_laws : (encoding : Encoding) → Laws 1 (address_tag encoding)
-address_tag_laws encoding = coding_laws (unsigned_number_laws 1 encoding) (address_tag_is_code encoding)
+pub address_tag_laws : (encoding : Encoding) → Laws encoding.strict 1 (address_tag encoding)
+address_tag_laws encoding = coding_laws encoding (unsigned_number_laws 1 encoding) (address_tag_is_code encoding)
 
 -- the octets of an address, 4 or 16 of them
 abbrev pub ip_octets : IpAddr → List ℕ ⊎ List ℕ
@@ -86,7 +86,7 @@ ip_back : (v : List ℕ ⊎ List ℕ) → ip_join (ip_parts v).0 (ip_parts v).1 
 ip_back (inl octets) = refl
 ip_back (inr octets) = refl
 
-pub ip_address_laws : (encoding : Encoding) → Laws 5 (ip_address encoding)
+pub ip_address_laws : (encoding : Encoding) → Laws encoding.strict 5 (ip_address encoding)
 ip_address_laws encoding =
     variant_laws {least = 1} {n = 4} ip_parts (address_tag_laws encoding) (Laws-less (omega arith) (address_laws 16 encoding)) (address_laws 4 encoding)
     (told_apart ip_parts ip_join ip_back)

@@ -1,7 +1,9 @@
 -- Values that are spelled as values of another format, which they pass a test of, or are mapped to.
-use Rattle.std.specs.Prelude.{◌≡◌, ℕ, ◌≤◌, List, ◌++◌, length, false, ◌⊎◌}
+use Rattle.std.specs.Prelude.{◌≡◌, ℕ, ◌≤◌, List, ◌++◌, length, Bool, true, false, IsTrue, ◌⊎◌, refl}
 use Rattle.std.proofs.Common.{sym, ◌∙◌, subst, inl, inr}
 use Rattle.speedy_base.specs.declared.error.ErrorKind.{ErrorKind}
+use Rattle.speedy_base.specs.declared.error.ErrorKind.TheVariants as kinds
+use Rattle.speedy_base.specs.Encoding.{Encoding}
 use Rattle.speedy_layout.specs.Format.{Format, IsOwnKind}
 use Rattle.speedy_layout.specs.Laws.{Laws}
 
@@ -20,7 +22,7 @@ pub record Coded {U V : Type 0} (spelled : U → List ℕ → Type 0) (stands_fo
   pub code_is : spelled code bytes
   pub stands : stands_for code v
 
--- a code that means no value is spelled by a front of the bytes
+-- a code that is accepted as no value is spelled by a front of the bytes
 pub record MeansNothing {U V : Type 0} (spells : U → List ℕ → Type 0) (means : U → V → Type 0) (bytes : List ℕ) : Type 0 where
   pub code : U
   pub front : List ℕ
@@ -29,14 +31,30 @@ pub record MeansNothing {U V : Type 0} (spells : U → List ℕ → Type 0) (mea
   pub code_is : spells code front
   pub nothing : (v : V) → means code v → ⊥
 
--- values that are spelled as their codes
-unfoldable pub coding : {U V : Type 0} → Code U V → Format U → Format V
-coding c F = record {
-  spells = Coded F.spells c.means;
+-- the code is accepted as the value: each that means it, or the chosen one alone, under a demand for the written form
+abbrev pub Accepts : {U V : Type 0} → Bool → Code U V → U → V → Type 0
+Accepts false c = c.means
+Accepts true c = c.chosen
+
+-- some code is read as a value that it is not written as
+pub record ReadsWider {U V : Type 0} (c : Code U V) : Type 0 where
+  pub code : U
+  pub value : V
+  pub meant : c.means code value
+  pub not_chosen : c.chosen code value → ⊥
+
+-- the kind of what is no written form, where there may be such and the written form is demanded
+abbrev pub IsDemand : {U V : Type 0} → Bool → Code U V → ErrorKind → Type 0
+IsDemand strict c kind = IsTrue strict × (kind ≡ kinds.NotWrittenForm) × ReadsWider c
+
+-- Values that are spelled as their codes. This alone reads wider than it writes, and here alone a demand for the written form narrows what is read.
+unfoldable pub coding : {U V : Type 0} → Encoding → Code U V → Format U → Format V
+coding encoding c F = record {
+  spells = Coded F.spells (Accepts encoding.strict c);
   writes = Coded F.writes c.chosen;
-  names = λ kind. F.names kind ⊎ c.fault kind;
+  names = λ kind. F.names kind ⊎ (c.fault kind ⊎ IsDemand encoding.strict c kind);
   refuses_writing = F.refuses_writing;
-  at_fault = λ bytes. F.at_fault bytes ⊎ MeansNothing F.spells c.means bytes;
+  at_fault = λ bytes. F.at_fault bytes ⊎ MeansNothing F.spells (Accepts encoding.strict c) bytes;
   needs_lending = F.needs_lending;
   hashed = F.hashed;
   takes_memory = F.takes_memory;
@@ -56,18 +74,42 @@ pub record IsCode {U V : Type 0} (c : Code U V) (F : Format U) : Type 0 where
   pub chosen_shortest : (v : V) (b d : List ℕ) → Coded F.writes c.chosen v b → Coded F.spells c.means v d → length b ≤ length d
   pub fault_own : (kind : ErrorKind) → c.fault kind → IsOwnKind kind
 
+-- what is chosen is accepted
+pub Accepts-chosen : {U V : Type 0} (strict : Bool) (c : Code U V) (u : U) (v : V) → (c.chosen u v → c.means u v) → c.chosen u v → Accepts strict c u v
+Accepts-chosen false c u v f h = f h
+Accepts-chosen true c u v f h = h
+
+-- what is accepted means the value
+pub Accepts-means : {U V : Type 0} (strict : Bool) (c : Code U V) (u : U) (v : V) → (c.chosen u v → c.means u v) → Accepts strict c u v → c.means u v
+Accepts-means false c u v f h = h
+Accepts-means true c u v f h = f h
+
+-- under a demand it is chosen
+pub Accepts-demanded : {U V : Type 0} (strict : Bool) (c : Code U V) (u : U) (v : V) → IsTrue strict → Accepts strict c u v → c.chosen u v
+Accepts-demanded false c u v s h = absurd (cc)
+Accepts-demanded true c u v s h = h
+
+-- what means the value, and is chosen for it under a demand, is accepted as it
+pub Accepts-is : {U V : Type 0} (strict : Bool) (c : Code U V) (u : U) (v : V) → c.means u v → (IsTrue strict → c.chosen u v) → Accepts strict c u v
+Accepts-is false c u v h f = h
+Accepts-is true c u v h f = f refl
+
+demand_own : {U V : Type 0} (strict : Bool) (c : Code U V) (kind : ErrorKind) → IsDemand strict c kind → IsOwnKind kind
+demand_own strict c kind h = subst IsOwnKind (sym h.1) tt
+
 -- the laws of values that are spelled as their codes
-pub coding_laws : {U V : Type 0} {c : Code U V} {least : ℕ} {F : Format U} → Laws least F → IsCode c F → Laws least (coding c F)
+pub coding_laws : {U V : Type 0} (encoding : Encoding) {c : Code U V} {least : ℕ} {F : Format U} → Laws encoding.strict least F → IsCode c F → Laws encoding.strict least (coding encoding c F)
 unfolding coding
-coding_laws {U = U} {c = c} {F = F} laws is = record {
+coding_laws {U = U} {V = V} encoding {c = c} {F = F} laws is = record {
   decodes = λ v w s t r q h k e.
       let same = laws.decodes h.code k.code s t r q h.code_is k.code_is e in
-      (is.one_meaning k.code v w (subst (λ (u : U). c.means u v) same.0 h.stands) k.stands, same.1, same.2);
-  written_spells = λ v b h. record { code = h.code; code_is = laws.written_spells h.code b h.code_is; stands = is.chosen_means h.code v h.stands };
-  shortest = is.chosen_shortest;
+      (is.one_meaning k.code v w (subst (λ (u : U). c.means u v) same.0 (means h.code v h.stands)) (means k.code w k.stands), same.1, same.2);
+  written_spells = λ v b h. record { code = h.code; code_is = laws.written_spells h.code b h.code_is; stands = Accepts-chosen strict c h.code v (is.chosen_means h.code v) h.stands };
+  written_alone = λ s v b h. record { code = h.code; code_is = laws.written_alone s h.code b h.code_is; stands = Accepts-demanded strict c h.code v s h.stands };
+  shortest = λ v b d h k. is.chosen_shortest v b d h (meant v d k);
   least_size = λ v b h. laws.least_size h.code b h.code_is;
   has_written = λ v b h.
-      let x = is.has_chosen v b h in
+      let x = is.has_chosen v b (meant v b h) in
       let w = laws.has_written x.1.code x.0 x.1.code_is in
       (w.0, record { code = x.1.code; code_is = w.1; stands = x.1.stands });
   one_written = λ u v b d h k.
@@ -78,11 +120,19 @@ coding_laws {U = U} {c = c} {F = F} laws is = record {
         | inl x ↦ laws.fault_unspelled h.code front rest x h.code_is
         | inr x ↦
             let same = laws.decodes x.code h.code x.front front x.rest rest x.code_is h.code_is (sym x.whole_is) in
-            x.nothing v (subst (λ (u : U). c.means u v) (sym same.0) h.stands)
+            x.nothing v (subst (λ (u : U). Accepts strict c u v) (sym same.0) h.stands)
       ];
-  names_own = λ kind n. elim n [ inl x ↦ laws.names_own kind x | inr x ↦ is.fault_own kind x ];
+  names_own = λ kind n. elim n [ inl x ↦ laws.names_own kind x | inr x ↦ elim x [ inl y ↦ is.fault_own kind y | inr y ↦ demand_own strict c kind y ] ];
   refuses_own = laws.refuses_own;
-}
+} where
+  strict : Bool
+  strict = encoding.strict
+
+  means : (u : U) (v : V) → Accepts strict c u v → c.means u v
+  means u v h = Accepts-means strict c u v (is.chosen_means u v) h
+
+  meant : (v : V) (b : List ℕ) → Coded F.spells (Accepts strict c) v b → Coded F.spells c.means v b
+  meant v b h = record { code = h.code; code_is = h.code_is; stands = means h.code v h.stands }
 
 -- ---- one code for each value
 
@@ -90,9 +140,19 @@ coding_laws {U = U} {c = c} {F = F} laws is = record {
 abbrev pub exact_code : {U V : Type 0} → (U → V → Type 0) → (ErrorKind → Type 0) → Code U V
 exact_code means fault = record { means = means; chosen = means; fault = fault }
 
+-- a code that means a value is accepted as it under a demand too
+pub Accepts-exact : {U V : Type 0} (strict : Bool) (means : U → V → Type 0) (fault : ErrorKind → Type 0) (u : U) (v : V) → means u v → Accepts strict (exact_code means fault) u v
+Accepts-exact false means fault u v h = h
+Accepts-exact true means fault u v h = h
+
+-- and means it
+pub Accepts-exact_means : {U V : Type 0} (strict : Bool) (means : U → V → Type 0) (fault : ErrorKind → Type 0) (u : U) (v : V) → Accepts strict (exact_code means fault) u v → means u v
+Accepts-exact_means false means fault u v h = h
+Accepts-exact_means true means fault u v h = h
+
 -- that is lawful where a code means at most one value, and a value has at most one code
 pub exact_is_code : {U V : Type 0} {means : U → V → Type 0} {fault : ErrorKind → Type 0} → ((kind : ErrorKind) → fault kind → IsOwnKind kind) → ((u : U) (v w : V) → means u v → means u w → v ≡ w) → ((u w : U) (v : V) → means u v → means w v → u ≡ w)
-    → {least : ℕ} {F : Format U} → Laws least F → IsCode (exact_code means fault) F
+    → {strict : Bool} {least : ℕ} {F : Format U} → Laws strict least F → IsCode (exact_code means fault) F
 exact_is_code {U = U} own one_meaning one_code {F = F} laws = record {
   one_meaning = one_meaning;
   one_chosen = λ _. one_code;
@@ -113,13 +173,12 @@ abbrev pub subset_code : {V : Type 0} → (V → Type 0) → ErrorKind → Code 
 subset_code pass fault = exact_code (λ u v. (u ≡ v) × pass v) (λ kind. kind ≡ fault)
 
 -- the values of a format that pass the test; the others are refused with the one kind
-abbrev pub subset : {V : Type 0} → (V → Type 0) → ErrorKind → Format V → Format V
-subset pass fault F = coding (subset_code pass fault) F
+abbrev pub subset : {V : Type 0} → Encoding → (V → Type 0) → ErrorKind → Format V → Format V
+subset encoding pass fault F = coding encoding (subset_code pass fault) F
 
-module _ {V : Type 0} (pass : V → Type 0) (fault : ErrorKind) (own : IsOwnKind fault) {least : ℕ} {F : Format V} (laws : Laws least F) where
-  pub subset_is_code : IsCode (subset_code pass fault) F
-  subset_is_code = exact_is_code (one_kind fault own) (λ u v w h k. sym h.0 ∙ k.0) (λ u v w h k. h.0 ∙ sym k.0) laws
+pub subset_is_code : {V : Type 0} (pass : V → Type 0) (fault : ErrorKind) → IsOwnKind fault → {strict : Bool} {least : ℕ} {F : Format V} → Laws strict least F → IsCode (subset_code pass fault) F
+subset_is_code pass fault own laws = exact_is_code (one_kind fault own) (λ u v w h k. sym h.0 ∙ k.0) (λ u v w h k. h.0 ∙ sym k.0) laws
 
-  -- the laws of the values that pass a test
-  pub subset_laws : Laws least (subset pass fault F)
-  subset_laws = coding_laws laws subset_is_code
+-- the laws of the values that pass a test
+pub subset_laws : {V : Type 0} (encoding : Encoding) (pass : V → Type 0) (fault : ErrorKind) → IsOwnKind fault → {least : ℕ} {F : Format V} → Laws encoding.strict least F → Laws encoding.strict least (subset encoding pass fault F)
+subset_laws encoding pass fault own laws = coding_laws encoding laws (subset_is_code pass fault own laws)

@@ -6,7 +6,7 @@ use Rattle.speedy_base.specs.DigitsLemmas.{SpellsNumber-digits}
 use Rattle.speedy_base.specs.Encoding.{Encoding}
 use Rattle.speedy_layout.specs.Format.{Format}
 use Rattle.speedy_layout.specs.Laws.{Laws, Laws-less}
-use Rattle.speedy_layout.specs.Codes.{Code, IsCode, coding, coding_laws}
+use Rattle.speedy_layout.specs.Codes.{ReadsWider, Code, IsCode, coding, coding_laws}
 use Rattle.speedy_layout.specs.Numbers.{unsigned_number, unsigned_number_laws}
 use Rattle.speedy_layout.specs.Sequences.{asks_of, either_asks, Suffices, sequence, sequence_laws, or_left, or_right}
 use Rattle.speedy_layout.specs.Tuples.{unit, unit_laws}
@@ -27,9 +27,13 @@ written_flag false = 0
 abbrev pub flag_code : Code ℕ Bool
 flag_code = record { means = λ n b. IsFlag b n; chosen = λ n b. n ≡ written_flag b; fault = λ _. ⊥ }
 
+-- a flag above 1 is read as true, and not written
+pub flag_reads_wider : ReadsWider flag_code
+flag_reads_wider = record { code = 2; value = true; meant = omega arith; not_chosen = λ e. omega arith }
+
 -- a flag: one byte
 abbrev pub flag : Encoding → Format Bool
-flag encoding = coding flag_code (unsigned_number 1 encoding)
+flag encoding = coding encoding flag_code (unsigned_number 1 encoding)
 
 one_flag : (b c : Bool) (n : ℕ) → IsFlag b n → IsFlag c n → b ≡ c
 one_flag true true n h k = refl
@@ -56,8 +60,8 @@ flag_is_code encoding = record {
   fault_own = λ kind h. absurd h;
 }
 
-pub flag_laws : (encoding : Encoding) → Laws 1 (flag encoding)
-flag_laws encoding = coding_laws (unsigned_number_laws 1 encoding) (flag_is_code encoding)
+pub flag_laws : (encoding : Encoding) → Laws encoding.strict 1 (flag encoding)
+flag_laws encoding = coding_laws encoding (unsigned_number_laws 1 encoding) (flag_is_code encoding)
 
 -- ---- a value that a flag or a tag chooses
 
@@ -89,7 +93,7 @@ branch_suffices {V = V} {W = W} L M = record { lending = lending; hashed = hashe
   memory false = or_right L.takes_memory M.takes_memory
 
 -- its least size is that of the tag and so many bytes more as each of the two has
-pub variant_laws : {U V W : Type 0} {least n : ℕ} {tags : Format Bool} {L : Format V} {M : Format W} (split : U → (b : Bool) × Branch V W b) → Laws least tags → Laws n L → Laws n M → ((v w : U) → split v ≡ split w → v ≡ w) → Laws (least + n) (variant split tags L M)
+pub variant_laws : {U V W : Type 0} {strict : Bool} {least n : ℕ} {tags : Format Bool} {L : Format V} {M : Format W} (split : U → (b : Bool) × Branch V W b) → Laws strict least tags → Laws strict n L → Laws strict n M → ((v w : U) → split v ≡ split w → v ≡ w) → Laws strict (least + n) (variant split tags L M)
 variant_laws {L = L} {M = M} split laws first second injective = sequence_laws laws (elim [ true ↦ first | false ↦ second ]) (branch_suffices L M) injective
 
 -- values that can be put together again from their parts differ in their parts
@@ -130,12 +134,12 @@ alternative_back : {V W : Type 0} (v : Result V W) → alternative_join (alterna
 alternative_back (Ok v) = refl
 alternative_back (Err w) = refl
 
-pub option_laws : {V : Type 0} {n : ℕ} {L : Format V} → Laws n L → (encoding : Encoding) → Laws 1 (option encoding L)
-option_laws laws encoding =
+pub option_laws : {V : Type 0} {n : ℕ} {L : Format V} (encoding : Encoding) → Laws encoding.strict n L → Laws encoding.strict 1 (option encoding L)
+option_laws encoding laws =
     variant_laws {least = 1} {n = 0} option_parts (flag_laws encoding) (Laws-less (omega arith) laws) unit_laws
     (told_apart option_parts option_join option_back)
 
-pub alternative_laws : {V W : Type 0} {n m : ℕ} {L : Format V} {M : Format W} → Laws n L → Laws m M → (encoding : Encoding) → Laws 1 (alternative encoding L M)
-alternative_laws laws more encoding =
+pub alternative_laws : {V W : Type 0} {n m : ℕ} {L : Format V} {M : Format W} (encoding : Encoding) → Laws encoding.strict n L → Laws encoding.strict m M → Laws encoding.strict 1 (alternative encoding L M)
+alternative_laws encoding laws more =
     variant_laws {least = 1} {n = 0} alternative_parts (flag_laws encoding) (Laws-less (omega arith) laws) (Laws-less (omega arith) more)
     (told_apart alternative_parts alternative_join alternative_back)

@@ -1,16 +1,18 @@
 -- What holds of each layout.
-use Rattle.std.specs.Prelude.{◌≡◌, ℕ, ◌-◌, ◌^◌, ◌≤◌, List, ◌++◌, length, min, false}
+use Rattle.std.specs.Prelude.{◌≡◌, ℕ, ◌-◌, ◌^◌, ◌≤◌, List, ◌++◌, length, min, false, Bool, IsTrue}
 use Rattle.std.proofs.Common.{ap, arith}
 use Rattle.std.proofs.Math.Nat.{min-le_left}
 use Rattle.speedy_base.specs.declared.error.ErrorKind.{ErrorKind}
 use Rattle.speedy_layout.specs.Format.{Format, plain_format, IsOwnKind}
 
--- The laws of a format whose spellings have at least so many bytes.
-pub record Laws {V : Type 0} (least : ℕ) (F : Format V) : Type 0 where
+-- The laws of a format whose spellings have at least so many bytes, under a demand for the written form or none.
+pub record Laws {V : Type 0} (strict : Bool) (least : ℕ) (F : Format V) : Type 0 where
   -- one list of bytes spells at most one value, and no spelling begins another
   pub decodes : (v w : V) (s t r q : List ℕ) → F.spells v s → F.spells w t → s ++ r ≡ t ++ q → (v ≡ w) × (s ≡ t) × (r ≡ q)
   -- what is written spells the value
   pub written_spells : (v : V) (b : List ℕ) → F.writes v b → F.spells v b
+  -- and under a demand for the written form, what spells the value is written
+  pub written_alone : IsTrue strict → (v : V) (b : List ℕ) → F.spells v b → F.writes v b
   -- no spelling is shorter than what is written
   pub shortest : (v : V) (b c : List ℕ) → F.writes v b → F.spells v c → length b ≤ length c
   -- a spelling has at least the type's least size
@@ -27,11 +29,12 @@ pub record Laws {V : Type 0} (least : ℕ) (F : Format V) : Type 0 where
   pub refuses_own : (kind : ErrorKind) → F.refuses_writing kind → IsOwnKind kind
 
 -- the laws of a plain format whose values have one spelling each
-pub plain_laws : {V : Type 0} {least : ℕ} {spells : V → List ℕ → Type 0} → ((v w : V) (s t r q : List ℕ) → spells v s → spells w t → s ++ r ≡ t ++ q → (v ≡ w) × (s ≡ t) × (r ≡ q))
-    → ((v : V) (b : List ℕ) → spells v b → least ≤ length b) → ((v : V) (b c : List ℕ) → spells v b → spells v c → b ≡ c) → Laws least (plain_format spells)
+pub plain_laws : {V : Type 0} {strict : Bool} {least : ℕ} {spells : V → List ℕ → Type 0} → ((v w : V) (s t r q : List ℕ) → spells v s → spells w t → s ++ r ≡ t ++ q → (v ≡ w) × (s ≡ t) × (r ≡ q))
+    → ((v : V) (b : List ℕ) → spells v b → least ≤ length b) → ((v : V) (b c : List ℕ) → spells v b → spells v c → b ≡ c) → Laws strict least (plain_format spells)
 plain_laws decodes least_size one = record {
   decodes = decodes;
   written_spells = λ _ _ h. h;
+  written_alone = λ _ _ _ h. h;
   shortest = λ v b c h k. let e = ap length (one v b c h k) in omega arith;
   least_size = least_size;
   has_written = λ _ b h. (b, h);
@@ -42,10 +45,11 @@ plain_laws decodes least_size one = record {
 }
 
 -- a smaller least size
-pub Laws-less : {V : Type 0} {n m : ℕ} {F : Format V} → m ≤ n → Laws n F → Laws m F
+pub Laws-less : {V : Type 0} {strict : Bool} {n m : ℕ} {F : Format V} → m ≤ n → Laws strict n F → Laws strict m F
 Laws-less less laws = record {
   decodes = laws.decodes;
   written_spells = laws.written_spells;
+  written_alone = laws.written_alone;
   shortest = laws.shortest;
   least_size = λ v b h. let l = laws.least_size v b h in omega arith;
   has_written = laws.has_written;
@@ -60,5 +64,5 @@ abbrev pub saturated_size : ℕ → ℕ
 saturated_size n = min n (2 ^ 64 - 1)
 
 -- and it is a least size too
-pub saturated_laws : {V : Type 0} {n : ℕ} {F : Format V} → Laws n F → Laws (saturated_size n) F
+pub saturated_laws : {V : Type 0} {strict : Bool} {n : ℕ} {F : Format V} → Laws strict n F → Laws strict (saturated_size n) F
 saturated_laws {n = n} laws = Laws-less (min-le_left n (2 ^ 64 - 1)) laws

@@ -12,17 +12,17 @@ use Rattle.speedy_base.specs.DigitsLemmas.{SpellsNumber-digits}
 use Rattle.speedy_base.specs.Encoding.{Encoding}
 use Rattle.speedy_layout.specs.Format.{Format}
 use Rattle.speedy_layout.specs.Laws.{Laws}
-use Rattle.speedy_layout.specs.Codes.{Code, IsCode, coding, coding_laws, exact_code, exact_is_code, one_kind, subset, subset_laws}
+use Rattle.speedy_layout.specs.Codes.{Code, IsCode, ReadsWider, coding, coding_laws, exact_code, exact_is_code, one_kind, subset, subset_laws}
 use Rattle.speedy_layout.specs.Numbers.{unsigned_number, unsigned_number_laws}
 use Rattle.speedy_layout.specs.Sequences.{sequence}
 use Rattle.speedy_layout.specs.Tuples.{pair, pair_laws}
 
 -- characters: four digits, whose number is at most 10FFFF and none of D800 to DFFF
 abbrev pub character : Encoding → Format ℕ
-character encoding = subset InScalarRange kinds.InvalidChar (unsigned_number 4 encoding)
+character encoding = subset encoding InScalarRange kinds.InvalidChar (unsigned_number 4 encoding)
 
-pub character_laws : (encoding : Encoding) → Laws 4 (character encoding)
-character_laws encoding = subset_laws InScalarRange kinds.InvalidChar tt (unsigned_number_laws 4 encoding)
+pub character_laws : (encoding : Encoding) → Laws encoding.strict 4 (character encoding)
+character_laws encoding = subset_laws encoding InScalarRange kinds.InvalidChar tt (unsigned_number_laws 4 encoding)
 
 -- the number that stands for a byte order
 abbrev pub order_number : Endianness → ℕ
@@ -34,7 +34,7 @@ order_code = exact_code (λ n order. n ≡ order_number order) (λ kind. kind �
 
 -- byte orders: one byte, which has the number of one
 abbrev pub byte_order : Encoding → Format Endianness
-byte_order encoding = coding order_code (unsigned_number 1 encoding)
+byte_order encoding = coding encoding order_code (unsigned_number 1 encoding)
 
 one_order : (a b : Endianness) → order_number a ≡ order_number b → a ≡ b
 one_order LittleEndian LittleEndian e = refl
@@ -46,8 +46,8 @@ pub order_is_code : (encoding : Encoding) → IsCode order_code (unsigned_number
 order_is_code encoding =
     exact_is_code (one_kind kinds.InvalidEnumVariant tt) (λ n v w h k. one_order v w (sym h ∙ k)) (λ n m v h k. h ∙ sym k) (unsigned_number_laws 1 encoding)
 
-pub byte_order_laws : (encoding : Encoding) → Laws 1 (byte_order encoding)
-byte_order_laws encoding = coding_laws (unsigned_number_laws 1 encoding) (order_is_code encoding)
+pub byte_order_laws : (encoding : Encoding) → Laws encoding.strict 1 (byte_order encoding)
+byte_order_laws encoding = coding_laws encoding (unsigned_number_laws 1 encoding) (order_is_code encoding)
 
 -- seconds in eight digits, then nanoseconds in four
 abbrev pub seconds_and_nanos : Encoding → Format (ℕ × ℕ)
@@ -65,8 +65,12 @@ duration_code = record {
   fault = λ kind. kind ≡ kinds.InvalidSystemTime;
 }
 
+-- a second of nanoseconds is read, and not written
+pub duration_reads_wider : ReadsWider duration_code
+duration_reads_wider = record { code = (0, 1_000_000_000); value = 1_000_000_000; meant = (refl, omega arith); not_chosen = λ h. let less = h.2 in omega arith }
+
 abbrev pub duration : Encoding → Format ℕ
-duration encoding = coding duration_code (seconds_and_nanos encoding)
+duration encoding = coding encoding duration_code (seconds_and_nanos encoding)
 
 pair_is : (p q : ℕ × ℕ) → p.0 ≡ q.0 → p.1 ≡ q.1 → p ≡ q
 pair_is p q h k = ap₂ (λ (a b : ℕ). let r : ℕ × ℕ = (a, b) in r) h k
@@ -79,7 +83,7 @@ twelve encoding p b h =
     let y = h.second_is.width_is in
     omega arith
 
-pub seconds_and_nanos_laws : (encoding : Encoding) → Laws 12 (seconds_and_nanos encoding)
+pub seconds_and_nanos_laws : (encoding : Encoding) → Laws encoding.strict 12 (seconds_and_nanos encoding)
 seconds_and_nanos_laws encoding = pair_laws (unsigned_number_laws 8 encoding) (unsigned_number_laws 4 encoding)
 
 pub duration_is_code : (encoding : Encoding) → IsCode duration_code (seconds_and_nanos encoding)
@@ -114,5 +118,5 @@ duration_is_code encoding = record {
   fault_own = one_kind kinds.InvalidSystemTime tt;
 }
 
-pub duration_laws : (encoding : Encoding) → Laws 12 (duration encoding)
-duration_laws encoding = coding_laws (seconds_and_nanos_laws encoding) (duration_is_code encoding)
+pub duration_laws : (encoding : Encoding) → Laws encoding.strict 12 (duration encoding)
+duration_laws encoding = coding_laws encoding (seconds_and_nanos_laws encoding) (duration_is_code encoding)

@@ -1,5 +1,5 @@
 -- Lists: so many items one after the other, and counted lists.
-use Rattle.std.specs.Prelude.{◌≡◌, ℕ, zero, suc, ◌*◌, ◌≤◌, List, [], ◌∷◌, ◌++◌, length, true, false, refl}
+use Rattle.std.specs.Prelude.{◌≡◌, ℕ, zero, suc, ◌*◌, ◌≤◌, List, [], ◌∷◌, ◌++◌, length, Bool, true, false, IsTrue, refl}
 use Rattle.std.proofs.Common.{sym, ◌∙◌, ap, subst, arith}
 use Rattle.std.proofs.lemmas.List.{length-append}
 use Rattle.speedy_base.specs.Encoding.{Encoding}
@@ -38,7 +38,7 @@ list_asks F = record { lending = F.needs_lending; hashed = F.hashed; memory = tr
 unfoldable pub list : {V : Type 0} → Encoding → Format V → Format (List V)
 list encoding F = sequence list_parts (unsigned_number 4 encoding) (list_asks F) (λ n. vector n F)
 
-module _ {V : Type 0} {least : ℕ} {F : Format V} (laws : Laws least F) where
+module _ {V : Type 0} {strict : Bool} {least : ℕ} {F : Format V} (laws : Laws strict least F) where
   -- lists of one length decode item by item
   pub each_decodes : (vs ws : List V) (s t r q : List ℕ) → length vs ≡ length ws → Each F.spells vs s → Each F.spells ws t → s ++ r ≡ t ++ q → (vs ≡ ws) × (s ≡ t) × (r ≡ q)
   each_decodes [] [] s t r q l h k e = (refl, h ∙ sym k, ap (λ x. x ++ r) (sym h) ∙ (e ∙ ap (λ x. x ++ q) k))
@@ -63,6 +63,17 @@ module _ {V : Type 0} {least : ℕ} {F : Format V} (laws : Laws least F) where
     whole_is = h.whole_is;
     first_is = laws.written_spells v h.front h.first_is;
     second_is = each_written vs h.back h.second_is;
+  }
+
+  -- under a demand for the written form, what spells the items is written
+  pub each_written_alone : IsTrue strict → (vs : List V) (b : List ℕ) → Each F.spells vs b → Each F.writes vs b
+  each_written_alone s [] b h = h
+  each_written_alone s (v ∷ vs) b h = record {
+    front = h.front;
+    back = h.back;
+    whole_is = h.whole_is;
+    first_is = laws.written_alone s v h.front h.first_is;
+    second_is = each_written_alone s vs h.back h.second_is;
   }
 
   -- no spelling of the items is shorter than a written one
@@ -100,11 +111,12 @@ module _ {V : Type 0} {least : ℕ} {F : Format V} (laws : Laws least F) where
       let more = each_one_written u vs h.back k.back h.second_is k.second_is in
       h.whole_is ∙ (cc) ∙ sym k.whole_is
 
-  pub repeat_laws : (n : ℕ) → Laws (n * least) (repeat n F)
+  pub repeat_laws : (n : ℕ) → Laws strict (n * least) (repeat n F)
   unfolding repeat
   repeat_laws n = record {
     decodes = λ v w s t r q h k e. each_decodes v w s t r q (h.0 ∙ sym k.0) h.1 k.1 e;
     written_spells = λ v b h. (h.0, each_written v b h.1);
+    written_alone = λ s v b h. (h.0, each_written_alone s v b h.1);
     shortest = λ v b c h k. each_shortest v b c h.1 k.1;
     least_size = λ v b h. subst (λ m. m * least ≤ length b) h.0 (each_size v b h.1);
     has_written = λ v b h. let w = each_has_written v b h.1 in (w.0, (h.0, w.1));
@@ -114,19 +126,19 @@ module _ {V : Type 0} {least : ℕ} {F : Format V} (laws : Laws least F) where
     refuses_own = laws.refuses_own;
   }
 
-  pub vector_laws : (n : ℕ) → Laws (n * least) (vector n F)
+  pub vector_laws : (n : ℕ) → Laws strict (n * least) (vector n F)
   unfolding vector
   vector_laws n = owned_content_laws (repeat_laws n)
 
-  pub list_suffices : Suffices (list_asks F) (λ n. vector n F)
-  unfolding vector owned_content repeat
-  list_suffices = record { lending = λ _ t. t; hashed = λ _ t. t; memory = λ _ t. t }
+pub list_suffices : {V : Type 0} (F : Format V) → Suffices (list_asks F) (λ n. vector n F)
+unfolding vector owned_content repeat
+list_suffices F = record { lending = λ _ t. t; hashed = λ _ t. t; memory = λ _ t. t }
 
-  pub list_laws : (encoding : Encoding) → Laws 4 (list encoding F)
-  unfolding list
-  list_laws encoding =
-      sequence_laws {n = 4} {m = 0} (unsigned_number_laws 4 encoding) (λ n. Laws-less (omega arith) (vector_laws n)) list_suffices
-      (λ v w e. ap (λ (p : ℕ × List V). p.1) e)
+pub list_laws : {V : Type 0} {least : ℕ} {F : Format V} (encoding : Encoding) → Laws encoding.strict least F → Laws encoding.strict 4 (list encoding F)
+unfolding list
+list_laws {V = V} {F = F} encoding laws =
+    sequence_laws {n = 4} {m = 0} (unsigned_number_laws 4 encoding) (λ n. Laws-less (omega arith) (vector_laws laws n)) (list_suffices F)
+    (λ v w e. ap (λ (p : ℕ × List V). p.1) e)
 
 -- so many items are spelled
 pub vector_length : {V : Type 0} (n : ℕ) (F : Format V) (vs : List V) (bytes : List ℕ) → (vector n F).spells vs bytes → length vs ≡ n

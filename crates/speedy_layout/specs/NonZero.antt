@@ -12,17 +12,17 @@ use Rattle.speedy_layout.specs.Numbers.{unsigned_number, unsigned_number_laws, s
 
 -- numbers of so many digits other than 0
 abbrev pub non_zero_number : ℕ → Encoding → Format ℕ
-non_zero_number width encoding = subset (λ n. n ≢ 0) kinds.ZeroNonZero (unsigned_number width encoding)
+non_zero_number width encoding = subset encoding (λ n. n ≢ 0) kinds.ZeroNonZero (unsigned_number width encoding)
 
 -- signed numbers of a width other than 0
 abbrev pub signed_non_zero_number : Width → Encoding → Format ℤ
-signed_non_zero_number w encoding = subset (λ z. z ≢ pos 0) kinds.ZeroNonZero (signed_number w encoding)
+signed_non_zero_number w encoding = subset encoding (λ z. z ≢ pos 0) kinds.ZeroNonZero (signed_number w encoding)
 
-pub non_zero_number_laws : (width : ℕ) (encoding : Encoding) → Laws width (non_zero_number width encoding)
-non_zero_number_laws width encoding = subset_laws (λ n. n ≢ 0) kinds.ZeroNonZero tt (unsigned_number_laws width encoding)
+pub non_zero_number_laws : (width : ℕ) (encoding : Encoding) → Laws encoding.strict width (non_zero_number width encoding)
+non_zero_number_laws width encoding = subset_laws encoding (λ n. n ≢ 0) kinds.ZeroNonZero tt (unsigned_number_laws width encoding)
 
-pub signed_non_zero_number_laws : (w : Width) (encoding : Encoding) → Laws (byte_len w) (signed_non_zero_number w encoding)
-signed_non_zero_number_laws w encoding = subset_laws (λ z. z ≢ pos 0) kinds.ZeroNonZero tt (signed_number_laws w encoding)
+pub signed_non_zero_number_laws : (w : Width) (encoding : Encoding) → Laws encoding.strict (byte_len w) (signed_non_zero_number w encoding)
+signed_non_zero_number_laws w encoding = subset_laws encoding (λ z. z ≢ pos 0) kinds.ZeroNonZero tt (signed_number_laws w encoding)
 
 pub not_zero : (n : ℕ) → 0 < n → n ≢ 0
 not_zero n l e = absurd (omega arith)

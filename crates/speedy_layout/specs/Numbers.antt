@@ -27,7 +27,7 @@ FitsUsize n = n ≤ 2 ^ 64 - 1
 
 -- numbers of eight digits that a `usize` holds
 abbrev pub usize_number : Encoding → Format ℕ
-usize_number encoding = subset FitsUsize kinds.OutOfRangeUsize (unsigned_number 8 encoding)
+usize_number encoding = subset encoding FitsUsize kinds.OutOfRangeUsize (unsigned_number 8 encoding)
 
 -- fronts of one length are one front
 pub same_fronts : (s t r q : List ℕ) → length s ≡ length t → s ++ r ≡ t ++ q → (s ≡ t) × (r ≡ q)
@@ -36,7 +36,7 @@ same_fronts s t r q l e = (
   sym (drop_at s r (length s) refl) ∙ (ap (drop (length s)) e ∙ drop_at t q (length s) (sym l)),
 )
 
-pub unsigned_number_laws : (width : ℕ) (encoding : Encoding) → Laws width (unsigned_number width encoding)
+pub unsigned_number_laws : (width : ℕ) (encoding : Encoding) → Laws encoding.strict width (unsigned_number width encoding)
 unfolding unsigned_number
 unsigned_number_laws width encoding =
     plain_laws
@@ -47,7 +47,7 @@ unsigned_number_laws width encoding =
     (λ v b c h k. SpellsNumber-same_bytes width encoding.order v b c h k)
 
 -- by the laws of their digits
-pub signed_number_laws : (w : Width) (encoding : Encoding) → Laws (byte_len w) (signed_number w encoding)
+pub signed_number_laws : (w : Width) (encoding : Encoding) → Laws encoding.strict (byte_len w) (signed_number w encoding)
 unfolding signed_number unsigned_number
 signed_number_laws w encoding =
     let laws = unsigned_number_laws (byte_len w) encoding in
@@ -58,5 +58,5 @@ signed_number_laws w encoding =
     (λ z b h. laws.least_size (cast_unsigned w z) b h.digits)
     (λ z b c h k. SpellsNumber-same_bytes (byte_len w) encoding.order (cast_unsigned w z) b c h.digits k.digits)
 
-pub usize_number_laws : (encoding : Encoding) → Laws 8 (usize_number encoding)
-usize_number_laws encoding = subset_laws FitsUsize kinds.OutOfRangeUsize tt (unsigned_number_laws 8 encoding)
+pub usize_number_laws : (encoding : Encoding) → Laws encoding.strict 8 (usize_number encoding)
+usize_number_laws encoding = subset_laws encoding FitsUsize kinds.OutOfRangeUsize tt (unsigned_number_laws 8 encoding)

@@ -1,5 +1,5 @@
 -- What owns or borrows a value, and adds no byte of its own.
-use Rattle.std.specs.Prelude.{◌≡◌, ℕ, ◌⊎◌, true, false}
+use Rattle.std.specs.Prelude.{◌≡◌, ℕ, ◌⊎◌, Bool, true, false}
 use Rattle.std.proofs.Common.{subst, sym, inl, inr}
 use Rattle.speedy_base.specs.declared.error.ErrorKind.{ErrorKind}
 use Rattle.speedy_base.specs.declared.error.ErrorKind.TheVariants as kinds
@@ -14,12 +14,13 @@ owned_content F = record F { takes_memory = true }
 unfoldable pub borrowed_content : {V : Type 0} → Format V → Format V
 borrowed_content F = record F { names = λ kind. F.names kind ⊎ (kind ≡ kinds.Unsized); needs_lending = true; takes_memory = false }
 
-module _ {V : Type 0} {least : ℕ} {F : Format V} (laws : Laws least F) where
-  pub owned_content_laws : Laws least (owned_content F)
+module _ {V : Type 0} {strict : Bool} {least : ℕ} {F : Format V} (laws : Laws strict least F) where
+  pub owned_content_laws : Laws strict least (owned_content F)
   unfolding owned_content
   owned_content_laws = record {
     decodes = laws.decodes;
     written_spells = laws.written_spells;
+    written_alone = laws.written_alone;
     shortest = laws.shortest;
     least_size = laws.least_size;
     has_written = laws.has_written;
@@ -33,11 +34,12 @@ module _ {V : Type 0} {least : ℕ} {F : Format V} (laws : Laws least F) where
   names_own_borrowed kind (inl h) = laws.names_own kind h
   names_own_borrowed kind (inr e) = subst IsOwnKind (sym e) tt
 
-  pub borrowed_content_laws : Laws least (borrowed_content F)
+  pub borrowed_content_laws : Laws strict least (borrowed_content F)
   unfolding borrowed_content
   borrowed_content_laws = record {
     decodes = laws.decodes;
     written_spells = laws.written_spells;
+    written_alone = laws.written_alone;
     shortest = laws.shortest;
     least_size = laws.least_size;
     has_written = laws.has_written;

@@ -58,20 +58,20 @@ pub across : (s t r q a b c d : List ℕ) → s ≡ a ++ b → t ≡ c ++ d → 
 across s t r q a b c d h k e = sym (append_assoc a b r) ∙ (ap (λ x. x ++ r) (sym h) ∙ (e ∙ (ap (λ x. x ++ q) k ∙ append_assoc c d q)))
 
 -- once the first parts are the same, the second parts decode
-second_decodes : {U : Type 0} {W : U → Type 0} (M : (u : U) → Format (W u)) (m : ℕ) → ((u : U) → Laws m (M u)) → (s t r q : List ℕ) (p : (u : U) × W u) → (M p.0).spells p.1 s → s ++ r ≡ t ++ q → (u : U) → p.0 ≡ u → (w : W u) → (M u).spells w t → let whole : (u : U) × W u = (u, w) in (p ≡ whole) × (s ≡ t) × (r ≡ q)
-second_decodes {U = U} {W = W} M m more s t r q p h e u same =
+second_decodes : {U : Type 0} {W : U → Type 0} (M : (u : U) → Format (W u)) (strict : Bool) (m : ℕ) → ((u : U) → Laws strict m (M u)) → (s t r q : List ℕ) (p : (u : U) × W u) → (M p.0).spells p.1 s → s ++ r ≡ t ++ q → (u : U) → p.0 ≡ u → (w : W u) → (M u).spells w t → let whole : (u : U) × W u = (u, w) in (p ≡ whole) × (s ≡ t) × (r ≡ q)
+second_decodes {U = U} {W = W} M strict m more s t r q p h e u same =
     subst (λ (u : U). (w : W u) → (M u).spells w t → let whole : (u : U) × W u = (u, w) in (p ≡ whole) × (s ≡ t) × (r ≡ q)) same
     (λ w k. let d = (more p.0).decodes p.1 w s t r q h k e in (ap (λ (x : W p.0). let whole : (u : U) × W u = (p.0, x) in whole) d.0, d.1, d.2))
 
-module _ {U V : Type 0} {W : U → Type 0} {split : V → (u : U) × W u} {L : Format U} {asks : Asks} {M : (u : U) → Format (W u)} {n m : ℕ} where
+module _ {U V : Type 0} {W : U → Type 0} {split : V → (u : U) × W u} {L : Format U} {asks : Asks} {M : (u : U) → Format (W u)} {strict : Bool} {n m : ℕ} where
   -- the laws of two parts, one after the other
-  pub sequence_laws : Laws n L → ((u : U) → Laws m (M u)) → Suffices asks M → ((v w : V) → split v ≡ split w → v ≡ w) → Laws (n + m) (sequence split L asks M)
+  pub sequence_laws : Laws strict n L → ((u : U) → Laws strict m (M u)) → Suffices asks M → ((v w : V) → split v ≡ split w → v ≡ w) → Laws strict (n + m) (sequence split L asks M)
   unfolding sequence
   sequence_laws laws more suffices injective = record {
     decodes = λ v w s t r q h k e.
         let joined = across s t r q h.front h.back k.front k.back h.whole_is k.whole_is e in
         let first = laws.decodes (split v).0 (split w).0 h.front k.front (h.back ++ r) (k.back ++ q) h.first_is k.first_is joined in
-        let second = second_decodes M m more h.back k.back r q (split v) h.second_is first.2 (split w).0 first.0 (split w).1 k.second_is in
+        let second = second_decodes M strict m more h.back k.back r q (split v) h.second_is first.2 (split w).0 first.0 (split w).1 k.second_is in
         (injective v w second.0, h.whole_is ∙ (let a = first.1 in let b = second.1 in (cc)) ∙ sym k.whole_is, second.2);
     written_spells = λ v b h. record {
       front = h.front;
@@ -79,6 +79,13 @@ module _ {U V : Type 0} {W : U → Type 0} {split : V → (u : U) × W u} {L : F
       whole_is = h.whole_is;
       first_is = laws.written_spells (split v).0 h.front h.first_is;
       second_is = (more (split v).0).written_spells (split v).1 h.back h.second_is;
+    };
+    written_alone = λ s v b h. record {
+      front = h.front;
+      back = h.back;
+      whole_is = h.whole_is;
+      first_is = laws.written_alone s (split v).0 h.front h.first_is;
+      second_is = (more (split v).0).written_alone s (split v).1 h.back h.second_is;
     };
     shortest = λ v b c h k.
         let first = laws.shortest (split v).0 h.front k.front h.first_is k.first_is in

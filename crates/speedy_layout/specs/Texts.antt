@@ -1,5 +1,5 @@
 -- Bytes and texts. A text is seen as the bytes of its characters in UTF-8, which determine the characters, and are determined by them.
-use Rattle.std.specs.Prelude.{◌≡◌, ℕ, List, [], ◌∷◌, ◌++◌, length, true, false, refl}
+use Rattle.std.specs.Prelude.{◌≡◌, ℕ, List, [], ◌∷◌, ◌++◌, length, Bool, true, false, refl}
 use Rattle.std.proofs.Common.{sym, ◌∙◌, ap, arith}
 use Rattle.std.specs.Str.{IsUtf8}
 use Rattle.speedy_base.specs.declared.error.ErrorKind.TheVariants as kinds
@@ -23,8 +23,8 @@ unfoldable pub any_bytes : ℕ → Format (Unit {0})
 any_bytes n = plain_format (λ _ bytes. length bytes ≡ n)
 
 -- a text of so many bytes; others are refused
-unfoldable pub text_of_length : ℕ → Format (List ℕ)
-text_of_length n = owned_content (subset IsUtf8 kinds.InvalidUtf8 (raw_bytes n))
+unfoldable pub text_of_length : Encoding → ℕ → Format (List ℕ)
+text_of_length encoding n = owned_content (subset encoding IsUtf8 kinds.InvalidUtf8 (raw_bytes n))
 
 -- a text with its number of bytes before it
 abbrev pub text_parts : List ℕ → ℕ × List ℕ
@@ -36,9 +36,9 @@ text_asks = record { lending = false; hashed = false; memory = true }
 
 -- README, `{length: u32, bytes: [u8]}`: the number of bytes in four digits, then the UTF-8 bytes
 unfoldable pub text : Encoding → Format (List ℕ)
-text encoding = sequence text_parts (unsigned_number 4 encoding) text_asks text_of_length
+text encoding = sequence text_parts (unsigned_number 4 encoding) text_asks (text_of_length encoding)
 
-pub raw_bytes_laws : (n : ℕ) → Laws n (raw_bytes n)
+pub raw_bytes_laws : {strict : Bool} (n : ℕ) → Laws strict n (raw_bytes n)
 unfolding raw_bytes
 raw_bytes_laws n =
     plain_laws
@@ -46,18 +46,18 @@ raw_bytes_laws n =
     (λ v b h. let l = h.1 in omega arith)
     (λ v b c h k. sym h.0 ∙ k.0)
 
-pub text_of_length_laws : (n : ℕ) → Laws n (text_of_length n)
+pub text_of_length_laws : (encoding : Encoding) (n : ℕ) → Laws encoding.strict n (text_of_length encoding n)
 unfolding text_of_length
-text_of_length_laws n = owned_content_laws (subset_laws IsUtf8 kinds.InvalidUtf8 tt (raw_bytes_laws n))
+text_of_length_laws encoding n = owned_content_laws (subset_laws encoding IsUtf8 kinds.InvalidUtf8 tt (raw_bytes_laws n))
 
-pub text_suffices : Suffices text_asks text_of_length
+pub text_suffices : (encoding : Encoding) → Suffices text_asks (text_of_length encoding)
 unfolding text_of_length owned_content coding raw_bytes
-text_suffices = record { lending = λ _ t. t; hashed = λ _ t. t; memory = λ _ t. t }
+text_suffices encoding = record { lending = λ _ t. t; hashed = λ _ t. t; memory = λ _ t. t }
 
-pub text_laws : (encoding : Encoding) → Laws 4 (text encoding)
+pub text_laws : (encoding : Encoding) → Laws encoding.strict 4 (text encoding)
 unfolding text
 text_laws encoding =
-    sequence_laws {n = 4} {m = 0} (unsigned_number_laws 4 encoding) (λ n. Laws-less (omega arith) (text_of_length_laws n)) text_suffices
+    sequence_laws {n = 4} {m = 0} (unsigned_number_laws 4 encoding) (λ n. Laws-less (omega arith) (text_of_length_laws encoding n)) (text_suffices encoding)
     (λ v w e. ap (λ (p : ℕ × List ℕ). p.1) e)
 
 -- ---- bytes as numbers

@@ -1,5 +1,5 @@
 -- No bytes, and two values one after the other. A tuple of more parts is a pair of its first one and the tuple of the others.
-use Rattle.std.specs.Prelude.{◌≡◌, ℕ, ◌+◌, [], ◌++◌, refl}
+use Rattle.std.specs.Prelude.{◌≡◌, ℕ, ◌+◌, [], ◌++◌, refl, Bool}
 use Rattle.std.proofs.Common.{sym, ◌∙◌, ap, arith}
 use Rattle.speedy_layout.specs.Format.{Format, plain_format}
 use Rattle.speedy_layout.specs.Laws.{Laws, plain_laws, saturated_size, saturated_laws}
@@ -9,7 +9,7 @@ use Rattle.speedy_layout.specs.Sequences.{asks_of, Suffices, sequence, sequence_
 unfoldable pub unit : Format (Unit {0})
 unit = plain_format (λ _ bytes. bytes ≡ [])
 
-pub unit_laws : Laws 0 unit
+pub unit_laws : {strict : Bool} → Laws strict 0 unit
 unfolding unit
 unit_laws =
     plain_laws
@@ -24,5 +24,5 @@ pair L M = sequence (λ p. p) L (asks_of M) (λ _. M)
 pub pair_suffices : {U W : Type 0} (M : Format W) → Suffices {U = U} (asks_of M) (λ _. M)
 pair_suffices M = record { lending = λ _ t. t; hashed = λ _ t. t; memory = λ _ t. t }
 
-pub pair_laws : {U W : Type 0} {n m : ℕ} {L : Format U} {M : Format W} → Laws n L → Laws m M → Laws (saturated_size (n + m)) (pair L M)
+pub pair_laws : {U W : Type 0} {strict : Bool} {n m : ℕ} {L : Format U} {M : Format W} → Laws strict n L → Laws strict m M → Laws strict (saturated_size (n + m)) (pair L M)
 pair_laws {M = M} laws more = saturated_laws (sequence_laws laws (λ _. more) (pair_suffices M) (λ v w e. e))

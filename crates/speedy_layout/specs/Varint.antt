@@ -1,17 +1,17 @@
 -- Variable length integers: numbers below 2 ^ 64 in one to nine bytes, the same in both byte orders.
-use Rattle.std.specs.Prelude.{◌≡◌, ℕ, zero, suc, ◌+◌, ◌-◌, ◌*◌, ◌/◌, ◌%◌, ◌^◌, ◌<◌, ◌≤◌, List, [], ◌∷◌, ◌++◌, length, false, refl}
+use Rattle.std.specs.Prelude.{◌≡◌, ℕ, zero, suc, ◌+◌, ◌-◌, ◌*◌, ◌/◌, ◌%◌, ◌^◌, ◌<◌, ◌≤◌, List, [], ◌∷◌, ◌++◌, length, false, refl, IsTrue}
 use Rattle.std.proofs.Common.{sym, ◌∙◌, ap, ap₂, subst, inl, inr, lit<, arith}
 use Rattle.std.proofs.Math.Nat.{pow-suc, one-le-pow}
 use Rattle.std.proofs.Math.Pow.{pow_mono}
 use Rattle.std.proofs.lemmas.Bool.{cases_lt}
-use Rattle.std.proofs.lemmas.Nat.{div_below, mod_below, mul-le, div-add-mod'}
+use Rattle.std.proofs.lemmas.Nat.{div_below, mod_below, mul-le, div-add-mod', same_from_place}
 use Rattle.speedy_base.specs.declared.endianness.Endianness.TheVariants.{LittleEndian}
 use Rattle.speedy_base.specs.Digits.{SpellsNumber, digits}
 use Rattle.speedy_base.specs.DigitsLemmas.{SpellsNumber-below, SpellsNumber-digits, SpellsNumber-one_byte, SpellsNumber-is_one_byte}
 use Rattle.speedy_base.specs.Encoding.{Encoding}
 use Rattle.speedy_layout.specs.Format.{Format}
 use Rattle.speedy_layout.specs.Laws.{Laws, Laws-less}
-use Rattle.speedy_layout.specs.Codes.{Code, IsCode, coding, coding_laws, exact_code, exact_is_code}
+use Rattle.speedy_layout.specs.Codes.{Code, IsCode, coding, coding_laws, exact_code, exact_is_code, Accepts-means, Accepts-exact_means, Accepts-is}
 use Rattle.speedy_layout.specs.Numbers.{unsigned_number, unsigned_number_laws}
 use Rattle.speedy_layout.specs.Sequences.{Asks, Suffices, sequence, sequence_laws}
 
@@ -26,7 +26,7 @@ abbrev pub first_byte_code : Code ℕ (ℕ × ℕ)
 first_byte_code = exact_code (λ byte p. IsFirstByte p.0 p.1 byte) (λ kind. ⊥)
 
 abbrev pub first_byte : Encoding → Format (ℕ × ℕ)
-first_byte encoding = coding first_byte_code (unsigned_number 1 encoding)
+first_byte encoding = coding encoding first_byte_code (unsigned_number 1 encoding)
 
 -- the same with digits least first
 abbrev pub low_first : Encoding → Encoding
@@ -57,9 +57,17 @@ varint_code = record {
   fault = λ kind. ⊥;
 }
 
+-- a first byte, the digits after it, and the number that they hold
+pub record VarintParts (first : ℕ) (tail : List ℕ) (n : ℕ) : Type 0 where
+  pub low : ℕ
+  pub rest : ℕ
+  pub first_is : IsFirstByte (length tail) low first
+  pub tail_is : SpellsNumber (length tail) LittleEndian rest tail
+  pub value_is : n ≡ low * 256 ^ length tail + rest
+
 -- numbers of a variable length
 unfoldable pub varint : Encoding → Format ℕ
-varint encoding = coding varint_code (prefixed_digits encoding)
+varint encoding = coding encoding varint_code (prefixed_digits encoding)
 
 -- a first byte after which so many bytes follow
 abbrev pub StartsVarint : ℕ → ℕ → Type 0
@@ -164,55 +172,14 @@ IsFewest-least k j n h below =
       | inr m ↦ m
     ]
 
+-- one number of bytes is the fewest
+pub IsFewest-same : (k j n : ℕ) → IsFewest k n → IsFewest j n → k ≡ j
+IsFewest-same k j n h g =
+    let up = IsFewest-least k j n h g.enough in
+    let down = IsFewest-least j k n g h.enough in
+    omega arith
+
 -- ---- codes and their spellings
-
--- a first byte and its digits
-prefixed_parts : (encoding : Encoding) (k low rest first : ℕ) (tail : List ℕ) → IsFirstByte k low first → SpellsNumber k LittleEndian rest tail → (prefixed_digits encoding).spells ((k, low), rest) (first ∷ tail)
-unfolding sequence coding unsigned_number
-prefixed_parts encoding k low rest first tail h digits = record {
-  front = first ∷ [];
-  back = tail;
-  whole_is = refl;
-  first_is = record { code = first; code_is = SpellsNumber-one_byte encoding.order first (StartsVarint-byte k first (low, h)); stands = h };
-  second_is = digits;
-}
-
--- are an integer
-pub varint-joined : (encoding : Encoding) (k low rest first : ℕ) (tail : List ℕ) → IsFirstByte k low first → SpellsNumber k LittleEndian rest tail → (varint encoding).spells (low * 256 ^ k + rest) (first ∷ tail)
-unfolding varint coding
-varint-joined encoding k low rest first tail h digits = record { code = ((k, low), rest); code_is = prefixed_parts encoding k low rest first tail h digits; stands = refl }
-
--- and its written form, where they are the fewest
-pub varint-written : (encoding : Encoding) (k n first : ℕ) (tail : List ℕ) → IsFewest k n → IsFirstByte k (n / 256 ^ k) first → SpellsNumber k LittleEndian (n % 256 ^ k) tail → (varint encoding).writes n (first ∷ tail)
-unfolding varint sequence coding unsigned_number
-varint-written encoding k n first tail fewest h digits = record { code = ((k, n / 256 ^ k), n % 256 ^ k); code_is = prefixed_parts encoding k (n / 256 ^ k) (n % 256 ^ k) first tail h digits; stands = (fewest, refl, refl) }
-
--- what a spelling says of its code
-record IsPrefixed (p : (ℕ × ℕ) × ℕ) (bytes : List ℕ) : Type 0 where
-  first : ℕ
-  tail : List ℕ
-  whole_is : bytes ≡ first ∷ tail
-  width_is : length tail ≡ p.0.0
-  first_is : IsFirstByte p.0.0 p.0.1 first
-  holds : p.0.1 * 256 ^ p.0.0 + p.1 < 2 ^ (7 - p.0.0) * 256 ^ p.0.0
-
-prefixed-is : (encoding : Encoding) (p : (ℕ × ℕ) × ℕ) (bytes : List ℕ) → (prefixed_digits encoding).spells p bytes → IsPrefixed p bytes
-unfolding sequence coding unsigned_number
-prefixed-is encoding p bytes h =
-    let first = h.first_is in
-    let small = SpellsNumber-below p.0.0 LittleEndian p.1 h.back h.second_is in
-    let low = first.stands.low_is_below in
-    let lows : (p.0.1 + 1) * 256 ^ p.0.0 ≤ 2 ^ (7 - p.0.0) * 256 ^ p.0.0 = mul-le (p.0.1 + 1) (256 ^ p.0.0) (2 ^ (7 - p.0.0)) (256 ^ p.0.0) (omega arith) (omega arith) in
-    record {
-      first = first.code;
-      tail = h.back;
-      whole_is = h.whole_is ∙ ap (λ x. x ++ h.back) (SpellsNumber-is_one_byte encoding.order first.code h.front first.code_is);
-      width_is = h.second_is.width_is;
-      first_is = first.stands;
-      holds = omega arith;
-    }
-
--- ---- the laws
 
 one_first_byte : (byte : ℕ) (p q : ℕ × ℕ) → IsFirstByte p.0 p.1 byte → IsFirstByte q.0 q.1 byte → p ≡ q
 one_first_byte byte p q h g =
@@ -220,18 +187,66 @@ one_first_byte byte p q h g =
     let lows : p.1 ≡ q.1 = IsFirstByte-same_low p.0 p.1 q.1 byte h (subst (λ (k : ℕ). IsFirstByte k q.1 byte) ones g) in
     ap₂ (λ (a b : ℕ). let r : ℕ × ℕ = (a, b) in r) (sym ones) lows
 
-first_byte_laws : (encoding : Encoding) → Laws 1 (first_byte encoding)
+pub first_byte_laws : (encoding : Encoding) → Laws encoding.strict 1 (first_byte encoding)
 first_byte_laws encoding =
-    coding_laws (unsigned_number_laws 1 encoding)
+    coding_laws encoding (unsigned_number_laws 1 encoding)
     (exact_is_code (λ kind h. absurd h) one_first_byte (λ a b p h k. h.byte_is ∙ sym k.byte_is) (unsigned_number_laws 1 encoding))
 
-prefixed_suffices : (encoding : Encoding) → Suffices prefixed_asks (λ (p : ℕ × ℕ). unsigned_number p.0 (low_first encoding))
+pub prefixed_suffices : (encoding : Encoding) → Suffices prefixed_asks (λ (p : ℕ × ℕ). unsigned_number p.0 (low_first encoding))
 unfolding unsigned_number
 prefixed_suffices encoding = record { lending = λ _ t. t; hashed = λ _ t. t; memory = λ _ t. t }
 
-prefixed_digits_laws : (encoding : Encoding) → Laws 1 (prefixed_digits encoding)
+pub prefixed_digits_laws : (encoding : Encoding) → Laws encoding.strict 1 (prefixed_digits encoding)
 prefixed_digits_laws encoding =
     sequence_laws {n = 1} {m = 0} (first_byte_laws encoding) (λ p. Laws-less (omega arith) (unsigned_number_laws p.0 (low_first encoding))) (prefixed_suffices encoding) (λ v w e. e)
+
+-- a first byte and its digits, as they are written
+prefixed_written : (encoding : Encoding) (k low rest first : ℕ) (tail : List ℕ) → IsFirstByte k low first → SpellsNumber k LittleEndian rest tail → (prefixed_digits encoding).writes ((k, low), rest) (first ∷ tail)
+unfolding sequence coding unsigned_number
+prefixed_written encoding k low rest first tail h digits = record {
+  front = first ∷ [];
+  back = tail;
+  whole_is = refl;
+  first_is = record { code = first; code_is = SpellsNumber-one_byte encoding.order first (StartsVarint-byte k first (low, h)); stands = h };
+  second_is = digits;
+}
+
+-- and as they are read
+pub prefixed-spelled : (encoding : Encoding) (k low rest first : ℕ) (tail : List ℕ) → IsFirstByte k low first → SpellsNumber k LittleEndian rest tail → (prefixed_digits encoding).spells ((k, low), rest) (first ∷ tail)
+prefixed-spelled encoding k low rest first tail h digits = (prefixed_digits_laws encoding).written_spells ((k, low), rest) (first ∷ tail) (prefixed_written encoding k low rest first tail h digits)
+
+-- the written form of an integer, where they are the fewest
+pub varint-written : (encoding : Encoding) (k n first : ℕ) (tail : List ℕ) → IsFewest k n → IsFirstByte k (n / 256 ^ k) first → SpellsNumber k LittleEndian (n % 256 ^ k) tail → (varint encoding).writes n (first ∷ tail)
+unfolding varint coding
+varint-written encoding k n first tail fewest h digits = record { code = ((k, n / 256 ^ k), n % 256 ^ k); code_is = prefixed_written encoding k (n / 256 ^ k) (n % 256 ^ k) first tail h digits; stands = (fewest, refl, refl) }
+
+-- what a spelling says of its code
+pub record IsPrefixed (p : (ℕ × ℕ) × ℕ) (bytes : List ℕ) : Type 0 where
+  pub first : ℕ
+  pub tail : List ℕ
+  pub whole_is : bytes ≡ first ∷ tail
+  pub width_is : length tail ≡ p.0.0
+  pub first_is : IsFirstByte p.0.0 p.0.1 first
+  pub holds : p.0.1 * 256 ^ p.0.0 + p.1 < 2 ^ (7 - p.0.0) * 256 ^ p.0.0
+
+pub prefixed-is : (encoding : Encoding) (p : (ℕ × ℕ) × ℕ) (bytes : List ℕ) → (prefixed_digits encoding).spells p bytes → IsPrefixed p bytes
+unfolding sequence coding unsigned_number
+prefixed-is encoding p bytes h =
+    let first = h.first_is in
+    let is = Accepts-exact_means encoding.strict (λ (byte : ℕ) (p : ℕ × ℕ). IsFirstByte p.0 p.1 byte) (λ kind. ⊥) first.code p.0 first.stands in
+    let small = SpellsNumber-below p.0.0 LittleEndian p.1 h.back h.second_is in
+    let low = is.low_is_below in
+    let lows : (p.0.1 + 1) * 256 ^ p.0.0 ≤ 2 ^ (7 - p.0.0) * 256 ^ p.0.0 = mul-le (p.0.1 + 1) (256 ^ p.0.0) (2 ^ (7 - p.0.0)) (256 ^ p.0.0) (omega arith) (omega arith) in
+    record {
+      first = first.code;
+      tail = h.back;
+      whole_is = h.whole_is ∙ ap (λ x. x ++ h.back) (SpellsNumber-is_one_byte encoding.order first.code h.front first.code_is);
+      width_is = h.second_is.width_is;
+      first_is = is;
+      holds = omega arith;
+    }
+
+-- ---- the laws
 
 -- the code of so many bytes
 abbrev code_of : ℕ → ℕ → (ℕ × ℕ) × ℕ
@@ -240,13 +255,11 @@ code_of n k = ((k, n / 256 ^ k), n % 256 ^ k)
 chosen_is : (p : (ℕ × ℕ) × ℕ) (n : ℕ) → varint_code.chosen p n → p ≡ code_of n p.0.0
 chosen_is p n h = ap₂ (λ (a b : ℕ). let r : (ℕ × ℕ) × ℕ = ((p.0.0, a), b) in r) h.1 h.2
 
-varint_is_code : (encoding : Encoding) → IsCode varint_code (prefixed_digits encoding)
+pub varint_is_code : (encoding : Encoding) → IsCode varint_code (prefixed_digits encoding)
 varint_is_code encoding = record {
   one_meaning = λ p n m h k. h ∙ sym k;
   one_chosen = λ _ p q n h k.
-      let up = IsFewest-least p.0.0 q.0.0 n h.0 k.0.enough in
-      let down = IsFewest-least q.0.0 p.0.0 n k.0 h.0.enough in
-      let same : p.0.0 ≡ q.0.0 = omega arith in
+      let same = IsFewest-same p.0.0 q.0.0 n h.0 k.0 in
       chosen_is p n h ∙ (ap (code_of n) same ∙ sym (chosen_is q n k));
   chosen_means = λ p n h. sym (ap₂ (λ (a b : ℕ). a * 256 ^ p.0.0 + b) h.1 h.2 ∙ div-add-mod' n (256 ^ p.0.0));
   has_chosen = λ n bytes h.
@@ -260,7 +273,7 @@ varint_is_code encoding = record {
         first ∷ tail,
         record {
           code = code_of n k;
-          code_is = prefixed_parts encoding k (n / 256 ^ k) (n % 256 ^ k) first tail (record { at_most_eight = f.1.at_most_eight; low_is_below = low; byte_is = refl }) (SpellsNumber-digits k LittleEndian (n % 256 ^ k) (mod_below n (256 ^ k) (pow_above k)));
+          code_is = prefixed-spelled encoding k (n / 256 ^ k) (n % 256 ^ k) first tail (record { at_most_eight = f.1.at_most_eight; low_is_below = low; byte_is = refl }) (SpellsNumber-digits k LittleEndian (n % 256 ^ k) (mod_below n (256 ^ k) (pow_above k)));
           stands = (f.1, refl, refl);
         },
       );
@@ -277,9 +290,9 @@ varint_is_code encoding = record {
   fault_own = λ kind h. absurd h;
 }
 
-pub varint_laws : (encoding : Encoding) → Laws 1 (varint encoding)
+pub varint_laws : (encoding : Encoding) → Laws encoding.strict 1 (varint encoding)
 unfolding varint
-varint_laws encoding = coding_laws (prefixed_digits_laws encoding) (varint_is_code encoding)
+varint_laws encoding = coding_laws encoding (prefixed_digits_laws encoding) (varint_is_code encoding)
 
 -- ---- for readers
 
@@ -288,7 +301,8 @@ pub varint-below_64 : (encoding : Encoding) (n : ℕ) (bytes : List ℕ) → (va
 unfolding varint coding
 varint-below_64 encoding n bytes h =
     let is = prefixed-is encoding h.code bytes h.code_is in
-    capacity-below_64 h.code.0.0 n is.first_is.at_most_eight (let e = h.stands in let l = is.holds in omega arith)
+    let means = Accepts-means encoding.strict varint_code h.code n ((varint_is_code encoding).chosen_means h.code n) h.stands in
+    capacity-below_64 h.code.0.0 n is.first_is.at_most_eight (let l = is.holds in omega arith)
 
 -- a first byte determines how many bytes follow
 pub StartsVarint-same : (k j x : ℕ) → StartsVarint k x → StartsVarint j x → k ≡ j
@@ -300,3 +314,20 @@ unfolding varint coding
 varint-starts encoding n bytes h =
     let is = prefixed-is encoding h.code bytes h.code_is in
     (is.first, is.tail, is.whole_is, (h.code.0.1, subst (λ (i : ℕ). IsFirstByte i h.code.0.1 is.first) (sym is.width_is) is.first_is))
+
+-- a first byte and its digits are the code that is chosen for the number that they hold, where they are the fewest
+pub varint-chosen : {first : ℕ} {tail : List ℕ} (n : ℕ) → (parts : VarintParts first tail n) → IsFewest (length tail) n → varint_code.chosen ((length tail, parts.low), parts.rest) n
+varint-chosen {tail = tail} n parts fewest =
+    let power = 256 ^ length tail in
+    let small = SpellsNumber-below (length tail) LittleEndian parts.rest tail parts.tail_is in
+    let same = same_from_place parts.low parts.rest (n / power) (n % power) power small (mod_below n power (pow_above (length tail))) (sym parts.value_is ∙ sym (div-add-mod' n power)) in
+    (fewest, same.0, same.1)
+
+-- so they are a spelling of it, under a demand for the written form too
+pub varint-accepted : (encoding : Encoding) (n first : ℕ) (tail : List ℕ) → VarintParts first tail n → (IsTrue encoding.strict → IsFewest (length tail) n) → (varint encoding).spells n (first ∷ tail)
+unfolding varint coding
+varint-accepted encoding n first tail parts fewest = record {
+  code = ((length tail, parts.low), parts.rest);
+  code_is = prefixed-spelled encoding (length tail) parts.low parts.rest first tail parts.first_is parts.tail_is;
+  stands = Accepts-is encoding.strict varint_code ((length tail, parts.low), parts.rest) n parts.value_is (λ strict. varint-chosen n parts (fewest strict));
+}

@@ -27,7 +27,7 @@ impl<T: Layout> Layout for Option<T> {
 
     ghost least = { 1 };
 
-    ghost layout_laws = { λ f. option_laws (T.layout_laws f) f };
+    ghost layout_laws = { λ f. option_laws f (T.layout_laws f) };
 }
 
 impl<T: Layout, U: Layout> Layout for Result<T, U> {
@@ -39,5 +39,5 @@ impl<T: Layout, U: Layout> Layout for Result<T, U> {
 
     ghost least = { 1 };
 
-    ghost layout_laws = { λ f. alternative_laws (T.layout_laws f) (U.layout_laws f) f };
+    ghost layout_laws = { λ f. alternative_laws f (T.layout_laws f) (U.layout_laws f) };
 }

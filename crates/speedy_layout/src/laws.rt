@@ -1,5 +1,5 @@
 //! The laws of layouts, as functions that a user's proof can cite. Their bodies are empty.
-ghost use Rattle.std.specs.Prelude.{◌≡◌, ◌≤◌, List, ◌++◌, ℕ, length, [], false};
+ghost use Rattle.std.specs.Prelude.{◌≡◌, ◌≤◌, List, ◌++◌, ℕ, length, [], false, IsTrue};
 ghost use Rattle.speedy_base.specs.Encoding.{Encoding};
 
 use crate::layout::Layout;
@@ -47,4 +47,13 @@ pub fn one_front<T: Layout>()
     ensures { (f : Encoding) (v w : T.Seen) (bytes more others left : List ℕ) →
         (T.format f).spells v bytes → (T.format f).spells w others → bytes ++ more ≡ others ++ left →
         (v ≡ w) × (bytes ≡ others) × (more ≡ left) }
+{}
+
+/// Under a context that accepts the written form alone, what spells a value is a written form of it. So where
+/// nothing in it is hashed, what was read is written again as the very same bytes.
+pub fn written_form_alone<T: Layout>()
+    ensures written { (f : Encoding) (v : T.Seen) (bytes : List ℕ) →
+        IsTrue f.strict → (T.format f).spells v bytes → (T.format f).writes v bytes }
+    ensures same { (f : Encoding) (v : T.Seen) (bytes others : List ℕ) →
+        IsTrue f.strict → (T.format f).hashed ≡ false → (T.format f).spells v bytes → (T.format f).writes v others → bytes ≡ others }
 {}

@@ -28,5 +28,5 @@ pub trait Layout: Lawful {
     ghost least: { ℕ };
 
     /// One value for one list of bytes, no spelling that begins another, and a shortest one that is written.
-    ghost layout_laws: { (f : Encoding) → let always : Type 0 = Self.Always in Laws least (format f) };
+    ghost layout_laws: { (f : Encoding) → let always : Type 0 = Self.Always in Laws f.strict least (format f) };
 }

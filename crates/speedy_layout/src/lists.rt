@@ -17,7 +17,7 @@ impl<T: Layout> Layout for Vec<T> {
 
     ghost least = { 4 };
 
-    ghost layout_laws = { λ f. list_laws (T.layout_laws f) f };
+    ghost layout_laws = { λ f. list_laws f (T.layout_laws f) };
 }
 
 impl<'a, T: Layout> Layout for &'a [T] {
@@ -29,7 +29,7 @@ impl<'a, T: Layout> Layout for &'a [T] {
 
     ghost least = { 4 };
 
-    ghost layout_laws = { λ f. borrowed_content_laws (list_laws (T.layout_laws f) f) };
+    ghost layout_laws = { λ f. borrowed_content_laws (list_laws f (T.layout_laws f)) };
 }
 
 impl<T: Layout> Layout for BoxedSlice<T> {
@@ -41,7 +41,7 @@ impl<T: Layout> Layout for BoxedSlice<T> {
 
     ghost least = { 4 };
 
-    ghost layout_laws = { λ f. list_laws (T.layout_laws f) f };
+    ghost layout_laws = { λ f. list_laws f (T.layout_laws f) };
 }
 
 impl<T: Layout, const N: usize> Layout for [T; N] {

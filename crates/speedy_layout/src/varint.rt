@@ -1,7 +1,7 @@
 //! Integers of a variable length: one to nine bytes, the fewer the smaller the number.
-ghost use Rattle.std.specs.Prelude.{◌≡◌, ◌+◌, ◌-◌, ◌*◌, ◌^◌, ◌<◌, ◌≤◌, ℕ, ◌∷◌, take, length};
+ghost use Rattle.std.specs.Prelude.{◌≡◌, ◌≤◌, ◌↔◌, ℕ, ◌∷◌, IsTrue, take, length};
 ghost use Rattle.speedy_base.specs.Encoding.{Encoding};
-ghost use Rattle.speedy_layout.specs.Varint.{varint, varint_laws, HasNoShorter, StartsVarint};
+ghost use Rattle.speedy_layout.specs.Varint.{varint, varint_laws, IsFewest, StartsVarint, VarintParts};
 ghost use Rattle.speedy_layout.specs.Zigzag.{varint_number, zigzag};
 
 use crate::layout::Layout;
@@ -16,7 +16,8 @@ impl VarInt64 {
     pub fn encode(self) -> ([u8; 9], usize)
         ensures one_at_least { 1 ≤ result.1 }
         ensures nine_at_most { result.1 ≤ 9 }
-        ensures written { (e : Encoding) → (varint e).writes (varint_number self) (take result.1 result.0) }
+        ensures written { (e : Encoding) →
+            (varint e).writes (varint_number self) (take result.1 result.0) }
     {
         let more = more_bytes(self.0);
         let low = if more < 8 { self.0 >> (8 * more) } else { 0 };
@@ -31,6 +32,14 @@ impl VarInt64 {
         )
     }
 
+    /// Whether no fewer bytes than so many after the first one hold the number, which are the ones written.
+    #[inline]
+    pub fn is_written_with(self, more: usize) -> bool
+        ensures { IsTrue result ↔ IsFewest more (varint_number self) }
+    {
+        more_bytes(self.0) == more
+    }
+
     /// How many bytes follow the first one.
     #[inline]
     pub fn length_of(first: u8) -> usize
@@ -43,7 +52,7 @@ impl VarInt64 {
     #[inline]
     pub fn decode(first: u8, rest: &[u8]) -> VarInt64
         requires { StartsVarint (length rest.now) first }
-        ensures { (e : Encoding) → (varint e).spells (varint_number result) (first ∷ rest.now) }
+        ensures { VarintParts first rest.now (varint_number result) }
     {
         let more = rest.len();
         let mut digits = [0; 8];
@@ -56,9 +65,7 @@ impl VarInt64 {
 
 /// How many bytes have to follow the first one.
 fn more_bytes(number: u64) -> usize
-    ensures eight_at_most { result ≤ 8 }
-    ensures enough { number < 2 ^ (7 - result) * 256 ^ result }
-    ensures no_shorter { HasNoShorter result number }
+    ensures { IsFewest result number }
 {
     let bits = 64 - number.leading_zeros();
     (bits.saturating_sub(1) / 7).min(8) as usize

@@ -33,7 +33,7 @@ pub seen_pushed : {T E X V : Type 0} (seen : X → V) (r : Result T E) (xs zs : 
 seen_pushed seen (Ok t) xs zs x h e = ap (λ ys. map seen ys) e ∙ map-append seen xs (x ∷ [])
 seen_pushed seen (Err d) xs zs x h e = absurd (cc)
 
-module _ {V : Type 0} {least : ℕ} {L : Format V} (laws : Laws least L) where
+module _ {V : Type 0} {strict : Bool} {least : ℕ} {L : Format V} (laws : Laws strict least L) where
   -- where more items are spelled than were read, the next one is spelled by what is left
   next_item : (vs ws : List V) (s t r q : List ℕ) → length vs < length ws → Each L.spells vs s → Each L.spells ws t → s ++ r ≡ t ++ q → (w : V) × (front rest : List ℕ) × (r ≡ front ++ rest) × L.spells w front
   next_item vs [] s t r q l h k e = absurd (omega arith)
@@ -48,7 +48,7 @@ module _ {V : Type 0} {least : ℕ} {L : Format V} (laws : Laws least L) where
   -- a list is read as its length, and then so many items
   pub list_composes : (encoding : Encoding) → Composes (unsigned_number 4 encoding) (λ n. vector n L) (list encoding L) (λ n vs. vs)
   unfolding list
-  list_composes encoding = sequence_composes list_parts (list_suffices laws) (λ n vs s h. ap (λ (m : ℕ). let whole : ℕ × List V = (m, vs) in whole) (vector_length n L vs s h))
+  list_composes encoding = sequence_composes list_parts (list_suffices L) (λ n vs s h. ap (λ (m : ℕ). let whole : ℕ × List V = (m, vs) in whole) (vector_length n L vs s h))
 
   module _ {E : Type 0} {gives : Error → E → Type 0} {eof : E → Bool} {B : Type 0} {view : B → List V} (n : ℕ) {old : ReaderState} where
     -- fewer bytes are to come than so many items have at least

@@ -16,7 +16,7 @@ use Rattle.speedy_read.specs.Reading.{ReaderState, IsTold, Excused, Refused, Ref
 use Rattle.speedy_read.specs.RoundTrip.{AnswersWritten, ReadsWritten, ReadsWrittenFirst, WrittenIsAnswered, WrittenIsRead, WrittenItemsAreRead}
 
 module _ {E A V : Type 0} (gives : Error → E → Type 0) (eof : E → Bool) (seen : A → V) (least : ℕ) where
-  module _ (L : Format V) (laws : Laws least L) (v : V) (bytes rest : List ℕ) (written : L.writes v bytes) where
+  module _ (L : Format V) {strict : Bool} (laws : Laws strict least L) (v : V) (bytes rest : List ℕ) (written : L.writes v bytes) where
     front_answered : (result : Result A E) (count : ℕ) (buffer : List ℕ) → buffer ≡ bytes ++ rest → AnswersBuffer gives eof seen least L result count buffer → AnswersWritten gives seen L v (length bytes) result count
     front_answered (Ok x) count buffer e a =
         let k = a.value in
@@ -54,7 +54,7 @@ module _ {E A V : Type 0} (gives : Error → E → Type 0) (eof : E → Bool) (s
       want (inr (inl h)) = absurd (omega arith)
       want (inr (inr h)) = absurd (omega arith)
 
-  module _ (format : Encoding → Format V) (laws : (encoding : Encoding) → Laws least (format encoding)) where
+  module _ (format : Encoding → Format V) (laws : (encoding : Encoding) → Laws encoding.strict least (format encoding)) where
     -- the laws of the functions over buffers follow from those of the layout
     pub written_is_answered : WrittenIsAnswered gives eof seen least format
     written_is_answered = record {
@@ -74,7 +74,7 @@ module _ {E A V : Type 0} (gives : Error → E → Type 0) (eof : E → Bool) (s
               first_read (format encoding) (laws encoding) v bytes rest h result old buffer left at after s read;
         }
 
-module _ {E A V : Type 0} (gives : Error → E → Type 0) (eof : E → Bool) (seen : A → List V) (least : ℕ) (format : Encoding → Format V) (laws : (encoding : Encoding) → Laws least (format encoding)) where
+module _ {E A V : Type 0} (gives : Error → E → Type 0) (eof : E → Bool) (seen : A → List V) (least : ℕ) (format : Encoding → Format V) (laws : (encoding : Encoding) → Laws encoding.strict least (format encoding)) where
   -- items are read as a vector is
   pub written_items_are_read : WrittenItemsAreRead gives eof seen format
   unfolding vector owned_content repeat

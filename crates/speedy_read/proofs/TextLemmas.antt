@@ -11,28 +11,29 @@ use Rattle.speedy_base.specs.Encoding.{Encoding}
 use Rattle.speedy_layout.specs.Numbers.{unsigned_number}
 use Rattle.speedy_layout.specs.Lists.{repeat, vector}
 use Rattle.speedy_layout.specs.Owned.{owned_content}
-use Rattle.speedy_layout.specs.Codes.{coding, subset}
+use Rattle.speedy_layout.specs.Codes.{coding, subset, Accepts-exact_means}
 use Rattle.speedy_layout.specs.Texts.{raw_bytes, raw_bytes_laws, text_of_length, text, text_parts, text_suffices, each_byte, each_byte_is}
 use Rattle.speedy_layout.specs.Utf8.{AreBytes-utf8}
 use Rattle.speedy_read.specs.Reading.{ReaderState, Reads}
 use Rattle.speedy_read.specs.Sequences.{Composes, sequence_composes}
-use Rattle.speedy_read.specs.Codes.{Covers, got_covered, code_read, code_means_nothing}
+use Rattle.speedy_read.specs.Codes.{Covers, got_covered, exact_code_read, code_means_nothing}
 use Rattle.speedy_read.proofs.OwnedLemmas.{owned_read}
 
 -- a text is read as its length, and then a text of so many bytes
-pub text_composes : (encoding : Encoding) → Composes (unsigned_number 4 encoding) text_of_length (text encoding) (λ n t. t)
+pub text_composes : (encoding : Encoding) → Composes (unsigned_number 4 encoding) (text_of_length encoding) (text encoding) (λ n t. t)
 unfolding text text_of_length owned_content coding raw_bytes
-text_composes encoding = sequence_composes text_parts text_suffices (λ n t s h. ap (λ (m : ℕ). let whole : ℕ × List ℕ = (m, t) in whole) (length_is n t s h)) where
-  length_is : (n : ℕ) (t s : List ℕ) → (text_of_length n).spells t s → length t ≡ n
-  length_is n t s h = ap length (sym h.stands.0 ∙ h.code_is.0) ∙ h.code_is.1
+text_composes encoding = sequence_composes text_parts (text_suffices encoding) (λ n t s h. ap (λ (m : ℕ). let whole : ℕ × List ℕ = (m, t) in whole) (length_is encoding n t s h)) where
+  length_is : (encoding : Encoding) (n : ℕ) (t s : List ℕ) → (text_of_length encoding n).spells t s → length t ≡ n
+  length_is encoding n t s h = let is = Accepts-exact_means encoding.strict _ _ _ _ h.stands in ap length (sym is.0 ∙ h.code_is.0) ∙ h.code_is.1
 
 -- a text is read as its bytes
-pub bytes_cover_text : (n : ℕ) (encoding : Encoding) → Covers (vector n (unsigned_number 1 encoding)) (text_of_length n)
+pub bytes_cover_text : (n : ℕ) (encoding : Encoding) → Covers (vector n (unsigned_number 1 encoding)) (text_of_length encoding n)
 unfolding vector owned_content repeat unsigned_number text_of_length coding raw_bytes
 bytes_cover_text n encoding = record {
   under = λ v s h.
-      let is = sym h.stands.0 ∙ h.code_is.0 in
-      (s, (h.code_is.1, each_byte encoding.order s (AreBytes-utf8 s (subst IsUtf8 is h.stands.1))));
+      let means = Accepts-exact_means encoding.strict _ _ _ _ h.stands in
+      let is = sym means.0 ∙ h.code_is.0 in
+      (s, (h.code_is.1, each_byte encoding.order s (AreBytes-utf8 s (subst IsUtf8 is means.1))));
   names = λ kind h. absurd h;
   faults = λ bytes are h.
       elim h [
@@ -45,13 +46,13 @@ bytes_cover_text n encoding = record {
 
 -- bytes that were read are a text, or are refused as none
 pub text_decides : {E A B : Type 0} {gives : Error → E → Type 0} {eof : E → Bool} {seen : A → List ℕ} {x : A} {view : B → List ℕ} (n : ℕ) (encoding : Encoding) {r : Result B E} {old new : ReaderState} {bytes : List ℕ} → seen x ≡ bytes
-    → MatchResult r (λ t. (view t ≡ bytes) × IsUtf8 bytes) (λ e. gives (error_of kinds.InvalidUtf8) e × (IsUtf8 bytes → ⊥)) → Reads gives eof seen (vector n (unsigned_number 1 encoding)) (Ok x) old new → Reads gives eof view (text_of_length n) r old new
+    → MatchResult r (λ t. (view t ≡ bytes) × IsUtf8 bytes) (λ e. gives (error_of kinds.InvalidUtf8) e × (IsUtf8 bytes → ⊥)) → Reads gives eof seen (vector n (unsigned_number 1 encoding)) (Ok x) old new → Reads gives eof view (text_of_length encoding n) r old new
 unfolding vector owned_content repeat unsigned_number text_of_length raw_bytes
 text_decides {E = E} {B = B} {gives = gives} {eof = eof} {seen = seen} {x = x} {view = view} n encoding {r = r} {old = old} {new = new} {bytes = bytes} same h read =
     owned_read (decided r h) where
       raw : Reads gives eof seen (raw_bytes n) (Ok x) old new
       raw = got_covered (λ s k. let is = each_byte_is encoding.order (seen x) s k.1 in (is, ap length (sym is) ∙ k.0)) read
 
-      decided : (r : Result B E) → MatchResult r (λ t. (view t ≡ bytes) × IsUtf8 bytes) (λ e. gives (error_of kinds.InvalidUtf8) e × (IsUtf8 bytes → ⊥)) → Reads gives eof view (subset IsUtf8 kinds.InvalidUtf8 (raw_bytes n)) r old new
-      decided (Ok t) h = code_read _ (same ∙ sym h.0, subst IsUtf8 (sym h.0) h.1) raw
-      decided (Err e) h = code_means_nothing _ (raw_bytes_laws n) (λ v k. h.1 (subst IsUtf8 (sym k.0 ∙ same) k.1)) (kinds.InvalidUtf8, refl, h.0) raw
+      decided : (r : Result B E) → MatchResult r (λ t. (view t ≡ bytes) × IsUtf8 bytes) (λ e. gives (error_of kinds.InvalidUtf8) e × (IsUtf8 bytes → ⊥)) → Reads gives eof view (subset encoding IsUtf8 kinds.InvalidUtf8 (raw_bytes n)) r old new
+      decided (Ok t) h = exact_code_read _ _ _ (same ∙ sym h.0, subst IsUtf8 (sym h.0) h.1) raw
+      decided (Err e) h = code_means_nothing _ _ (raw_bytes_laws n) (λ _ h. h) (λ v k. h.1 (subst IsUtf8 (sym k.0 ∙ same) k.1)) (kinds.InvalidUtf8, refl, h.0) raw

@@ -1,105 +1,79 @@
 -- Integers of variable length are read as their first byte, and then the bytes that it says follow.
-use Rattle.std.specs.Prelude.{◌≡◌, ℕ, ◌+◌, ◌*◌, ◌^◌, ◌-◌, ◌≤◌, List, [], ◌∷◌, ◌++◌, length, take, drop, Bool, IsTrue, Ok, Err, false, refl}
+use Rattle.std.specs.Prelude.{◌≡◌, ℕ, ◌+◌, ◌-◌, ◌≤◌, List, [], ◌∷◌, ◌++◌, length, take, drop, Bool, IsTrue, Ok, Err, refl, ◌<◌}
 use Rattle.std.proofs.Common.{sym, ◌∙◌, ap, ap₂, subst, arith, inl, inr}
-use Rattle.std.proofs.lemmas.List.{append-nil, length-take-le, take_all}
+use Rattle.std.proofs.lemmas.List.{append-nil, length-take-le, take_all, length-append, take-append-drop}
 use Rattle.speedy_base.specs.declared.error.Error.{Error}
+use Rattle.speedy_base.specs.declared.error.ErrorKind.TheVariants as kinds
 use Rattle.speedy_base.specs.Digits.{AreBytes, SpellsNumber}
-use Rattle.speedy_base.specs.DigitsLemmas.{SpellsNumber-one_byte, SpellsNumber-is_one_byte}
+use Rattle.speedy_base.specs.DigitsLemmas.{SpellsNumber-is_one_byte}
 use Rattle.speedy_base.specs.Encoding.{Encoding}
-use Rattle.speedy_layout.specs.Format.{Format}
-use Rattle.speedy_layout.specs.Codes.{MeansNothing, coding}
+use Rattle.speedy_layout.specs.Codes.{ReadsWider, coding, Accepts-exact, Accepts-demanded}
 use Rattle.speedy_layout.specs.Sequences.{sequence}
 use Rattle.speedy_layout.specs.Numbers.{unsigned_number}
 use Rattle.speedy_layout.specs.Texts.{raw_bytes}
-use Rattle.speedy_layout.specs.Varint.{varint, IsFirstByte, StartsVarint, StartsVarint-same, StartsVarint-byte, varint-starts}
+use Rattle.speedy_layout.specs.Varint.{varint, IsFirstByte, StartsVarint, StartsVarint-same, varint-starts, IsFewest, VarintParts, varint_code, first_byte, first_byte_code, low_first, prefixed_digits, prefixed_suffices, first_byte_laws, prefixed_digits_laws, varint_is_code, varint-chosen, prefixed-is, prefixed-spelled}
 use Rattle.speedy_read.specs.Reading.{ReaderState, IsTold, Unspelled, Reads, Peeks}
 use Rattle.speedy_read.specs.ReadingLemmas.{KeptByPeek-after, part_refused}
-use Rattle.speedy_read.specs.Sequences.{Composes}
-use Rattle.speedy_read.specs.Codes.{Covers, got_covered}
+use Rattle.speedy_read.specs.Sequences.{Composes, sequence_composes, refused_first, refused_second, got_both, peek_refused_first}
+use Rattle.speedy_read.specs.Codes.{got_covered, code_refused, code_read, code_not_written, exact_code_read, refused_covered, unaccepted, peek_refused_covered, codes_cover}
+use Rattle.speedy_base.specs.Error.{error_of}
+use Rattle.speedy_read.proofs.NumberLemmas.{bytes_cover_digits}
+use Rattle.speedy_base.specs.declared.endianness.Endianness.TheVariants.{LittleEndian}
+use Rattle.std.proofs.lemmas.Bool.{cases_lt}
 
--- what may follow a first byte
-unfoldable pub varint_after : Encoding → ℕ → Format ℕ
-varint_after encoding first = record {
-  spells = λ n tail. (varint encoding).spells n (first ∷ tail);
-  writes = λ n tail. (varint encoding).writes n (first ∷ tail);
-  names = λ _. ⊥;
-  refuses_writing = λ _. ⊥;
-  at_fault = λ tail. (varint encoding).at_fault (first ∷ tail);
-  needs_lending = false;
-  hashed = false;
-  takes_memory = false;
-}
+-- more bytes than the number needs are read as it, and not written
+reads_wider : {first n : ℕ} {tail : List ℕ} → VarintParts first tail n → (IsFewest (length tail) n → ⊥) → ReadsWider varint_code
+reads_wider {n = n} {tail = tail} parts not_fewest = record { code = ((length tail, parts.low), parts.rest); value = n; meant = parts.value_is; not_chosen = λ h. not_fewest h.0 }
 
--- ---- no byte is at fault
+-- a first byte and its digits are read one after the other
+prefixed_composes : (encoding : Encoding) → Composes (first_byte encoding) (λ p. unsigned_number p.0 (low_first encoding)) (prefixed_digits encoding) (λ p n. (p, n))
+prefixed_composes encoding = sequence_composes (λ p. p) (prefixed_suffices encoding) (λ u w s h. refl)
 
-at_fault_is : (encoding : Encoding) (bytes : List ℕ) → (varint encoding).at_fault bytes → MeansNothing {V = ℕ × ℕ} (SpellsNumber 1 encoding.order) (λ byte p. IsFirstByte p.0 p.1 byte) bytes
-unfolding varint coding sequence unsigned_number
-at_fault_is encoding bytes (inl (inl (inl h))) = absurd h
-at_fault_is encoding bytes (inl (inl (inr h))) = h
-at_fault_is encoding bytes (inl (inr h)) = absurd h.1.second_is
-at_fault_is encoding bytes (inr h) = absurd (h.nothing (h.code.0.1 * 256 ^ h.code.0.0 + h.code.1) refl)
+module _ {E : Type 0} {gives : Error → E → Type 0} {eof : E → Bool} (encoding : Encoding) {old : ReaderState} where
+  -- where the first byte is refused, the integer is
+  pub varint_first_refused : {new : ReaderState} {A B : Type 0} {seen : A → ℕ} {view : B → ℕ} {e : E} → Reads gives eof seen (unsigned_number 1 encoding) (Err e) old new → Reads gives eof view (varint encoding) (Err e) old new
+  unfolding varint
+  varint_first_refused r =
+      code_refused encoding varint_code {seen = λ (p : (ℕ × ℕ) × ℕ). p}
+      (refused_first (prefixed_composes encoding) {seen = λ (p : ℕ × ℕ). p} (code_refused encoding first_byte_code r))
 
-first_at_fault : (encoding : Encoding) {means : ℕ → ℕ × ℕ → Type 0} (bytes : List ℕ) (h : MeansNothing (SpellsNumber 1 encoding.order) means bytes) → bytes ≡ h.code ∷ h.rest
-first_at_fault encoding bytes h = h.whole_is ∙ ap (λ x. x ++ h.rest) (SpellsNumber-is_one_byte encoding.order h.code h.front h.code_is)
+  pub varint_first_not_peeked : {new : ReaderState} {A B : Type 0} {seen : A → ℕ} {view : B → ℕ} {e : E} → Peeks gives eof seen (unsigned_number 1 encoding) (Err e) old new → Peeks gives eof view (varint encoding) (Err e) old new
+  unfolding varint
+  varint_first_not_peeked r =
+      peek_refused_covered (codes_cover encoding varint_code) {seen = λ (p : (ℕ × ℕ) × ℕ). p}
+      (peek_refused_first (prefixed_composes encoding) {seen = λ (p : ℕ × ℕ). p} (peek_refused_covered (codes_cover encoding first_byte_code) r))
 
-not_at_fault : (encoding : Encoding) (more first : ℕ) (tail : List ℕ) → StartsVarint more first → (varint encoding).at_fault (first ∷ tail) → ⊥
-not_at_fault encoding more first tail starts fault =
-    let h = at_fault_is encoding (first ∷ tail) fault in
-    let whole = first_at_fault encoding (first ∷ tail) h in
-    let same : first ≡ h.code = (cc) in
-    h.nothing (more, starts.0) (subst (IsFirstByte more starts.0) same starts.1)
+  first_byte_read : {mid : ReaderState} {first : ℕ} (more low : ℕ) → IsFirstByte more low first → Reads gives eof (λ n. n) (unsigned_number 1 encoding) (Ok first) old mid → Reads gives eof (λ (p : ℕ × ℕ). p) (first_byte encoding) (Ok (more, low)) old mid
+  first_byte_read more low h r = exact_code_read encoding (λ (byte : ℕ) (p : ℕ × ℕ). IsFirstByte p.0 p.1 byte) (λ kind. ⊥) h r
 
--- ---- reads
+  -- where the bytes after it are, the integer is
+  pub varint_rest_refused : {mid new : ReaderState} {first : ℕ} (more : ℕ) → StartsVarint more first → Reads gives eof (λ n. n) (unsigned_number 1 encoding) (Ok first) old mid → {A B : Type 0} {seen : A → List ℕ} {view : B → ℕ} {e : E} {size : ℕ} → size ≡ more → Reads gives eof seen (raw_bytes size) (Err e) mid new → Reads gives eof view (varint encoding) (Err e) old new
+  unfolding varint
+  varint_rest_refused {mid = mid} {new = new} more starts one {seen = seen} {e = e} sized r =
+      code_refused encoding varint_code {seen = λ (p : (ℕ × ℕ) × ℕ). p}
+      (refused_second (prefixed_composes encoding) (first_byte_laws encoding) (first_byte_read more starts.0 starts.1 one)
+      (refused_covered (bytes_cover_digits more (low_first encoding)) {view = λ (n : ℕ). n} (subst (λ (n : ℕ). Reads gives eof seen (raw_bytes n) (Err e) mid new) sized r)))
 
--- a first byte and what may follow it are an integer
-pub byte_composes_varint : (encoding : Encoding) → Composes (unsigned_number 1 encoding) (varint_after encoding) (varint encoding) (λ _ n. n)
-unfolding unsigned_number varint_after varint coding sequence
-byte_composes_varint encoding = record {
-  joins = λ first n s t h k. subst (λ (x : List ℕ). (varint encoding).spells n (x ++ t)) (sym (SpellsNumber-is_one_byte encoding.order first s h)) k;
-  splits = λ n s h.
-      let start = varint-starts encoding n s h in (
-        start.0,
-        n,
-        record {
-          front = start.0 ∷ [];
-          back = start.1;
-          whole_is = start.2;
-          first_is = SpellsNumber-one_byte encoding.order start.0 (StartsVarint-byte (length start.1) start.0 start.3);
-          second_is = subst ((varint encoding).spells n) start.2 h;
-        },
-      );
-  names_first = λ kind h. absurd h;
-  names_second = λ _ kind h. absurd h;
-  faults = λ bytes fault.
-      let h = at_fault_is encoding bytes fault in
-      inr (h.code, record { front = h.front; back = h.rest; whole_is = h.whole_is; first_is = h.code_is; second_is = subst (varint encoding).at_fault (first_at_fault encoding bytes h) fault });
-  takes_first = λ t. t;
-  takes_second = λ _ t. t;
-  lends_first = λ t. t;
-  lends_second = λ _ t. t;
-}
+  -- the first byte, the digits after it and their number
+  prefixed_read : {mid new : ReaderState} {first n : ℕ} {A : Type 0} {seen : A → List ℕ} {x : A} → (parts : VarintParts first (seen x) n) → Reads gives eof (λ n. n) (unsigned_number 1 encoding) (Ok first) old mid → (size : ℕ) → Reads gives eof seen (raw_bytes size) (Ok x) mid new
+      → Reads gives eof (λ (p : (ℕ × ℕ) × ℕ). p) (prefixed_digits encoding) (Ok ((length (seen x), parts.low), parts.rest)) old new
+  unfolding raw_bytes unsigned_number
+  prefixed_read {seen = seen} {x = x} parts one size r =
+      got_both (prefixed_composes encoding) (first_byte_read (length (seen x)) parts.low parts.first_is one)
+      (got_covered {view = λ (n : ℕ). n} {y = parts.rest} (λ s is. subst (SpellsNumber (length (seen x)) LittleEndian parts.rest) is.0 parts.tail_is) r) refl
 
--- so many bytes as the first one says are read
-pub bytes_cover_after : (encoding : Encoding) (size more first : ℕ) → size ≡ more → StartsVarint more first → Covers (raw_bytes size) (varint_after encoding first)
-unfolding raw_bytes varint_after
-bytes_cover_after encoding size more first sized starts = record {
-  under = λ n s h.
-      let start = varint-starts encoding n (first ∷ s) h in
-      let whole = start.2 in
-      let firsts : start.0 ≡ first = (cc) in
-      let tails : start.1 ≡ s = (cc) in
-      let same = StartsVarint-same more (length start.1) first starts (subst (StartsVarint (length start.1)) firsts start.3) in
-      (s, (refl, ap length (sym tails) ∙ (sym same ∙ sym sized)));
-  names = λ kind h. absurd h;
-  faults = λ bytes _ h. absurd (not_at_fault encoding more first bytes starts h);
-  takes = λ t. t;
-  lends = λ t. t;
-}
+  -- make the integer, if they are the fewest or no written form is demanded
+  pub varint_answered : {mid new : ReaderState} {first n : ℕ} {A : Type 0} {seen : A → List ℕ} {x : A} → VarintParts first (seen x) n → (IsTrue encoding.strict → IsFewest (length (seen x)) n) → Reads gives eof (λ n. n) (unsigned_number 1 encoding) (Ok first) old mid → (size : ℕ) → Reads gives eof seen (raw_bytes size) (Ok x) mid new → Reads gives eof (λ n. n) (varint encoding) (Ok n) old new
+  unfolding varint
+  varint_answered {n = n} {seen = seen} {x = x} parts fewest one size r =
+      code_read encoding varint_code {view = λ (n : ℕ). n} parts.value_is (λ strict. varint-chosen n parts (fewest strict)) (prefixed_read parts one size r)
 
--- what was read after the first byte
-pub rest_read : {E : Type 0} {gives : Error → E → Type 0} {eof : E → Bool} {A : Type 0} {seen : A → List ℕ} {x : A} {n : ℕ} {mid new : ReaderState} (encoding : Encoding) (size first : ℕ) → (varint encoding).spells n (first ∷ seen x) → Reads gives eof seen (raw_bytes size) (Ok x) mid new → Reads gives eof (λ m. m) (varint_after encoding first) (Ok n) mid new
-unfolding raw_bytes varint_after
-rest_read {n = n} encoding size first h r = got_covered (λ s is. subst (λ (tail : List ℕ). (varint encoding).spells n (first ∷ tail)) is.0 h) r
+  -- and are refused where one is demanded and they are not
+  pub varint_not_written : {mid new : ReaderState} {first n : ℕ} {A : Type 0} {seen : A → List ℕ} {x : A} {e : E} → VarintParts first (seen x) n → IsTrue encoding.strict → (IsFewest (length (seen x)) n → ⊥) → gives (error_of kinds.NotWrittenForm) e → Reads gives eof (λ n. n) (unsigned_number 1 encoding) (Ok first) old mid → (size : ℕ) → Reads gives eof seen (raw_bytes size) (Ok x) mid new → Reads gives eof (λ n. n) (varint encoding) (Err e) old new
+  unfolding varint
+  varint_not_written {seen = seen} {x = x} parts strict not_fewest given one size r =
+      code_not_written encoding varint_code (prefixed_digits_laws encoding) (reads_wider parts not_fewest) strict
+      (λ v h. not_fewest (subst (IsFewest (length (seen x))) ((varint_is_code encoding).chosen_means ((length (seen x), parts.low), parts.rest) v h ∙ sym parts.value_is) h.0)) given (prefixed_read parts one size r)
 
 -- room for what follows a first byte
 pub rest_sized : (more first : ℕ) (room : List ℕ) → length room ≡ 8 → StartsVarint more first → length (take more room) ≡ more
@@ -127,6 +101,33 @@ begins (b ∷ bytes) more others first l e =
     let heads : b ≡ first = (cc) in
     ap₂ (λ c x. c ∷ (x ++ more)) heads (sym (take_all (length (b ∷ bytes) - 1) bytes (omega arith)))
 
+-- where fewer bytes follow than the first one says, nothing is at fault
+rest_no_fault : (encoding : Encoding) (more first : ℕ) (bytes rest : List ℕ) → StartsVarint more first → bytes ≡ first ∷ rest → length bytes < more + 1 → (varint encoding).at_fault bytes → ⊥
+unfolding varint coding sequence unsigned_number
+rest_no_fault encoding more first bytes rest starts is few (inl (inl (inl h))) = h
+rest_no_fault encoding more first bytes rest starts is few (inl (inl (inr h))) =
+    let whole : h.code ∷ h.rest ≡ first ∷ rest = sym (h.whole_is ∙ ap (λ x. x ++ h.rest) (SpellsNumber-is_one_byte encoding.order h.code h.front h.code_is)) ∙ is in
+    let same : first ≡ h.code = (cc) in
+    h.nothing (more, starts.0) (Accepts-exact encoding.strict _ _ h.code (more, starts.0) (subst (IsFirstByte more starts.0) same starts.1))
+rest_no_fault encoding more first bytes rest starts is few (inl (inr h)) = h.1.second_is
+rest_no_fault encoding more first bytes rest starts is few (inr h) =
+    let p = prefixed-is encoding h.code h.front h.code_is in
+    let whole : p.first ∷ (p.tail ++ h.rest) ≡ first ∷ rest = ap (λ x. x ++ h.rest) (sym p.whole_is) ∙ (sym h.whole_is ∙ is) in
+    let firsts : p.first ≡ first = (cc) in
+    let same = StartsVarint-same more h.code.0.0 first starts (subst (StartsVarint h.code.0.0) firsts (h.code.0.1, p.first_is)) in
+    let l = ap length h.whole_is ∙ (length-append h.front h.rest ∙ ap (λ n. n + length h.rest) (ap length p.whole_is)) in
+    let w = p.width_is in
+    omega arith
+
+-- bytes of which no front is so many are fewer
+too_few : {E : Type 0} {gives : Error → E → Type 0} {eof : E → Bool} {e : E} (n : ℕ) (bytes : List ℕ) → Unspelled gives eof (raw_bytes n) e bytes → length bytes < n
+unfolding raw_bytes
+too_few n bytes un =
+    elim (cases_lt (length bytes) n) [
+      | inl h ↦ h
+      | inr h ↦ absurd (un.no_front (take n bytes) (take n bytes) (drop n bytes) (sym (take-append-drop n bytes)) (refl, length-take-le n bytes h))
+    ]
+
 module _ {E : Type 0} {gives : Error → E → Type 0} {eof : E → Bool} (encoding : Encoding) {first : ℕ} where
   -- where the bytes after a first byte are not there, no integer is
   rest_unspelled : {e : E} (more : ℕ) (bytes rest : List ℕ) → StartsVarint more first → bytes ≡ first ∷ rest → Unspelled gives eof (raw_bytes (more + 1)) e bytes → Unspelled gives eof (varint encoding) e bytes
@@ -134,13 +135,22 @@ module _ {E : Type 0} {gives : Error → E → Type 0} {eof : E → Bool} (encod
   rest_unspelled more bytes rest starts is un = record {
     no_front = λ n front tail split h. un.no_front front front tail split (refl, whole_length encoding more first n front tail rest starts h (sym split ∙ is));
     too_short = λ n after h. un.too_short (bytes ++ after) after (refl, whole_length encoding more first n (bytes ++ after) [] (rest ++ after) starts h (append-nil (bytes ++ after) ∙ ap (λ x. x ++ after) is));
-    at_fault = λ fault. absurd (not_at_fault encoding more first rest starts (subst (varint encoding).at_fault is fault));
+    at_fault = λ fault. absurd (rest_no_fault encoding more first bytes rest starts is (too_few (more + 1) bytes un) fault);
   }
 
   -- what is to come begins with the byte that was peeked
   first_to_come : {old mid : ReaderState} (one : Peeks gives eof (λ n. n) (unsigned_number 1 encoding) (Ok first) old mid) → IsTrue old.tells → old.to_come ≡ first ∷ one.answer.rest
   unfolding unsigned_number
   first_to_come one told = one.answer.stands told ∙ ap (λ x. x ++ one.answer.rest) (SpellsNumber-is_one_byte encoding.order first one.answer.front one.answer.front_is)
+
+  -- what is to come is a first byte, those after it and the rest
+  whole_to_come : {A : Type 0} {seen : A → List ℕ} (count : ℕ) {old mid new : ReaderState} {x : A} (more : ℕ) (one : Peeks gives eof (λ n. n) (unsigned_number 1 encoding) (Ok first) old mid) → count ≡ more + 1 → (r : Peeks gives eof seen (raw_bytes count) (Ok x) mid new) → IsTrue old.tells → old.to_come ≡ (first ∷ take (length (seen x) - 1) (drop 1 (seen x))) ++ r.answer.rest
+  unfolding raw_bytes
+  whole_to_come {seen = seen} count {old = old} {x = x} more one sized r told =
+      let all = r.answer.stands (subst IsTrue (sym one.kept.tells) told) in
+      let bytes = sym r.answer.front_is.0 in
+      let whole : old.to_come ≡ seen x ++ r.answer.rest = sym (one.kept.to_come told) ∙ (all ∙ ap (λ x. x ++ r.answer.rest) bytes) in
+      whole ∙ begins (seen x) r.answer.rest one.answer.rest first (let l = r.answer.front_is.1 in let m = ap length bytes in omega arith) (sym whole ∙ first_to_come one told)
 
   module _ {A B : Type 0} {seen : A → List ℕ} {view : B → ℕ} (count : ℕ) {old mid new : ReaderState} where
     -- where the first byte and those after it are refused, the integer is
@@ -163,17 +173,24 @@ module _ {E : Type 0} {gives : Error → E → Type 0} {eof : E → Bool} (encod
 
     -- a first byte and those after it are what the read takes
     pub varint_peeked : {x : A} {y : B} (more : ℕ) → Peeks gives eof (λ n. n) (unsigned_number 1 encoding) (Ok first) old mid → (varint encoding).spells (view y) (first ∷ take (length (seen x) - 1) (drop 1 (seen x))) → count ≡ more + 1 → Peeks gives eof seen (raw_bytes count) (Ok x) mid new → Peeks gives eof view (varint encoding) (Ok y) old new
-    unfolding raw_bytes
     varint_peeked {x = x} more one spelled sized r = record {
       kept = KeptByPeek-after one.kept r.kept;
-      answer = record {
-        front = first ∷ take (length (seen x) - 1) (drop 1 (seen x));
-        rest = r.answer.rest;
-        front_is = spelled;
-        stands = λ told.
-            let all = r.answer.stands (subst IsTrue (sym one.kept.tells) told) in
-            let bytes = sym r.answer.front_is.0 in
-            let whole : old.to_come ≡ seen x ++ r.answer.rest = sym (one.kept.to_come told) ∙ (all ∙ ap (λ x. x ++ r.answer.rest) bytes) in
-            whole ∙ begins (seen x) r.answer.rest one.answer.rest first (let l = r.answer.front_is.1 in let m = ap length bytes in omega arith) (sym whole ∙ first_to_come one told);
-      };
+      answer = record { front = first ∷ take (length (seen x) - 1) (drop 1 (seen x)); rest = r.answer.rest; front_is = spelled; stands = whole_to_come count more one sized r };
     }
+
+    -- and are refused where the written form is demanded and they are not
+    pub varint_peek_not_written : {x : A} {n : ℕ} {e : E} (more : ℕ) → Peeks gives eof (λ n. n) (unsigned_number 1 encoding) (Ok first) old mid → VarintParts first (take (length (seen x) - 1) (drop 1 (seen x))) n → IsTrue encoding.strict → (IsFewest (length (take (length (seen x) - 1) (drop 1 (seen x)))) n → ⊥) → gives (error_of kinds.NotWrittenForm) e → count ≡ more + 1
+        → Peeks gives eof seen (raw_bytes count) (Ok x) mid new → Peeks gives eof view (varint encoding) (Err e) old new
+    unfolding varint coding
+    varint_peek_not_written {x = x} {n = n} more one parts strict not_fewest given sized r =
+        let tail = take (length (seen x) - 1) (drop 1 (seen x)) in
+        record {
+          kept = KeptByPeek-after one.kept r.kept;
+          answer = inr (record {
+            kind = inr (kinds.NotWrittenForm, inr (inr (strict, refl, reads_wider parts not_fewest)), given);
+            because = λ told.
+                unaccepted encoding varint_code (prefixed_digits_laws encoding) _ (prefixed-spelled encoding (length tail) parts.low parts.rest first tail parts.first_is parts.tail_is) (whole_to_come count more one sized r told.tells)
+                (λ v h. not_fewest (subst (IsFewest (length tail)) ((varint_is_code encoding).chosen_means ((length tail, parts.low), parts.rest) v (Accepts-demanded encoding.strict varint_code ((length tail, parts.low), parts.rest) v strict h) ∙ sym parts.value_is) (Accepts-demanded encoding.strict varint_code ((length tail, parts.low), parts.rest) v strict h).0))
+                (kinds.NotWrittenForm, inr (strict, refl, reads_wider parts not_fewest), given);
+          });
+        }

@@ -1,16 +1,18 @@
 -- How values are read that are spelled as values of another format.
-use Rattle.std.specs.Prelude.{◌≡◌, ℕ, List, [], ◌++◌, Bool, IsTrue, ◌⊎◌, Ok, Err, refl}
+use Rattle.std.specs.Prelude.{◌≡◌, ℕ, List, [], ◌++◌, Bool, true, false, IsTrue, ◌⊎◌, Ok, Err, refl}
 use Rattle.std.proofs.Common.{sym, ◌∙◌, ap, subst, arith, inl, inr}
 use Rattle.std.proofs.lemmas.List.{append_assoc, append-nil}
 use Rattle.speedy_base.specs.declared.error.ErrorKind.{ErrorKind}
+use Rattle.speedy_base.specs.declared.error.ErrorKind.TheVariants as kinds
 use Rattle.speedy_base.specs.declared.error.Error.{Error}
-use Rattle.speedy_base.specs.Error.{IsNamed, IsNamed-more}
+use Rattle.speedy_base.specs.Error.{IsNamed, IsNamed-more, error_of}
 use Rattle.speedy_base.specs.Digits.{AreBytes}
 use Rattle.speedy_layout.specs.Format.{Format}
 use Rattle.speedy_layout.specs.Laws.{Laws}
-use Rattle.speedy_layout.specs.Codes.{Code, coding}
+use Rattle.speedy_layout.specs.Codes.{Code, ReadsWider, coding, Accepts, IsDemand, Accepts-is, Accepts-means, Accepts-demanded, exact_code}
 use Rattle.speedy_read.specs.Reading.{ReaderState, IsTold, Unspelled, Reads, Peeks}
 use Rattle.speedy_read.specs.ReadingLemmas.{IsTold-part, part_refused}
+use Rattle.speedy_base.specs.Encoding.{Encoding}
 
 -- each spelling of N is one of L too
 pub record Covers {U V : Type 0} (L : Format U) (N : Format V) : Type 0 where
@@ -60,9 +62,9 @@ module _ {U V : Type 0} {L : Format U} {N : Format V} {E : Type 0} {gives : Erro
 -- ---- codes
 
 -- each spelling of a value is one of its code
-pub codes_cover : {U V : Type 0} (c : Code U V) {L : Format U} → Covers L (coding c L)
+pub codes_cover : {U V : Type 0} (encoding : Encoding) (c : Code U V) {L : Format U} → Covers L (coding encoding c L)
 unfolding coding
-codes_cover c = record {
+codes_cover encoding c = record {
   under = λ v s h. (h.code, h.code_is);
   names = λ kind h. inl h;
   faults = λ bytes are h. elim h [ inl x ↦ inl x | inr x ↦ inr (x.code, x.front, x.rest, x.whole_is, x.code_is) ];
@@ -70,36 +72,62 @@ codes_cover c = record {
   lends = λ t. t;
 }
 
-module _ {E : Type 0} {gives : Error → E → Type 0} {eof : E → Bool} {U V : Type 0} (c : Code U V) {L : Format U} {A B : Type 0} {seen : A → U} {view : B → V} {old new : ReaderState} where
+-- bytes at whose front a code stands that is accepted as no value are refused with a kind of the type
+pub unaccepted : {E : Type 0} {gives : Error → E → Type 0} {eof : E → Bool} {U V : Type 0} (encoding : Encoding) (c : Code U V) {L : Format U} {least : ℕ} → Laws encoding.strict least L → {u : U} {e : E} {bytes front : List ℕ} (rest : List ℕ) → L.spells u front → bytes ≡ front ++ rest
+    → ((v : V) → Accepts encoding.strict c u v → ⊥) → IsNamed gives (λ kind. c.fault kind ⊎ IsDemand encoding.strict c kind) e → Unspelled gives eof (coding encoding c L) e bytes
+unfolding coding
+unaccepted {gives = gives} {U = U} encoding c {L = L} laws {u = u} {e = e} {bytes = bytes} {front = front} rest spelled whole nothing named = record {
+  no_front = λ v s t is h.
+      let same = laws.decodes u h.code front s rest t spelled h.code_is (sym whole ∙ is) in
+      nothing v (subst (λ (u : U). Accepts encoding.strict c u v) (sym same.0) h.stands);
+  too_short = λ v more h.
+      let all = bytes ++ more in
+      let joined = sym (append_assoc front rest more) ∙ (ap (λ s. s ++ more) (sym whole) ∙ sym (append-nil all)) in
+      let same = laws.decodes u h.code front all (rest ++ more) [] spelled h.code_is joined in
+      absurd (nothing v (subst (λ (u : U). Accepts encoding.strict c u v) (sym same.0) h.stands));
+  at_fault = λ _. IsNamed-more gives {more = λ kind. L.names kind ⊎ (c.fault kind ⊎ IsDemand encoding.strict c kind)} e (λ kind h. inr h) named;
+}
+
+module _ {E : Type 0} {gives : Error → E → Type 0} {eof : E → Bool} {U V : Type 0} (encoding : Encoding) (c : Code U V) {L : Format U} {A B : Type 0} {seen : A → U} {view : B → V} {old new : ReaderState} where
   -- where no code is read, no value is
-  pub code_refused : {e : E} → Reads gives eof seen L (Err e) old new → Reads gives eof view (coding c L) (Err e) old new
-  code_refused r = refused_covered (codes_cover c) r
+  pub code_refused : {e : E} → Reads gives eof seen L (Err e) old new → Reads gives eof view (coding encoding c L) (Err e) old new
+  code_refused r = refused_covered (codes_cover encoding c) r
 
-  -- the value that the code means is read
-  pub code_read : {x : A} {y : B} → c.means (seen x) (view y) → Reads gives eof seen L (Ok x) old new → Reads gives eof view (coding c L) (Ok y) old new
+  -- the value that the code means is read, where it is chosen for it under a demand for the written form
+  pub code_read : {x : A} {y : B} → c.means (seen x) (view y) → (IsTrue encoding.strict → c.chosen (seen x) (view y)) → Reads gives eof seen L (Ok x) old new → Reads gives eof view (coding encoding c L) (Ok y) old new
   unfolding coding
-  code_read {x = x} means r = got_covered (λ s h. record { code = seen x; code_is = h; stands = means }) r
+  code_read {x = x} {y = y} means chosen r = got_covered (λ s h. record { code = seen x; code_is = h; stands = Accepts-is encoding.strict c (seen x) (view y) means chosen }) r
 
-  -- a code that means nothing is refused
-  pub code_means_nothing : {least : ℕ} → Laws least L → {x : A} {e : E} → ((v : V) → c.means (seen x) v → ⊥) → IsNamed gives c.fault e → Reads gives eof seen L (Ok x) old new → Reads gives eof view (coding c L) (Err e) old new
+  -- a code that is accepted as no value is refused
+  pub code_unaccepted : {least : ℕ} → Laws encoding.strict least L → {x : A} {e : E} → ((v : V) → Accepts encoding.strict c (seen x) v → ⊥) → IsNamed gives (λ kind. c.fault kind ⊎ IsDemand encoding.strict c kind) e → Reads gives eof seen L (Ok x) old new → Reads gives eof view (coding encoding c L) (Err e) old new
   unfolding coding
-  code_means_nothing laws {x = x} {e = e} nothing named r =
-      let got = r.answer in
-      let is_named = IsNamed-more gives {more = λ kind. L.names kind ⊎ c.fault kind} e (λ kind h. inr h) named in
-      record {
-        kept = r.kept;
-        answer = inr (record {
-          kind = inr is_named;
-          because = λ told. record {
-            no_front = λ v front rest is h.
-                let same = laws.decodes (seen x) h.code got.front front new.to_come rest got.front_is h.code_is (sym (got.taken told.tells) ∙ is) in
-                nothing v (subst (λ (u : U). c.means u v) (sym same.0) h.stands);
-            too_short = λ v more h.
-                let whole = old.to_come ++ more in
-                let joined = sym (append_assoc got.front new.to_come more) ∙ (ap (λ s. s ++ more) (sym (got.taken told.tells)) ∙ sym (append-nil whole)) in
-                let same = laws.decodes (seen x) h.code got.front whole (new.to_come ++ more) [] got.front_is h.code_is joined in
-                absurd (nothing v (subst (λ (u : U). c.means u v) (sym same.0) h.stands));
-            at_fault = λ _. is_named;
-          };
-        });
-      }
+  code_unaccepted laws {e = e} nothing named r = record {
+    kept = r.kept;
+    answer = inr (record {
+      kind = inr (IsNamed-more gives {more = λ kind. L.names kind ⊎ (c.fault kind ⊎ IsDemand encoding.strict c kind)} e (λ kind h. inr h) named);
+      because = λ told. unaccepted encoding c laws _ r.answer.front_is (r.answer.taken told.tells) nothing named;
+    });
+  }
+
+  -- so is one that means nothing
+  pub code_means_nothing : {least : ℕ} → Laws encoding.strict least L → {x : A} {e : E} → ((v : V) → c.chosen (seen x) v → c.means (seen x) v) → ((v : V) → c.means (seen x) v → ⊥) → IsNamed gives c.fault e → Reads gives eof seen L (Ok x) old new → Reads gives eof view (coding encoding c L) (Err e) old new
+  code_means_nothing laws {x = x} {e = e} chosen nothing named r =
+      code_unaccepted laws (λ v h. nothing v (Accepts-means encoding.strict c (seen x) v (chosen v) h)) (IsNamed-more gives e (λ kind h. inl h) named) r
+
+  -- and, under a demand for the written form, one that is chosen for no value
+  pub code_not_written : {least : ℕ} → Laws encoding.strict least L → {x : A} {e : E} → ReadsWider c → IsTrue encoding.strict → ((v : V) → c.chosen (seen x) v → ⊥) → gives (error_of kinds.NotWrittenForm) e → Reads gives eof seen L (Ok x) old new → Reads gives eof view (coding encoding c L) (Err e) old new
+  code_not_written laws {x = x} wider strict unchosen given r =
+      code_unaccepted laws (λ v h. unchosen v (Accepts-demanded encoding.strict c (seen x) v strict h)) (kinds.NotWrittenForm, inr (strict, refl, wider), given) r
+
+-- a reader that demands the written form did so before
+pub demanded : {old new : Encoding} {asked : Bool} → new ≡ old → asked ≡ new.strict → asked ≡ true → IsTrue old.strict
+demanded kept is asked = sym (ap (λ (e : Encoding). e.strict) kept) ∙ (sym is ∙ asked)
+
+-- and one that does not did not
+pub not_demanded : {old new : Encoding} {asked : Bool} → new ≡ old → asked ≡ new.strict → asked ≡ false → IsTrue old.strict → ⊥
+not_demanded kept is not_asked strict = let asked_before = ap (λ (e : Encoding). e.strict) kept in absurd (cc)
+
+-- of an exact code one fact is enough
+pub exact_code_read : {E : Type 0} {gives : Error → E → Type 0} {eof : E → Bool} {U V : Type 0} (encoding : Encoding) (means : U → V → Type 0) (fault : ErrorKind → Type 0) {L : Format U} {A B : Type 0} {seen : A → U} {view : B → V} {old new : ReaderState} {x : A} {y : B} → means (seen x) (view y)
+    → Reads gives eof seen L (Ok x) old new → Reads gives eof view (coding encoding (exact_code means fault) L) (Ok y) old new
+exact_code_read encoding means fault h r = code_read encoding (exact_code means fault) h (λ _. h) r

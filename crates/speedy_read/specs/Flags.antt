@@ -1,11 +1,11 @@
 -- How values are read that a flag or a tag chooses.
-use Rattle.std.specs.Prelude.{◌≡◌, ℕ, [], Bool, true, false, not, nat_eq, Ok, refl}
+use Rattle.std.specs.Prelude.{◌≡◌, ℕ, [], Bool, true, false, not, nat_eq, ◌<◌, ◌≤◌, Ok, refl}
 use Rattle.std.proofs.Common.{sym, subst, arith, inl, inr}
 use Rattle.std.proofs.lemmas.Bool.Decides.{eqb_tells}
 use Rattle.speedy_base.specs.declared.error.Error.{Error}
 use Rattle.speedy_base.specs.Encoding.{Encoding}
 use Rattle.speedy_layout.specs.Format.{Format}
-use Rattle.speedy_layout.specs.Flags.{flag, IsFlag, Branch, branch, branch_suffices, variant, option, option_parts, option_join, alternative, alternative_parts, alternative_join}
+use Rattle.speedy_layout.specs.Flags.{flag, IsFlag, written_flag, Branch, branch, branch_suffices, variant, option, option_parts, option_join, alternative, alternative_parts, alternative_join}
 use Rattle.speedy_layout.specs.Tuples.{unit}
 use Rattle.speedy_read.specs.Reading.{ReaderState, Reads}
 use Rattle.speedy_read.specs.ReadingLemmas.{Kept-same}
@@ -18,6 +18,19 @@ number_is_flag n =
       | inl h ↦ subst (λ (b : Bool). IsFlag (not b) n) (sym h.0) h.1
       | inr h ↦ subst (λ (b : Bool). IsFlag (not b) n) (sym h.0) (let apart = h.1 in omega arith)
     ]
+
+-- a byte of at most 1 is the flag that is written
+pub number_is_written_flag : (n : ℕ) → n ≤ 1 → n ≡ written_flag (not (nat_eq n 0))
+number_is_written_flag n l =
+    elim (eqb_tells n 0) [
+      | inl h ↦ subst (λ (b : Bool). n ≡ written_flag (not b)) (sym h.0) h.1
+      | inr h ↦ subst (λ (b : Bool). n ≡ written_flag (not b)) (sym h.0) (let apart = h.1 in omega arith)
+    ]
+
+-- a byte above 1 is written as no flag
+pub not_written_flag : (n : ℕ) (b : Bool) → 1 < n → n ≡ written_flag b → ⊥
+not_written_flag n true l h = omega arith
+not_written_flag n false l h = omega arith
 
 -- a variant is read as its tag, and then the value of the format that the tag chooses
 pub variant_composes : {U V W : Type 0} (split : U → (b : Bool) × Branch V W b) {join : (b : Bool) → Branch V W b → U} {tags : Format Bool} {L : Format V} {M : Format W}

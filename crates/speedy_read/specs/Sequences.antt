@@ -79,7 +79,7 @@ module _ {U V : Type 0} {W : U → Type 0} {L : Format U} {M : (u : U) → Forma
     answer = part_refused new refl refl (omega arith) c.takes_first c.names_first (λ told un. unspelled_first (un (IsTold-part c.lends_first told))) r.answer;
   }
 
-  unspelled_second : {least : ℕ} → Laws least L → (u : U) {e : E} (front rest : List ℕ) → L.spells u front → Unspelled gives eof (M u) e rest → Unspelled gives eof N e (front ++ rest)
+  unspelled_second : {strict : Bool} {least : ℕ} → Laws strict least L → (u : U) {e : E} (front rest : List ℕ) → L.spells u front → Unspelled gives eof (M u) e rest → Unspelled gives eof N e (front ++ rest)
   unspelled_second laws u {e = e} front rest first un = record {
     no_front = λ v whole tail is sp.
         let parts = c.splits v whole sp in
@@ -101,7 +101,7 @@ module _ {U V : Type 0} {W : U → Type 0} {L : Format U} {M : (u : U) → Forma
   }
 
   -- where the second part is refused, the whole is
-  pub refused_second : {least : ℕ} → Laws least L → {A B D : Type 0} {first : D → U} {x : D} {seen : A → W (first x)} {view : B → V} {e : E} {old mid new : ReaderState} → Reads gives eof first L (Ok x) old mid → Reads gives eof seen (M (first x)) (Err e) mid new → Reads gives eof view N (Err e) old new
+  pub refused_second : {strict : Bool} {least : ℕ} → Laws strict least L → {A B D : Type 0} {first : D → U} {x : D} {seen : A → W (first x)} {view : B → V} {e : E} {old mid new : ReaderState} → Reads gives eof first L (Ok x) old mid → Reads gives eof seen (M (first x)) (Err e) mid new → Reads gives eof view N (Err e) old new
   refused_second laws {first = first} {x = x} {e = e} {mid = mid} {new = new} h k = record {
     kept = Kept-after h.kept k.kept;
     answer = part_refused new h.kept.ends_by_device h.kept.takes_memory h.kept.faults (c.takes_second (first x)) (c.names_second (first x))
@@ -118,6 +118,6 @@ module _ {U V : Type 0} {W : U → Type 0} {L : Format U} {M : (u : U) → Forma
       (λ s sp. subst (λ (v : V). N.spells v s) (sym e) sp)
 
   -- the second part decides
-  pub second_decides : {least : ℕ} → Laws least L → {A D : Type 0} {first : D → U} {x : D} {seen : A → W (first x)} {view : A → V} {r : Result A E} {old mid new : ReaderState} → Reads gives eof first L (Ok x) old mid → Reads gives eof seen (M (first x)) r mid new → ((y : A) → view y ≡ join (first x) (seen y)) → Reads gives eof view N r old new
+  pub second_decides : {strict : Bool} {least : ℕ} → Laws strict least L → {A D : Type 0} {first : D → U} {x : D} {seen : A → W (first x)} {view : A → V} {r : Result A E} {old mid new : ReaderState} → Reads gives eof first L (Ok x) old mid → Reads gives eof seen (M (first x)) r mid new → ((y : A) → view y ≡ join (first x) (seen y)) → Reads gives eof view N r old new
   second_decides laws {r = Ok y} h k same = got_both h k (same y)
   second_decides laws {r = Err e} h k same = refused_second laws h k

@@ -4,12 +4,17 @@ ghost use Rattle.std.specs.Prelude.{◌+◌};
 use crate::readable::{ReadFrom, ReadMany};
 use crate::reader::LendingReader;
 use speedy_base::context::Context;
+use speedy_base::error::error_not_written_form;
 use std::convert::AsSlice;
 
 impl<L: AsSlice<u8> + Drop, C: Context> ReadFrom<L, C> for bool {
     #[inline]
     fn read_from<R: LendingReader<L, C>>(reader: &mut R) -> Result<bool, C::Error> {
         let number = reader.read_u8()?;
+        let is_written = number <= 1;
+        if !is_written && reader.demands_written_form() {
+            return Err(error_not_written_form());
+        }
         Ok(number != 0)
     }
 

@@ -6,7 +6,8 @@ use crate::reader::LendingReader;
 use speedy_base::context::Context;
 use speedy_base::endianness::Endianness;
 use speedy_base::error::{
-    error_invalid_enum_variant, error_invalid_system_time, error_out_of_range_char,
+    error_invalid_enum_variant, error_invalid_system_time, error_not_written_form,
+    error_out_of_range_char,
 };
 use std::convert::AsSlice;
 use std::time::Duration;
@@ -48,10 +49,15 @@ impl<L: AsSlice<u8> + Drop, C: Context> ReadFrom<L, C> for Endianness {
 impl<L: AsSlice<u8> + Drop, C: Context> ReadMany<L, C> for Endianness {}
 
 impl<L: AsSlice<u8> + Drop, C: Context> ReadFrom<L, C> for Duration {
-    /// Reads seconds and nanoseconds. Nanoseconds of a second and more carry into the seconds.
+    /// Reads seconds and nanoseconds. Nanoseconds of a second and more carry into the seconds, unless the context
+    /// demands the written form, which has fewer.
     #[inline]
     fn read_from<R: LendingReader<L, C>>(reader: &mut R) -> Result<Duration, C::Error> {
         let (seconds, nanos) = reader.read_value::<(u64, u32)>()?;
+        let is_written = nanos < 1_000_000_000;
+        if !is_written && reader.demands_written_form() {
+            return Err(error_not_written_form());
+        }
         let carried = (nanos / 1_000_000_000) as u64;
         if u64::MAX - seconds < carried {
             return Err(error_invalid_system_time());

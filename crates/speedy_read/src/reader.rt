@@ -14,7 +14,7 @@ use crate::private::vec_to_string;
 use crate::readable::{ReadFrom, ReadMany};
 use speedy_base::context::Context;
 use speedy_base::endianness::Endianness;
-use speedy_base::error::{ErrorKind, error_end_of_input};
+use speedy_base::error::{ErrorKind, error_end_of_input, error_not_written_form};
 use speedy_layout::VarInt64;
 use std::alloc::Global;
 use std::convert::AsSlice;
@@ -83,6 +83,14 @@ pub trait LendingReader<L: AsSlice<u8> + Drop, C: Context> {
         ensures { result ≡ (state self.now).encoding.order }
     {
         self.context().endianness()
+    }
+
+    /// Whether a value is read from its written form alone.
+    #[inline]
+    final fn demands_written_form(&self) -> bool
+        ensures { result ≡ (state self.now).encoding.strict }
+    {
+        self.context().demands_written_form()
     }
 
     /// The next byte as a number in the context's order.
@@ -197,7 +205,7 @@ pub trait LendingReader<L: AsSlice<u8> + Drop, C: Context> {
     }
 
     /// The next integer of variable length, which is spelled alike in both orders. A longer spelling than
-    /// the number needs is read too.
+    /// the number needs is read too, unless the context demands the written form.
     #[inline]
     final fn read_u64_varint(&mut self) -> Result<u64, C::Error>
         ensures { Reads C.Error.from_gives C.Error.eof (λ x. x) (varint (state self.old).encoding)
@@ -207,7 +215,11 @@ pub trait LendingReader<L: AsSlice<u8> + Drop, C: Context> {
         let mut bytes = [0u8; 8];
         let rest = &mut bytes[..VarInt64::length_of(first)];
         self.read_bytes(rest)?;
-        Ok(u64::from(VarInt64::decode(first, rest)))
+        let number = VarInt64::decode(first, rest);
+        if !number.is_written_with(rest.len()) && self.demands_written_form() {
+            return Err(error_not_written_form());
+        }
+        Ok(u64::from(number))
     }
 
     /// What [`read_u64_varint`](Self::read_u64_varint) answers, of which nothing is taken.
@@ -220,7 +232,12 @@ pub trait LendingReader<L: AsSlice<u8> + Drop, C: Context> {
         let mut bytes = [0u8; 9];
         let whole = &mut bytes[..=VarInt64::length_of(first)];
         self.peek_bytes(whole)?;
-        Ok(u64::from(VarInt64::decode(first, &whole[1..])))
+        let after = &whole[1..];
+        let number = VarInt64::decode(first, after);
+        if !number.is_written_with(after.len()) && self.demands_written_form() {
+            return Err(error_not_written_form());
+        }
+        Ok(u64::from(number))
     }
 
     /// The next value.
@@ -260,7 +277,8 @@ pub trait LendingReader<L: AsSlice<u8> + Drop, C: Context> {
     final fn read_string(&mut self, length: usize) -> Result<String, C::Error>
     where
         Self: Sized,
-        ensures { Reads C.Error.from_gives C.Error.eof string_bytes (text_of_length length) result
+        ensures { let format = text_of_length (state self.old).encoding length in
+            Reads C.Error.from_gives C.Error.eof string_bytes format result
             (state self.old) (state self.new) }
     {
         vec_to_string(self.read_vec(length)?)

@@ -1,8 +1,8 @@
 -- The fields of a line are found at its spaces.
 use Rattle.std.specs.Prelude.{◌≡◌, ℕ, ◌==◌, ◌&&◌, not, true, false, Bool, List, [], ◌∷◌, ◌++◌, IsTrue, refl}
 use Rattle.std.proofs.Common.{sym, ◌∙◌, subst, arith}
-use Rattle.speedy_base.specs.declared.endianness.Endianness.{Endianness}
-use Rattle.speedy_base.specs.declared.endianness.Endianness.TheVariants.{LittleEndian, BigEndian}
+use Rattle.speedy_vectors.specs.declared.line.LineOrder.{LineOrder}
+use Rattle.speedy_vectors.specs.declared.line.LineOrder.TheVariants as orders
 use Rattle.speedy_vectors.specs.declared.line.TypeName.{TypeName}
 use Rattle.speedy_vectors.specs.Names.{named, has_no_space}
 use Rattle.speedy_vectors.specs.Line.{space, order_text, name_text, IsHex, IsLine, IsBad}
@@ -25,9 +25,11 @@ one_split (a ∷ f) (b ∷ g) r q h k e =
     (let m = more.0 in (cc), more.1)
 
 -- the texts of orders and types have no space
-pub order_no_space : (order : Endianness) → IsFreeOf space (order_text order)
-order_no_space LittleEndian = (omega arith, (omega arith, tt))
-order_no_space BigEndian = (omega arith, (omega arith, tt))
+pub order_no_space : (order : LineOrder) → IsFreeOf space (order_text order)
+order_no_space orders.LittleEndian = (omega arith, (omega arith, tt))
+order_no_space orders.BigEndian = (omega arith, (omega arith, tt))
+order_no_space orders.StrictLittleEndian = (omega arith, (omega arith, (omega arith, tt)))
+order_no_space orders.StrictBigEndian = (omega arith, (omega arith, (omega arith, tt)))
 
 no_space : (text : List ℕ) → IsTrue (has_no_space text) → IsFreeOf space text
 no_space [] h = tt
@@ -40,7 +42,7 @@ pub name_no_space : (name : TypeName) → IsFreeOf space (name_text name)
 name_no_space name = no_space (named name).text (named name).no_space
 
 -- a line of the form splits at its spaces
-pub line_splits : (line f g hex : List ℕ) (order : Endianness) (name : TypeName) (bytes : List ℕ) → IsFreeOf space f → IsFreeOf space g → line ≡ f ++ space ∷ (g ++ space ∷ hex) → IsLine line order name bytes → (f ≡ order_text order) × (g ≡ name_text name) × IsHex hex bytes
+pub line_splits : (line f g hex : List ℕ) (order : LineOrder) (name : TypeName) (bytes : List ℕ) → IsFreeOf space f → IsFreeOf space g → line ≡ f ++ space ∷ (g ++ space ∷ hex) → IsLine line order name bytes → (f ≡ order_text order) × (g ≡ name_text name) × IsHex hex bytes
 line_splits line f g hex order name bytes h k e is =
     let first = one_split f (order_text order) (g ++ space ∷ hex) (name_text name ++ space ∷ is.hex) h (order_no_space order) (sym e ∙ is.line_is) in
     let second = one_split g (name_text name) hex is.hex k (name_no_space name) first.1 in

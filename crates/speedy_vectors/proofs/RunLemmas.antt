@@ -9,7 +9,7 @@ use Rattle.speedy_base.specs.declared.error.Error.{Error}
 use Rattle.speedy_base.specs.declared.error.ErrorKind.TheVariants as kinds
 use Rattle.speedy_base.specs.Error.{error_of, kind_of, IsIoErrorOf}
 use Rattle.speedy_base.specs.DeviceLemmas.{HasGrown-after}
-use Rattle.speedy_base.specs.Device.{SourceState, SinkState, HasGrown, Pulls, Pushes, Flushes}
+use Rattle.speedy_base.specs.Device.{SourceState, SinkState, Pulls, Pushes, Flushes}
 use Rattle.speedy_layout.specs.Format.{Each}
 use Rattle.speedy_vectors.specs.Answer.{AnswersLine}
 use Rattle.speedy_vectors.specs.Split.{IsFreeOf, SplitsAt}

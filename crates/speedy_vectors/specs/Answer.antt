@@ -4,13 +4,13 @@ use Rattle.std.specs.Fmt.{decimal}
 use Rattle.hex.specs.Hex.{encode_lower}
 use Rattle.speedy_base.specs.declared.error.ErrorKind.{ErrorKind}
 use Rattle.speedy_base.specs.declared.error.ErrorKind.TheVariants as kinds
-use Rattle.speedy_base.specs.declared.endianness.Endianness.{Endianness}
 use Rattle.speedy_base.specs.ErrorKind.{is_eof_kind, EndsInput}
-use Rattle.speedy_base.specs.Encoding.{Encoding, plain_encoding}
+use Rattle.speedy_base.specs.Encoding.{Encoding}
 use Rattle.speedy_layout.specs.Format.{Format}
+use Rattle.speedy_vectors.specs.declared.line.LineOrder.{LineOrder}
 use Rattle.speedy_vectors.specs.declared.line.TypeName.{TypeName}
 use Rattle.speedy_vectors.specs.Names.{named}
-use Rattle.speedy_vectors.specs.Line.{IsLine, IsBad}
+use Rattle.speedy_vectors.specs.Line.{encoding_of, IsLine, IsBad}
 
 -- bytes as hexadecimal digits in lower case, `-` for none
 abbrev pub hex_of : List ℕ → List ℕ
@@ -34,6 +34,7 @@ kind_name (kinds.LengthIsNotTheSameAsLengthAttribute field) = codes "LengthIsNot
 kind_name (kinds.ExpectedConstant constant) = codes "ExpectedConstant"
 kind_name kinds.Unsized = codes "Unsized"
 kind_name kinds.EndiannessMismatch = codes "EndiannessMismatch"
+kind_name kinds.NotWrittenForm = codes "NotWrittenForm"
 kind_name (kinds.IoError e) = codes "IoError"
 kind_name kinds.OutOfMemory = codes "OutOfMemory"
 kind_name (kinds.Custom message) = codes "Custom"
@@ -83,11 +84,11 @@ AnswersAs name encoding = AnswersBytes (named name).least ((named name).format e
 
 -- the answer of a line that is of the form
 pub record AnswersGoodLine (line answer : List ℕ) : Type 0 where
-  pub order : Endianness
+  pub order : LineOrder
   pub name : TypeName
   pub bytes : List ℕ
   pub says : IsLine line order name bytes
-  pub answers : AnswersAs name (plain_encoding order) bytes answer
+  pub answers : AnswersAs name (encoding_of order) bytes answer
 
 -- the answer of a line: `bad line` exactly where it isn't of the form
 abbrev pub AnswersLine : List ℕ → List ℕ → Type 0

@@ -1,8 +1,10 @@
 -- What a line of the program says.
 use Rattle.std.specs.Prelude.{◌≡◌, ◌≢◌, ℕ, List, [], ◌∷◌, ◌++◌, ◌⊎◌, Ok, codes}
 use Rattle.hex.specs.Hex.{decode_of}
-use Rattle.speedy_base.specs.declared.endianness.Endianness.{Endianness}
 use Rattle.speedy_base.specs.declared.endianness.Endianness.TheVariants.{LittleEndian, BigEndian}
+use Rattle.speedy_base.specs.Encoding.{Encoding, plain_encoding, strict_encoding}
+use Rattle.speedy_vectors.specs.declared.line.LineOrder.{LineOrder}
+use Rattle.speedy_vectors.specs.declared.line.LineOrder.TheVariants as orders
 use Rattle.speedy_vectors.specs.declared.line.TypeName.{TypeName}
 use Rattle.speedy_vectors.specs.Names.{named}
 
@@ -10,10 +12,19 @@ use Rattle.speedy_vectors.specs.Names.{named}
 abbrev pub space : ℕ
 space = 32
 
--- the first field: the byte order
-abbrev pub order_text : Endianness → List ℕ
-order_text LittleEndian = codes "le"
-order_text BigEndian = codes "be"
+-- the first field: the order
+abbrev pub order_text : LineOrder → List ℕ
+order_text orders.LittleEndian = codes "le"
+order_text orders.BigEndian = codes "be"
+order_text orders.StrictLittleEndian = codes "sle"
+order_text orders.StrictBigEndian = codes "sbe"
+
+-- what an order asks of the bytes: the order of numbers, and by `sle` and `sbe` the written form alone
+abbrev pub encoding_of : LineOrder → Encoding
+encoding_of orders.LittleEndian = plain_encoding LittleEndian
+encoding_of orders.BigEndian = plain_encoding BigEndian
+encoding_of orders.StrictLittleEndian = strict_encoding LittleEndian
+encoding_of orders.StrictBigEndian = strict_encoding BigEndian
 
 -- the second field: the type
 abbrev pub name_text : TypeName → List ℕ
@@ -24,11 +35,11 @@ abbrev pub IsHex : List ℕ → List ℕ → Type 0
 IsHex hex bytes = ((hex ≡ codes "-") × (bytes ≡ [])) ⊎ ((hex ≢ []) × (decode_of hex ≡ Ok bytes))
 
 -- the line is these three fields, with one space between two of them
-pub record IsLine (line : List ℕ) (order : Endianness) (name : TypeName) (bytes : List ℕ) : Type 0 where
+pub record IsLine (line : List ℕ) (order : LineOrder) (name : TypeName) (bytes : List ℕ) : Type 0 where
   pub hex : List ℕ
   pub line_is : line ≡ order_text order ++ space ∷ (name_text name ++ space ∷ hex)
   pub hex_is : IsHex hex bytes
 
 -- the line is not of this form
 abbrev pub IsBad : List ℕ → Type 0
-IsBad line = (order : Endianness) (name : TypeName) (bytes : List ℕ) → IsLine line order name bytes → ⊥
+IsBad line = (order : LineOrder) (name : TypeName) (bytes : List ℕ) → IsLine line order name bytes → ⊥

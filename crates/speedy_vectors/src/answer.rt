@@ -1,14 +1,17 @@
 //! Answers of the program: what bytes spell, written again.
 ghost use Rattle.std.specs.Prelude.{◌≡◌, ◌++◌, IfOk, MatchResult, Some};
 ghost use Rattle.std.specs.String.{string_bytes};
-ghost use Rattle.speedy_base.specs.Encoding.{plain_encoding};
 ghost use Rattle.speedy_base.specs.Error.{error_of};
 ghost use Rattle.speedy_vectors.specs.Answer.{hex_of, kind_name, ok_text, refused_text, AnswersAs, AnswersBytes, AnswersLine};
+ghost use Rattle.speedy_vectors.specs.Line.{encoding_of};
 
-use crate::line::{Line, TypeName, for_each_name, parse_line};
+use crate::line::{Line, LineOrder, TypeName, for_each_name, parse_line};
 use speedy::private::{ErrorKind, get_error_kind};
 use speedy::varint::VarInt64;
-use speedy::{Endianness, Error, Readable, Writable};
+use speedy::{
+    BigEndian, Context, Endianness, Error, LittleEndian, Readable, StrictBigEndian,
+    StrictLittleEndian, Writable,
+};
 use std::alloc::{AllocError, Global};
 use std::boxed::{BoxedSlice, BoxedStr};
 use std::fmt;
@@ -30,16 +33,34 @@ pub fn answer_line(alloc: Global, line: &[u8]) -> Result<Vec<u8>, Error>
     }
 }
 
-// The answer to a line that is of the form, by its type.
+// The answer to a line that is of the form, by its order.
 fn answer_good_line(alloc: Global, line: &Line) -> Result<Vec<u8>, AllocError>
-    ensures { let asked = plain_encoding line.now.order in
+    ensures { let asked = encoding_of line.now.order in
         IfOk result (λ answer. AnswersAs line.now.name asked line.now.bytes.items answer.items) }
 {
-    let (order, bytes) = (line.order, line.bytes.as_slice());
+    let (name, bytes) = (line.name, line.bytes.as_slice());
+    match line.order {
+        LineOrder::LittleEndian => answer_by_name(alloc, LittleEndian {}, name, bytes),
+        LineOrder::BigEndian => answer_by_name(alloc, BigEndian {}, name, bytes),
+        LineOrder::StrictLittleEndian => answer_by_name(alloc, StrictLittleEndian {}, name, bytes),
+        LineOrder::StrictBigEndian => answer_by_name(alloc, StrictBigEndian {}, name, bytes),
+    }
+}
+
+// What bytes are answered under a context, by the type's name.
+fn answer_by_name<C: Context<Error = Error> + Copy>(
+    alloc: Global,
+    context: C,
+    name: TypeName,
+    bytes: &[u8],
+) -> Result<Vec<u8>, AllocError>
+    ensures { let asked = C.encoding context in
+        IfOk result (λ answer. AnswersAs name asked bytes.now answer.items) }
+{
     macro_rules! answer {
         ($($text:literal $name:ident $type:ty;)*) => {
-            match line.name {
-                $(TypeName::$name => answer_as::<$type>(alloc, order, bytes),)*
+            match name {
+                $(TypeName::$name => answer_as::<$type, C>(alloc, context, bytes),)*
             }
         };
     }
@@ -88,6 +109,7 @@ impl fmt::Display for KindName<'_> {
             ErrorKind::ExpectedConstant { .. } => write!(f, "ExpectedConstant"),
             ErrorKind::Unsized => write!(f, "Unsized"),
             ErrorKind::EndiannessMismatch => write!(f, "EndiannessMismatch"),
+            ErrorKind::NotWrittenForm => write!(f, "NotWrittenForm"),
             ErrorKind::IoError(_) => write!(f, "IoError"),
             ErrorKind::OutOfMemory => write!(f, "OutOfMemory"),
             ErrorKind::Custom(_) => write!(f, "Custom"),
@@ -112,17 +134,17 @@ fn refused_answer(alloc: Global, kind: &ErrorKind) -> Result<Vec<u8>, AllocError
 }
 
 // What bytes are answered, read as values of a type. It fails by want of memory alone.
-fn answer_as<'a, T: Readable<'a, Endianness> + Writable<Endianness>>(
+fn answer_as<'a, T: Readable<'a, C> + Writable<C>, C: Context<Error = Error> + Copy>(
     alloc: Global,
-    order: Endianness,
+    context: C,
     bytes: &'a [u8],
 ) -> Result<Vec<u8>, AllocError>
-    ensures { let format = T.format (plain_encoding order) in
+    ensures { let format = T.format (C.encoding context) in
         IfOk result (λ text. AnswersBytes T.least format bytes.now text.items) }
 {
-    let (result, count) = T::read_with_length_from_buffer_with_ctx(alloc, order, bytes);
+    let (result, count) = T::read_with_length_from_buffer_with_ctx(alloc, context, bytes);
     match result {
-        Ok(value) => match value.write_to_vec_with_ctx(alloc, order) {
+        Ok(value) => match value.write_to_vec_with_ctx(alloc, context) {
             Ok(written) => ok_answer(alloc, count, &written),
             // What was read can be written: only memory was wanting.
             Err(_) => Err(AllocError),

@@ -1,15 +1,28 @@
-//! Lines of the program: a byte order, the name of a type, and bytes in hexadecimal digits.
-ghost use Rattle.std.specs.Prelude.{◌≡◌, ◌≢◌, ◌∷◌, ◌++◌, ◌⊎◌, Decides, MatchOption, MatchResult, List, ℕ};
+//! Lines of the program: an order, the name of a type, and bytes in hexadecimal digits.
+ghost use Rattle.std.specs.Prelude.{◌≡◌, ◌≢◌, ◌∷◌, ◌++◌, ◌⊎◌, ◌↔◌, IsTrue, MatchOption, MatchResult, List, ℕ};
 ghost use Rattle.speedy_base.specs.Error.{error_of};
-ghost use Rattle.speedy_base.specs.declared.endianness.Endianness.{Endianness};
+ghost use Rattle.speedy_vectors.specs.declared.line.LineOrder.{LineOrder};
 ghost use Rattle.speedy_vectors.specs.declared.line.TypeName.{TypeName};
 ghost use Rattle.speedy_vectors.specs.Line.{space, order_text, name_text, IsHex, IsLine, IsBad};
 ghost use Rattle.speedy_vectors.specs.Split.{IsFreeOf, SplitsAt};
 
 use hex::FromHexError;
-use speedy_base::endianness::Endianness;
 use speedy_base::error::{Error, ErrorKind, error_out_of_memory};
 use std::alloc::Global;
+
+/// The orders that the program knows: how numbers lie, and whether values are read from their written
+/// form alone.
+#[derive(Clone, Copy, Debug, PartialEq, Eq)]
+pub enum LineOrder {
+    /// `le`.
+    LittleEndian,
+    /// `be`.
+    BigEndian,
+    /// `sle`.
+    StrictLittleEndian,
+    /// `sbe`.
+    StrictBigEndian,
+}
 
 /// The types that the program knows.
 #[derive(Clone, Copy, Debug, PartialEq, Eq)]
@@ -143,8 +156,8 @@ pub(crate) use for_each_name;
 /// A line of the form that the program answers.
 #[derive(Debug, Drop)]
 pub struct Line {
-    /// The order in which the bytes are read and written again.
-    pub order: Endianness,
+    /// The order under which the bytes are read and written again.
+    pub order: LineOrder,
     /// The type that the bytes are read as.
     pub name: TypeName,
     /// The bytes.
@@ -161,26 +174,30 @@ fn split_at_space(text: &[u8]) -> Option<(&[u8], &[u8])>
 }
 
 // The order that a field names.
-fn order_of(field: &[u8]) -> Option<Endianness>
-    ensures { MatchOption result ((order : Endianness) → field.now ≢ order_text order) (λ order. field.now ≡ order_text order) }
+fn order_of(field: &[u8]) -> Option<LineOrder>
+    ensures { MatchOption result ((order : LineOrder) → field.now ≢ order_text order)
+        (λ order. field.now ≡ order_text order) }
 {
     match field {
-        b"le" => Some(Endianness::LittleEndian),
-        b"be" => Some(Endianness::BigEndian),
+        b"le" => Some(LineOrder::LittleEndian),
+        b"be" => Some(LineOrder::BigEndian),
+        b"sle" => Some(LineOrder::StrictLittleEndian),
+        b"sbe" => Some(LineOrder::StrictBigEndian),
         _ => None,
     }
 }
 
 // Whether a field is this text.
 fn is_text(field: &[u8], text: &[u8]) -> bool
-    ensures { Decides result (field.now ≡ text.now) }
+    ensures { IsTrue result ↔ (field.now ≡ text.now) }
 {
     field == text
 }
 
 // The type that a field names.
 fn name_of(field: &[u8]) -> Option<TypeName>
-    ensures { MatchOption result ((name : TypeName) → field.now ≢ name_text name) (λ name. field.now ≡ name_text name) }
+    ensures { MatchOption result ((name : TypeName) → field.now ≢ name_text name)
+        (λ name. field.now ≡ name_text name) }
 {
     macro_rules! find {
         ($($text:literal $name:ident $type:ty;)*) => {
@@ -195,7 +212,10 @@ fn name_of(field: &[u8]) -> Option<TypeName>
 
 // The bytes that a field of hexadecimal digits says.
 fn bytes_from_hex(alloc: Global, hex: &[u8]) -> Result<Option<Vec<u8>>, Error>
-    ensures { MatchResult result (λ found. MatchOption found ((bytes : List ℕ) → IsHex hex.now bytes → ⊥) (λ v. IsHex hex.now v.items)) (λ e. e ≡ error_of ErrorKind.OutOfMemory) }
+    ensures { MatchResult result
+        (λ found. MatchOption found ((bytes : List ℕ) → IsHex hex.now bytes → ⊥)
+        (λ v. IsHex hex.now v.items))
+        (λ e. e ≡ error_of ErrorKind.OutOfMemory) }
 {
     match hex {
         b"-" => Ok(Some(Vec::new(alloc))),
@@ -210,7 +230,10 @@ fn bytes_from_hex(alloc: Global, hex: &[u8]) -> Result<Option<Vec<u8>>, Error>
 
 /// What a line says, or `None` where it is not of the form. The one refusal is want of memory.
 pub fn parse_line(alloc: Global, line: &[u8]) -> Result<Option<Line>, Error>
-    ensures { MatchResult result (λ found. MatchOption found (IsBad line.now) (λ l. IsLine line.now l.order l.name l.bytes.items)) (λ e. e ≡ error_of ErrorKind.OutOfMemory) }
+    ensures { MatchResult result
+        (λ found. MatchOption found (IsBad line.now)
+        (λ l. IsLine line.now l.order l.name l.bytes.items))
+        (λ e. e ≡ error_of ErrorKind.OutOfMemory) }
 {
     let Some((order, rest)) = split_at_space(line) else {
         return Ok(None);

@@ -15,7 +15,8 @@ use std::alloc::Global;
 /// error of a failed call of the input or the output, or of memory, and with `OutOfRangeLength` after
 /// 2^64 - 1 pulls of which none was the end.
 pub fn run<R: Source, W: Sink>(alloc: Global, input: &mut R, output: &mut W) -> Result<(), Error>
-    ensures { Runs result (R.source input.old) (R.source input.new) (W.sink output.old) (W.sink output.new) }
+    ensures { Runs result (R.source input.old) (R.source input.new)
+        (W.sink output.old) (W.sink output.new) }
 {
     let mut chunk = [0u8; 8192];
     let mut pending = Vec::new(alloc);
@@ -41,7 +42,9 @@ fn answer_piece<W: Sink>(
 ) -> Result<(), Error>
     requires { IsFreeOf line_feed pending.old.items }
     ensures waits { OnOk result (IsFreeOf line_feed pending.new.items) }
-    ensures answers { (more : List ℕ) → Answering result (lines_of (pending.old.items ++ (piece.now ++ more))) (lines_of (pending.new.items ++ more)) (W.sink output.old) (W.sink output.new) }
+    ensures answers { (more : List ℕ) →
+        Answering result (lines_of (pending.old.items ++ (piece.now ++ more)))
+        (lines_of (pending.new.items ++ more)) (W.sink output.old) (W.sink output.new) }
 {
     let mut rest = piece;
     while let Some((line, after)) = split_at_line_feed(rest) {
@@ -60,7 +63,8 @@ fn answer_waiting<W: Sink>(
     output: &mut W,
 ) -> Result<(), Error>
     ensures waits { OnOk result (pending.new.items ≡ []) }
-    ensures answers { Answering result ((pending.old.items ++ line.now) ∷ []) [] (W.sink output.old) (W.sink output.new) }
+    ensures answers { Answering result ((pending.old.items ++ line.now) ∷ []) []
+        (W.sink output.old) (W.sink output.new) }
 {
     if pending.is_empty() {
         return push_answer(alloc, line, output);
@@ -83,7 +87,8 @@ fn split_at_line_feed(text: &[u8]) -> Option<(&[u8], &[u8])>
 // Answers a last line that has no line feed, if there is one, and flushes.
 fn finish<W: Sink>(alloc: Global, pending: &[u8], output: &mut W) -> Result<(), Error>
     requires { IsFreeOf line_feed pending.now }
-    ensures answers { Answering result (lines_of pending.now) [] (W.sink output.old) (W.sink output.new) }
+    ensures answers { Answering result (lines_of pending.now) []
+        (W.sink output.old) (W.sink output.new) }
     ensures settled { OnOk result (IsTrue (W.sink output.new).settled) }
 {
     if pending.is_empty() {

@@ -11,6 +11,38 @@ fn assert_answers(rt: &impl Abort, alloc: Global, rows: &[(&str, &str)]) {
     }
 }
 
+/// What was written by the answer of a value: its hexadecimal digits, `-` for none.
+fn written_by<'a>(rt: &impl Abort, answer: &'a str) -> Option<&'a str> {
+    let (_, written) = answer.strip_prefix("ok ")?.split_once(' ')?;
+    Some(written.split_once('\n').expect(rt, "a line feed").0)
+}
+
+/// Asserts of each answered value that its written form is answered the same under the strict order, and so is its
+/// line if it begins with that form. If it does not, the line is refused.
+fn assert_strict_answers(rt: &impl Abort, alloc: Global, rows: &[(&str, &str)]) {
+    for (line, answer) in rows {
+        let Some(written) = written_by(rt, answer) else {
+            continue;
+        };
+        let line = line.to_ascii_lowercase(alloc).expect(rt, "a line");
+        let (order, rest) = line.split_once(' ').expect(rt, "an order");
+        let (name, hex) = rest.split_once(' ').expect(rt, "a name");
+        let digits = if written == "-" { "" } else { written };
+        let count = digits.len() / 2;
+        let strict_line = format!(in alloc; "s{order} {name} {written}").expect(rt, "a line");
+        let strict_answer = format!(in alloc; "ok {count} {written}\n").expect(rt, "an answer");
+        assert_answers(rt, alloc, &[(&strict_line, &strict_answer)]);
+        let line = format!(in alloc; "s{line}").expect(rt, "a line");
+        let is_written = hex.starts_with(digits);
+        let answer = if is_written {
+            *answer
+        } else {
+            "refused NotWrittenForm\n"
+        };
+        assert_answers(rt, alloc, &[(&line, answer)]);
+    }
+}
+
 /// Unsigned numbers.
 const UNSIGNED: [(&str, &str); 6] = [
     ("be u8 21", "ok 1 21\n"),
@@ -114,6 +146,29 @@ const OWNED: [(&str, &str); 11] = [
     ("le vec_strings 00000000", "bad line\n"),
 ];
 
+/// What the strict orders refuse, and what they do not.
+const STRICT: [(&str, &str); 10] = [
+    ("sle varint 8000", "refused NotWrittenForm\n"),
+    ("sle varint 807f", "refused NotWrittenForm\n"),
+    ("sbe varint 8080", "ok 2 8080\n"),
+    ("sle bool 02", "refused NotWrittenForm\n"),
+    ("sle opt_u16 070500", "refused NotWrittenForm\n"),
+    (
+        "sle duration 010000000000000000ca9a3b",
+        "refused NotWrittenForm\n",
+    ),
+    (
+        "sle duration 0100000000000000ffc99a3b",
+        "ok 12 0100000000000000ffc99a3b\n",
+    ),
+    (
+        "sle vec_opt_string 0200000001010000006100",
+        "ok 11 0200000001010000006100\n",
+    ),
+    ("sle u16 01", "refused InputBufferIsTooSmall 1 2\n"),
+    ("SLE u16 0100", "bad line\n"),
+];
+
 #[test]
 fn unsigned_numbers_are_answered(rt: HostRuntime) {
     assert_answers(&rt, rt.alloc(), &UNSIGNED);
@@ -142,4 +197,19 @@ fn composed_values_are_answered(rt: HostRuntime) {
 #[test]
 fn what_owns_memory_is_answered(rt: HostRuntime) {
     assert_answers(&rt, rt.alloc(), &OWNED);
+}
+
+#[test]
+fn strict_orders_are_answered(rt: HostRuntime) {
+    assert_answers(&rt, rt.alloc(), &STRICT);
+}
+
+#[test]
+fn strict_orders_answer_written_forms_alone(rt: HostRuntime) {
+    assert_strict_answers(&rt, rt.alloc(), &UNSIGNED);
+    assert_strict_answers(&rt, rt.alloc(), &SIGNED);
+    assert_strict_answers(&rt, rt.alloc(), &LEAVES);
+    assert_strict_answers(&rt, rt.alloc(), &ADDRESSES);
+    assert_strict_answers(&rt, rt.alloc(), &COMPOSED);
+    assert_strict_answers(&rt, rt.alloc(), &OWNED);
 }

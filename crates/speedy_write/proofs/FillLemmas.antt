@@ -1,7 +1,7 @@
 -- What the ways of writing answer follows from what a write into a collector does.
-use Rattle.std.specs.Prelude.{◌≡◌, ℕ, ◌-◌, ◌≤◌, List, ◌++◌, length, take, drop, Result, Ok, Err, IsOk, refl}
+use Rattle.std.specs.Prelude.{◌≡◌, ℕ, ◌-◌, ◌≤◌, List, length, Result, Ok, Err, IsOk, refl}
 use Rattle.std.specs.Borrow.{GName}
-use Rattle.std.proofs.Common.{◌∙◌, ap, subst, arith, inl, inr}
+use Rattle.std.proofs.Common.{◌∙◌, subst, arith, inl, inr}
 use Rattle.speedy_base.specs.declared.error.Error.{Error}
 use Rattle.speedy_base.specs.Device.{HasGrown}
 use Rattle.speedy_base.specs.Encoding.{Encoding}
@@ -41,7 +41,7 @@ module _ {E : Type 0} {gives : Error → E → Type 0} {V : Type 0} {F : Encodin
     fill_succeeds bytes (Err e) writes fit none w = absurd (never_refused bytes writes fit none (restated w))
 
     -- and what it puts stands at the front
-    pub fill_stands : {least : ℕ} {new : List ℕ} (result : Result (Unit {0}) E) → ((encoding : Encoding) → Laws least (F encoding)) → IsOk result → new ≡ B → Writes gives F v result (buffer_state at targets (length A - p)) after (λ b. BufferAppends p A b q B) → Stands (F encoding) v old new
+    pub fill_stands : {least : ℕ} {new : List ℕ} (result : Result (Unit {0}) E) → ((encoding : Encoding) → Laws encoding.strict least (F encoding)) → IsOk result → new ≡ B → Writes gives F v result (buffer_state at targets (length A - p)) after (λ b. BufferAppends p A b q B) → Stands (F encoding) v old new
     fill_stands (Ok u) laws ok same w =
         let put = (restated w).answer in
         record {

@@ -98,13 +98,13 @@ module _ {E : Type 0} {gives : Error → E → Type 0} {A V : Type 0} {F : Encod
       }
 
   -- where the next item is refused, the items before it, that one and those after it are
-  three_refused : {least : ℕ} {e : E} {result : Result (Unit {0}) E} → ((encoding : Encoding) → Laws least (F encoding)) → IsErrAnd result (λ r. r ≡ e) → WritesEach gives F seen (take i items) (Ok tt) old mid front → Writes gives F (seen x) (Err e) mid new back
+  three_refused : {least : ℕ} {e : E} {result : Result (Unit {0}) E} → ((encoding : Encoding) → Laws encoding.strict least (F encoding)) → IsErrAnd result (λ r. r ≡ e) → WritesEach gives F seen (take i items) (Ok tt) old mid front → Writes gives F (seen x) (Err e) mid new back
       → let rest : List V = map seen (drop (suc i) items) in let n = length (take i items) in Writes gives (λ encoding. pair (repeat n (F encoding)) (pair (F encoding) (repeat (length rest) (F encoding)))) (map seen (take i items), (seen x, rest)) result old new whole
   three_refused laws passed h w =
       second_written is_sequence refl (λ encoding. repeat_laws (laws encoding) (length (take i items))) join h (first_refused is_sequence refl passed w)
 
   -- and so are all
-  pub items_refused : {least : ℕ} {e : E} {result : Result (Unit {0}) E} → ((encoding : Encoding) → Laws least (F encoding)) → IsErrAnd result (λ r. r ≡ e)
+  pub items_refused : {least : ℕ} {e : E} {result : Result (Unit {0}) E} → ((encoding : Encoding) → Laws encoding.strict least (F encoding)) → IsErrAnd result (λ r. r ≡ e)
       → WritesEach gives F seen (take i items) (Ok tt) old mid front → Writes gives F (seen x) (Err e) mid new back → WritesEach gives F seen items result old new whole
   unfolding repeat sequence
   items_refused laws passed h w =

@@ -1,5 +1,5 @@
 -- Writes of parts make writes of wholes.
-use Rattle.std.specs.Prelude.{◌≡◌, ℕ, zero, ◌+◌, List, [], ◌++◌, length, Option, Some, None, Result, Ok, Err, IsErrAnd, refl}
+use Rattle.std.specs.Prelude.{◌≡◌, ℕ, zero, ◌+◌, List, [], ◌++◌, length, Option, Some, None, Result, Ok, Err, IsErrAnd, refl, Bool}
 use Rattle.std.proofs.Common.{sym, ◌∙◌, ap, subst, arith, inl, inr}
 use Rattle.std.proofs.lemmas.List.{append_assoc, length-append}
 use Rattle.std.proofs.lemmas.Result.{err_from_is_err_and}
@@ -80,7 +80,7 @@ Put-both {old = old} join p q =
     }
 
 -- the written forms of a value have one length
-pub one_length : {V : Type 0} {least : ℕ} {F : Format V} → Laws least F → (v : V) (a b : List ℕ) → F.writes v a → F.writes v b → length a ≡ length b
+pub one_length : {V : Type 0} {strict : Bool} {least : ℕ} {F : Format V} → Laws strict least F → (v : V) (a b : List ℕ) → F.writes v a → F.writes v b → length a ≡ length b
 one_length laws v a b h k =
     let l = laws.shortest v a b h (laws.written_spells v b k) in
     let m = laws.shortest v b a k (laws.written_spells v a h) in
@@ -115,7 +115,7 @@ module _ {E : Type 0} {gives : Error → E → Type 0} {U V : Type 0} {F : Encod
 
 module _ {E : Type 0} {gives : Error → E → Type 0} {V : Type 0} {F : Encoding → Format V} {v : V} {result : Result (Unit {0}) E} {old new : WriterState} {appended : List ℕ → Type 0} where
   -- the bytes of a written form are written as the value is
-  pub form_written : {least : ℕ} {bytes : List ℕ} → ((encoding : Encoding) → Laws least (F encoding)) → (F old.encoding).writes v bytes → WritesBytes gives bytes result old new appended → Writes gives F v result old new appended
+  pub form_written : {least : ℕ} {bytes : List ℕ} → ((encoding : Encoding) → Laws encoding.strict least (F encoding)) → (F old.encoding).writes v bytes → WritesBytes gives bytes result old new appended → Writes gives F v result old new appended
   form_written {bytes = bytes} laws written =
       Writes-as (λ _ k. absurd k) (λ b e. subst ((F old.encoding).writes v) (sym e) written) (λ b k. (bytes, refl, one_length (laws old.encoding) v bytes b written k)) (λ _ _. (bytes, refl))
 
@@ -213,7 +213,7 @@ module _ {E : Type 0} {gives : Error → E → Type 0} {U V : Type 0} {W : U →
         (restated (refused (subst (λ (p : (u : U) × W u). Writes gives F p.0 (Err e) old new appended) (sym same) w)))
 
     -- once the first part is written, the whole is written as the second part is
-    pub second_written : {least : ℕ} {done : Unit {0}} {result : Result (Unit {0}) E} {mid : WriterState} {front back whole : List ℕ → Type 0} → ((encoding : Encoding) → Laws least (F encoding)) → ((a b : List ℕ) → front a → back b → whole (a ++ b))
+    pub second_written : {least : ℕ} {done : Unit {0}} {result : Result (Unit {0}) E} {mid : WriterState} {front back whole : List ℕ → Type 0} → ((encoding : Encoding) → Laws encoding.strict least (F encoding)) → ((a b : List ℕ) → front a → back b → whole (a ++ b))
         → Writes gives F p.0 (Ok done) old mid front → Writes gives (λ encoding. G encoding p.0) p.1 result mid new back → Writes gives H v result old new whole
     second_written {done = done} {result = result} {mid = mid} {front = front} {back = back} laws join h w =
         let first = subst (λ (p : (u : U) × W u). Writes gives F p.0 (Ok done) old mid front) (sym same) h in

@@ -1,13 +1,12 @@
 use Rattle.std.proofs.Common.{ap, ◌∙◌}
 use Rattle.std.proofs.lemmas.Result.{IfOk-weaker}
-use Rattle.speedy_base.specs.Encoding.{plain_encoding}
 use Rattle.speedy_vectors.specs.Answer.{refused_text}
 use Rattle.speedy_vectors.proofs.AnswerLemmas.{refusal_answers}
 use Rattle.speedy_vectors.proofs.answer.answer_as.Goals as goal
 
 pub returns : goal.returns
 returns g c =
-    let format = g.T.Layout.format (plain_encoding c.args.order) in
+    let format = g.T.Layout.format (g.C.Context.encoding c.args.context) in
     let read = rw c.in-Err.is at c.read_with_length_from_buffer_with_ctx-result.ensures in
     IfOk-weaker c.refused_answer.result _ _
     (λ text is. refusal_answers g.T.Layout.seen g.T.Layout.least format c.in-Err.error _ c.args.bytes.now text.items read (λ memory. c.in_default.not-OutOfMemory (c.get_error_kind.ensures ∙ memory)) (is ∙ ap refused_text c.get_error_kind.ensures))

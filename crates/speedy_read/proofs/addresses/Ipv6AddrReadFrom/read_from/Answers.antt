@@ -3,15 +3,15 @@ use Rattle.std.specs.Net.Addr.{octets_of, ipv6_octets}
 use Rattle.speedy_base.specs.declared.endianness.Endianness.TheVariants.{BigEndian}
 use Rattle.speedy_base.specs.Digits.{SpellsNumber}
 use Rattle.speedy_layout.specs.Addresses.{octets_of-segments_of}
-use Rattle.speedy_read.specs.Codes.{code_refused, code_read}
+use Rattle.speedy_read.specs.Codes.{code_refused, exact_code_read}
 use Rattle.speedy_read.specs.Exits.{exit_is}
 use Rattle.speedy_read.proofs.addresses.Ipv6AddrReadFrom.read_from.Goals as goal
 
 pub returns-in_err-number : goal.returns-in_err-number
-returns-in_err-number g c = rw (exit_is c.from_residual.result c.from_residual.ensures.1) (code_refused _ c.in_err-number.ensures)
+returns-in_err-number g c = rw (exit_is c.from_residual.result c.from_residual.ensures.1) (code_refused _ _ c.in_err-number.ensures)
 
 pub returns : goal.returns
 returns g c =
     let octets = c.bytes_of_u128.ensures in
     let same : ipv6_octets c.from.result ≡ c.bytes_of_u128.result = ap octets_of c.from.ensures ∙ octets_of-segments_of 8 c.bytes_of_u128.result octets.width_is octets.are_bytes in
-    code_read _ (subst (SpellsNumber 16 BigEndian c.in_ok-number.number) (sym same) c.bytes_of_u128.ensures) c.in_ok-number.ensures
+    exact_code_read _ _ _ (subst (SpellsNumber 16 BigEndian c.in_ok-number.number) (sym same) c.bytes_of_u128.ensures) c.in_ok-number.ensures

@@ -9,4 +9,4 @@ pub returns-in_err-length : goal.returns-in_err-length
 returns-in_err-length g c = rw (exit_is c.from_residual.result c.from_residual.ensures.1) (refused_first (text_composes _) c.in_err-length.ensures)
 
 pub returns : goal.returns
-returns g c = let number = c.in_ok-length.ensures in second_decides (text_composes _) (unsigned_number_laws 4 _) number c.read_string.ensures (λ _. refl)
+returns g c = let number = c.in_ok-length.ensures in second_decides (text_composes _) (unsigned_number_laws 4 _) number (rw number.kept.encoding at c.read_string.ensures) (λ _. refl)
