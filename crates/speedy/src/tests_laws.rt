@@ -1,9 +1,14 @@
 //! The laws of layouts can be cited, at leaves and at types within each other.
 use crate::laws::{
-    no_spelling_begins_another, one_value, spelled_is_written, written_form_alone,
+    equal_as_seen, no_spelling_begins_another, one_value, spelled_is_written, written_form_alone,
     written_is_shortest,
 };
 use crate::varint::VarInt64;
+use smallvec::SmallVec;
+use std::net::IpAddr;
+use std::num::NonZeroU8;
+use std::ops::Range;
+use uuid::Uuid;
 
 #[test]
 fn one_value_is_spelled_by_one_list_of_bytes() {
@@ -25,6 +30,14 @@ fn a_written_form_is_a_shortest_spelling() {
 #[test]
 fn spellings_of_nested_types_do_not_begin_each_other() {
     no_spelling_begins_another::<Vec<String>>();
+}
+
+#[test]
+fn keys_are_equal_as_they_are_seen() {
+    equal_as_seen::<u16>();
+    equal_as_seen::<String>();
+    equal_as_seen::<(Option<char>, Result<Vec<IpAddr>, [i8; 2]>, Uuid)>();
+    equal_as_seen::<SmallVec<Range<NonZeroU8>, 4>>();
 }
 
 #[test]

@@ -1,9 +1,10 @@
-//! Characters, byte orders and durations: bytes that come from outside, and each refusal once.
+//! Characters, byte orders, durations and UUIDs: bytes that come from outside, and each refusal once.
 use crate::asserting::{assert_encoding, assert_ok_items, assert_same, assert_unreadable};
 use crate::endianness::Endianness;
 use crate::readable::Readable;
 use crate::writable::Writable;
 use std::time::Duration;
+use uuid::Uuid;
 
 #[test]
 fn characters_are_their_codes(rt: HostRuntime) {
@@ -77,4 +78,14 @@ fn seconds_past_64_bits_are_refused(rt: HostRuntime) {
     let little = [255, 255, 255, 255, 255, 255, 255, 255, 0, 0xca, 0x9a, 0x3b];
     let big = [255, 255, 255, 255, 255, 255, 255, 255, 0x3b, 0x9a, 0xca, 0];
     assert_unreadable::<Duration>(&rt, rt.alloc(), &little, &big, "InvalidSystemTime");
+}
+
+#[test]
+fn uuids_are_their_bytes_in_both_orders(rt: HostRuntime) {
+    let followed = [
+        0x00, 0x11, 0x22, 0x33, 0x44, 0x55, 0x66, 0x77, 0x88, 0x99, 0xaa, 0xbb, 0xcc, 0xdd, 0xee,
+        0xff, 1,
+    ];
+    let id = Uuid::from_u128(0x00112233_4455_6677_8899_aabbccddeeff);
+    assert_encoding(&rt, rt.alloc(), 16, &[(id, &followed, &followed)]);
 }

@@ -7,6 +7,7 @@ use crate::endianness::Endianness;
 use crate::readable::BufferReader;
 use crate::reader::LendingReader;
 use crate::writable::Writable;
+use smallvec::SmallVec;
 use std::alloc::Global;
 use std::process::Abort;
 
@@ -82,6 +83,49 @@ fn vectors_of_vectors_lie_within_each_other(rt: HostRuntime) {
     )];
     assert_encoding(&rt, alloc, 4, &rows);
     assert_encoding_in_types(&rt, alloc, 4, &rows);
+}
+
+/// A vector of these items, of which four have room in the value itself.
+fn make_small(rt: &impl Abort, alloc: Global, items: &[u16]) -> SmallVec<u16, 4> {
+    SmallVec::from_slice(alloc, items).expect(rt, "a vector")
+}
+
+#[test]
+fn small_vectors_lie_after_their_counts_whatever_their_room(rt: HostRuntime) {
+    let alloc = rt.alloc();
+    let rows = [
+        (
+            make_small(&rt, alloc, &[]),
+            &[0, 0, 0, 0, 9][..],
+            &[0, 0, 0, 0, 9][..],
+        ),
+        (
+            make_small(&rt, alloc, &[1, 2, 3]),
+            &[3, 0, 0, 0, 1, 0, 2, 0, 3, 0, 9][..],
+            &[0, 0, 0, 3, 0, 1, 0, 2, 0, 3, 9][..],
+        ),
+        (
+            make_small(&rt, alloc, &[1, 2, 3, 4]),
+            &[4, 0, 0, 0, 1, 0, 2, 0, 3, 0, 4, 0, 9][..],
+            &[0, 0, 0, 4, 0, 1, 0, 2, 0, 3, 0, 4, 9][..],
+        ),
+        (
+            make_small(&rt, alloc, &[1, 2, 3, 4, 5]),
+            &[5, 0, 0, 0, 1, 0, 2, 0, 3, 0, 4, 0, 5, 0, 9][..],
+            &[0, 0, 0, 5, 0, 1, 0, 2, 0, 3, 0, 4, 0, 5, 9][..],
+        ),
+    ];
+    assert_encoding(&rt, alloc, 4, &rows);
+}
+
+#[test]
+fn small_vectors_of_texts_lie_within_each_other(rt: HostRuntime) {
+    let alloc = rt.alloc();
+    let texts = vec![in alloc; make_text(&rt, alloc, "a"), String::new(alloc)];
+    let small: SmallVec<String, 1> = SmallVec::from_vec(texts.expect(&rt, "a vector"));
+    let little = [2, 0, 0, 0, 1, 0, 0, 0, 97, 0, 0, 0, 0, 9];
+    let big = [0, 0, 0, 2, 0, 0, 0, 1, 97, 0, 0, 0, 0, 9];
+    assert_encoding(&rt, alloc, 4, &[(small, &little, &big)]);
 }
 
 #[test]

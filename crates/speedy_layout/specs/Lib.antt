@@ -12,5 +12,6 @@ pub mod Texts
 pub mod Utf8
 pub mod Leaves
 pub mod Addresses
+pub mod Keys
 pub mod Varint
 pub mod Zigzag

@@ -1,8 +1,9 @@
 //! The laws of layouts, as functions that a user's proof can cite. Their bodies are empty.
-ghost use Rattle.std.specs.Prelude.{◌≡◌, ◌≤◌, List, ◌++◌, ℕ, length, [], false, IsTrue};
+ghost use Rattle.std.specs.Prelude.{◌≡◌, ◌≤◌, ◌↔◌, List, ◌++◌, ℕ, length, [], false, IsTrue};
 ghost use Rattle.speedy_base.specs.Encoding.{Encoding};
 
 use crate::layout::Layout;
+use crate::same_key::SameKey;
 
 /// One list of bytes spells at most one value.
 pub fn one_value<T: Layout>()
@@ -56,4 +57,9 @@ pub fn written_form_alone<T: Layout>()
         IsTrue f.strict → (T.format f).spells v bytes → (T.format f).writes v bytes }
     ensures same { (f : Encoding) (v : T.Seen) (bytes others : List ℕ) →
         IsTrue f.strict → (T.format f).hashed ≡ false → (T.format f).spells v bytes → (T.format f).writes v others → bytes ≡ others }
+{}
+
+/// Two values of a type that may be a key are equal exactly where the same is seen of them.
+pub fn equal_as_seen<T: SameKey>()
+    ensures { (x y : T) → IsTrue (T.eq x y) ↔ (T.seen x ≡ T.seen y) }
 {}

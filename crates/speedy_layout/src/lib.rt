@@ -11,9 +11,11 @@ pub mod non_zero;
 pub mod numbers;
 pub mod owned;
 pub mod ranges;
+pub mod same_key;
 pub mod texts;
 pub mod tuples;
 pub mod varint;
 
 pub use layout::{Lawful, Layout};
+pub use same_key::SameKey;
 pub use varint::VarInt64;

@@ -6,6 +6,7 @@ ghost use Rattle.speedy_layout.specs.Laws.{saturated_size, saturated_laws};
 ghost use Rattle.speedy_layout.specs.Owned.{borrowed_content, borrowed_content_laws};
 
 use crate::layout::Layout;
+use smallvec::SmallVec;
 use std::boxed::BoxedSlice;
 
 impl<T: Layout> Layout for Vec<T> {
@@ -36,6 +37,18 @@ impl<T: Layout> Layout for BoxedSlice<T> {
     ghost Seen = { List T.Seen };
 
     ghost seen = { λ b. map T.seen (boxed_slice_items b) };
+
+    ghost format = { λ f. list f (T.format f) };
+
+    ghost least = { 4 };
+
+    ghost layout_laws = { λ f. list_laws f (T.layout_laws f) };
+}
+
+impl<T: Layout, const N: usize> Layout for SmallVec<T, N> {
+    ghost Seen = { List T.Seen };
+
+    ghost seen = { λ v. map T.seen v.items };
 
     ghost format = { λ f. list f (T.format f) };
 

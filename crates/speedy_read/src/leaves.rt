@@ -1,4 +1,4 @@
-//! How characters, byte orders and durations are read.
+//! How characters, byte orders, durations and UUIDs are read.
 ghost use Rattle.speedy_read.specs.Reading.{Reads};
 
 use crate::readable::{ReadFrom, ReadMany};
@@ -11,6 +11,7 @@ use speedy_base::error::{
 };
 use std::convert::AsSlice;
 use std::time::Duration;
+use uuid::Uuid;
 
 impl<L: AsSlice<u8> + Drop, C: Context> ReadFrom<L, C> for char {
     #[inline]
@@ -72,3 +73,19 @@ impl<L: AsSlice<u8> + Drop, C: Context> ReadFrom<L, C> for Duration {
 }
 
 impl<L: AsSlice<u8> + Drop, C: Context> ReadMany<L, C> for Duration {}
+
+impl<L: AsSlice<u8> + Drop, C: Context> ReadFrom<L, C> for Uuid {
+    #[inline]
+    fn read_from<R: LendingReader<L, C>>(reader: &mut R) -> Result<Uuid, C::Error> {
+        let mut bytes = [0u8; 16];
+        reader.read_bytes(&mut bytes)?;
+        Ok(Uuid::from_bytes(bytes))
+    }
+
+    #[inline]
+    fn minimum_bytes_needed() -> usize {
+        16
+    }
+}
+
+impl<L: AsSlice<u8> + Drop, C: Context> ReadMany<L, C> for Uuid {}

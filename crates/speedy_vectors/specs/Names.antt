@@ -10,7 +10,7 @@ use Rattle.speedy_layout.specs.Addresses.{address, ip_address}
 use Rattle.speedy_layout.specs.Flags.{flag, option, alternative}
 use Rattle.speedy_layout.specs.Tuples.{unit, pair}
 use Rattle.speedy_layout.specs.Lists.{list, vector}
-use Rattle.speedy_layout.specs.Texts.{text}
+use Rattle.speedy_layout.specs.Texts.{text, raw_bytes}
 use Rattle.speedy_layout.specs.Owned.{owned_content}
 use Rattle.speedy_layout.specs.Varint.{varint}
 use Rattle.speedy_vectors.specs.declared.line.TypeName.{TypeName}
@@ -53,6 +53,7 @@ named names.NonZeroU8 = by (codes "nonzero_u8") refl 1 (non_zero_number 1)
 named names.NonZeroU16 = by (codes "nonzero_u16") refl 2 (non_zero_number 2)
 named names.NonZeroI32 = by (codes "nonzero_i32") refl 4 (signed_non_zero_number w32)
 named names.Endianness = by (codes "endianness") refl 1 byte_order
+named names.Uuid = by (codes "uuid") refl 16 (λ _. raw_bytes 16)
 named names.Ipv4 = by (codes "ipv4") refl 4 (address 4)
 named names.Ipv6 = by (codes "ipv6") refl 16 (address 16)
 named names.Ip = by (codes "ip") refl 5 ip_address
@@ -69,6 +70,7 @@ named names.BoxU16 = by (codes "box_u16") refl 2 (λ encoding. owned_content (un
 named names.VecU8 = by (codes "vec_u8") refl 4 (λ encoding. list encoding (unsigned_number 1 encoding))
 named names.VecU16 = by (codes "vec_u16") refl 4 (λ encoding. list encoding (unsigned_number 2 encoding))
 named names.BoxedSliceU16 = by (codes "boxed_u16") refl 4 (λ encoding. list encoding (unsigned_number 2 encoding))
+named names.SmallVecU16x4 = by (codes "small_vec_u16_4") refl 4 (λ encoding. list encoding (unsigned_number 2 encoding))
 named names.VecChar = by (codes "vec_char") refl 4 (λ encoding. list encoding (character encoding))
 named names.VecUnit = by (codes "vec_unit") refl 4 (λ encoding. list encoding unit)
 named names.VecOptString = by (codes "vec_opt_string") refl 4 (λ encoding. list encoding (option encoding (text encoding)))

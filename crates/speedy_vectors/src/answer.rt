@@ -6,6 +6,7 @@ ghost use Rattle.speedy_vectors.specs.Answer.{hex_of, kind_name, ok_text, refuse
 ghost use Rattle.speedy_vectors.specs.Line.{encoding_of};
 
 use crate::line::{Line, LineOrder, TypeName, for_each_name, parse_line};
+use smallvec::SmallVec;
 use speedy::private::{ErrorKind, get_error_kind};
 use speedy::varint::VarInt64;
 use speedy::{
@@ -19,6 +20,7 @@ use std::net::{IpAddr, Ipv4Addr, Ipv6Addr};
 use std::num::{NonZeroI32, NonZeroU8, NonZeroU16};
 use std::ops::{Range, RangeInclusive};
 use std::time::Duration;
+use uuid::Uuid;
 
 /// The answer to a line, with its line feed. The line comes without one.
 ///

@@ -65,6 +65,8 @@ pub enum TypeName {
     NonZeroI32,
     /// `Endianness`.
     Endianness,
+    /// `Uuid`.
+    Uuid,
     /// `Ipv4Addr`.
     Ipv4,
     /// `Ipv6Addr`.
@@ -97,6 +99,8 @@ pub enum TypeName {
     VecU16,
     /// `BoxedSlice<u16>`.
     BoxedSliceU16,
+    /// `SmallVec<u16, 4>`.
+    SmallVecU16x4,
     /// `Vec<char>`.
     VecChar,
     /// `Vec<()>`.
@@ -128,6 +132,7 @@ macro_rules! for_each_name {
             b"nonzero_u16" NonZeroU16 NonZeroU16;
             b"nonzero_i32" NonZeroI32 NonZeroI32;
             b"endianness" Endianness Endianness;
+            b"uuid" Uuid Uuid;
             b"ipv4" Ipv4 Ipv4Addr;
             b"ipv6" Ipv6 Ipv6Addr;
             b"ip" Ip IpAddr;
@@ -144,6 +149,7 @@ macro_rules! for_each_name {
             b"vec_u8" VecU8 Vec<u8>;
             b"vec_u16" VecU16 Vec<u16>;
             b"boxed_u16" BoxedSliceU16 BoxedSlice<u16>;
+            b"small_vec_u16_4" SmallVecU16x4 SmallVec<u16, 4>;
             b"vec_char" VecChar Vec<char>;
             b"vec_unit" VecUnit Vec<()>;
             b"vec_opt_string" VecOptString Vec<Option<String>>;

@@ -71,14 +71,18 @@ const SIGNED: [(&str, &str); 8] = [
     ("be nonzero_i32 fffffffe", "ok 4 fffffffe\n"),
 ];
 
-/// Flags, characters, nothing, byte orders and durations.
-const LEAVES: [(&str, &str); 8] = [
+/// Flags, characters, nothing, byte orders, durations and UUIDs.
+const LEAVES: [(&str, &str); 9] = [
     ("le bool 07", "ok 1 01\n"),
     ("le char 00d80000", "refused InvalidChar\n"),
     ("be char 000059b9", "ok 4 000059b9\n"),
     ("le unit -", "ok 0 -\n"),
     ("le endianness 01", "ok 1 01\n"),
     ("le endianness 02", "refused InvalidEnumVariant\n"),
+    (
+        "be uuid 00112233445566778899aabbccddeeff",
+        "ok 16 00112233445566778899aabbccddeeff\n",
+    ),
     (
         "be duration 00000000000000013b9aca00",
         "ok 12 000000000000000200000000\n",
@@ -103,7 +107,7 @@ const ADDRESSES: [(&str, &str); 6] = [
 ];
 
 /// Values that are one part after another.
-const COMPOSED: [(&str, &str); 7] = [
+const COMPOSED: [(&str, &str); 8] = [
     ("le opt_u16 070500ff", "ok 3 010500\n"),
     ("le res_u16_u8 0009", "ok 2 0009\n"),
     ("le range_u16 0a000b00", "ok 4 0a000b00\n"),
@@ -113,6 +117,10 @@ const COMPOSED: [(&str, &str); 7] = [
         "ok 7 01000200000003\n",
     ),
     ("be array_u16_4 0001000200030004", "ok 8 0001000200030004\n"),
+    (
+        "be small_vec_u16_4 0000000500010002000300040005",
+        "ok 14 0000000500010002000300040005\n",
+    ),
     (
         "le array_u16_4 01000200030004",
         "refused InputBufferIsTooSmall 7 8\n",

@@ -1,9 +1,10 @@
-//! How characters, byte orders and durations are written.
+//! How characters, byte orders, durations and UUIDs are written.
 use crate::writable::Writable;
 use crate::writer::Writer;
 use speedy_base::context::Context;
 use speedy_base::endianness::Endianness;
 use std::time::Duration;
+use uuid::Uuid;
 
 impl<C: Context> Writable<C> for char {
     #[inline(always)]
@@ -27,5 +28,13 @@ impl<C: Context> Writable<C> for Duration {
     #[inline]
     fn write_to<W: Writer<C>>(&self, writer: &mut W) -> Result<(), C::Error> {
         (self.as_secs(), self.subsec_nanos()).write_to(writer)
+    }
+}
+
+impl<C: Context> Writable<C> for Uuid {
+    #[inline(always)]
+    fn write_to<W: Writer<C>>(&self, writer: &mut W) -> Result<(), C::Error> {
+        let bytes = self.into_bytes();
+        writer.write_bytes(&bytes)
     }
 }

@@ -6,6 +6,7 @@ ghost use Rattle.speedy_write.specs.Writing.{Writes};
 use crate::private::write_length;
 use crate::writable::Writable;
 use crate::writer::Writer;
+use smallvec::SmallVec;
 use speedy_base::context::Context;
 use std::boxed::BoxedSlice;
 
@@ -28,6 +29,14 @@ impl<C: Context, T: Writable<C>> Writable<C> for BoxedSlice<T> {
     #[inline]
     fn write_to<W: Writer<C>>(&self, writer: &mut W) -> Result<(), C::Error> {
         write_counted(self.as_slice(), writer)
+    }
+}
+
+impl<C: Context, T: Writable<C>, const N: usize> Writable<C> for SmallVec<T, N> {
+    #[inline]
+    fn write_to<W: Writer<C>>(&self, writer: &mut W) -> Result<(), C::Error> {
+        let all = self.as_slice();
+        write_counted(all, writer)
     }
 }
 
