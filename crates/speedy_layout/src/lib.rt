@@ -2,16 +2,19 @@
 #![tactic(auto)]
 
 pub mod addresses;
+pub mod cows;
 pub mod flags;
 pub mod laws;
 pub mod layout;
 pub mod leaves;
 pub mod lists;
+pub mod maps;
 pub mod non_zero;
 pub mod numbers;
 pub mod owned;
 pub mod ranges;
 pub mod same_key;
+pub mod sets;
 pub mod texts;
 pub mod tuples;
 pub mod varint;

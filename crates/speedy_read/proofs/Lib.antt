@@ -8,3 +8,4 @@ pub mod VarintLemmas
 pub mod AddressLemmas
 pub mod BufferLemmas
 pub mod RoundTripLemmas
+pub mod CollectionLemmas

@@ -6,3 +6,4 @@ pub mod Flags
 pub mod Buffers
 pub mod RoundTrip
 pub mod Exits
+pub mod Collections

@@ -3,9 +3,11 @@ ghost use Rattle.std.specs.Prelude.{◌≡◌, ℕ, [], map, MatchResult};
 ghost use Rattle.speedy_base.specs.Error.{error_of};
 ghost use Rattle.speedy_base.specs.Encoding.{plain_encoding};
 ghost use Rattle.speedy_layout.specs.Lists.{vector};
+ghost use Rattle.speedy_read.specs.Collections.{gatherer, Collects};
 ghost use Rattle.speedy_read.specs.Reading.{Reads, AnswersBuffer};
 
 pub use crate::buffer_reader::BufferReader;
+use crate::collections::{FromItems, collect_items};
 use crate::reader::LendingReader;
 use speedy_base::context::{Context, PlainContext};
 use speedy_base::endianness::Endianness;
@@ -48,6 +50,21 @@ pub trait ReadMany<L: AsSlice<u8> + Drop, C: Context>: ReadFrom<L, C> {
             (R.state reader.old) (R.state reader.new) }
     {
         read_each::<Self, L, C, R>(reader, length)
+    }
+
+    /// Reads so many values, one after another, and gathers them.
+    ///
+    /// Where the context demands the written form, items that are written of no collection are refused with
+    /// `NotWrittenForm`: a key that was there before, and in ordered ones one that does not come after it.
+    final fn collect_many<F: FromItems<Self>, R: LendingReader<L, C>>(
+        reader: &mut R,
+        length: usize,
+    ) -> Result<F, C::Error>
+        ensures { let items = gatherer Self.seen F.gathers F.are_written in
+            Collects items (Self.format (R.state reader.old).encoding) length
+            C.Error.from_gives C.Error.eof result (R.state reader.old) (R.state reader.new) }
+    {
+        collect_items::<F, Self, L, C, R>(reader, length)
     }
 }
 

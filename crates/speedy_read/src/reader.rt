@@ -8,14 +8,17 @@ ghost use Rattle.speedy_layout.specs.Texts.{raw_bytes, any_bytes, text_of_length
 ghost use Rattle.speedy_layout.specs.Numbers.{unsigned_number};
 ghost use Rattle.speedy_layout.specs.Lists.{vector};
 ghost use Rattle.speedy_layout.specs.Varint.{varint};
+ghost use Rattle.speedy_read.specs.Collections.{gatherer, Collects};
 ghost use Rattle.speedy_read.specs.Reading.{ReaderState, Reads, ReadsUnsigned, ReadsSigned, Peeks, IsRight};
 
+use crate::collections::FromItems;
 use crate::private::vec_to_string;
 use crate::readable::{ReadFrom, ReadMany};
 use speedy_base::context::Context;
 use speedy_base::endianness::Endianness;
 use speedy_base::error::{ErrorKind, error_end_of_input, error_not_written_form};
 use speedy_layout::VarInt64;
+use speedy_layout::layout::Layout;
 use std::alloc::Global;
 use std::convert::AsSlice;
 
@@ -270,6 +273,37 @@ pub trait LendingReader<L: AsSlice<u8> + Drop, C: Context> {
             return Err(error_end_of_input());
         }
         T::read_many(self, length)
+    }
+
+    /// What so many values gather to, one after another.
+    #[inline]
+    final fn read_collection<F: FromItems<T>, T: ReadMany<L, C>>(
+        &mut self,
+        length: usize,
+    ) -> Result<F, C::Error>
+    where
+        Self: Sized,
+        ensures { let items = gatherer T.seen F.gathers F.are_written in
+            Collects items (T.format (state self.old).encoding) length
+            C.Error.from_gives C.Error.eof result (state self.old) (state self.new) }
+    {
+        T::collect_many(self, length)
+    }
+
+    /// What so many pairs of a key and a value gather to, one after another.
+    #[inline]
+    final fn read_key_value_collection<F: FromItems<(K, V)>, K: ReadFrom<L, C>, V: ReadFrom<L, C>>(
+        &mut self,
+        length: usize,
+    ) -> Result<F, C::Error>
+    where
+        Self: Sized,
+        ensures { let pairs = ⟦<(K, V) as Layout>⟧ in
+            let items = gatherer pairs.seen F.gathers F.are_written in
+            Collects items (pairs.format (state self.old).encoding) length
+            C.Error.from_gives C.Error.eof result (state self.old) (state self.new) }
+    {
+        <(K, V) as ReadMany<L, C>>::collect_many(self, length)
     }
 
     /// A text of so many bytes, which are refused with `InvalidUtf8` where they are none.

@@ -1,3 +1,4 @@
+pub mod CollectionLemmas
 pub mod FillLemmas
 pub mod ListLemmas
 pub mod NonZeroLemmas

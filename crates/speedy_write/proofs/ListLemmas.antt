@@ -18,7 +18,7 @@ use Rattle.speedy_write.specs.Writing.{WriterState, Writes, WritesEach, WritesBy
 use Rattle.speedy_write.specs.Sequences.{Kept-same, Kept-after, Put-as, Put-nothing, Put-both, Writes-as, Writes-at, is_sequence, first_refused, second_written, form_written}
 
 module _ {V : Type 0} (R : V → List ℕ → Type 0) where
-  Each-append : (xs ys : List V) (b : List ℕ) → Parts (Each R xs) (Each R ys) b → Each R (xs ++ ys) b
+  pub Each-append : (xs ys : List V) (b : List ℕ) → Parts (Each R xs) (Each R ys) b → Each R (xs ++ ys) b
   Each-append [] ys b p = subst (Each R ys) (sym (p.whole_is ∙ ap (λ x. x ++ p.back) p.first_is)) p.second_is
   Each-append (x ∷ xs) ys b p = record {
     front = p.first_is.front;
@@ -28,7 +28,7 @@ module _ {V : Type 0} (R : V → List ℕ → Type 0) where
     second_is = Each-append xs ys (p.first_is.back ++ p.back) (record { front = p.first_is.back; back = p.back; whole_is = refl; first_is = p.first_is.second_is; second_is = p.second_is });
   }
 
-  Each-parts : (xs ys : List V) (b : List ℕ) → Each R (xs ++ ys) b → Parts (Each R xs) (Each R ys) b
+  pub Each-parts : (xs ys : List V) (b : List ℕ) → Each R (xs ++ ys) b → Parts (Each R xs) (Each R ys) b
   Each-parts [] ys b h = record { front = []; back = b; whole_is = refl; first_is = refl; second_is = h }
   Each-parts (x ∷ xs) ys b h =
       let r = Each-parts xs ys h.back h.second_is in
@@ -82,41 +82,49 @@ pub no_items_written : {E : Type 0} {gives : Error → E → Type 0} {A V : Type
 unfolding repeat
 no_items_written {old = old} F seen h = record { kept = Kept-same old; answer = Put-as (λ b k. (refl, k)) (Put-nothing old h) }
 
-module _ {E : Type 0} {gives : Error → E → Type 0} {A V : Type 0} {F : Encoding → Format V} {x : A} {old mid new : WriterState} {front back whole : List ℕ → Type 0} (join : (a b : List ℕ) → front a → back b → whole (a ++ b)) (seen : A → V) (items : List A) (i : ℕ) (within : i < length items) (is : x ≡ get_or items i x) where
+module _ {E : Type 0} {gives : Error → E → Type 0} {A V : Type 0} {F : Encoding → Format V} {old mid new : WriterState} {front back whole : List ℕ → Type 0} (join : (a b : List ℕ) → front a → back b → whole (a ++ b)) (seen : A → V) (xs : List A) (x : A) where
   -- one more item is written
-  pub one_more_written : {done : Unit {0}} → WritesEach gives F seen (take i items) (Ok tt) old mid front → Writes gives F (seen x) (Ok done) mid new back → WritesEach gives F seen (take (i + 1) items) (Ok tt) old new whole
+  pub next_written : {done : Unit {0}} → WritesEach gives F seen xs (Ok tt) old mid front → Writes gives F (seen x) (Ok done) mid new back → WritesEach gives F seen (xs ++ x ∷ []) (Ok tt) old new whole
   unfolding repeat
-  one_more_written h w =
+  next_written h w =
       let R = (F old.encoding).writes in
-      let vs = map seen (take i items) in
-      let parts : map seen (take (i + 1) items) ≡ vs ++ seen x ∷ [] = ap (map seen) (first_items items i within is) ∙ map-append seen (take i items) (x ∷ []) in
+      let vs = map seen xs in
       let item = Put-as (Each-one R (seen x)) (Writes-at h.kept w).answer in
       let all = Put-as (Each-append R vs (seen x ∷ [])) (Put-both join (Put-as (λ b k. k.1) h.answer) item) in
       record {
         kept = Kept-after h.kept w.kept;
-        answer = Put-as (λ b k. (length-map (take (i + 1) items) seen, subst (λ (us : List V). Each R us b) (sym parts) k)) all;
+        answer = Put-as (λ b k. (length-map (xs ++ x ∷ []) seen, subst (λ (us : List V). Each R us b) (sym (map-append seen xs (x ∷ []))) k)) all;
       }
 
-  -- where the next item is refused, the items before it, that one and those after it are
-  three_refused : {least : ℕ} {e : E} {result : Result (Unit {0}) E} → ((encoding : Encoding) → Laws encoding.strict least (F encoding)) → IsErrAnd result (λ r. r ≡ e) → WritesEach gives F seen (take i items) (Ok tt) old mid front → Writes gives F (seen x) (Err e) mid new back
-      → let rest : List V = map seen (drop (suc i) items) in let n = length (take i items) in Writes gives (λ encoding. pair (repeat n (F encoding)) (pair (F encoding) (repeat (length rest) (F encoding)))) (map seen (take i items), (seen x, rest)) result old new whole
-  three_refused laws passed h w =
-      second_written is_sequence refl (λ encoding. repeat_laws (laws encoding) (length (take i items))) join h (first_refused is_sequence refl passed w)
+  -- where the next item is refused, the items before it, that one and others after it are
+  three_refused : {least : ℕ} {e : E} {result : Result (Unit {0}) E} → ((encoding : Encoding) → Laws encoding.strict least (F encoding)) → IsErrAnd result (λ r. r ≡ e) → WritesEach gives F seen xs (Ok tt) old mid front → Writes gives F (seen x) (Err e) mid new back → (ys : List A)
+      → let rest : List V = map seen ys in let n = length xs in Writes gives (λ encoding. pair (repeat n (F encoding)) (pair (F encoding) (repeat (length rest) (F encoding)))) (map seen xs, (seen x, rest)) result old new whole
+  three_refused laws passed h w ys =
+      second_written is_sequence refl (λ encoding. repeat_laws (laws encoding) (length xs)) join h (first_refused is_sequence refl passed w)
 
-  -- and so are all
+  -- and so is their list
+  pub next_refused : {least : ℕ} {e : E} {result : Result (Unit {0}) E} → ((encoding : Encoding) → Laws encoding.strict least (F encoding)) → IsErrAnd result (λ r. r ≡ e)
+      → WritesEach gives F seen xs (Ok tt) old mid front → Writes gives F (seen x) (Err e) mid new back → (ys : List A) → WritesEach gives F seen (xs ++ x ∷ ys) result old new whole
+  unfolding repeat sequence
+  next_refused laws passed h w ys =
+      let n = length xs in
+      let vs = map seen xs in
+      let rest = map seen ys in
+      let parts : map seen (xs ++ x ∷ ys) ≡ vs ++ seen x ∷ rest = map-append seen xs (x ∷ ys) in
+      let R = (F old.encoding).writes in
+      let turned : (S : V → List ℕ → Type 0) (b : List ℕ) → Each S (map seen (xs ++ x ∷ ys)) b → Three S n vs (seen x) rest b = λ S b k. Each-three S n vs (seen x) rest b (length-map xs seen) (subst (λ (us : List V). Each S us b) parts k) in
+      Writes-as (λ kind k. elim k [ inl y ↦ y | inr y ↦ elim y.1 [ inl z ↦ z | inr z ↦ z.1 ] ])
+      (λ b k. (length-map (xs ++ x ∷ ys) seen, subst (λ (us : List V). Each R us b) (sym parts) (Three-each R n vs (seen x) rest b k)))
+      (λ b k. (b, turned R b k.1, refl)) (λ b k. (b, turned (F old.encoding).spells b k.1)) (three_refused laws passed h w ys)
+
+-- the same of the items of a list that stand before an index, and of the one that stands there
+module _ {E : Type 0} {gives : Error → E → Type 0} {A V : Type 0} {F : Encoding → Format V} {x : A} {old mid new : WriterState} {front back whole : List ℕ → Type 0} (join : (a b : List ℕ) → front a → back b → whole (a ++ b)) (seen : A → V) (items : List A) (i : ℕ) (within : i < length items) (is : x ≡ get_or items i x) where
+  pub one_more_written : {done : Unit {0}} → WritesEach gives F seen (take i items) (Ok tt) old mid front → Writes gives F (seen x) (Ok done) mid new back → WritesEach gives F seen (take (i + 1) items) (Ok tt) old new whole
+  one_more_written h w = subst (λ (us : List A). WritesEach gives F seen us (Ok tt) old new whole) (sym (first_items items i within is)) (next_written join seen (take i items) x h w)
+
   pub items_refused : {least : ℕ} {e : E} {result : Result (Unit {0}) E} → ((encoding : Encoding) → Laws encoding.strict least (F encoding)) → IsErrAnd result (λ r. r ≡ e)
       → WritesEach gives F seen (take i items) (Ok tt) old mid front → Writes gives F (seen x) (Err e) mid new back → WritesEach gives F seen items result old new whole
-  unfolding repeat sequence
-  items_refused laws passed h w =
-      let n = length (take i items) in
-      let vs = map seen (take i items) in
-      let rest = map seen (drop (suc i) items) in
-      let parts : map seen items ≡ vs ++ seen x ∷ rest = ap (map seen) (sym (all_items items i within is)) ∙ map-append seen (take i items) (x ∷ drop (suc i) items) in
-      let R = (F old.encoding).writes in
-      let turned : (S : V → List ℕ → Type 0) (b : List ℕ) → Each S (map seen items) b → Three S n vs (seen x) rest b = λ S b k. Each-three S n vs (seen x) rest b (length-map (take i items) seen) (subst (λ (us : List V). Each S us b) parts k) in
-      Writes-as (λ kind k. elim k [ inl y ↦ y | inr y ↦ elim y.1 [ inl z ↦ z | inr z ↦ z.1 ] ])
-      (λ b k. (length-map items seen, subst (λ (us : List V). Each R us b) (sym parts) (Three-each R n vs (seen x) rest b k)))
-      (λ b k. (b, turned R b k.1, refl)) (λ b k. (b, turned (F old.encoding).spells b k.1)) (three_refused laws passed h w)
+  items_refused {result = result} laws passed h w = subst (λ (us : List A). WritesEach gives F seen us result old new whole) (all_items items i within is) (next_refused join seen (take i items) x laws passed h w (drop (suc i) items))
 
 -- bytes are written at once as they are item by item
 pub byte_items_written : {E : Type 0} {gives : Error → E → Type 0} {items : List ℕ} {result : Result (Unit {0}) E} {old new : WriterState} {appended : List ℕ → Type 0} → AreBytes items → WritesBytes gives items result old new appended → WritesEach gives (unsigned_number 1) (λ n. n) items result old new appended

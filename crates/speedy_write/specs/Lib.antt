@@ -5,3 +5,4 @@ pub mod CollectorLemmas
 pub mod CollectorViews
 pub mod Sequences
 pub mod Codes
+pub mod Collections

@@ -133,7 +133,7 @@ unit_written {old = old} h = record { kept = Kept-same old; answer = Put-nothing
 -- ---- one part after another
 
 -- a refusal that is passed on as it is
-passed_on : {E : Type 0} (result : Result (Unit {0}) E) (e : E) → IsErrAnd result (λ x. x ≡ e) → Err e ≡ result
+pub passed_on : {E : Type 0} (result : Result (Unit {0}) E) (e : E) → IsErrAnd result (λ x. x ≡ e) → Err e ≡ result
 passed_on result e h = let p = err_from_is_err_and result h in sym (p.1 ∙ ap Err p.2)
 
 -- a format that is one part after another, under each encoding

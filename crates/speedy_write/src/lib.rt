@@ -2,15 +2,19 @@
 #![tactic(auto)]
 
 pub mod addresses;
+mod collections;
 pub mod collectors;
+pub mod cows;
 pub mod flags;
 pub mod leaves;
 pub mod lists;
+pub mod maps;
 pub mod non_zero;
 pub mod numbers;
 pub mod owned;
 pub mod private;
 pub mod ranges;
+pub mod sets;
 pub mod texts;
 pub mod tuples;
 pub mod varint;

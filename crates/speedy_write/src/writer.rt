@@ -1,8 +1,10 @@
 //! Writers: where the bytes of values go.
 ghost use Rattle.std.specs.Prelude.{◌≡◌, ℕ, [], ◌++◌, List, Option, Bool};
 ghost use Rattle.std.specs.Borrow.{sem, Lends};
+ghost use Rattle.std.specs.Iterator.{IsFiniteIterable};
 ghost use Rattle.speedy_layout.specs.Varint.{varint};
 ghost use Rattle.std.specs.Int.{w8, w16, w32, w64, w128};
+ghost use Rattle.speedy_write.specs.Collections.{WritesItems};
 ghost use Rattle.speedy_write.specs.Writing.{WriterState, Writes, WritesEach, WritesBytes, WritesNumber, WritesSigned, RefusesFull, IsRight};
 
 use crate::writable::Writable;
@@ -209,5 +211,27 @@ pub trait Writer<C: Context> {
             (state self.old) (state self.new) (λ b. appends self.old b self.new) }
     {
         T::write_many(slice, self)
+    }
+
+    /// Writes the items of a collection, one after the other and with no count.
+    ///
+    /// They may be lent or owned.
+    #[inline]
+    final fn write_collection<T: Writable<C> + Drop, I: IntoIterator<Item = T>>(
+        &mut self,
+        items: I,
+    ) -> Result<(), C::Error>
+    where
+        Self: Sized,
+        requires { IsFiniteIterable I.into_iter_gives
+            I.IntoIter.can_next I.IntoIter.remaining items }
+        ensures { WritesItems I.into_iter_gives I.IntoIter.next_gives T.seen
+            C.Error.from_gives T.format items result
+            (state self.old) (state self.new) (λ b. appends self.old b self.new) }
+    {
+        for item in items {
+            self.write_value(&item)?;
+        }
+        Ok(())
     }
 }

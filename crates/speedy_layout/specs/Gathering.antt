@@ -1,0 +1,193 @@
+-- What a list of items gathers to, where several lists may stand for one thing, as the lists of pairs that a map is read from.
+use Rattle.std.specs.Prelude.{◌≡◌, ℕ, ◌+◌, ◌≤◌, List, [], ◌∷◌, ◌++◌, length, Bool, true, false, refl}
+use Rattle.std.proofs.Common.{◌∙◌, ap, subst, inl, inr, arith}
+use Rattle.std.proofs.lemmas.List.{length-append}
+use Rattle.speedy_base.specs.Digits.{digits}
+use Rattle.speedy_base.specs.DigitsLemmas.{SpellsNumber-digits, SpellsNumber-below}
+use Rattle.speedy_base.specs.Encoding.{Encoding}
+use Rattle.speedy_layout.specs.Format.{Format, Each}
+use Rattle.speedy_layout.specs.Laws.{Laws}
+use Rattle.speedy_layout.specs.Codes.{Code, Coded, IsCode, coding, coding_laws}
+use Rattle.speedy_layout.specs.Numbers.{unsigned_number}
+use Rattle.speedy_layout.specs.Owned.{owned_content}
+use Rattle.speedy_layout.specs.Sequences.{sequence}
+use Rattle.speedy_layout.specs.Lists.{list, list_laws, repeat, vector, each_shortest}
+use Rattle.speedy_layout.specs.Members.{IsIn, AreDistinct, IsIn-left, IsIn-right, IsIn-either, IsIn-around}
+
+-- What makes it lawful that lists stand for things, and that some lists are written. A list that stands for a thing and is written is a form of it.
+pub record IsGathering {E S : Type 0} (hashed : Bool) (stands : List E → S → Type 0) (written : List E → Type 0) : Type 0 where
+  -- a list stands for at most one thing
+  pub one_thing : (xs : List E) (s t : S) → stands xs s → stands xs t → s ≡ t
+  -- no item stands twice in a list that is written
+  pub form_distinct : (xs : List E) → written xs → AreDistinct xs
+  -- a form lies inside every list that stands for the same thing
+  pub form_inside : (xs ys : List E) (s : S) → written xs → stands xs s → stands ys s → (e : E) → IsIn e xs → IsIn e ys
+  -- a thing that some list stands for has a form
+  pub has_form : (ys : List E) (s : S) → stands ys s → (xs : List E) × stands xs s × written xs
+  -- just one, where it is not hashed
+  pub one_form : hashed ≡ false → (xs ys : List E) (s : S) → written xs → written ys → stands xs s → stands ys s → xs ≡ ys
+
+-- a list is read as the thing that it stands for, and one that is a form is written
+abbrev pub gathering : {E S : Type 0} → (List E → S → Type 0) → (List E → Type 0) → Code (List E) S
+gathering stands written = record { means = stands; chosen = λ xs s. stands xs s × written xs; fault = λ _. ⊥ }
+
+-- the items of a thing that has no order of its own
+unfoldable pub hashed_items : {V : Type 0} → Format V → Format V
+hashed_items F = record F { hashed = true }
+
+-- the counted list of the items
+abbrev pub items_of : {E : Type 0} → Bool → Encoding → Format E → Format (List E)
+items_of false encoding L = list encoding L
+items_of true encoding L = hashed_items (list encoding L)
+
+-- things that are spelled as the counted list of some items that gather to them
+abbrev pub gathered : {E S : Type 0} → Bool → Encoding → (List E → S → Type 0) → (List E → Type 0) → Format E → Format S
+gathered hashed encoding stands written L = coding encoding (gathering stands written) (items_of hashed encoding L)
+
+pub hashed_items_laws : {V : Type 0} {strict : Bool} {least : ℕ} {F : Format V} → Laws strict least F → Laws strict least (hashed_items F)
+unfolding hashed_items
+hashed_items_laws laws = record {
+  decodes = laws.decodes;
+  written_spells = laws.written_spells;
+  written_alone = laws.written_alone;
+  shortest = laws.shortest;
+  least_size = laws.least_size;
+  has_written = laws.has_written;
+  one_written = λ e. absurd (cc);
+  fault_unspelled = laws.fault_unspelled;
+  names_own = laws.names_own;
+  refuses_own = laws.refuses_own;
+}
+
+-- ---- the spelling of what lies inside a list
+
+-- the spelling of one item of a list, and of the others
+record Taken {V : Type 0} (spells : V → List ℕ → Type 0) (v : V) (others : List V) (bytes : List ℕ) : Type 0 where
+  item : List ℕ
+  item_is : spells v item
+  rest : List ℕ
+  rest_is : Each spells others rest
+  size_is : length bytes ≡ length item + length rest
+
+-- a spelling of these items, no longer than the bytes
+record Within {V : Type 0} (spells : V → List ℕ → Type 0) (xs ys : List V) (bytes : List ℕ) : Type 0 where
+  shorter : List ℕ
+  spelled : Each spells xs shorter
+  size : length shorter ≤ length bytes
+  count : length xs ≤ length ys
+
+module _ {V : Type 0} (spells : V → List ℕ → Type 0) where
+  take_item : (v : V) (before after : List V) (bytes : List ℕ) → Each spells (before ++ v ∷ after) bytes → Taken spells v (before ++ after) bytes
+  take_item v [] after bytes h = record { item = h.front; item_is = h.first_is; rest = h.back; rest_is = h.second_is; size_is = ap length h.whole_is ∙ length-append h.front h.back }
+  take_item v (u ∷ before) after bytes h =
+      let t = take_item v before after h.back h.second_is in
+      let l = ap length h.whole_is ∙ length-append h.front h.back in
+      let m = length-append h.front t.rest in
+      let n = t.size_is in
+      record {
+        item = t.item;
+        item_is = t.item_is;
+        rest = h.front ++ t.rest;
+        rest_is = record { front = h.front; back = t.rest; whole_is = refl; first_is = h.first_is; second_is = t.rest_is };
+        size_is = omega arith;
+      }
+
+  -- an item of others that are distinct from v stands beside v
+  beside : (v : V) (xs before after : List V) → (IsIn v xs → ⊥) → (u : V) → IsIn u xs → IsIn u (before ++ v ∷ after) → IsIn u (before ++ after)
+  beside v xs before after absent u h k =
+      elim (IsIn-either u before (v ∷ after) k) [
+        | inl x ↦ IsIn-left u before after x
+        | inr x ↦ elim x [ inl e ↦ absurd (absent (subst (λ w. IsIn w xs) e h)) | inr y ↦ IsIn-right u before after y ]
+      ]
+
+  -- distinct items that lie inside a list are spelled in no more bytes than the list, and are no more
+  spelled_within : (xs ys : List V) (bytes : List ℕ) → AreDistinct xs → ((v : V) → IsIn v xs → IsIn v ys) → Each spells ys bytes → Within spells xs ys bytes
+  spelled_within [] ys bytes d inside h = record { shorter = []; spelled = refl; size = omega arith; count = omega arith }
+  spelled_within (x ∷ xs) ys bytes d inside h =
+      let a = IsIn-around x ys (inside x (inl refl)) in
+      let t = take_item x a.before a.after bytes (subst (λ zs. Each spells zs bytes) a.whole_is h) in
+      let w =
+      spelled_within xs (a.before ++ a.after) t.rest d.1
+      (λ v k. beside x xs a.before a.after d.0 v k (subst (IsIn v) a.whole_is (inside v (inr k))))
+      t.rest_is in
+      let l = t.size_is in
+      let m = length-append t.item w.shorter in
+      let n = w.size in
+      let c = w.count in
+      let p = ap length a.whole_is ∙ length-append a.before (x ∷ a.after) in
+      let q = length-append a.before a.after in
+      record {
+        shorter = t.item ++ w.shorter;
+        spelled = record { front = t.item; back = w.shorter; whole_is = refl; first_is = t.item_is; second_is = w.spelled };
+        size = omega arith;
+        count = omega arith;
+      }
+
+-- ---- the laws
+
+module _ {E S : Type 0} {hashed : Bool} {stands : List E → S → Type 0} {written : List E → Type 0} {least : ℕ} {L : Format E} (encoding : Encoding) (laws : Laws encoding.strict least L) (is : IsGathering hashed stands written) where
+  -- each form of a thing that is spelled is spelled
+  pub form_spelled : (s : S) (bytes : List ℕ) → Coded (list encoding L).spells stands s bytes → (xs : List E) → stands xs s → written xs → (b : List ℕ) × (list encoding L).spells xs b
+  unfolding list sequence unsigned_number vector owned_content repeat
+  form_spelled s bytes h xs stands_for is_written =
+      let w = spelled_within L.spells xs h.code h.code_is.back (is.form_distinct xs is_written) (is.form_inside xs h.code s is_written stands_for h.stands) h.code_is.second_is.1 in
+      let below = SpellsNumber-below 4 encoding.order (length h.code) h.code_is.front h.code_is.first_is in
+      let fewer = w.count in
+      let count = digits encoding.order 4 (length xs) in (
+        count ++ w.shorter,
+        record {
+          front = count;
+          back = w.shorter;
+          whole_is = refl;
+          first_is = SpellsNumber-digits 4 encoding.order (length xs) (omega arith);
+          second_is = (refl, w.spelled);
+        },
+      )
+
+  -- and there is one
+  some_form_spelled : (s : S) (bytes : List ℕ) → Coded (list encoding L).spells stands s bytes → (b : List ℕ) × Coded (list encoding L).spells (gathering stands written).chosen s b
+  some_form_spelled s bytes h =
+      let f = is.has_form h.code s h.stands in
+      let b = form_spelled s bytes h f.0 f.1 f.2 in
+      (b.0, record { code = f.0; code_is = b.1; stands = (f.1, f.2) })
+
+  -- and no list that stands for the thing is spelled in fewer bytes than a form is written in
+  form_shortest : (s : S) (b d : List ℕ) → Coded (list encoding L).writes (gathering stands written).chosen s b → Coded (list encoding L).spells stands s d → length b ≤ length d
+  unfolding list sequence unsigned_number vector owned_content repeat
+  form_shortest s b d h k =
+      let w = spelled_within L.spells h.code k.code k.code_is.back (is.form_distinct h.code h.stands.1) (is.form_inside h.code k.code s h.stands.1 h.stands.0 k.stands) k.code_is.second_is.1 in
+      let shortest = each_shortest laws h.code h.code_is.back w.shorter h.code_is.second_is.1 w.spelled in
+      let size = w.size in
+      let x = h.code_is.first_is.width_is in
+      let y = k.code_is.first_is.width_is in
+      let l = ap length h.code_is.whole_is ∙ length-append h.code_is.front h.code_is.back in
+      let m = ap length k.code_is.whole_is ∙ length-append k.code_is.front k.code_is.back in
+      omega arith
+
+-- what lists gather to is coded by them
+pub gathering_is_code : {E S : Type 0} {hashed : Bool} {stands : List E → S → Type 0} {written : List E → Type 0} {least : ℕ} {L : Format E} (encoding : Encoding) → Laws encoding.strict least L → IsGathering hashed stands written → IsCode (gathering stands written) (items_of hashed encoding L)
+unfolding hashed_items
+gathering_is_code {hashed = false} encoding laws is = record {
+  one_meaning = is.one_thing;
+  one_chosen = λ _ xs ys s h k. is.one_form refl xs ys s h.1 k.1 h.0 k.0;
+  chosen_means = λ xs s h. h.0;
+  has_chosen = some_form_spelled encoding laws is;
+  chosen_shortest = form_shortest encoding laws is;
+  fault_own = λ kind h. absurd h;
+}
+gathering_is_code {hashed = true} encoding laws is = record {
+  one_meaning = is.one_thing;
+  one_chosen = λ e. absurd (cc);
+  chosen_means = λ xs s h. h.0;
+  has_chosen = some_form_spelled encoding laws is;
+  chosen_shortest = form_shortest encoding laws is;
+  fault_own = λ kind h. absurd h;
+}
+
+items_of_laws : {E : Type 0} (hashed : Bool) {least : ℕ} {L : Format E} (encoding : Encoding) → Laws encoding.strict least L → Laws encoding.strict 4 (items_of hashed encoding L)
+items_of_laws false encoding laws = list_laws encoding laws
+items_of_laws true encoding laws = hashed_items_laws (list_laws encoding laws)
+
+-- the laws of what lists gather to
+pub gathered_laws : {E S : Type 0} {hashed : Bool} {stands : List E → S → Type 0} {written : List E → Type 0} {least : ℕ} {L : Format E} (encoding : Encoding) → Laws encoding.strict least L → IsGathering hashed stands written → Laws encoding.strict 4 (gathered hashed encoding stands written L)
+gathered_laws {hashed = hashed} encoding laws is = coding_laws encoding (items_of_laws hashed encoding laws) (gathering_is_code encoding laws is)

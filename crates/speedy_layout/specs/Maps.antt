@@ -1,0 +1,195 @@
+-- Maps: the counted lists of pairs that gather to them. Of a key that is repeated the last value stands.
+use Rattle.std.specs.Prelude.{◌≡◌, ℕ, List, [], ◌∷◌, Bool, true, false, Option, Some, None, ◌↔◌, refl}
+use Rattle.std.specs.Map.{keys_of}
+use Rattle.std.proofs.Common.{sym, ◌∙◌, ap, subst, inl, inr}
+use Rattle.speedy_base.specs.Encoding.{Encoding}
+use Rattle.speedy_layout.specs.Format.{Format}
+use Rattle.speedy_layout.specs.Laws.{Laws}
+use Rattle.speedy_layout.specs.Tuples.{pair, pair_laws}
+use Rattle.speedy_layout.specs.Members.{IsIn, AreDistinct, Ascends, IsLast, InFirstOrder, IsIn-key, IsIn-pair, IsLast-in, IsIn-last, AreDistinct-keys, same_by_keys}
+use Rattle.speedy_layout.specs.Orders.{IsStrictOrder, same_ascending, own_first_order, same_first_order}
+use Rattle.speedy_layout.specs.Keys.{TellsApart}
+use Rattle.speedy_layout.specs.SeenKeys.{AreSeen, find_seen}
+use Rattle.speedy_layout.specs.Gathering.{IsGathering, gathered, gathered_laws}
+
+-- what is seen of a pair
+abbrev pub seen_pair : {K V A B : Type 0} → (K → A) → (V → B) → K × V → A × B
+seen_pair key value e = (key e.0, value e.1)
+
+-- the pairs are just those of the list that are the last ones with their keys
+abbrev pub HasLasts : {K V : Type 0} → List (K × V) → List (K × V) → Type 0
+HasLasts {K = K} {V = V} items es = (e : K × V) → IsIn e es ↔ IsLast e items
+
+-- pairs by their keys
+abbrev pub by_key : {K V : Type 0} → (K → K → Type 0) → K × V → K × V → Type 0
+by_key less e f = less e.0 f.0
+
+-- each key stands once
+abbrev pub HasDistinctKeys : {K V : Type 0} → List (K × V) → Type 0
+HasDistinctKeys es = AreDistinct (keys_of es)
+
+-- ---- the three kinds of maps
+
+-- A map whose keys ascend: key k has value v exactly if the last pair with k in the list is (k, v).
+abbrev pub GathersToTreeMap : {K V : Type 0} → (K → K → Type 0) → List (K × V) → List (K × V) → Type 0
+GathersToTreeMap less items es = Ascends (by_key less) es × HasLasts items es
+
+-- A map that finds the value of a key: at k it finds v exactly if the last pair with k in the list is (k, v). What is seen of it has no order, so that the same map in another order is the same. Keys in the list that no key is seen as would be lost.
+abbrev pub GathersToHashMap : {K A V : Type 0} → (K → A) → List (A × V) → (K → Option V) → Type 0
+GathersToHashMap {K = K} {A = A} {V = V} seen items find = AreSeen seen (keys_of items) × ((k : K) (v : V) → (find k ≡ Some v) ↔ IsLast {K = A} {V = V} (seen k, v) items)
+
+-- A map whose keys stand in the order of their first occurrences: key k has value v exactly if the last pair with k in the list is (k, v).
+abbrev pub GathersToIndexMap : {K V : Type 0} → List (K × V) → List (K × V) → Type 0
+GathersToIndexMap items es = HasDistinctKeys es × HasLasts items es × InFirstOrder (keys_of items) (keys_of es)
+
+-- A map whose keys ascend is written in their order.
+abbrev pub tree_map : {K V : Type 0} → Encoding → (K → K → Type 0) → Format K → Format V → Format (List (K × V))
+tree_map encoding less L M = gathered false encoding (GathersToTreeMap less) (Ascends (by_key less)) (pair L M)
+
+-- One that finds values is written in any order, with each key once.
+abbrev pub hash_map : {K A V : Type 0} → Encoding → (K → A) → Format A → Format V → Format (K → Option V)
+hash_map encoding seen L M = gathered true encoding (GathersToHashMap seen) HasDistinctKeys (pair L M)
+
+-- One whose keys stand in the order of their first occurrences is written in that order, which is told by each key standing once.
+abbrev pub index_map : {K V : Type 0} → Encoding → Format K → Format V → Format (List (K × V))
+index_map encoding L M = gathered false encoding GathersToIndexMap HasDistinctKeys (pair L M)
+
+-- ---- their laws
+
+-- pairs with distinct keys are the last ones of their own list
+pub own_lasts : {K V : Type 0} (es : List (K × V)) → HasDistinctKeys es → HasLasts es es
+own_lasts es d = λ e. (IsIn-last e es d, IsLast-in e es)
+
+module _ {K V : Type 0} where
+  -- pairs are ordered as their keys are
+  pub by_key_order : {less : K → K → Type 0} → IsStrictOrder less → IsStrictOrder {X = K × V} (by_key less)
+  by_key_order order = record { irreflexive = λ e. order.irreflexive e.0; transitive = λ e f g. order.transitive e.0 f.0 g.0 }
+
+  -- where they ascend, each key stands once
+  pub Ascends-distinct_keys : {less : K → K → Type 0} → IsStrictOrder less → (es : List (K × V)) → Ascends (by_key less) es → HasDistinctKeys es
+  Ascends-distinct_keys order [] h = tt
+  Ascends-distinct_keys {less = less} order (e ∷ es) h = (
+    λ k. let p = IsIn-pair e.0 es k in order.irreflexive e.0 (subst (less e.0) (sym p.1) (h.0 p.0 p.2)),
+    Ascends-distinct_keys order es h.1,
+  )
+
+  -- maps of one list have the same pairs
+  HasLasts-inside : (items es fs : List (K × V)) → HasLasts items es → HasLasts items fs → (e : K × V) → IsIn e es → IsIn e fs
+  HasLasts-inside items es fs h k e s = (k e).1 ((h e).0 s)
+
+  -- and the same keys
+  HasLasts-keys : (items es fs : List (K × V)) → HasLasts items es → HasLasts items fs → (k : K) → IsIn k (keys_of es) → IsIn k (keys_of fs)
+  HasLasts-keys items es fs h k a s =
+      let p = IsIn-pair a es s in
+      subst (λ x. IsIn x (keys_of fs)) (sym p.1) (IsIn-key p.0 fs (HasLasts-inside items es fs h k p.0 p.2))
+
+  -- pairs that ascend stand for themselves
+  pub own_tree_map : {less : K → K → Type 0} → IsStrictOrder less → (es : List (K × V)) → Ascends (by_key less) es → GathersToTreeMap less es es
+  own_tree_map order es h = (h, own_lasts es (Ascends-distinct_keys order es h))
+
+  -- pairs with distinct keys that a list has are the last ones of each list of the same map
+  inside_lasts : (items others es : List (K × V)) → HasDistinctKeys items → HasLasts items es → HasLasts others es → (e : K × V) → IsIn e items → IsIn e others
+  inside_lasts items others es d h k e s = IsLast-in e others ((k e).0 ((h e).1 (IsIn-last e items d s)))
+
+  pub tree_map_is : {less : K → K → Type 0} → IsStrictOrder less → IsGathering false (GathersToTreeMap {V = V} less) (Ascends (by_key less))
+  tree_map_is {less = less} order = record {
+    one_thing = one_map;
+    form_distinct = λ items h. AreDistinct-keys items (Ascends-distinct_keys order items h);
+    form_inside = λ items others es d h k. inside_lasts items others es (Ascends-distinct_keys order items d) h.1 k.1;
+    has_form = λ items es h. (es, own_tree_map order es h.0, h.0);
+    one_form = λ _ items others es d e h k. one_map items items es (own_tree_map order items d) h ∙ one_map others es others k (own_tree_map order others e);
+  } where
+    one_map : (items es fs : List (K × V)) → GathersToTreeMap less items es → GathersToTreeMap less items fs → es ≡ fs
+    one_map items es fs h k = same_ascending (by_key_order order) es fs h.0 k.0 (HasLasts-inside items es fs h.1 k.1) (HasLasts-inside items fs es k.1 h.1)
+
+  -- pairs with distinct keys stand for themselves
+  pub own_index_map : (es : List (K × V)) → HasDistinctKeys es → GathersToIndexMap es es
+  own_index_map es d = (d, own_lasts es d, own_first_order (keys_of es))
+
+  pub index_map_is : IsGathering false (GathersToIndexMap {K = K} {V = V}) HasDistinctKeys
+  index_map_is = record {
+    one_thing = one_map;
+    form_distinct = AreDistinct-keys;
+    form_inside = λ items others es d h k. inside_lasts items others es d h.1 k.1;
+    has_form = λ items es h. (es, own_index_map es h.0, h.0);
+    one_form = λ _ items others es d e h k. one_map items items es (own_index_map items d) h ∙ one_map others es others k (own_index_map others e);
+  } where
+    one_map : (items es fs : List (K × V)) → GathersToIndexMap items es → GathersToIndexMap items fs → es ≡ fs
+    one_map items es fs h k =
+        let same = same_first_order (keys_of items) (keys_of es) (keys_of fs) h.0 k.0 (HasLasts-keys items es fs h.1 k.1) (HasLasts-keys items fs es k.1 h.1) h.2 k.2 in
+        same_by_keys es fs h.0 same (HasLasts-inside items es fs h.1 k.1)
+
+-- ---- hashed ones
+
+-- the values of an option determine it
+pub same_option : {V : Type 0} (o p : Option V) → ((v : V) → (o ≡ Some v) ↔ (p ≡ Some v)) → o ≡ p
+same_option (Some v) p h = sym ((h v).0 refl)
+same_option None None h = refl
+same_option None (Some w) h = (h w).1 refl
+
+-- keys that an equality tells apart just as they are seen apart
+module _ {K A : Type 0} {seen : K → A} {eq : K → K → Bool} (same_key : TellsApart eq seen) where
+  -- the last pairs of a list with their keys, each key once
+  pub lasts : {V : Type 0} (es : List (A × V)) → AreSeen seen (keys_of es) → (kept : List (A × V)) × AreDistinct (keys_of kept) × HasLasts es kept
+  lasts [] are = ([], tt, λ e. (λ h. h, λ h. h))
+  lasts {V = V} (f ∷ es) are =
+      let rest = lasts es (λ b h. are b (inr h)) in
+      let x = are f.0 (inl refl) in
+      elim (find_seen same_key x.0 (keys_of es) (λ b h. are b (inr h))) [
+        | inl h ↦
+            let again : IsIn f.0 (keys_of es) = subst (λ a. IsIn a (keys_of es)) x.1 h in (
+              rest.0,
+              rest.1,
+              λ e. (
+                λ s. inl ((rest.2 e).0 s),
+                λ s. elim s [ inl k ↦ (rest.2 e).1 k | inr k ↦ absurd (k.1 (subst (λ (p : A × V). IsIn p.0 (keys_of es)) (sym k.0) again)) ],
+              ),
+            )
+        | inr h ↦
+            let absent : IsIn f.0 (keys_of es) → ⊥ = λ s. h (subst (λ a. IsIn a (keys_of es)) (sym x.1) s) in (
+              f ∷ rest.0,
+              (
+                λ s. let p = IsIn-pair f.0 rest.0 s in absent (subst (λ a. IsIn a (keys_of es)) (sym p.1) (IsIn-key p.0 es (IsLast-in p.0 es ((rest.2 p.0).0 p.2)))),
+                rest.1,
+              ),
+              λ e. (
+                λ s. elim s [ inl k ↦ inr (k, λ r. absent (subst (λ (p : A × V). IsIn p.0 (keys_of es)) k r)) | inr k ↦ inl ((rest.2 e).0 k) ],
+                λ s. elim s [ inl k ↦ inr ((rest.2 e).1 k) | inr k ↦ inl k.0 ],
+              ),
+            )
+      ]
+
+  pub hash_map_is : {V : Type 0} → IsGathering true (GathersToHashMap {V = V} seen) HasDistinctKeys
+  hash_map_is {V = V} = record {
+    one_thing = λ items f g h k. λ i x. same_option (f x) (g x) (λ v. (λ s. (k.1 x v).1 ((h.1 x v).0 s), λ s. (h.1 x v).1 ((k.1 x v).0 s))) i;
+    form_distinct = AreDistinct-keys;
+    form_inside = λ items others f d h k e s.
+        let x = h.0 e.0 (IsIn-key e items s) in
+        let pair : A × V = (seen x.0, e.1) in
+        let same : e ≡ pair = ap (λ a. let p : A × V = (a, e.1) in p) (sym x.1) in
+        let last = IsIn-last pair items d (subst (λ p. IsIn p items) same s) in
+        subst (λ p. IsIn p others) (sym same) (IsLast-in pair others ((k.1 x.0 e.1).0 ((h.1 x.0 e.1).1 last)));
+    has_form = λ items f h.
+        let kept = lasts items h.0 in (
+          kept.0,
+          (
+            λ a s. let p = IsIn-pair a kept.0 s in h.0 a (subst (λ b. IsIn b (keys_of items)) (sym p.1) (IsIn-key p.0 items (IsLast-in p.0 items ((kept.2 p.0).0 p.2)))),
+            λ k v. (
+              λ s. IsIn-last (seen k, v) kept.0 kept.1 ((kept.2 (seen k, v)).1 ((h.1 k v).0 s)),
+              λ s. (h.1 k v).1 ((kept.2 (seen k, v)).0 (IsLast-in (seen k, v) kept.0 s)),
+            ),
+          ),
+          kept.1,
+        );
+    one_form = λ e. absurd (cc);
+  }
+
+module _ {K V : Type 0} {n m : ℕ} {L : Format K} {M : Format V} (encoding : Encoding) (laws : Laws encoding.strict n L) (more : Laws encoding.strict m M) where
+  pub tree_map_laws : {less : K → K → Type 0} → IsStrictOrder less → Laws encoding.strict 4 (tree_map encoding less L M)
+  tree_map_laws order = gathered_laws encoding (pair_laws laws more) (tree_map_is order)
+
+  pub hash_map_laws : {J : Type 0} {seen : J → K} {eq : J → J → Bool} → TellsApart eq seen → Laws encoding.strict 4 (hash_map encoding seen L M)
+  hash_map_laws same_key = gathered_laws encoding (pair_laws laws more) (hash_map_is same_key)
+
+  pub index_map_laws : Laws encoding.strict 4 (index_map encoding L M)
+  index_map_laws = gathered_laws encoding (pair_laws laws more) index_map_is

@@ -1,0 +1,273 @@
+-- Reads of items make reads of what they gather to.
+use Rattle.std.specs.Prelude.{◌≡◌, ℕ, ◌+◌, ◌≤◌, ◌<◌, List, [], ◌∷◌, ◌++◌, length, map, Bool, true, false, IsTrue, Result, Ok, Err, OnOk, is_err, refl}
+use Rattle.std.proofs.Common.{sym, ◌∙◌, ap, subst, arith, inl, inr}
+use Rattle.std.proofs.lemmas.List.{map-append, append_assoc, append-nil, length-append, length-map}
+use Rattle.speedy_base.specs.declared.error.ErrorKind.TheVariants as kinds
+use Rattle.speedy_base.specs.declared.error.Error.{Error}
+use Rattle.speedy_base.specs.Error.{error_of}
+use Rattle.speedy_layout.specs.Format.{Format, Each}
+use Rattle.speedy_layout.specs.Laws.{Laws}
+use Rattle.speedy_layout.specs.Codes.{Code, ReadsWider, coding, Accepts-is, Accepts-demanded}
+use Rattle.speedy_layout.specs.Sequences.{across, sequence}
+use Rattle.speedy_layout.specs.Numbers.{unsigned_number, unsigned_number_laws}
+use Rattle.speedy_layout.specs.Gathering.{gathering, items_of, hashed_items}
+use Rattle.speedy_base.specs.Encoding.{Encoding}
+use Rattle.speedy_read.specs.Sequences.{Composes, second_decides, refused_first}
+use Rattle.speedy_layout.specs.Lists.{vector, repeat, list}
+use Rattle.speedy_layout.specs.Owned.{owned_content}
+use Rattle.speedy_read.specs.Reading.{ReaderState, Kept, Unspelled, Reads}
+use Rattle.speedy_read.specs.ReadingLemmas.{Kept-same, ReadSoFar}
+use Rattle.speedy_read.specs.Codes.{code_refused}
+use Rattle.speedy_read.specs.Collections.{Gatherer, GotItems, NotWritten, Collects}
+use Rattle.speedy_read.proofs.ListLemmas.{item_more, refused_item, list_composes}
+
+-- from old to mid so many items were read, which gather to the collection
+pub record GatheredSoFar {T F V : Type 0} (g : Gatherer T F V) (L : Format V) (n : ℕ) (whole : F) (old mid : ReaderState) : Type 0 where
+  pub kept : Kept old mid
+  pub so_far : GotItems g L n whole old mid
+
+pub length_pushed : {A : Type 0} (xs : List A) (x : A) (n : ℕ) → length xs ≡ n → length (xs ++ x ∷ []) ≡ n + 1
+length_pushed xs x n l = let m = length-append xs (x ∷ []) in omega (arith, l)
+
+module _ {T F V : Type 0} {g : Gatherer T F V} {L : Format V} {old : ReaderState} where
+  pub none_gathered : {whole : F} → g.gathers [] whole → g.are_written [] → GatheredSoFar g L 0 whole old old
+  none_gathered h k = record {
+    kept = Kept-same;
+    so_far = record { items = []; count_is = refl; got = record { front = []; front_is = refl; taken = λ _. refl }; gathered = h; written = λ _. k };
+  }
+
+  read_so_far : {n : ℕ} {whole : F} {mid : ReaderState} (h : GatheredSoFar g L n whole old mid) → ReadSoFar (Each L.spells (map g.seen h.so_far.items)) old mid
+  read_so_far h = record { kept = h.kept; got = h.so_far.got }
+
+  module _ {E : Type 0} {gives : Error → E → Type 0} {eof : E → Bool} {whole : F} {n : ℕ} {mid new : ReaderState} (h : GatheredSoFar g L n whole old mid) where
+    -- an item more was read
+    more_read : {x : T} → Reads gives eof g.seen L (Ok x) mid new → ReadSoFar (Each L.spells (map g.seen (h.so_far.items ++ x ∷ []))) old new
+    more_read {x = x} r = item_more L (map g.seen h.so_far.items) (read_so_far h) r (map-append g.seen h.so_far.items (x ∷ []))
+
+    -- and added
+    pub one_gathered : {x : T} {next : F} → Reads gives eof g.seen L (Ok x) mid new → g.gathers (h.so_far.items ++ x ∷ []) next → (IsTrue old.encoding.strict → g.are_written (h.so_far.items ++ x ∷ [])) → GatheredSoFar g L (n + 1) next old new
+    one_gathered {x = x} r gathered written =
+        let read = more_read r in
+        record { kept = read.kept; so_far = record { items = h.so_far.items ++ x ∷ []; count_is = length_pushed h.so_far.items x n h.so_far.count_is; got = read.got; gathered = gathered; written = written } }
+
+    -- or refused, since it is written of no collection behind the others
+    pub item_not_written : {all : ℕ} {x : T} {next : F} {e : E} → n < all → IsTrue old.encoding.strict → Reads gives eof g.seen L (Ok x) mid new → g.gathers (h.so_far.items ++ x ∷ []) next → (g.are_written (h.so_far.items ++ x ∷ []) → ⊥) → gives (error_of kinds.NotWrittenForm) e → Collects g L all gives eof (Err e) old new
+    item_not_written {x = x} {next = next} less strict r gathered not_written given =
+        let read = more_read r in
+        record {
+          kept = read.kept;
+          answer = inr (inr (
+            given,
+            record {
+              items = h.so_far.items ++ x ∷ [];
+              whole = next;
+              demanded = strict;
+              at_most = let l = length_pushed h.so_far.items x n h.so_far.count_is in omega arith;
+              ahead = record { front = read.got.front; rest = new.to_come; front_is = read.got.front_is; stands = read.got.taken };
+              gathered = gathered;
+              not_written = not_written;
+            },
+          ));
+        }
+
+    -- where the next item is refused, the collection is
+    pub next_refused : {strict : Bool} {least : ℕ} → Laws strict least L → {all : ℕ} {e : E} → n < all → Reads gives eof g.seen L (Err e) mid new → Collects g L all gives eof (Err e) old new
+    unfolding vector owned_content
+    next_refused laws {all = all} less r =
+        let l = length-map h.so_far.items g.seen in
+        let m = h.so_far.count_is in
+        let refused = refused_item laws {view = λ (vs : List V). vs} all (map g.seen h.so_far.items) (omega arith) (read_so_far h) r in
+        record { kept = refused.kept; answer = elim refused.answer [ inl x ↦ inl x | inr x ↦ inr (inl x) ] }
+
+-- what a call says that succeeded
+pub on_success : {A E P : Type 0} (r : Result A E) → is_err r ≡ false → OnOk r P → P
+on_success (Ok x) h p = p
+on_success (Err e) h p = absurd (cc)
+
+-- want of memory for an item
+pub room_refused : {T F V : Type 0} {g : Gatherer T F V} {L : Format V} {E : Type 0} {gives : Error → E → Type 0} {eof : E → Bool} {old new : ReaderState} {e : E} (all : ℕ) → Kept old new → gives (error_of kinds.OutOfMemory) e → Collects g L all gives eof (Err e) old new
+room_refused all kept given = record { kept = kept; answer = inl (inl (given, inl refl)) }
+
+-- all items were gathered
+pub all_gathered : {T F V : Type 0} {g : Gatherer T F V} {L : Format V} {E : Type 0} {gives : Error → E → Type 0} {eof : E → Bool} {n : ℕ} {whole : F} {old new : ReaderState} → GatheredSoFar g L n whole old new → Collects g L n gives eof (Ok whole) old new
+all_gathered h = record { kept = h.kept; answer = h.so_far }
+
+-- all items were read, and gathered at once
+pub gathered_at_once : {A T F V : Type 0} {g : Gatherer T F V} {L : Format V} {E : Type 0} {gives : Error → E → Type 0} {eof : E → Bool} {n : ℕ} (items : A → List T) {all : A} {whole : F} {old new : ReaderState}
+    → Reads gives eof (λ x. map g.seen (items x)) (vector n L) (Ok all) old new → g.gathers (items all) whole → (IsTrue old.encoding.strict → g.are_written (items all)) → Collects g L n gives eof (Ok whole) old new
+unfolding vector owned_content repeat
+gathered_at_once {g = g} items {all = all} r gathered written =
+    let got = r.answer in
+    record {
+      kept = r.kept;
+      answer = record {
+        items = items all;
+        count_is = sym (length-map (items all) g.seen) ∙ got.front_is.0;
+        got = record { front = got.front; front_is = got.front_is.1; taken = got.taken };
+        gathered = gathered;
+        written = written;
+      };
+    }
+
+-- ---- what was gathered is a value of a code
+
+-- what the items gather to is what the code says of what is seen of them
+pub record IsCodeOf {T F V S : Type 0} (g : Gatherer T F V) (c : Code (List V) S) (view : F → S) : Type 0 where
+  pub meant : (items : List T) (whole : F) → g.gathers items whole → c.means (map g.seen items) (view whole)
+  pub chosen : (items : List T) (whole : F) → g.gathers items whole → g.are_written items → c.chosen (map g.seen items) (view whole)
+  pub first_chosen : (items : List T) (more : List V) (s : S) → c.chosen (map g.seen items ++ more) s → g.are_written items
+
+-- where more items are spelled than others, which stand at the same place, they begin with these
+each_begins : {V : Type 0} {strict : Bool} {least : ℕ} {L : Format V} → Laws strict least L → (vs ws : List V) (s t r q : List ℕ) → length vs ≤ length ws → Each L.spells vs s → Each L.spells ws t → s ++ r ≡ t ++ q → (more : List V) × (ws ≡ vs ++ more)
+each_begins laws [] ws s t r q l h k e = (ws, refl)
+each_begins laws (v ∷ vs) [] s t r q l h k e = absurd (omega arith)
+each_begins laws (v ∷ vs) (w ∷ ws) s t r q l h k e =
+    let joined = across s t r q h.front h.back k.front k.back h.whole_is k.whole_is e in
+    let first = laws.decodes v w h.front k.front (h.back ++ r) (k.back ++ q) h.first_is k.first_is joined in
+    let rest = each_begins laws vs ws h.back k.back r q (omega arith) h.second_is k.second_is first.2 in
+    (rest.0, let a = first.0 in let b = rest.1 in (cc))
+
+module _ {T F V S : Type 0} {g : Gatherer T F V} {c : Code (List V) S} {view : F → S} (is : IsCodeOf g c view) {L : Format V} {n : ℕ} {old : ReaderState} (h : NotWritten g L n old) where
+  wider : ReadsWider c
+  wider = record {
+    code = map g.seen h.items;
+    value = view h.whole;
+    meant = is.meant h.items h.whole h.gathered;
+    not_chosen = λ k. h.not_written (is.first_chosen h.items [] (view h.whole) (subst (λ (vs : List V). c.chosen vs (view h.whole)) (sym (append-nil (map g.seen h.items))) k));
+  }
+
+  -- what is spelled where such items stand is written of no collection
+  none_chosen : {strict : Bool} {least : ℕ} → Laws strict least L → (vs : List V) (s : S) (front rest bytes more : List ℕ) → length vs ≡ n → Each L.spells vs front → bytes ++ more ≡ front ++ rest → bytes ≡ h.ahead.front ++ h.ahead.rest → c.chosen vs s → ⊥
+  none_chosen laws vs s front rest bytes more count spelled is_whole stands chosen =
+      let fewer : length (map g.seen h.items) ≤ length vs = let l = length-map h.items g.seen in let m = h.at_most in omega arith in
+      let joined = sym (append_assoc h.ahead.front h.ahead.rest more) ∙ (ap (λ x. x ++ more) (sym stands) ∙ is_whole) in
+      let begins = each_begins laws (map g.seen h.items) vs h.ahead.front front (h.ahead.rest ++ more) rest fewer h.ahead.front_is spelled joined in
+      h.not_written (is.first_chosen h.items begins.0 s (subst (λ (vs : List V). c.chosen vs s) begins.1 chosen))
+
+  not_written_unspelled : {E : Type 0} {gives : Error → E → Type 0} {eof : E → Bool} {least : ℕ} {e : E} → Laws old.encoding.strict least L → gives (error_of kinds.NotWrittenForm) e → IsTrue old.tells → Unspelled gives eof (coding old.encoding c (vector n L)) e old.to_come
+  unfolding coding vector owned_content repeat
+  not_written_unspelled laws given tells = record {
+    no_front = λ v front rest whole k.
+        none_chosen laws k.code v front rest old.to_come [] k.code_is.0 k.code_is.1 (append-nil old.to_come ∙ whole) (h.ahead.stands tells) (Accepts-demanded old.encoding.strict c k.code v h.demanded k.stands);
+    too_short = λ v more k.
+        absurd (none_chosen laws k.code v (old.to_come ++ more) [] old.to_come more k.code_is.0 k.code_is.1 (sym (append-nil (old.to_come ++ more))) (h.ahead.stands tells) (Accepts-demanded old.encoding.strict c k.code v h.demanded k.stands));
+    at_fault = λ _. (kinds.NotWrittenForm, inr (inr (h.demanded, refl, wider)), given);
+  }
+
+-- so items that are read and gathered are a value of the code that is read
+pub collected_read : {T F V S : Type 0} {g : Gatherer T F V} {c : Code (List V) S} {view : F → S} {L : Format V} {n : ℕ} {E : Type 0} {gives : Error → E → Type 0} {eof : E → Bool} {result : Result F E} {old new : ReaderState} {least : ℕ} → Laws old.encoding.strict least L → IsCodeOf g c view
+    → Collects g L n gives eof result old new → Reads gives eof view (coding old.encoding c (vector n L)) result old new
+unfolding coding vector owned_content repeat
+collected_read {g = g} {c = c} {view = view} {L = L} {n = n} {result = Ok whole} {old = old} laws is r =
+    let h = r.answer in
+    record {
+      kept = r.kept;
+      answer = record {
+        front = h.got.front;
+        front_is = record {
+          code = map g.seen h.items;
+          code_is = (length-map h.items g.seen ∙ h.count_is, h.got.front_is);
+          stands = Accepts-is old.encoding.strict c (map g.seen h.items) (view whole) (is.meant h.items whole h.gathered) (λ strict. is.chosen h.items whole h.gathered (h.written strict));
+        };
+        taken = h.got.taken;
+      };
+    }
+collected_read {V = V} {g = g} {c = c} {L = L} {n = n} {gives = gives} {eof = eof} {result = Err e} {old = old} {new = new} laws is r =
+    elim r.answer [
+      | inl x ↦ record { kept = r.kept; answer = inl x }
+      | inr x ↦ elim x [
+        | inl y ↦
+            let items : Reads gives eof (λ (vs : List V). vs) (vector n L) (Err e) old new = record { kept = r.kept; answer = inr y } in
+            code_refused old.encoding c items
+        | inr y ↦ record {
+          kept = r.kept;
+          answer = inr (record { kind = inr (kinds.NotWrittenForm, inr (inr (y.1.demanded, refl, wider is y.1)), y.0); because = λ told. not_written_unspelled is y.1 laws y.0 told.tells });
+        }
+      ]
+    ]
+
+-- a coded list is read as its length, and then so many items
+pub coded_list_composes : {V S : Type 0} {strict : Bool} {least : ℕ} {L : Format V} (laws : Laws strict least L) (encoding : Encoding) (c : Code (List V) S) → Composes (unsigned_number 4 encoding) (λ n. coding encoding c (vector n L)) (coding encoding c (list encoding L)) (λ n s. s)
+unfolding coding list sequence
+coded_list_composes {V = V} {L = L} laws encoding c =
+    let parts = list_composes laws encoding in
+    record {
+      joins = λ n s a b h k. record { code = k.code; code_is = parts.joins n k.code a b h k.code_is; stands = k.stands };
+      splits = λ s bytes h. (
+        length h.code,
+        s,
+        record {
+          front = h.code_is.front;
+          back = h.code_is.back;
+          whole_is = h.code_is.whole_is;
+          first_is = h.code_is.first_is;
+          second_is = record { code = h.code; code_is = h.code_is.second_is; stands = h.stands };
+        },
+      );
+      names_first = λ kind h. inl (parts.names_first kind h);
+      names_second = λ n kind h. elim h [ inl x ↦ inl (parts.names_second n kind x) | inr x ↦ inr x ];
+      faults = λ bytes h.
+          elim h [
+            | inl x ↦ elim (parts.faults bytes x) [
+              | inl y ↦ inl y
+              | inr y ↦ inr (y.0, record { front = y.1.front; back = y.1.back; whole_is = y.1.whole_is; first_is = y.1.first_is; second_is = inl y.1.second_is })
+            ]
+            | inr x ↦
+                let list_is = x.code_is in
+                inr (
+                  length x.code,
+                  record {
+                    front = list_is.front;
+                    back = list_is.back ++ x.rest;
+                    whole_is = x.whole_is ∙ (ap (λ s. s ++ x.rest) list_is.whole_is ∙ append_assoc list_is.front list_is.back x.rest);
+                    first_is = list_is.first_is;
+                    second_is = inr (record { code = x.code; front = list_is.back; rest = x.rest; whole_is = refl; code_is = list_is.second_is; nothing = x.nothing });
+                  },
+                )
+          ];
+      takes_first = parts.takes_first;
+      takes_second = parts.takes_second;
+      lends_first = parts.lends_first;
+      lends_second = parts.lends_second;
+    }
+
+-- the items of a thing that has no order of its own are read alike
+pub gathered_composes : {V S : Type 0} {strict : Bool} {least : ℕ} {L : Format V} (hashed : Bool) (laws : Laws strict least L) (encoding : Encoding) (c : Code (List V) S)
+    → Composes (unsigned_number 4 encoding) (λ n. coding encoding c (vector n L)) (coding encoding c (items_of hashed encoding L)) (λ n s. s)
+unfolding coding hashed_items
+gathered_composes false laws encoding c = coded_list_composes laws encoding c
+gathered_composes true laws encoding c =
+    let same = coded_list_composes laws encoding c in
+    record {
+      joins = same.joins;
+      splits = same.splits;
+      names_first = same.names_first;
+      names_second = same.names_second;
+      faults = same.faults;
+      takes_first = same.takes_first;
+      takes_second = same.takes_second;
+      lends_first = same.lends_first;
+      lends_second = same.lends_second;
+    }
+
+-- what stands for what it gathers to, and is written so, is the code of it
+pub gatherer_code : {T F V S : Type 0} {g : Gatherer T F V} {stands : List V → S → Type 0} {written : List V → Type 0} {view : F → S} → ((items : List T) (whole : F) → g.gathers items whole → stands (map g.seen items) (view whole))
+    → ((items : List T) → g.are_written items → written (map g.seen items)) → ((items : List T) → written (map g.seen items) → g.are_written items) → ((xs ys : List V) → written (xs ++ ys) → written xs) → IsCodeOf g (gathering stands written) view
+gatherer_code {g = g} stands to from first = record {
+  meant = stands;
+  chosen = λ items whole h w. (stands items whole h, to items w);
+  first_chosen = λ items more s h. from items (first (map g.seen items) more h.1);
+}
+
+-- the number of items and then the items are read as what they gather to
+pub collection_read : {T F V S : Type 0} {g : Gatherer T F V} {c : Code (List V) S} {view : F → S} {L : Encoding → Format V} {n : ℕ} {E : Type 0} {gives : Error → E → Type 0} {eof : E → Bool} {result : Result F E} {old mid new : ReaderState} {least : ℕ} (hashed : Bool)
+    → ((encoding : Encoding) → Laws encoding.strict least (L encoding)) → IsCodeOf g c view → Reads gives eof (λ x. x) (unsigned_number 4 old.encoding) (Ok n) old mid → Collects g (L mid.encoding) n gives eof result mid new
+    → Reads gives eof view (coding old.encoding c (items_of hashed old.encoding (L old.encoding))) result old new
+collection_read {c = c} {view = view} {L = L} {n = n} {gives = gives} {eof = eof} {result = result} {old = old} {mid = mid} {new = new} hashed laws is number r =
+    second_decides (gathered_composes hashed (laws old.encoding) old.encoding c) (unsigned_number_laws 4 old.encoding) number
+    (subst (λ (e : Encoding). Reads gives eof view (coding e c (vector n (L e))) result mid new) number.kept.encoding (collected_read (laws mid.encoding) is r)) (λ _. refl)
+
+-- and where the number is refused, so is the collection
+pub collection_refused : {V S : Type 0} (c : Code (List V) S) {L : Format V} {E : Type 0} {gives : Error → E → Type 0} {eof : E → Bool} {A B : Type 0} {seen : A → ℕ} {view : B → S} {e : E} {old new : ReaderState} {strict : Bool} {least : ℕ} (hashed : Bool) → Laws strict least L
+    → Reads gives eof seen (unsigned_number 4 old.encoding) (Err e) old new → Reads gives eof view (coding old.encoding c (items_of hashed old.encoding L)) (Err e) old new
+collection_refused c {old = old} hashed laws r = refused_first (gathered_composes hashed laws old.encoding c) r

@@ -1,0 +1,15 @@
+use Rattle.std.proofs.Common.{false}
+use Rattle.speedy_layout.specs.Tuples.{pair_laws}
+use Rattle.speedy_layout.specs.CollectedIndexes.{index_map_collected}
+use Rattle.speedy_layout.specs.Adding.{HasDistinctKeys-first}
+use Rattle.speedy_read.specs.Exits.{exit_is}
+use Rattle.speedy_read.proofs.CollectionLemmas.{gatherer_code, collection_read, collection_refused}
+use Rattle.speedy_read.proofs.maps.IndexMapReadFrom.read_from.Goals as goal
+
+pub returns-in_err-length : goal.returns-in_err-length
+returns-in_err-length g c = rw (exit_is c.from_residual.result c.from_residual.ensures.1) (collection_refused _ false (pair_laws (g.met.K.Layout.layout_laws _) (g.met.V.Layout.layout_laws _)) c.in_err-length.ensures)
+
+pub returns : goal.returns
+returns g c =
+    let is = gatherer_code (λ items m h. index_map_collected g.V.Layout.seen g.met.K.SameKey.same_key items m h.0 h.1) (λ _ h. h) (λ _ h. h) HasDistinctKeys-first in
+    collection_read false (λ f. pair_laws (g.met.K.Layout.layout_laws f) (g.met.V.Layout.layout_laws f)) is c.in_ok-length.ensures c.read_key_value_collection.ensures

@@ -1,0 +1,15 @@
+use Rattle.std.proofs.Common.{false}
+use Rattle.speedy_layout.specs.SeenKeys.{IsLess}
+use Rattle.speedy_layout.specs.CollectedSets.{tree_set_collected}
+use Rattle.speedy_layout.specs.Adding.{Ascends-first}
+use Rattle.speedy_read.specs.Exits.{exit_is}
+use Rattle.speedy_read.proofs.CollectionLemmas.{gatherer_code, collection_read, collection_refused}
+use Rattle.speedy_read.proofs.sets.BTreeSetReadFrom.read_from.Goals as goal
+
+pub returns-in_err-length : goal.returns-in_err-length
+returns-in_err-length g c = rw (exit_is c.from_residual.result c.from_residual.ensures.1) (collection_refused _ false (g.met.T.Layout.layout_laws _) c.in_err-length.ensures)
+
+pub returns : goal.returns
+returns g c =
+    let is = gatherer_code (tree_set_collected g.T.Ord.cmp g.met.T.SameKey.same_key g.met.T.Ord.matches_eq) (λ _ h. h) (λ _ h. h) (Ascends-first (IsLess g.T.Layout.seen g.T.Ord.cmp)) in
+    collection_read false g.met.T.Layout.layout_laws is c.in_ok-length.ensures c.read_collection.ensures

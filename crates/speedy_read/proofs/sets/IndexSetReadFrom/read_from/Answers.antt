@@ -1,0 +1,14 @@
+use Rattle.std.proofs.Common.{false}
+use Rattle.speedy_layout.specs.CollectedIndexes.{index_set_collected}
+use Rattle.speedy_layout.specs.Adding.{AreDistinct-first}
+use Rattle.speedy_read.specs.Exits.{exit_is}
+use Rattle.speedy_read.proofs.CollectionLemmas.{gatherer_code, collection_read, collection_refused}
+use Rattle.speedy_read.proofs.sets.IndexSetReadFrom.read_from.Goals as goal
+
+pub returns-in_err-length : goal.returns-in_err-length
+returns-in_err-length g c = rw (exit_is c.from_residual.result c.from_residual.ensures.1) (collection_refused _ false (g.met.T.Layout.layout_laws _) c.in_err-length.ensures)
+
+pub returns : goal.returns
+returns g c =
+    let is = gatherer_code (λ items s h. index_set_collected g.met.T.SameKey.same_key items s h.0 h.1) (λ _ h. h) (λ _ h. h) AreDistinct-first in
+    collection_read false g.met.T.Layout.layout_laws is c.in_ok-length.ensures c.read_collection.ensures

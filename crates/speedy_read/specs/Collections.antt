@@ -1,0 +1,41 @@
+-- Reads of items that gather to a collection.
+use Rattle.std.specs.Prelude.{◌≡◌, ℕ, ◌≤◌, List, length, map, Bool, true, IsTrue, ◌⊎◌, Result, MatchResult}
+use Rattle.speedy_base.specs.declared.error.ErrorKind.TheVariants as kinds
+use Rattle.speedy_base.specs.declared.error.Error.{Error}
+use Rattle.speedy_base.specs.Error.{error_of}
+use Rattle.speedy_layout.specs.Format.{Format, Each}
+use Rattle.speedy_layout.specs.Lists.{vector}
+use Rattle.speedy_read.specs.Reading.{ReaderState, Kept, Got, Ahead, Excused, Refused}
+
+-- items of a type, what is seen of each, what they gather to, and the lists of them that are written of what they gather to
+pub record Gatherer (T F V : Type 0) : Type 1 where
+  pub seen : T → V
+  pub gathers : List T → F → Type 0
+  pub are_written : List T → Type 0
+
+abbrev pub gatherer : {T F V : Type 0} → (T → V) → (List T → F → Type 0) → (List T → Type 0) → Gatherer T F V
+gatherer seen gathers are_written = record { seen = seen; gathers = gathers; are_written = are_written }
+
+module _ {T F V : Type 0} (g : Gatherer T F V) (L : Format V) (n : ℕ) where
+  -- so many items, one after another, which gather to the collection, and are written of it if that is demanded
+  pub record GotItems (whole : F) (old new : ReaderState) : Type 0 where
+    pub items : List T
+    pub count_is : length items ≡ n
+    pub got : Got (Each L.spells (map g.seen items)) old new
+    pub gathered : g.gathers items whole
+    pub written : IsTrue old.encoding.strict → g.are_written items
+
+  -- the written form is demanded, and items stand at the front that are written of no collection
+  pub record NotWritten (old : ReaderState) : Type 0 where
+    pub items : List T
+    pub whole : F
+    pub demanded : IsTrue old.encoding.strict
+    pub at_most : length items ≤ n
+    pub ahead : Ahead (Each L.spells (map g.seen items)) old
+    pub gathered : g.gathers items whole
+    pub not_written : g.are_written items → ⊥
+
+  -- A read of so many items and what they gather to. What is answered is gathered of items that a front of the bytes to come spells, and just that front is taken. A clean refusal means that no front spells so many items, or none that are written of a collection where that is demanded.
+  pub record Collects {E : Type 0} (gives : Error → E → Type 0) (eof : E → Bool) (result : Result F E) (old new : ReaderState) : Type 0 where
+    pub kept : Kept old new
+    pub answer : MatchResult result (λ whole. GotItems whole old new) (λ e. Excused gives true e old new ⊎ (Refused gives eof (vector n L) e old ⊎ (gives (error_of kinds.NotWrittenForm) e × NotWritten old)))

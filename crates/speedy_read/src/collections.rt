@@ -1,0 +1,360 @@
+//! Collections, which are made of items that are read one after another.
+ghost use Rattle.std.specs.Prelude.{◌≡◌, ◌++◌, ◌∷◌, ◌↔◌, List, [], map, IsTrue, IfOk, OnOk};
+ghost use Rattle.std.proofs.Common.{subst};
+ghost use Rattle.std.specs.BTreeMap as tree_map;
+ghost use Rattle.std.specs.HashMap as hash_map;
+ghost use Rattle.std.specs.BTreeSet as tree_set;
+ghost use Rattle.std.specs.HashSet as hash_set;
+ghost use Rattle.indexmap.specs.IndexMap.{insert_all};
+ghost use Rattle.indexmap.specs.IndexSet as index_set;
+ghost use Rattle.speedy_layout.specs.Members.{AreDistinct, Ascends};
+ghost use Rattle.speedy_layout.specs.SeenKeys.{IsLess};
+ghost use Rattle.speedy_layout.specs.Maps.{seen_pair, by_key, HasDistinctKeys};
+ghost use Rattle.speedy_layout.specs.CollectedMaps.{seen_pairs};
+ghost use Rattle.speedy_layout.specs.Adding.{ascending_first, distinct_first, distinct_keys_first};
+ghost use Rattle.speedy_read.specs.Collections.{gatherer, Collects};
+
+use crate::readable::{ReadFrom, ReadMany};
+use crate::reader::LendingReader;
+use indexmap::{IndexMap, IndexSet};
+use speedy_base::context::Context;
+use speedy_base::error::{error_not_written_form, error_out_of_memory};
+use speedy_layout::layout::Layout;
+use speedy_layout::same_key::SameKey;
+use std::alloc::{AllocError, Global};
+use std::collections::{BTreeMap, BTreeSet, HashMap, HashSet};
+use std::convert::AsSlice;
+use std::hash::{BuildHasher, Hash};
+
+/// What items are gathered to, one after another: a list, a set, a map.
+pub trait FromItems<T: Layout>: Sized + Drop {
+    /// What items gather to.
+    ghost gathers: { List T → Self → Type 0 };
+
+    /// The lists of items that are written of what they gather to.
+    ghost are_written: { List T → Type 0 };
+
+    /// No items.
+    fn empty(alloc: Global) -> Self
+        ensures { gathers [] result };
+
+    /// Adds an item behind those that were added. It is refused for want of memory alone, and then the
+    /// collection can only be dropped.
+    fn add(&mut self, item: T) -> Result<(), AllocError>
+        ensures { OnOk result ((items : List T) → gathers items self.old
+            → gathers (items ++ item ∷ []) self.new) };
+
+    /// Whether the items that were added, if they are written so, still are with this one after them.
+    fn accepts(&self, item: &T) -> bool
+        ensures { (items : List T) → gathers items self.now → are_written items
+            → IsTrue result ↔ are_written (items ++ item.now ∷ []) };
+
+    /// What all these items gather to, as if they were added one after another. It is refused for want of
+    /// memory alone.
+    fn gather(alloc: Global, items: Vec<T>) -> Result<Self, AllocError>
+        ensures { IfOk result (gathers items.items) };
+
+    /// No items are written so.
+    ghost none_written: { are_written [] };
+
+    /// And so are the first ones of items that are.
+    ghost first_written: { (items more : List T) → are_written (items ++ more) → are_written items };
+
+    /// What is seen of the items says whether they are.
+    ghost written_as_seen: { (items others : List T) →
+        map T.seen items ≡ map T.seen others → are_written items → are_written others };
+}
+
+impl<T: Layout + Drop> FromItems<T> for Vec<T> {
+    ghost gathers = { λ items v. v.items ≡ items };
+
+    ghost are_written = { λ _. Unit {0} };
+
+    ghost none_written = { tt };
+
+    ghost first_written = { λ items more h. tt };
+
+    ghost written_as_seen = { λ items others e h. tt };
+
+    fn empty(alloc: Global) -> Vec<T> {
+        Vec::new(alloc)
+    }
+
+    fn add(&mut self, item: T) -> Result<(), AllocError> {
+        match self.push(item) {
+            Ok(()) => Ok(()),
+            Err(_) => Err(AllocError),
+        }
+    }
+
+    fn gather(_alloc: Global, items: Vec<T>) -> Result<Vec<T>, AllocError>
+        ensures { IfOk result (λ v. v.items ≡ items.items) }
+    {
+        Ok(items)
+    }
+
+    fn accepts(&self, _item: &T) -> bool {
+        true
+    }
+}
+
+impl<K: SameKey + Ord + Drop, V: Layout + Drop> FromItems<(K, V)> for BTreeMap<K, V> {
+    ghost gathers = { λ items m. tree_map.IsFromIterResult K.cmp items m };
+
+    ghost are_written = { λ items. Ascends (by_key (IsLess K.seen K.cmp)) (seen_pairs K.seen V.seen items) };
+
+    ghost none_written = { tt };
+
+    ghost first_written = { ascending_first (seen_pair K.seen V.seen) (by_key (IsLess K.seen K.cmp)) };
+
+    ghost written_as_seen = { λ items others e. subst (Ascends (by_key (IsLess K.seen K.cmp))) e };
+
+    fn empty(alloc: Global) -> BTreeMap<K, V> {
+        BTreeMap::new(alloc)
+    }
+
+    fn add(&mut self, item: (K, V)) -> Result<(), AllocError> {
+        let (key, value) = item;
+        match BTreeMap::insert(self, key, value) {
+            Ok(_) => Ok(()),
+            Err(_) => Err(AllocError),
+        }
+    }
+
+    fn gather(alloc: Global, items: Vec<(K, V)>) -> Result<BTreeMap<K, V>, AllocError>
+        ensures { IfOk result (tree_map.IsFromIterResult K.cmp items.items) }
+    {
+        items.into_iter().collect(alloc)
+    }
+
+    fn accepts(&self, item: &(K, V)) -> bool {
+        match self.last_key_value() {
+            Some((last, _)) => last.cmp(&item.0).is_lt(),
+            None => true,
+        }
+    }
+}
+
+impl<K: SameKey + Hash + Drop, V: Layout + Drop, S: BuildHasher + Default + Drop> FromItems<(K, V)>
+    for HashMap<K, V, S> {
+    ghost gathers = { λ items m. hash_map.IsFromIterResult K.eq items m };
+
+    ghost are_written = { λ items. HasDistinctKeys (seen_pairs K.seen V.seen items) };
+
+    ghost none_written = { tt };
+
+    ghost first_written = { distinct_keys_first (seen_pair K.seen V.seen) };
+
+    ghost written_as_seen = { λ items others e. subst HasDistinctKeys e };
+
+    fn empty(alloc: Global) -> HashMap<K, V, S> {
+        HashMap::with_hasher(alloc, S::default())
+    }
+
+    fn add(&mut self, item: (K, V)) -> Result<(), AllocError> {
+        let (key, value) = item;
+        match HashMap::insert(self, key, value) {
+            Ok(_) => Ok(()),
+            Err(_) => Err(AllocError),
+        }
+    }
+
+    fn gather(alloc: Global, items: Vec<(K, V)>) -> Result<HashMap<K, V, S>, AllocError>
+        ensures { IfOk result (hash_map.IsFromIterResult K.eq items.items) }
+    {
+        items.into_iter().collect(alloc)
+    }
+
+    fn accepts(&self, item: &(K, V)) -> bool {
+        !HashMap::contains_key(self, &item.0)
+    }
+}
+
+impl<K: SameKey + Hash + Drop, V: Layout + Drop, S: BuildHasher + Default + Drop> FromItems<(K, V)>
+    for IndexMap<K, V, S> {
+    ghost gathers = { λ items m. (m.entries ≡ insert_all K.eq [] items) × hash_map.IsFromIterResult K.eq items m };
+
+    ghost are_written = { λ items. HasDistinctKeys (seen_pairs K.seen V.seen items) };
+
+    ghost none_written = { tt };
+
+    ghost first_written = { distinct_keys_first (seen_pair K.seen V.seen) };
+
+    ghost written_as_seen = { λ items others e. subst HasDistinctKeys e };
+
+    fn empty(alloc: Global) -> IndexMap<K, V, S> {
+        IndexMap::with_hasher(alloc, S::default())
+    }
+
+    fn add(&mut self, item: (K, V)) -> Result<(), AllocError> {
+        let (key, value) = item;
+        match IndexMap::insert(self, key, value) {
+            Ok(_) => Ok(()),
+            Err(_) => Err(AllocError),
+        }
+    }
+
+    fn gather(alloc: Global, items: Vec<(K, V)>) -> Result<IndexMap<K, V, S>, AllocError>
+        ensures { IfOk result (λ m. (m.entries ≡ insert_all K.eq [] items.items)
+            × hash_map.IsFromIterResult K.eq items.items m) }
+    {
+        items.into_iter().collect(alloc)
+    }
+
+    fn accepts(&self, item: &(K, V)) -> bool {
+        !IndexMap::contains_key(self, &item.0)
+    }
+}
+
+impl<T: SameKey + Ord + Drop> FromItems<T> for BTreeSet<T> {
+    ghost gathers = { λ items s. tree_set.IsFromIterResult T.cmp items s };
+
+    ghost are_written = { λ items. Ascends (IsLess T.seen T.cmp) (map T.seen items) };
+
+    ghost none_written = { tt };
+
+    ghost first_written = { ascending_first T.seen (IsLess T.seen T.cmp) };
+
+    ghost written_as_seen = { λ items others e. subst (Ascends (IsLess T.seen T.cmp)) e };
+
+    fn empty(alloc: Global) -> BTreeSet<T> {
+        BTreeSet::new(alloc)
+    }
+
+    fn add(&mut self, item: T) -> Result<(), AllocError> {
+        match BTreeSet::insert(self, item) {
+            Ok(_) => Ok(()),
+            Err(_) => Err(AllocError),
+        }
+    }
+
+    fn gather(alloc: Global, items: Vec<T>) -> Result<BTreeSet<T>, AllocError>
+        ensures { IfOk result (tree_set.IsFromIterResult T.cmp items.items) }
+    {
+        items.into_iter().collect(alloc)
+    }
+
+    fn accepts(&self, item: &T) -> bool {
+        match self.last() {
+            Some(last) => last.cmp(item).is_lt(),
+            None => true,
+        }
+    }
+}
+
+impl<T: SameKey + Hash + Drop, S: BuildHasher + Default + Drop> FromItems<T> for HashSet<T, S> {
+    ghost gathers = { λ items s. hash_set.IsFromIterResult T.eq items s };
+
+    ghost are_written = { λ items. AreDistinct (map T.seen items) };
+
+    ghost none_written = { tt };
+
+    ghost first_written = { distinct_first T.seen };
+
+    ghost written_as_seen = { λ items others e. subst AreDistinct e };
+
+    fn empty(alloc: Global) -> HashSet<T, S> {
+        HashSet::with_hasher(alloc, S::default())
+    }
+
+    fn add(&mut self, item: T) -> Result<(), AllocError> {
+        match HashSet::insert(self, item) {
+            Ok(_) => Ok(()),
+            Err(_) => Err(AllocError),
+        }
+    }
+
+    fn gather(alloc: Global, items: Vec<T>) -> Result<HashSet<T, S>, AllocError>
+        ensures { IfOk result (hash_set.IsFromIterResult T.eq items.items) }
+    {
+        items.into_iter().collect(alloc)
+    }
+
+    fn accepts(&self, item: &T) -> bool {
+        !HashSet::contains(self, item)
+    }
+}
+
+impl<T: SameKey + Hash + Drop, S: BuildHasher + Default + Drop> FromItems<T> for IndexSet<T, S> {
+    ghost gathers = { λ items s. (s.keys ≡ index_set.insert_all T.eq [] items) × hash_set.IsFromIterResult T.eq items s };
+
+    ghost are_written = { λ items. AreDistinct (map T.seen items) };
+
+    ghost none_written = { tt };
+
+    ghost first_written = { distinct_first T.seen };
+
+    ghost written_as_seen = { λ items others e. subst AreDistinct e };
+
+    fn empty(alloc: Global) -> IndexSet<T, S> {
+        IndexSet::with_hasher(alloc, S::default())
+    }
+
+    fn add(&mut self, item: T) -> Result<(), AllocError> {
+        match IndexSet::insert(self, item) {
+            Ok(_) => Ok(()),
+            Err(_) => Err(AllocError),
+        }
+    }
+
+    fn gather(alloc: Global, items: Vec<T>) -> Result<IndexSet<T, S>, AllocError>
+        ensures { IfOk result (λ s. (s.keys ≡ index_set.insert_all T.eq [] items.items)
+            × hash_set.IsFromIterResult T.eq items.items s) }
+    {
+        items.into_iter().collect(alloc)
+    }
+
+    fn accepts(&self, item: &T) -> bool {
+        !IndexSet::contains(self, item)
+    }
+}
+
+// Reads so many items and gathers them. It stands outside the trait, so that it is proved once for all types.
+#[inline]
+pub(crate) fn collect_items<
+    F: FromItems<T>,
+    T: ReadMany<L, C>,
+    L: AsSlice<u8> + Drop,
+    C: Context,
+    R: LendingReader<L, C>,
+>(reader: &mut R, length: usize) -> Result<F, C::Error>
+    ensures { let items = gatherer T.seen F.gathers F.are_written in
+        Collects items (T.format (R.state reader.old).encoding) length
+        C.Error.from_gives C.Error.eof result (R.state reader.old) (R.state reader.new) }
+{
+    if reader.demands_written_form() {
+        return collect_written::<F, T, L, C, R>(reader, length);
+    }
+    let items = T::read_many(reader, length)?;
+    match F::gather(reader.alloc(), items) {
+        Ok(whole) => Ok(whole),
+        Err(_) => Err(error_out_of_memory()),
+    }
+}
+
+// The same where the written form is demanded: what was gathered says whether the next item may follow.
+fn collect_written<
+    F: FromItems<T>,
+    T: ReadFrom<L, C>,
+    L: AsSlice<u8> + Drop,
+    C: Context,
+    R: LendingReader<L, C>,
+>(reader: &mut R, length: usize) -> Result<F, C::Error>
+    requires { IsTrue (R.state reader.now).encoding.strict }
+    ensures { let items = gatherer T.seen F.gathers F.are_written in
+        Collects items (T.format (R.state reader.old).encoding) length
+        C.Error.from_gives C.Error.eof result (R.state reader.old) (R.state reader.new) }
+{
+    let mut items = F::empty(reader.alloc());
+    for _i in 0..length {
+        let item = T::read_from(reader)?;
+        let is_written = items.accepts(&item);
+        if items.add(item).is_err() {
+            return Err(error_out_of_memory());
+        }
+        if !is_written {
+            return Err(error_not_written_form());
+        }
+    }
+    Ok(items)
+}

@@ -1,0 +1,76 @@
+//! How sets are read.
+use crate::readable::{ReadFrom, ReadMany};
+use crate::reader::LendingReader;
+use indexmap::IndexSet;
+use speedy_base::context::Context;
+use speedy_layout::same_key::SameKey;
+use std::collections::{BTreeSet, HashSet};
+use std::convert::AsSlice;
+use std::hash::{BuildHasher, Hash};
+
+impl<L: AsSlice<u8> + Drop, C: Context, T: ReadMany<L, C> + SameKey + Ord> ReadFrom<L, C>
+    for BTreeSet<T> {
+    #[inline]
+    fn read_from<R: LendingReader<L, C>>(reader: &mut R) -> Result<BTreeSet<T>, C::Error> {
+        let length = reader.read_u32()?;
+        reader.read_collection(length as usize)
+    }
+
+    #[inline]
+    fn minimum_bytes_needed() -> usize {
+        4
+    }
+}
+
+impl<L: AsSlice<u8> + Drop, C: Context, T: ReadMany<L, C> + SameKey + Ord> ReadMany<L, C>
+    for BTreeSet<T> {}
+
+impl<
+    L: AsSlice<u8> + Drop,
+    C: Context,
+    T: ReadMany<L, C> + SameKey + Hash,
+    S: BuildHasher + Default + Drop,
+> ReadFrom<L, C> for HashSet<T, S> {
+    #[inline]
+    fn read_from<R: LendingReader<L, C>>(reader: &mut R) -> Result<HashSet<T, S>, C::Error> {
+        let length = reader.read_u32()?;
+        reader.read_collection(length as usize)
+    }
+
+    #[inline]
+    fn minimum_bytes_needed() -> usize {
+        4
+    }
+}
+
+impl<
+    L: AsSlice<u8> + Drop,
+    C: Context,
+    T: ReadMany<L, C> + SameKey + Hash,
+    S: BuildHasher + Default + Drop,
+> ReadMany<L, C> for HashSet<T, S> {}
+
+impl<
+    L: AsSlice<u8> + Drop,
+    C: Context,
+    T: ReadMany<L, C> + SameKey + Hash,
+    S: BuildHasher + Default + Drop,
+> ReadFrom<L, C> for IndexSet<T, S> {
+    #[inline]
+    fn read_from<R: LendingReader<L, C>>(reader: &mut R) -> Result<IndexSet<T, S>, C::Error> {
+        let length = reader.read_u32()?;
+        reader.read_collection(length as usize)
+    }
+
+    #[inline]
+    fn minimum_bytes_needed() -> usize {
+        4
+    }
+}
+
+impl<
+    L: AsSlice<u8> + Drop,
+    C: Context,
+    T: ReadMany<L, C> + SameKey + Hash,
+    S: BuildHasher + Default + Drop,
+> ReadMany<L, C> for IndexSet<T, S> {}

@@ -1,0 +1,136 @@
+-- The items of a collection are written one after the other, and make a write of the collection.
+use Rattle.std.specs.Prelude.{◌≡◌, ℕ, List, [], ◌∷◌, ◌++◌, length, map, Bool, true, false, Option, Some, None, Result, Ok, Err, MatchResult, IsErrAnd, refl}
+use Rattle.std.proofs.Common.{sym, ap, subst, inl, inr}
+use Rattle.std.proofs.iter.Next.{Yields-more}
+use Rattle.std.proofs.iter.Yields.{gives_left, gives_Drains, listed}
+use Rattle.std.proofs.lemmas.List.{length-map}
+use Rattle.std.specs.Iterator.{Yields, Drains, AlwaysYields}
+use Rattle.std.specs.Map.Iter.{TakesFirst}
+use Rattle.speedy_base.specs.declared.error.ErrorKind.{ErrorKind}
+use Rattle.speedy_base.specs.declared.error.Error.{Error}
+use Rattle.speedy_base.specs.Encoding.{Encoding}
+use Rattle.speedy_layout.specs.Codes.{coding}
+use Rattle.speedy_layout.specs.Format.{Format, Parts, Each}
+use Rattle.speedy_layout.specs.Gathered.{gathered_writes, gathered_form, gathered_form_length}
+use Rattle.speedy_layout.specs.Gathering.{IsGathering, hashed_items, items_of, gathered}
+use Rattle.speedy_layout.specs.Laws.{Laws}
+use Rattle.speedy_layout.specs.Lists.{repeat, vector, list}
+use Rattle.speedy_layout.specs.Owned.{owned_content, borrowed_content}
+use Rattle.speedy_layout.specs.Sequences.{sequence}
+use Rattle.speedy_layout.specs.Tuples.{pair, pair_laws}
+use Rattle.speedy_write.specs.Collections.{WritesItems}
+use Rattle.speedy_write.specs.Sequences.{Writes-as, is_sequence, first_refused, passed_on}
+use Rattle.speedy_write.specs.Writing.{WriterState, Writes, WritesEach}
+use Rattle.speedy_write.proofs.ListLemmas.{Each-append, Each-parts, next_refused}
+
+-- ---- item by item
+
+module _ {E U S A V : Type 0} {gives : Error → E → Type 0} {becomes : U → S → Type 0} {steps : S → Option A → S → Type 0} {seen : A → V} {F : Encoding → Format V} {items : U} (it : S) (walked : List A) (now next : S) (it_is : becomes items it) (walk : Yields steps it walked now) where
+  -- no item is left
+  pub all_items_written : {old new : WriterState} {appended : List ℕ → Type 0} → steps now None next → WritesEach gives F seen walked (Ok tt) old new appended → WritesItems becomes steps seen gives F items (Ok tt) old new appended
+  all_items_written end w = record { iterator = it; iterator_is = it_is; walked = walked; are_walked = (next, (now, walk, end)); writes = w }
+
+  -- the next one is refused
+  pub next_item_refused : {least : ℕ} {e : E} {result : Result (Unit {0}) E} {old mid new : WriterState} {front back whole : List ℕ → Type 0} (x : A) → ((a b : List ℕ) → front a → back b → whole (a ++ b)) → ((encoding : Encoding) → Laws encoding.strict least (F encoding))
+      → IsErrAnd result (λ r. r ≡ e) → steps now (Some x) next → WritesEach gives F seen walked (Ok tt) old mid front → Writes gives F (seen x) (Err e) mid new back → WritesItems becomes steps seen gives F items result old new whole
+  next_item_refused {e = e} {result = result} {old = old} {new = new} {whole = whole} x join laws passed step h w =
+      subst (λ (r : Result (Unit {0}) E). WritesItems becomes steps seen gives F items r old new whole) (passed_on result e passed) (record {
+        iterator = it;
+        iterator_is = it_is;
+        walked = walked ++ x ∷ [];
+        are_walked = (next, Yields-more steps it walked now x next walk step);
+        writes = next_refused join seen walked x laws refl h w [];
+      })
+
+-- ---- the items that were walked, among all
+
+module _ {V : Type 0} (R : V → List ℕ → Type 0) (n : ℕ) (vs more : List V) (b : List ℕ) where
+  -- some items, and those after them
+  abbrev Two : Type 0
+  Two = Parts (λ b. (length vs ≡ n) × Each R vs b) (λ b. (length more ≡ length more) × Each R more b) b
+
+  Two-each : Two → Each R (vs ++ more) b
+  Two-each h = Each-append R vs more b (record { front = h.front; back = h.back; whole_is = h.whole_is; first_is = h.first_is.1; second_is = h.second_is.1 })
+
+  Each-two : length vs ≡ n → Each R (vs ++ more) b → Two
+  Each-two l h = let p = Each-parts R vs more b h in record { front = p.front; back = p.back; whole_is = p.whole_is; first_is = (l, p.first_is); second_is = (refl, p.second_is) }
+
+module _ {E V : Type 0} {gives : Error → E → Type 0} {e : E} {old new : WriterState} {appended : List ℕ → Type 0} (F : Encoding → Format V) (n : ℕ) (vs more : List V) where
+  two_refused : Writes gives (λ encoding. repeat n (F encoding)) vs (Err e) old new appended → Writes gives (λ encoding. pair (repeat n (F encoding)) (repeat (length more) (F encoding))) (vs, more) (Err e) old new appended
+  two_refused w = first_refused is_sequence refl refl w
+
+  -- where the first items are refused, all are
+  first_items_refused : length vs ≡ n → Writes gives (λ encoding. repeat n (F encoding)) vs (Err e) old new appended → Writes gives (λ encoding. repeat (length (vs ++ more)) (F encoding)) (vs ++ more) (Err e) old new appended
+  unfolding repeat sequence
+  first_items_refused l w =
+      Writes-as (λ kind k. elim k [ inl y ↦ y | inr y ↦ y.1 ])
+      (λ b k. (refl, Two-each (F old.encoding).writes n vs more b k))
+      (λ b k. (b, Each-two (F old.encoding).writes n vs more b l k.1, refl))
+      (λ b k. (b, Each-two (F old.encoding).spells n vs more b l k.1)) (two_refused w)
+
+module _ {E S A V : Type 0} {gives : Error → E → Type 0} {steps : S → Option A → S → Type 0} {seen : A → V} {F : Encoding → Format V} {items : S} {shown : List V} {old new : WriterState} {appended : List ℕ → Type 0} where
+  all_shown : (result : Result (Unit {0}) E) → AlwaysYields steps seen items shown → WritesItems (λ s r. r ≡ s) steps seen gives F items result old new appended → Writes gives (λ encoding. repeat (length shown) (F encoding)) shown result old new appended
+  all_shown result always w = by result (subst (λ s. AlwaysYields steps seen s shown) (sym w.iterator_is) always) w.writes w.are_walked where
+    by : (result : Result (Unit {0}) E) → AlwaysYields steps seen w.iterator shown → WritesEach gives F seen w.walked result old new appended → MatchResult result (λ _. Drains steps w.iterator w.walked) (λ _. (rest : S) × Yields steps w.iterator w.walked rest)
+        → Writes gives (λ encoding. repeat (length shown) (F encoding)) shown result old new appended
+    by (Ok done) always written walked =
+        let same = gives_Drains steps seen w.walked shown w.iterator always walked in
+        subst (λ (vs : List V). Writes gives (λ encoding. repeat (length vs) (F encoding)) vs (Ok done) old new appended) same
+        (subst (λ (n : ℕ). Writes gives (λ encoding. repeat n (F encoding)) (map seen w.walked) (Ok done) old new appended) (sym (length-map w.walked seen)) written)
+    by (Err e) always written walked =
+        let left = gives_left steps seen w.walked shown w.iterator walked.0 always walked.1 in
+        subst (λ (vs : List V). Writes gives (λ encoding. repeat (length vs) (F encoding)) vs (Err e) old new appended) (sym left.1)
+        (first_items_refused F (length w.walked) (map seen w.walked) left.0 (length-map w.walked seen) written)
+
+  -- an iterator that always gives the same items is written as so many
+  pub shown_items_written : {count : ℕ} {result : Result (Unit {0}) E} → count ≡ length shown → AlwaysYields steps seen items shown → WritesItems (λ s r. r ≡ s) steps seen gives F items result old new appended → Writes gives (λ encoding. repeat count (F encoding)) shown result old new appended
+  shown_items_written {result = result} same always w =
+      subst (λ (n : ℕ). Writes gives (λ encoding. repeat n (F encoding)) shown result old new appended) (sym same) (all_shown result always w)
+
+-- an iterator that shows what is left always gives it
+pub shown_in_order : {A X V : Type 0} {s xs : List X} (shows : A → X) (seen : X → V) → s ≡ xs → AlwaysYields (TakesFirst shows) (λ a. seen (shows a)) s (map seen xs)
+shown_in_order {xs = xs} shows seen same =
+    subst (λ l. AlwaysYields (TakesFirst shows) (λ a. seen (shows a)) l (map seen xs)) (sym same)
+    (listed (TakesFirst shows) (λ a. seen (shows a)) (map seen) (λ s t h. ap (λ l. length (map seen l)) h.0) (λ s x t h. ap (map seen) h) xs)
+
+-- ---- the collection
+
+items_of_refuses : {X : Type 0} (hashed : Bool) (encoding : Encoding) (L : Format X) → (items_of hashed encoding L).refuses_writing ≡ (list encoding L).refuses_writing
+unfolding hashed_items
+items_of_refuses false encoding L = refl
+items_of_refuses true encoding L = refl
+
+module _ {E : Type 0} {gives : Error → E → Type 0} {result : Result (Unit {0}) E} {old new : WriterState} {appended : List ℕ → Type 0} where
+  -- lent items are written as the items
+  lent_items : {X : Type 0} {shown : List X} (F : Encoding → Format X) → Writes gives (λ encoding. list encoding (borrowed_content (F encoding))) shown result old new appended → Writes gives (λ encoding. list encoding (F encoding)) shown result old new appended
+  unfolding list sequence vector owned_content repeat borrowed_content
+  lent_items F w = Writes-as (λ _ k. k) (λ _ h. h) (λ b h. (b, h, refl)) (λ b h. (b, h)) w
+
+  -- and so are pairs of lent parts
+  lent_pairs : {K V : Type 0} {shown : List (K × V)} (F : Encoding → Format K) (G : Encoding → Format V) → Writes gives (λ encoding. list encoding (pair (borrowed_content (F encoding)) (borrowed_content (G encoding)))) shown result old new appended
+      → Writes gives (λ encoding. list encoding (pair (F encoding) (G encoding))) shown result old new appended
+  unfolding list sequence vector owned_content repeat borrowed_content
+  lent_pairs F G w = Writes-as (λ _ k. k) (λ _ h. h) (λ b h. (b, h, refl)) (λ b h. (b, h)) w
+
+module _ {E S : Type 0} {gives : Error → E → Type 0} {hashed : Bool} {whole : S} {result : Result (Unit {0}) E} {old new : WriterState} {appended : List ℕ → Type 0} where
+  -- a form of a collection is written as the collection
+  form_written_as : {X : Type 0} {stands : List X → S → Type 0} {are_written : List X → Type 0} {least : ℕ} {L : Encoding → Format X} {shown : List X} → ((encoding : Encoding) → Laws encoding.strict least (L encoding)) → IsGathering hashed stands are_written → stands shown whole × are_written shown
+      → Writes gives (λ encoding. list encoding (L encoding)) shown result old new appended → Writes gives (λ encoding. gathered hashed encoding stands are_written (L encoding)) whole result old new appended
+  unfolding coding
+  form_written_as {stands = stands} {are_written = are_written} {L = L} {shown = shown} laws is form w =
+      let encoding = old.encoding in
+      Writes-as (λ kind k. subst (λ (refuses : ErrorKind → Type 0). refuses kind) (sym (items_of_refuses hashed encoding (L encoding))) k)
+      (λ b h. gathered_writes hashed encoding stands are_written (L encoding) shown whole b h form.0 form.1)
+      (λ b h. gathered_form_length encoding (laws encoding) is whole b h shown form.0 form.1)
+      (λ b h. gathered_form encoding (laws encoding) is whole b h shown form.0 form.1) w
+
+  -- the lent items of a set, where they are a form of it
+  pub set_written : {X : Type 0} {stands : List X → S → Type 0} {are_written : List X → Type 0} {least : ℕ} {F : Encoding → Format X} {shown : List X} → ((encoding : Encoding) → Laws encoding.strict least (F encoding)) → IsGathering hashed stands are_written → stands shown whole × are_written shown
+      → Writes gives (λ encoding. list encoding (borrowed_content (F encoding))) shown result old new appended → Writes gives (λ encoding. gathered hashed encoding stands are_written (F encoding)) whole result old new appended
+  set_written {F = F} laws is form w = form_written_as laws is form (lent_items F w)
+
+  -- and the lent pairs of a map
+  pub map_written : {K V : Type 0} {stands : List (K × V) → S → Type 0} {are_written : List (K × V) → Type 0} {n m : ℕ} {F : Encoding → Format K} {G : Encoding → Format V} {shown : List (K × V)}
+      → ((encoding : Encoding) → Laws encoding.strict n (F encoding)) → ((encoding : Encoding) → Laws encoding.strict m (G encoding)) → IsGathering hashed stands are_written → stands shown whole × are_written shown
+      → Writes gives (λ encoding. list encoding (pair (borrowed_content (F encoding)) (borrowed_content (G encoding)))) shown result old new appended → Writes gives (λ encoding. gathered hashed encoding stands are_written (pair (F encoding) (G encoding))) whole result old new appended
+  map_written {F = F} {G = G} laws more is form w = form_written_as (λ encoding. pair_laws (laws encoding) (more encoding)) is form (lent_pairs F G w)

@@ -1,0 +1,29 @@
+//! How the items of maps and sets are written.
+ghost use Rattle.std.specs.Prelude.{◌≡◌, List, length};
+ghost use Rattle.std.specs.Iterator.{IsFinite, AlwaysYields};
+ghost use Rattle.speedy_layout.specs.Lists.{list};
+ghost use Rattle.speedy_write.specs.Writing.{Writes};
+
+use crate::private::write_length;
+use crate::writable::Writable;
+use crate::writer::Writer;
+use speedy_base::context::Context;
+
+// The number of items, and then the items. Items that every walk gives are written as a list.
+#[inline]
+pub(crate) fn write_counted_items<
+    C: Context,
+    T: Writable<C> + Drop,
+    I: Iterator<Item = T>,
+    W: Writer<C>,
+>(count: usize, items: I, writer: &mut W) -> Result<(), C::Error>
+    requires can { I.can_next items }
+    requires ends { IsFinite (I.remaining items) }
+    ensures { (shown : List T.Seen) → count ≡ length shown
+        → AlwaysYields I.next_gives T.seen items shown
+        → Writes C.Error.from_gives (λ e. list e (T.format e)) shown result
+        (W.state writer.old) (W.state writer.new) (λ b. W.appends writer.old b writer.new) }
+{
+    write_length(count, writer)?;
+    writer.write_collection(items)
+}

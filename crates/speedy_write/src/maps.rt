@@ -1,0 +1,34 @@
+//! How maps are written.
+use crate::collections::write_counted_items;
+use crate::writable::Writable;
+use crate::writer::Writer;
+use indexmap::IndexMap;
+use speedy_base::context::Context;
+use speedy_layout::SameKey;
+use std::collections::{BTreeMap, HashMap};
+use std::hash::{BuildHasher, Hash};
+
+impl<C: Context, K: Writable<C> + SameKey + Ord, V: Writable<C>> Writable<C> for BTreeMap<K, V> {
+    #[inline]
+    fn write_to<W: Writer<C>>(&self, writer: &mut W) -> Result<(), C::Error> {
+        let pairs = self.iter();
+        write_counted_items(self.len(), pairs, writer)
+    }
+}
+
+impl<C: Context, K: Writable<C> + SameKey + Hash, V: Writable<C>, S: BuildHasher> Writable<C>
+    for HashMap<K, V, S> {
+    #[inline]
+    fn write_to<W: Writer<C>>(&self, writer: &mut W) -> Result<(), C::Error> {
+        write_counted_items(self.len(), self.iter(), writer)
+    }
+}
+
+impl<C: Context, K: Writable<C> + SameKey + Hash, V: Writable<C>, S: BuildHasher> Writable<C>
+    for IndexMap<K, V, S> {
+    #[inline]
+    fn write_to<W: Writer<C>>(&self, writer: &mut W) -> Result<(), C::Error> {
+        let count = self.len();
+        write_counted_items(count, self.iter(), writer)
+    }
+}

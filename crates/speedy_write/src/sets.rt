@@ -1,0 +1,32 @@
+//! How sets are written.
+use crate::collections::write_counted_items;
+use crate::writable::Writable;
+use crate::writer::Writer;
+use indexmap::IndexSet;
+use speedy_base::context::Context;
+use speedy_layout::SameKey;
+use std::collections::{BTreeSet, HashSet};
+use std::hash::{BuildHasher, Hash};
+
+impl<C: Context, T: Writable<C> + SameKey + Ord> Writable<C> for BTreeSet<T> {
+    #[inline]
+    fn write_to<W: Writer<C>>(&self, writer: &mut W) -> Result<(), C::Error> {
+        let items = self.iter();
+        write_counted_items(self.len(), items, writer)
+    }
+}
+
+impl<C: Context, T: Writable<C> + SameKey + Hash, S: BuildHasher> Writable<C> for HashSet<T, S> {
+    #[inline]
+    fn write_to<W: Writer<C>>(&self, writer: &mut W) -> Result<(), C::Error> {
+        write_counted_items(self.len(), self.iter(), writer)
+    }
+}
+
+impl<C: Context, T: Writable<C> + SameKey + Hash, S: BuildHasher> Writable<C> for IndexSet<T, S> {
+    #[inline]
+    fn write_to<W: Writer<C>>(&self, writer: &mut W) -> Result<(), C::Error> {
+        let count = self.len();
+        write_counted_items(count, self.iter(), writer)
+    }
+}
