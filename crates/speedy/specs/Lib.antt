@@ -7,17 +7,30 @@ pub use Rattle.speedy_base.specs.Encoding
 pub use Rattle.speedy_base.specs.Error
 pub use Rattle.speedy_base.specs.ErrorKind
 pub use Rattle.speedy_base.specs.Signed
+pub use Rattle.speedy_layout.specs.Adding
 pub use Rattle.speedy_layout.specs.Addresses
 pub use Rattle.speedy_layout.specs.Codes
+pub use Rattle.speedy_layout.specs.CollectedIndexes
+pub use Rattle.speedy_layout.specs.CollectedMaps
+pub use Rattle.speedy_layout.specs.CollectedSets
 pub use Rattle.speedy_layout.specs.Flags
 pub use Rattle.speedy_layout.specs.Format
+pub use Rattle.speedy_layout.specs.Gathered
+pub use Rattle.speedy_layout.specs.Gathering
+pub use Rattle.speedy_layout.specs.Keys
 pub use Rattle.speedy_layout.specs.Laws
 pub use Rattle.speedy_layout.specs.Leaves
 pub use Rattle.speedy_layout.specs.Lists
+pub use Rattle.speedy_layout.specs.Maps
+pub use Rattle.speedy_layout.specs.Members
 pub use Rattle.speedy_layout.specs.NonZero
 pub use Rattle.speedy_layout.specs.Numbers
+pub use Rattle.speedy_layout.specs.Orders
 pub use Rattle.speedy_layout.specs.Owned
+pub use Rattle.speedy_layout.specs.SameKeys
+pub use Rattle.speedy_layout.specs.SeenKeys
 pub use Rattle.speedy_layout.specs.Sequences
+pub use Rattle.speedy_layout.specs.Sets
 pub use Rattle.speedy_layout.specs.Texts
 pub use Rattle.speedy_layout.specs.Tuples
 pub use Rattle.speedy_layout.specs.Utf8
@@ -25,6 +38,7 @@ pub use Rattle.speedy_layout.specs.Varint
 pub use Rattle.speedy_layout.specs.Zigzag
 pub use Rattle.speedy_read.specs.Buffers
 pub use Rattle.speedy_read.specs.Codes as ReadCodes
+pub use Rattle.speedy_read.specs.Collections as ReadCollections
 pub use Rattle.speedy_read.specs.Exits
 pub use Rattle.speedy_read.specs.Flags as ReadFlags
 pub use Rattle.speedy_read.specs.Reading
@@ -32,9 +46,10 @@ pub use Rattle.speedy_read.specs.ReadingLemmas
 pub use Rattle.speedy_read.specs.RoundTrip
 pub use Rattle.speedy_read.specs.Sequences as ReadSequences
 pub use Rattle.speedy_write.specs.Codes as WriteCodes
+pub use Rattle.speedy_write.specs.Collections as WriteCollections
 pub use Rattle.speedy_write.specs.CollectorLemmas
-pub use Rattle.speedy_write.specs.Collectors
 pub use Rattle.speedy_write.specs.CollectorViews
+pub use Rattle.speedy_write.specs.Collectors
 pub use Rattle.speedy_write.specs.Sequences as WriteSequences
 pub use Rattle.speedy_write.specs.WaysOfWriting
 pub use Rattle.speedy_write.specs.Writing

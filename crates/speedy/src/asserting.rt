@@ -2,9 +2,11 @@
 //!
 //! A test ends where one of these does not hold. They answer nothing, so a test has no other way out than its end,
 //! which is what makes it quick to prove.
-use crate::context::{BigEndian, Context, LittleEndian, PlainContext};
+use crate::collections::FromItems;
+use crate::context::{BigEndian, Context, LittleEndian, PlainContext, StrictLittleEndian};
 use crate::endianness::Endianness;
 use crate::error::{Error, IsEof};
+use crate::layout::Layout;
 use crate::private::get_error_kind;
 use crate::readable::Readable;
 use crate::writable::Writable;
@@ -20,6 +22,19 @@ pub(crate) fn make_vec<T: Copy>(rt: &impl Abort, alloc: Global, items: &[T]) -> 
 /// A text of its own memory.
 pub(crate) fn make_text(rt: &impl Abort, alloc: Global, text: &str) -> String {
     String::from_str(alloc, text).expect(rt, "a text")
+}
+
+/// What the items gather to, one after another.
+pub(crate) fn gather<T: Layout + Copy, F: FromItems<T>>(
+    rt: &impl Abort,
+    alloc: Global,
+    items: &[T],
+) -> F {
+    let mut gathered = F::empty(alloc);
+    for item in items {
+        assert!(rt; gathered.add(*item).is_ok(), "no room for an item");
+    }
+    gathered
 }
 
 /// Asserts that two values are the same.
@@ -369,4 +384,25 @@ where
     let read = outcome.expect(rt, "a value");
     assert_value(rt, &read, value, followed);
     assert_same(rt, length, spelling_of(rt, followed).len());
+}
+
+/// Asserts that each value is read of the first bytes and written as the others, and that the first ones are refused
+/// where the written form is demanded. A byte follows each of the two.
+pub(crate) fn assert_other_spellings<'a, T>(
+    rt: &impl Abort,
+    alloc: Global,
+    rows: &[(T, &'a [u8], &'a [u8])],
+)
+where
+    T: Readable<'a, LittleEndian> + Writable<LittleEndian>,
+    T: Readable<'a, StrictLittleEndian> + PartialEq,
+{
+    for (value, spelled, written) in rows {
+        let count = spelling_of(rt, spelled).len();
+        assert_reads(rt, alloc, LittleEndian {}, value, spelled, count);
+        let outcome = T::read_from_buffer_with_ctx(alloc, LittleEndian {}, spelled);
+        assert_written_again(rt, alloc, LittleEndian {}, outcome, written);
+        let outcome = T::read_from_buffer_with_ctx(alloc, StrictLittleEndian {}, spelled);
+        assert_refused(rt, alloc, outcome, "NotWrittenForm");
+    }
 }

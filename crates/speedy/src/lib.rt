@@ -17,6 +17,10 @@ mod round_trips;
 #[cfg(test)]
 mod tests_addresses;
 #[cfg(test)]
+mod tests_collections;
+#[cfg(test)]
+mod tests_cows;
+#[cfg(test)]
 mod tests_devices;
 #[cfg(test)]
 mod tests_endianness;
@@ -31,6 +35,8 @@ mod tests_leaves;
 #[cfg(test)]
 mod tests_lists;
 #[cfg(test)]
+mod tests_maps;
+#[cfg(test)]
 mod tests_non_zero;
 #[cfg(test)]
 mod tests_numbers;
@@ -40,6 +46,8 @@ mod tests_owned;
 mod tests_ranges;
 #[cfg(test)]
 mod tests_readers;
+#[cfg(test)]
+mod tests_sets;
 #[cfg(test)]
 mod tests_strict;
 #[cfg(test)]
@@ -52,6 +60,7 @@ mod tests_varint;
 mod tests_writers;
 
 pub use buffer::Buffer;
+pub use collections::FromItems;
 pub use context::{
     BigEndian, Context, LittleEndian, PlainContext, StrictBigEndian, StrictLittleEndian,
 };
@@ -63,7 +72,7 @@ pub use reader::{LendingReader, Reader};
 pub use same_key::SameKey;
 pub use speedy_base::{context, device, endianness, error};
 pub use speedy_layout::{layout, same_key, varint};
-pub use speedy_read::{buffer, readable, reader};
+pub use speedy_read::{buffer, collections, readable, reader};
 pub use speedy_write::{writable, writer};
 pub use writable::Writable;
 pub use writer::Writer;

@@ -75,6 +75,7 @@ fn a_reader_says_what_is_to_come(rt: HostRuntime) {
     assert_same(&rt, reader.len(), 25);
     assert!(rt; !reader.is_empty());
     assert_same(&rt, reader.endianness(), Endianness::LittleEndian);
+    assert!(rt; !reader.demands_written_form());
     assert_same(&rt, reader.can_read_at_least(25), Some(true));
     assert_same(&rt, reader.can_read_at_least(26), Some(false));
 }

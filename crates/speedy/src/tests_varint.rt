@@ -56,12 +56,15 @@ fn assert_written_as(rt: &impl Abort, number: u64, spelling: &[u8]) {
     assert_bytes(rt, &bytes[..count], spelling);
 }
 
-/// Asserts that the bytes are as many as the first one says, and that they spell the number.
-fn assert_spells(rt: &impl Abort, bytes: &[u8], number: u64) {
+/// Asserts that the bytes are as many as the first one says, that they spell the number, and whether they are what is
+/// written of it.
+fn assert_spells(rt: &impl Abort, bytes: &[u8], number: u64, is_written: bool) {
     let (first, rest) = bytes.split_first().expect(rt, "a first byte");
     let more = VarInt64::length_of(*first);
     assert!(rt; rest.len() == more, "at {bytes:?}");
-    assert_same(rt, u64::from(VarInt64::decode(*first, rest)), number);
+    let decoded = VarInt64::decode(*first, rest);
+    assert_same(rt, u64::from(decoded), number);
+    assert_same(rt, decoded.is_written_with(more), is_written);
 }
 
 /// Asserts that each number becomes its bytes, and these become the number again.
@@ -69,7 +72,7 @@ fn assert_become_each_other(rt: &impl Abort, rows: &[(u64, &[u8])]) {
     for (number, followed) in rows {
         let (_, spelling) = followed.split_last().expect(rt, "a byte that follows");
         assert_written_as(rt, *number, spelling);
-        assert_spells(rt, spelling, *number);
+        assert_spells(rt, spelling, *number, true);
     }
 }
 
@@ -99,7 +102,7 @@ fn integers_of_variable_length_lie_alike_in_both_orders(rt: HostRuntime) {
 fn longer_spellings_are_read_and_written_short(rt: HostRuntime) {
     let order = Endianness::BigEndian;
     for (bytes, number, spelling) in LONGER {
-        assert_spells(&rt, bytes, number);
+        assert_spells(&rt, bytes, number, false);
         let (outcome, count) = VarInt64::read_with_length_from_buffer_with_ctx(
             rt.alloc(),
             order,

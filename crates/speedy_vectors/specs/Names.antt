@@ -1,5 +1,8 @@
 -- The types of the program.
 use Rattle.std.specs.Prelude.{ℕ, ◌==◌, List, [], ◌∷◌, Bool, true, not, ◌&&◌, IsTrue, codes, refl}
+use Rattle.std.specs.Ordering.{nat_cmp}
+use Rattle.std.specs.String.{string_bytes, string_cmp}
+use Rattle.std.specs.declared.alloc.Global.{Global}
 use Rattle.std.specs.Int.{w8, w16, w32, w64, w128}
 use Rattle.speedy_base.specs.Encoding.{Encoding}
 use Rattle.speedy_layout.specs.Format.{Format}
@@ -10,6 +13,9 @@ use Rattle.speedy_layout.specs.Addresses.{address, ip_address}
 use Rattle.speedy_layout.specs.Flags.{flag, option, alternative}
 use Rattle.speedy_layout.specs.Tuples.{unit, pair}
 use Rattle.speedy_layout.specs.Lists.{list, vector}
+use Rattle.speedy_layout.specs.SeenKeys.{IsLess}
+use Rattle.speedy_layout.specs.Maps.{tree_map, index_map}
+use Rattle.speedy_layout.specs.Sets.{tree_set, index_set}
 use Rattle.speedy_layout.specs.Texts.{text, raw_bytes}
 use Rattle.speedy_layout.specs.Owned.{owned_content}
 use Rattle.speedy_layout.specs.Varint.{varint}
@@ -31,6 +37,14 @@ pub record Named : Type 1 where
 
 abbrev by : {V : Type 0} → (text : List ℕ) → IsTrue (has_no_space text) → ℕ → (Encoding → Format V) → Named
 by {V = V} text no_space least format = record { text = text; no_space = no_space; Seen = V; least = least; format = format }
+
+-- numbers in their order
+abbrev LessNumber : ℕ → ℕ → Type 0
+LessNumber = IsLess (λ (n : ℕ). n) nat_cmp
+
+-- texts in the order of their bytes
+abbrev LessText : List ℕ → List ℕ → Type 0
+LessText = IsLess (string_bytes {Z = Global}) string_cmp
 
 -- each type of the program
 abbrev pub named : TypeName → Named
@@ -71,6 +85,11 @@ named names.VecU8 = by (codes "vec_u8") refl 4 (λ encoding. list encoding (unsi
 named names.VecU16 = by (codes "vec_u16") refl 4 (λ encoding. list encoding (unsigned_number 2 encoding))
 named names.BoxedSliceU16 = by (codes "boxed_u16") refl 4 (λ encoding. list encoding (unsigned_number 2 encoding))
 named names.SmallVecU16x4 = by (codes "small_vec_u16_4") refl 4 (λ encoding. list encoding (unsigned_number 2 encoding))
+named names.SetU16 = by (codes "set_u16") refl 4 (λ encoding. tree_set encoding LessNumber (unsigned_number 2 encoding))
+named names.MapU8U8 = by (codes "map_u8_u8") refl 4 (λ encoding. tree_map encoding LessNumber (unsigned_number 1 encoding) (unsigned_number 1 encoding))
+named names.MapStringVecU16 = by (codes "map_string_vec_u16") refl 4 (λ encoding. tree_map encoding LessText (text encoding) (list encoding (unsigned_number 2 encoding)))
+named names.IndexSetU16 = by (codes "index_set_u16") refl 4 (λ encoding. index_set encoding (unsigned_number 2 encoding))
+named names.IndexMapU8U8 = by (codes "index_map_u8_u8") refl 4 (λ encoding. index_map encoding (unsigned_number 1 encoding) (unsigned_number 1 encoding))
 named names.VecChar = by (codes "vec_char") refl 4 (λ encoding. list encoding (character encoding))
 named names.VecUnit = by (codes "vec_unit") refl 4 (λ encoding. list encoding unit)
 named names.VecOptString = by (codes "vec_opt_string") refl 4 (λ encoding. list encoding (option encoding (text encoding)))

@@ -6,6 +6,7 @@ ghost use Rattle.speedy_vectors.specs.Answer.{hex_of, kind_name, ok_text, refuse
 ghost use Rattle.speedy_vectors.specs.Line.{encoding_of};
 
 use crate::line::{Line, LineOrder, TypeName, for_each_name, parse_line};
+use indexmap::{IndexMap, IndexSet};
 use smallvec::SmallVec;
 use speedy::private::{ErrorKind, get_error_kind};
 use speedy::varint::VarInt64;
@@ -15,6 +16,7 @@ use speedy::{
 };
 use std::alloc::{AllocError, Global};
 use std::boxed::{BoxedSlice, BoxedStr};
+use std::collections::{BTreeMap, BTreeSet};
 use std::fmt;
 use std::net::{IpAddr, Ipv4Addr, Ipv6Addr};
 use std::num::{NonZeroI32, NonZeroU8, NonZeroU16};

@@ -10,8 +10,8 @@ use hex::FromHexError;
 use speedy_base::error::{Error, ErrorKind, error_out_of_memory};
 use std::alloc::Global;
 
-/// The orders that the program knows: how numbers lie, and whether values are read from their written
-/// form alone.
+/// The orders that the program knows: how numbers lie, and whether values are read from their
+/// written form alone.
 #[derive(Clone, Copy, Debug, PartialEq, Eq)]
 pub enum LineOrder {
     /// `le`.
@@ -101,6 +101,16 @@ pub enum TypeName {
     BoxedSliceU16,
     /// `SmallVec<u16, 4>`.
     SmallVecU16x4,
+    /// `BTreeSet<u16>`.
+    SetU16,
+    /// `BTreeMap<u8, u8>`.
+    MapU8U8,
+    /// `BTreeMap<String, Vec<u16>>`.
+    MapStringVecU16,
+    /// `IndexSet<u16>`.
+    IndexSetU16,
+    /// `IndexMap<u8, u8>`.
+    IndexMapU8U8,
     /// `Vec<char>`.
     VecChar,
     /// `Vec<()>`.
@@ -150,6 +160,11 @@ macro_rules! for_each_name {
             b"vec_u16" VecU16 Vec<u16>;
             b"boxed_u16" BoxedSliceU16 BoxedSlice<u16>;
             b"small_vec_u16_4" SmallVecU16x4 SmallVec<u16, 4>;
+            b"set_u16" SetU16 BTreeSet<u16>;
+            b"map_u8_u8" MapU8U8 BTreeMap<u8, u8>;
+            b"map_string_vec_u16" MapStringVecU16 BTreeMap<String, Vec<u16>>;
+            b"index_set_u16" IndexSetU16 IndexSet<u16>;
+            b"index_map_u8_u8" IndexMapU8U8 IndexMap<u8, u8>;
             b"vec_char" VecChar Vec<char>;
             b"vec_unit" VecUnit Vec<()>;
             b"vec_opt_string" VecOptString Vec<Option<String>>;

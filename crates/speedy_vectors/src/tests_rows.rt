@@ -17,8 +17,8 @@ fn written_by<'a>(rt: &impl Abort, answer: &'a str) -> Option<&'a str> {
     Some(written.split_once('\n').expect(rt, "a line feed").0)
 }
 
-/// Asserts of each answered value that its written form is answered the same under the strict order, and so is its
-/// line if it begins with that form. If it does not, the line is refused.
+/// Asserts of each answered value that its written form is answered the same under the strict
+/// order, and so is its line if it begins with that form. If it does not, the line is refused.
 fn assert_strict_answers(rt: &impl Abort, alloc: Global, rows: &[(&str, &str)]) {
     for (line, answer) in rows {
         let Some(written) = written_by(rt, answer) else {
@@ -154,6 +154,43 @@ const OWNED: [(&str, &str); 11] = [
     ("le vec_strings 00000000", "bad line\n"),
 ];
 
+/// Maps and sets, in any order and with repeated keys, and what is written of them.
+const GATHERED: [(&str, &str); 6] = [
+    ("le map_u8_u8 0200000007010702", "ok 8 010000000702\n"),
+    ("le map_u8_u8 0200000007010601", "ok 8 0200000006010701\n"),
+    (
+        "le set_u16 03000000020001000200",
+        "ok 10 0200000001000200\n",
+    ),
+    (
+        "le index_set_u16 03000000020001000200",
+        "ok 10 0200000002000100\n",
+    ),
+    (
+        "le index_map_u8_u8 03000000090107020903",
+        "ok 10 0200000009030702\n",
+    ),
+    (
+        "le map_string_vec_u16 020000000100000062000000000100000061010000000100",
+        "ok 24 020000000100000061010000000100010000006200000000\n",
+    ),
+];
+
+/// What the strict orders refuse of them, and what they do not.
+const STRICTLY_GATHERED: [(&str, &str); 5] = [
+    ("sle map_u8_u8 0200000007010702", "refused NotWrittenForm\n"),
+    ("sle map_u8_u8 0200000007010601", "refused NotWrittenForm\n"),
+    ("sle map_u8_u8 0200000006010701", "ok 8 0200000006010701\n"),
+    (
+        "sle index_map_u8_u8 0200000007010601",
+        "ok 8 0200000007010601\n",
+    ),
+    (
+        "sle index_set_u16 0200000001000100",
+        "refused NotWrittenForm\n",
+    ),
+];
+
 /// What the strict orders refuse, and what they do not.
 const STRICT: [(&str, &str); 10] = [
     ("sle varint 8000", "refused NotWrittenForm\n"),
@@ -208,6 +245,12 @@ fn what_owns_memory_is_answered(rt: HostRuntime) {
 }
 
 #[test]
+fn maps_and_sets_are_answered(rt: HostRuntime) {
+    assert_answers(&rt, rt.alloc(), &GATHERED);
+    assert_answers(&rt, rt.alloc(), &STRICTLY_GATHERED);
+}
+
+#[test]
 fn strict_orders_are_answered(rt: HostRuntime) {
     assert_answers(&rt, rt.alloc(), &STRICT);
 }
@@ -220,4 +263,5 @@ fn strict_orders_answer_written_forms_alone(rt: HostRuntime) {
     assert_strict_answers(&rt, rt.alloc(), &ADDRESSES);
     assert_strict_answers(&rt, rt.alloc(), &COMPOSED);
     assert_strict_answers(&rt, rt.alloc(), &OWNED);
+    assert_strict_answers(&rt, rt.alloc(), &GATHERED);
 }

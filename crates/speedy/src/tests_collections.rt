@@ -1,0 +1,160 @@
+//! Items that a reader gathers without a count before them, and that a writer takes so.
+use crate::asserting::{
+    assert_bytes, assert_ok, assert_reads, assert_refused, assert_same, gather, make_vec,
+};
+use crate::collections::FromItems;
+use crate::context::LittleEndian;
+use crate::readable::{BufferReader, ReadMany};
+use crate::reader::LendingReader;
+use crate::writable::{BufferCollector, Writable};
+use crate::writer::Writer;
+use indexmap::{IndexMap, IndexSet};
+use std::alloc::Global;
+use std::collections::{BTreeMap, BTreeSet, HashMap, HashSet};
+use std::process::Abort;
+
+/// The items 2, 1 and 2, of two bytes each, and a byte that is no item.
+const ITEMS: [u8; 7] = [2, 0, 1, 0, 2, 0, 9];
+
+/// Asserts that three items gather to the collection and leave the byte after them, that none gather to what is
+/// empty, and that more than there are end too early.
+fn assert_items<F: FromItems<u16> + PartialEq>(rt: &impl Abort, alloc: Global, gathered: F) {
+    let mut reader = BufferReader::new(alloc, LittleEndian {}, &ITEMS);
+    let none: F = reader.read_collection(0).expect(rt, "no items");
+    assert!(rt; none == F::empty(alloc), "something of nothing");
+    let read: F = reader.read_collection(3).expect(rt, "three items");
+    assert!(rt; read == gathered, "another collection");
+    assert_same(rt, reader.len(), 1);
+    let items = make_vec(rt, alloc, &[2, 1, 2]);
+    let at_once = F::gather(alloc, items).expect(rt, "three items");
+    assert!(rt; at_once == gathered, "another collection at once");
+    let mut reader = BufferReader::new(alloc, LittleEndian {}, &ITEMS);
+    let outcome = reader.read_collection::<F, u16>(usize::MAX);
+    assert_refused(rt, alloc, outcome, "UnexpectedEndOfInput");
+}
+
+#[test]
+fn a_reader_gathers_so_many_items(rt: HostRuntime) {
+    let alloc = rt.alloc();
+    assert_items(&rt, alloc, make_vec(&rt, alloc, &[2_u16, 1, 2]));
+    assert_items::<BTreeSet<u16>>(&rt, alloc, gather(&rt, alloc, &[1, 2]));
+    assert_items::<HashSet<u16>>(&rt, alloc, gather(&rt, alloc, &[1, 2]));
+    assert_items::<IndexSet<u16>>(&rt, alloc, gather(&rt, alloc, &[2, 1]));
+}
+
+/// The pairs of 2 and 1, of 1 and 2 and of 2 and 3, and a byte that is no pair.
+const PAIRS: [u8; 7] = [2, 1, 1, 2, 2, 3, 9];
+
+/// Asserts the same of pairs.
+fn assert_pairs<F: FromItems<(u8, u8)> + PartialEq>(rt: &impl Abort, alloc: Global, gathered: F) {
+    let mut reader = BufferReader::new(alloc, LittleEndian {}, &PAIRS);
+    let none: F = reader.read_key_value_collection(0).expect(rt, "no pairs");
+    assert!(rt; none == F::empty(alloc), "something of nothing");
+    let read: F = reader
+        .read_key_value_collection(3)
+        .expect(rt, "three pairs");
+    assert!(rt; read == gathered, "another collection");
+    assert_same(rt, reader.len(), 1);
+    let mut reader = BufferReader::new(alloc, LittleEndian {}, &PAIRS);
+    let outcome = reader.read_key_value_collection::<F, u8, u8>(usize::MAX);
+    assert_refused(rt, alloc, outcome, "UnexpectedEndOfInput");
+}
+
+#[test]
+fn a_reader_gathers_so_many_pairs(rt: HostRuntime) {
+    let alloc = rt.alloc();
+    assert_pairs(&rt, alloc, make_vec(&rt, alloc, &[(2, 1), (1, 2), (2, 3)]));
+    assert_pairs::<BTreeMap<u8, u8>>(&rt, alloc, gather(&rt, alloc, &[(1, 2), (2, 3)]));
+    assert_pairs::<HashMap<u8, u8>>(&rt, alloc, gather(&rt, alloc, &[(1, 2), (2, 3)]));
+    assert_pairs::<IndexMap<u8, u8>>(&rt, alloc, gather(&rt, alloc, &[(2, 3), (1, 2)]));
+}
+
+#[test]
+fn items_are_gathered_by_their_type(rt: HostRuntime) {
+    let mut reader = BufferReader::new(rt.alloc(), LittleEndian {}, &ITEMS);
+    let items: Vec<u16> = ReadMany::collect_many(&mut reader, 3).expect(&rt, "three items");
+    assert_same(&rt, items.as_slice(), &[2, 1, 2]);
+}
+
+/// Asserts for each of the items whether a collection of 1 and 3 is written so with it at the end.
+fn assert_accepts<F: FromItems<u8>>(rt: &impl Abort, alloc: Global, rows: &[(u8, bool)]) {
+    let gathered: F = gather(rt, alloc, &[1, 3]);
+    for (item, accepts) in rows {
+        assert_same(rt, gathered.accepts(item), *accepts);
+    }
+}
+
+/// Asserts the same of pairs with these keys.
+fn assert_accepts_keys<F: FromItems<(u8, bool)>>(
+    rt: &impl Abort,
+    alloc: Global,
+    rows: &[(u8, bool)],
+) {
+    let gathered: F = gather(rt, alloc, &[(1, true), (3, false)]);
+    for (key, accepts) in rows {
+        assert_same(rt, gathered.accepts(&(*key, true)), *accepts);
+    }
+}
+
+/// Items, and which of them come after 1 and 3 in a list, in one of each item once, and in an ascending one.
+const IN_A_LIST: [(u8, bool); 3] = [(2, true), (3, true), (4, true)];
+
+const ONCE: [(u8, bool); 3] = [(2, true), (3, false), (4, true)];
+
+const ASCENDING: [(u8, bool); 3] = [(2, false), (3, false), (4, true)];
+
+#[test]
+fn a_collection_tells_which_items_are_written_after_its_own(rt: HostRuntime) {
+    let alloc = rt.alloc();
+    assert_accepts::<Vec<u8>>(&rt, alloc, &IN_A_LIST);
+    assert_accepts::<BTreeSet<u8>>(&rt, alloc, &ASCENDING);
+    assert_accepts::<HashSet<u8>>(&rt, alloc, &ONCE);
+    assert_accepts::<IndexSet<u8>>(&rt, alloc, &ONCE);
+}
+
+#[test]
+fn a_map_tells_which_pairs_are_written_after_its_own(rt: HostRuntime) {
+    let alloc = rt.alloc();
+    assert_accepts_keys::<BTreeMap<u8, bool>>(&rt, alloc, &ASCENDING);
+    assert_accepts_keys::<HashMap<u8, bool>>(&rt, alloc, &ONCE);
+    assert_accepts_keys::<IndexMap<u8, bool>>(&rt, alloc, &ONCE);
+}
+
+/// Writes 1 and 2, which it is given, and then the pair of 3 and 4 and the item 5, which it is lent.
+fn write_items(rt: &impl Abort, alloc: Global, writer: &mut impl Writer<LittleEndian>) {
+    let numbers = make_vec(rt, alloc, &[1_u16, 2]);
+    assert_ok(rt, writer.write_collection(numbers), ());
+    let map: BTreeMap<u8, u16> = gather(rt, alloc, &[(3, 4)]);
+    assert_ok(rt, writer.write_collection(&map), ());
+    let set: IndexSet<u8> = gather(rt, alloc, &[5]);
+    assert_ok(rt, writer.write_collection(&set), ());
+}
+
+#[test]
+fn a_writer_takes_items_without_a_count(rt: HostRuntime) {
+    let mut context = LittleEndian {};
+    let mut buffer = [9; 9];
+    let mut writer = BufferCollector::new(&mut context, &mut buffer);
+    write_items(&rt, rt.alloc(), &mut writer);
+    let outcome = writer.write_collection(0..2_u8);
+    assert_refused(&rt, rt.alloc(), outcome, "UnexpectedEndOfOutputBuffer");
+    assert_same(&rt, writer.finish(), 9);
+    assert_bytes(&rt, &buffer, &[1, 0, 2, 0, 3, 4, 0, 5, 0]);
+}
+
+#[test]
+fn pairs_spell_the_map_that_they_gather_to(rt: HostRuntime) {
+    let alloc = rt.alloc();
+    let context = LittleEndian {};
+    let pairs = make_vec(&rt, alloc, &[(7_u8, 1_u16), (6, 1), (7, 2)]);
+    let map: BTreeMap<u8, u16> = gather(&rt, alloc, &[(6, 1), (7, 2)]);
+    let bytes = pairs
+        .write_to_vec_with_ctx(alloc, context)
+        .expect(&rt, "bytes");
+    assert_reads(&rt, alloc, context, &map, &bytes, 13);
+    let bytes = map
+        .write_to_vec_with_ctx(alloc, context)
+        .expect(&rt, "bytes");
+    let pairs = make_vec(&rt, alloc, &[(6_u8, 1_u16), (7, 2)]);
+    assert_reads(&rt, alloc, context, &pairs, &bytes, 10);
+}

@@ -1,0 +1,187 @@
+//! Maps: pairs that gather to them, in any order and with repeated keys, and the pairs that are written. The bytes come
+//! from outside.
+use crate::asserting::{
+    assert_encoding, assert_other_spellings, assert_reads, assert_same, gather, make_text,
+};
+use crate::context::{LittleEndian, StrictLittleEndian};
+use crate::writable::Writable;
+use indexmap::IndexMap;
+use std::alloc::Global;
+use std::collections::{BTreeMap, HashMap};
+use std::process::Abort;
+
+/// A tree map of these pairs.
+fn make_tree_map(rt: &impl Abort, alloc: Global, pairs: &[(u8, u8)]) -> BTreeMap<u8, u8> {
+    gather(rt, alloc, pairs)
+}
+
+/// A hashed map of these pairs.
+fn make_hash_map(rt: &impl Abort, alloc: Global, pairs: &[(u8, u8)]) -> HashMap<u8, u8> {
+    gather(rt, alloc, pairs)
+}
+
+/// An indexed map of these pairs.
+fn make_index_map(rt: &impl Abort, alloc: Global, pairs: &[(u8, u8)]) -> IndexMap<u8, u8> {
+    gather(rt, alloc, pairs)
+}
+
+#[test]
+fn tree_maps_lie_in_the_order_of_their_keys(rt: HostRuntime) {
+    let alloc = rt.alloc();
+    let rows = [
+        (
+            make_tree_map(&rt, alloc, &[]),
+            &[0, 0, 0, 0, 9][..],
+            &[0, 0, 0, 0, 9][..],
+        ),
+        (
+            make_tree_map(&rt, alloc, &[(7, 2), (6, 1)]),
+            &[2, 0, 0, 0, 6, 1, 7, 2, 9][..],
+            &[0, 0, 0, 2, 6, 1, 7, 2, 9][..],
+        ),
+    ];
+    assert_encoding(&rt, alloc, 4, &rows);
+}
+
+#[test]
+fn hashed_maps_lie_after_their_counts(rt: HostRuntime) {
+    let alloc = rt.alloc();
+    let rows = [
+        (
+            make_hash_map(&rt, alloc, &[]),
+            &[0, 0, 0, 0, 9][..],
+            &[0, 0, 0, 0, 9][..],
+        ),
+        (
+            make_hash_map(&rt, alloc, &[(7, 2)]),
+            &[1, 0, 0, 0, 7, 2, 9][..],
+            &[0, 0, 0, 1, 7, 2, 9][..],
+        ),
+    ];
+    assert_encoding(&rt, alloc, 4, &rows);
+}
+
+#[test]
+fn indexed_maps_lie_in_their_own_order(rt: HostRuntime) {
+    let alloc = rt.alloc();
+    let rows = [
+        (
+            make_index_map(&rt, alloc, &[]),
+            &[0, 0, 0, 0, 9][..],
+            &[0, 0, 0, 0, 9][..],
+        ),
+        (
+            make_index_map(&rt, alloc, &[(9, 3), (7, 2)]),
+            &[2, 0, 0, 0, 9, 3, 7, 2, 9][..],
+            &[0, 0, 0, 2, 9, 3, 7, 2, 9][..],
+        ),
+    ];
+    assert_encoding(&rt, alloc, 4, &rows);
+}
+
+/// A map from texts to maps, some of them of no pairs.
+type Nested = BTreeMap<String, BTreeMap<u8, Option<u16>>>;
+
+/// A map of these texts and pairs.
+fn make_nested(rt: &impl Abort, alloc: Global, rows: &[(&str, &[(u8, Option<u16>)])]) -> Nested {
+    let mut map = BTreeMap::new(alloc);
+    for (key, pairs) in rows {
+        let inner = gather(rt, alloc, pairs);
+        assert!(rt;
+            map.insert(make_text(rt, alloc, key), inner).is_ok(),
+            "no room for a map"
+        );
+    }
+    map
+}
+
+#[test]
+fn maps_lie_within_each_other(rt: HostRuntime) {
+    let alloc = rt.alloc();
+    let pairs = [(2, None), (1, Some(258))];
+    let nested = make_nested(&rt, alloc, &[("b", &[]), ("a", &pairs)]);
+    let little = [
+        2, 0, 0, 0, 1, 0, 0, 0, 97, 2, 0, 0, 0, 1, 1, 2, 1, 2, 0, 1, 0, 0, 0, 98, 0, 0, 0, 0, 9,
+    ];
+    let big = [
+        0, 0, 0, 2, 0, 0, 0, 1, 97, 0, 0, 0, 2, 1, 1, 1, 2, 2, 0, 0, 0, 0, 1, 98, 0, 0, 0, 0, 9,
+    ];
+    assert_encoding(&rt, alloc, 4, &[(nested, &little, &big)]);
+}
+
+/// Pairs of which the first and the last have one key.
+const REPEATED: [u8; 11] = [3, 0, 0, 0, 9, 1, 7, 2, 9, 3, 0];
+
+/// Pairs of one key alone, and the one that stands.
+const ONE_KEY: [u8; 11] = [3, 0, 0, 0, 7, 1, 7, 3, 7, 2, 0];
+
+const LAST: [u8; 7] = [1, 0, 0, 0, 7, 2, 0];
+
+/// Pairs that don't ascend.
+const UNORDERED: [u8; 9] = [2, 0, 0, 0, 7, 1, 6, 1, 0];
+
+#[test]
+fn tree_maps_are_read_from_other_lists_too(rt: HostRuntime) {
+    let alloc = rt.alloc();
+    let last = make_tree_map(&rt, alloc, &[(7, 2)]);
+    let repeated = make_tree_map(&rt, alloc, &[(9, 3), (7, 2)]);
+    let unordered = make_tree_map(&rt, alloc, &[(7, 1), (6, 1)]);
+    let rows = [
+        (last, &ONE_KEY[..], &LAST[..]),
+        (repeated, &REPEATED[..], &[2, 0, 0, 0, 7, 2, 9, 3, 0][..]),
+        (unordered, &UNORDERED[..], &[2, 0, 0, 0, 6, 1, 7, 1, 0][..]),
+    ];
+    assert_other_spellings(&rt, alloc, &rows);
+}
+
+#[test]
+fn hashed_maps_are_read_from_other_lists_too(rt: HostRuntime) {
+    let alloc = rt.alloc();
+    let last = make_hash_map(&rt, alloc, &[(7, 2)]);
+    assert_other_spellings(&rt, alloc, &[(last, &ONE_KEY[..], &LAST[..])]);
+    let repeated = make_hash_map(&rt, alloc, &[(9, 3), (7, 2)]);
+    assert_reads(&rt, alloc, LittleEndian {}, &repeated, &REPEATED, 10);
+    let unordered = make_hash_map(&rt, alloc, &[(6, 1), (7, 1)]);
+    assert_reads(&rt, alloc, StrictLittleEndian {}, &unordered, &UNORDERED, 8);
+}
+
+#[test]
+fn indexed_maps_are_read_from_other_lists_too(rt: HostRuntime) {
+    let alloc = rt.alloc();
+    let last = make_index_map(&rt, alloc, &[(7, 2)]);
+    let repeated = make_index_map(&rt, alloc, &[(9, 3), (7, 2)]);
+    let rows = [
+        (last, &ONE_KEY[..], &LAST[..]),
+        (repeated, &REPEATED[..], &[2, 0, 0, 0, 9, 3, 7, 2, 0][..]),
+    ];
+    assert_other_spellings(&rt, alloc, &rows);
+    let unordered = make_index_map(&rt, alloc, &[(7, 1), (6, 1)]);
+    assert_reads(&rt, alloc, StrictLittleEndian {}, &unordered, &UNORDERED, 8);
+}
+
+/// A hashed map of so many texts, each with its number.
+fn make_numbered(rt: &impl Abort, alloc: Global, count: u16) -> HashMap<String, u16> {
+    let mut map = HashMap::new(alloc);
+    for number in 0..count {
+        let key = format!(in alloc; "key {number}").expect(rt, "a key");
+        assert!(rt; map.insert(key, number).is_ok(), "no room for a pair");
+    }
+    map
+}
+
+#[test]
+fn hashed_maps_come_back(rt: HostRuntime) {
+    let alloc = rt.alloc();
+    let map = make_numbered(&rt, alloc, 100);
+    let context = LittleEndian {};
+    let bytes = map
+        .write_to_vec_with_ctx(alloc, context)
+        .expect(&rt, "bytes");
+    let mut held = context;
+    let needed = map.bytes_needed(&mut held).expect(&rt, "a size");
+    assert_same(&rt, needed, 1194);
+    assert_same(&rt, needed, bytes.len());
+    assert_reads(&rt, alloc, context, &map, &bytes, needed);
+    let key = make_text(&rt, alloc, "key 42");
+    assert_same(&rt, map.get(&key), Some(&42));
+}
