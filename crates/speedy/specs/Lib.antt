@@ -35,12 +35,16 @@ pub use Rattle.speedy_layout.specs.Texts
 pub use Rattle.speedy_layout.specs.Tuples
 pub use Rattle.speedy_layout.specs.Utf8
 pub use Rattle.speedy_layout.specs.Varint
+pub use Rattle.speedy_layout.specs.ViewIters
+pub use Rattle.speedy_layout.specs.Views
 pub use Rattle.speedy_layout.specs.Zigzag
 pub use Rattle.speedy_read.specs.Buffers
 pub use Rattle.speedy_read.specs.Codes as ReadCodes
 pub use Rattle.speedy_read.specs.Collections as ReadCollections
+pub use Rattle.speedy_read.specs.CopyingView
 pub use Rattle.speedy_read.specs.Exits
 pub use Rattle.speedy_read.specs.Flags as ReadFlags
+pub use Rattle.speedy_read.specs.Lending
 pub use Rattle.speedy_read.specs.Reading
 pub use Rattle.speedy_read.specs.ReadingLemmas
 pub use Rattle.speedy_read.specs.RoundTrip

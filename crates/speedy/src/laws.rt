@@ -3,4 +3,6 @@ pub use speedy_layout::laws::{
     equal_as_seen, no_spelling_begins_another, no_spelling_is_below_least, one_front, one_value,
     one_written_form, spelled_is_written, written_form_alone, written_is_shortest,
 };
-pub use speedy_read::laws::{written_is_answered, written_is_read, written_items_are_read};
+pub use speedy_read::laws::{
+    copied_is_answered, written_is_answered, written_is_read, written_items_are_read,
+};

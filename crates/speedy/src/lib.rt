@@ -33,6 +33,8 @@ mod tests_laws;
 #[cfg(test)]
 mod tests_leaves;
 #[cfg(test)]
+mod tests_lent;
+#[cfg(test)]
 mod tests_lists;
 #[cfg(test)]
 mod tests_maps;
@@ -57,6 +59,8 @@ mod tests_tuples;
 #[cfg(test)]
 mod tests_varint;
 #[cfg(test)]
+mod tests_views;
+#[cfg(test)]
 mod tests_writers;
 
 pub use buffer::Buffer;
@@ -67,12 +71,12 @@ pub use context::{
 pub use endianness::Endianness;
 pub use error::{Error, IsEof};
 pub use layout::Layout;
-pub use readable::{ReadFrom, ReadMany, Readable};
+pub use readable::{ReadFrom, ReadMany, Readable, ReadableOwned};
 pub use reader::{LendingReader, Reader};
 pub use same_key::SameKey;
 pub use speedy_base::{context, device, endianness, error};
-pub use speedy_layout::{layout, same_key, varint};
-pub use speedy_read::{buffer, collections, readable, reader};
+pub use speedy_layout::{layout, same_key, varint, view_items, views};
+pub use speedy_read::{buffer, collections, lent, readable, reader};
 pub use speedy_write::{writable, writer};
 pub use writable::Writable;
 pub use writer::Writer;

@@ -5,7 +5,7 @@ ghost use Rattle.speedy.specs.Error.{error_of};
 ghost use Rattle.speedy.specs.Format.{Each};
 ghost use Rattle.speedy.specs.Reading.{Counts};
 
-use crate::asserting::{assert_ok_items, assert_refused};
+use crate::asserting::{assert_ok, assert_ok_items, assert_refused, make_vec};
 use crate::laws::{
     written_form_alone, written_is_answered, written_is_read, written_items_are_read,
 };
@@ -13,7 +13,7 @@ use crate::private::ErrorKind;
 use crate::readable::BufferReader;
 use crate::writable::BufferCollector;
 use crate::{
-    Buffer, Context, Endianness, Error, Layout, LendingReader, ReadMany, Readable,
+    Buffer, Context, Endianness, Error, Layout, LendingReader, ReadMany, Readable, ReadableOwned,
     StrictLittleEndian, Writable, Writer,
 };
 use std::alloc::Global;
@@ -42,6 +42,19 @@ fn again_in<'a, C: Context + Copy, T: Writable<C> + Readable<'a, C>>(
     written_is_answered::<T, C>();
     value.write_to_buffer_with_ctx(context, buffer)?;
     T::read_from_buffer_with_ctx(alloc, context, buffer)
+}
+
+/// Writes any value that borrows nothing to a vector, and reads it back from there.
+fn again_owned<T: Writable<Endianness> + ReadableOwned<Endianness>>(
+    alloc: Global,
+    order: Endianness,
+    value: &T,
+) -> Result<T, Error>
+    ensures { IfOk result (λ x. T.seen x ≡ T.seen value.now) }
+{
+    written_is_answered::<T, Endianness>();
+    let bytes = value.write_to_vec_with_ctx(alloc, order)?;
+    T::read_owned_with_ctx(alloc, order, &bytes)
 }
 
 /// Reads what was written, as by another program: it is refused only for want of memory.
@@ -169,6 +182,15 @@ fn values_come_back(rt: HostRuntime) -> Result<(), Fail> {
     assert_eq!(rt; first, 2);
     assert_eq!(rt; left, 4);
     Ok(())
+}
+
+#[test]
+fn owned_values_come_back(rt: HostRuntime) {
+    let alloc = rt.alloc();
+    let order = Endianness::BigEndian;
+    assert_ok(&rt, again_owned(alloc, order, &0x1234_u16), 0x1234);
+    let numbers = make_vec(&rt, alloc, &[10_u16, 11]);
+    assert_ok_items(&rt, again_owned(alloc, order, &numbers), numbers.as_slice());
 }
 
 #[test]

@@ -1,1 +1,2 @@
 pub mod VarintCode
+pub mod WalkLemmas

@@ -27,3 +27,5 @@ pub mod Addresses
 pub mod Keys
 pub mod Varint
 pub mod Zigzag
+pub mod Views
+pub mod ViewIters

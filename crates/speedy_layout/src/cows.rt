@@ -1,9 +1,14 @@
 //! The layout of what owns its content or borrows it, and adds no byte to it.
-ghost use Rattle.std.specs.Cow.{cow_value};
+ghost use Rattle.std.specs.Prelude.{ℕ, List, map};
+ghost use Rattle.std.specs.Cmp.Lexicographic.{bytes_decides};
+ghost use Rattle.std.specs.Cow.{cow_value, cow_slice_items, cow_str_bytes};
+ghost use Rattle.speedy_layout.specs.Keys.{list_tells};
+ghost use Rattle.speedy_layout.specs.Lists.{list, list_laws};
+ghost use Rattle.speedy_layout.specs.Texts.{text, text_laws};
 
 use crate::layout::Layout;
 use crate::same_key::SameKey;
-use std::borrow::Cow;
+use std::borrow::{Cow, CowSlice, CowStr};
 
 // It is read as owned, so it needs no reader that lends but for its content.
 impl<'a, T: Layout> Layout for Cow<'a, T> {
@@ -18,6 +23,40 @@ impl<'a, T: Layout> Layout for Cow<'a, T> {
     ghost layout_laws = { T.layout_laws };
 }
 
+// It may be read as an owned list, so it too needs a reader that lends only where its items do.
+impl<'a, T: Layout> Layout for CowSlice<'a, T> {
+    ghost Seen = { List T.Seen };
+
+    ghost seen = { λ c. map T.seen (cow_slice_items c) };
+
+    ghost format = { λ f. list f (T.format f) };
+
+    ghost least = { 4 };
+
+    ghost layout_laws = { λ f. list_laws f (T.layout_laws f) };
+}
+
+// It may be read as an owned text.
+impl<'a> Layout for CowStr<'a> {
+    ghost Seen = { List ℕ };
+
+    ghost seen = { cow_str_bytes };
+
+    ghost format = { text };
+
+    ghost least = { 4 };
+
+    ghost layout_laws = { text_laws };
+}
+
 impl<'a, T: SameKey> SameKey for Cow<'a, T> {
     ghost same_key = { λ x y. T.same_key (cow_value x) (cow_value y) };
+}
+
+impl<'a, T: SameKey> SameKey for CowSlice<'a, T> {
+    ghost same_key = { λ x y. list_tells T.same_key (cow_slice_items x) (cow_slice_items y) };
+}
+
+impl<'a> SameKey for CowStr<'a> {
+    ghost same_key = { λ x y. bytes_decides (cow_str_bytes x) (cow_str_bytes y) };
 }

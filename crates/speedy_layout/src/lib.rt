@@ -18,7 +18,11 @@ pub mod sets;
 pub mod texts;
 pub mod tuples;
 pub mod varint;
+pub mod view_items;
+pub mod views;
 
 pub use layout::{Lawful, Layout};
 pub use same_key::SameKey;
 pub use varint::VarInt64;
+pub use view_items::{FixedSize, ViewItem, ZeroCopyable};
+pub use views::{ArrayView, SliceView};

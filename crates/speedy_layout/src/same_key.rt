@@ -7,10 +7,13 @@ ghost use Rattle.std.specs.Int.NonZero.{non_zero_u8_get, non_zero_u16_get, non_z
 ghost use Rattle.std.specs.Net.Addr.{ipv4_octets, ipv6_segments};
 ghost use Rattle.std.specs.String.{string_bytes};
 ghost use Rattle.speedy_layout.specs.Keys.{unit_tells, first_part, next_part, last_part, option_tells, result_tells, list_tells, order_tells, segments_tell, ip_tells};
+ghost use Rattle.speedy_layout.specs.Views.{shown_items};
 ghost use Rattle.speedy_layout.specs.Zigzag.{varint_number};
 
 use crate::layout::Layout;
 use crate::varint::VarInt64;
+use crate::view_items::ViewItem;
+use crate::views::{ArrayView, SliceView};
 use smallvec::SmallVec;
 use speedy_base::endianness::Endianness;
 use std::boxed::{BoxedSlice, BoxedStr};
@@ -191,6 +194,16 @@ impl<'a, T: SameKey> SameKey for &'a [T] {
 
 impl<'a> SameKey for &'a str {
     ghost same_key = { λ x y. bytes_decides x.now y.now };
+}
+
+impl<'a, T: ViewItem + SameKey> SameKey for SliceView<'a, T> {
+    ghost same_key = { λ x y. list_tells T.same_key (shown_items T.decoded T.SIZE x.bytes.now)
+        (shown_items T.decoded T.SIZE y.bytes.now) };
+}
+
+impl<'a, T: ViewItem + SameKey, const N: usize> SameKey for ArrayView<'a, T, N> {
+    ghost same_key = { λ x y. list_tells T.same_key (shown_items T.decoded T.SIZE x.bytes.now)
+        (shown_items T.decoded T.SIZE y.bytes.now) };
 }
 
 impl SameKey for () {

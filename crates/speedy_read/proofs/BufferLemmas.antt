@@ -1,16 +1,18 @@
 -- Reads from bytes in memory.
-use Rattle.std.specs.Prelude.{◌≡◌, ℕ, ◌<◌, ◌≤◌, List, length, take, drop, Bool, false, Ok, Err, refl}
-use Rattle.std.proofs.Common.{sym, arith, inr}
-use Rattle.std.proofs.lemmas.List.{take-append-drop, length-take-le}
+use Rattle.std.specs.Prelude.{◌≡◌, ℕ, ◌<◌, ◌≤◌, List, [], length, take, drop, Bool, true, false, Ok, Err, refl}
+use Rattle.std.specs.List.{IsSplitAt}
+use Rattle.std.specs.Borrow.{GName}
+use Rattle.std.proofs.Common.{sym, ◌∙◌, arith, inr}
+use Rattle.std.proofs.lemmas.List.{append-nil, take-append-drop, length-take-le}
 use Rattle.speedy_base.specs.declared.error.Error.{Error}
 use Rattle.speedy_base.specs.Encoding.{Encoding}
 use Rattle.speedy_layout.specs.Texts.{raw_bytes, any_bytes}
-use Rattle.speedy_read.specs.Reading.{Kept, Reads, Peeks, IsEnd}
-use Rattle.speedy_read.specs.ReadingLemmas.{Kept-same, KeptByPeek-same, ends_early}
-use Rattle.speedy_read.specs.Buffers.{bytes_state}
+use Rattle.speedy_read.specs.Reading.{Kept, Reads, Peeks, IsEnd, ends_alone}
+use Rattle.speedy_read.specs.ReadingLemmas.{Kept-same, KeptByPeek-same, ends_early, input_ended}
+use Rattle.speedy_read.specs.Buffers.{memory_state}
 
 -- a front was taken
-Kept-drop : (n : ℕ) {bytes : List ℕ} {encoding : Encoding} → Kept (bytes_state bytes encoding) (bytes_state (drop n bytes) encoding)
+Kept-drop : (n : ℕ) {lends : Bool} {targets : List GName} {bytes : List ℕ} {encoding : Encoding} → Kept (memory_state lends targets bytes encoding) (memory_state lends targets (drop n bytes) encoding)
 Kept-drop n {bytes = bytes} = record {
   tells = refl;
   lends = refl;
@@ -24,38 +26,67 @@ Kept-drop n {bytes = bytes} = record {
   tail = λ _. (take n bytes, sym (take-append-drop n bytes));
 }
 
-module _ {E : Type 0} {gives : Error → E → Type 0} {eof : E → Bool} {A : Type 0} {n : ℕ} {bytes : List ℕ} {encoding : Encoding} where
+-- all bytes were taken
+pub Kept-all : {lends : Bool} {targets : List GName} {bytes : List ℕ} {encoding : Encoding} → Kept (memory_state lends targets bytes encoding) (memory_state lends targets [] encoding)
+Kept-all {bytes = bytes} = record {
+  tells = refl;
+  lends = refl;
+  tidy = λ t. t;
+  buffers = refl;
+  takes_memory = refl;
+  ends_by_device = refl;
+  encoding = refl;
+  faults = omega arith;
+  targets = refl;
+  tail = λ _. (bytes, sym (append-nil bytes));
+}
+
+module _ {E : Type 0} {gives : Error → E → Type 0} {eof : E → Bool} {A : Type 0} {n : ℕ} {lends : Bool} {targets : List GName} {bytes : List ℕ} {encoding : Encoding} where
   -- the bytes are there
-  pub bytes_read : {seen : A → List ℕ} {x : A} → n ≤ length bytes → seen x ≡ take n bytes → Reads gives eof seen (raw_bytes n) (Ok x) (bytes_state bytes encoding) (bytes_state (drop n bytes) encoding)
+  pub bytes_read : {seen : A → List ℕ} {x : A} → n ≤ length bytes → seen x ≡ take n bytes → Reads gives eof seen (raw_bytes n) (Ok x) (memory_state lends targets bytes encoding) (memory_state lends targets (drop n bytes) encoding)
   unfolding raw_bytes
   bytes_read l e = record {
     kept = Kept-drop n;
     answer = record { front = take n bytes; front_is = (e, length-take-le n bytes l); taken = λ _. sym (take-append-drop n bytes) };
   }
 
-  pub bytes_skipped : {seen : A → Unit {0}} {x : A} → n ≤ length bytes → Reads gives eof seen (any_bytes n) (Ok x) (bytes_state bytes encoding) (bytes_state (drop n bytes) encoding)
+  pub bytes_skipped : {seen : A → Unit {0}} {x : A} → n ≤ length bytes → Reads gives eof seen (any_bytes n) (Ok x) (memory_state lends targets bytes encoding) (memory_state lends targets (drop n bytes) encoding)
   unfolding any_bytes
   bytes_skipped l = record {
     kept = Kept-drop n;
     answer = record { front = take n bytes; front_is = length-take-le n bytes l; taken = λ _. sym (take-append-drop n bytes) };
   }
 
-  pub bytes_peeked : {seen : A → List ℕ} {x : A} → n ≤ length bytes → seen x ≡ take n bytes → Peeks gives eof seen (raw_bytes n) (Ok x) (bytes_state bytes encoding) (bytes_state bytes encoding)
+  pub bytes_peeked : {seen : A → List ℕ} {x : A} → n ≤ length bytes → seen x ≡ take n bytes → Peeks gives eof seen (raw_bytes n) (Ok x) (memory_state lends targets bytes encoding) (memory_state lends targets bytes encoding)
   unfolding raw_bytes
   bytes_peeked l e = record {
     kept = KeptByPeek-same;
     answer = record { front = take n bytes; rest = drop n bytes; front_is = (e, length-take-le n bytes l); stands = λ _. sym (take-append-drop n bytes) };
   }
 
+  -- and were cut off
+  pub cut_read : {seen : A → List ℕ} {x : A} {front rest : List ℕ} → IsSplitAt bytes n front rest → seen x ≡ front → Reads gives eof seen (raw_bytes n) (Ok x) (memory_state lends targets bytes encoding) (memory_state lends targets rest encoding)
+  cut_read cut same = rw cut.2 (bytes_read cut.0 (same ∙ cut.1))
+
+  pub cut_skipped : {seen : A → Unit {0}} {x : A} {front rest : List ℕ} → IsSplitAt bytes n front rest → Reads gives eof seen (any_bytes n) (Ok x) (memory_state lends targets bytes encoding) (memory_state lends targets rest encoding)
+  cut_skipped cut = rw cut.2 (bytes_skipped cut.0)
+
+  pub cut_peeked : {seen : A → List ℕ} {x : A} {front rest : List ℕ} → IsSplitAt bytes n front rest → seen x ≡ front → Peeks gives eof seen (raw_bytes n) (Ok x) (memory_state lends targets bytes encoding) (memory_state lends targets bytes encoding)
+  cut_peeked cut same = bytes_peeked cut.0 (same ∙ cut.1)
+
   -- the bytes are not there
-  pub bytes_missed : {seen : A → List ℕ} {e : E} → length bytes < n → IsEnd gives eof false e → Reads gives eof seen (raw_bytes n) (Err e) (bytes_state bytes encoding) (bytes_state bytes encoding)
+  pub bytes_missed : {seen : A → List ℕ} {e : E} → length bytes < n → IsEnd gives eof false e → Reads gives eof seen (raw_bytes n) (Err e) (memory_state lends targets bytes encoding) (memory_state lends targets bytes encoding)
   unfolding raw_bytes
   bytes_missed l ended = record { kept = Kept-same; answer = inr (ends_early n (λ v s h. let k = h.1 in omega arith) (λ _ fault. fault) ended (λ _ _. l)) }
 
-  pub bytes_not_skipped : {seen : A → Unit {0}} {e : E} → length bytes < n → IsEnd gives eof false e → Reads gives eof seen (any_bytes n) (Err e) (bytes_state bytes encoding) (bytes_state bytes encoding)
+  pub bytes_not_skipped : {seen : A → Unit {0}} {e : E} → length bytes < n → IsEnd gives eof false e → Reads gives eof seen (any_bytes n) (Err e) (memory_state lends targets bytes encoding) (memory_state lends targets bytes encoding)
   unfolding any_bytes
   bytes_not_skipped l ended = record { kept = Kept-same; answer = inr (ends_early n (λ v s h. omega arith) (λ _ fault. fault) ended (λ _ _. l)) }
 
-  pub bytes_not_peeked : {seen : A → List ℕ} {e : E} → length bytes < n → IsEnd gives eof false e → Peeks gives eof seen (raw_bytes n) (Err e) (bytes_state bytes encoding) (bytes_state bytes encoding)
+  pub bytes_not_peeked : {seen : A → List ℕ} {e : E} → length bytes < n → IsEnd gives eof false e → Peeks gives eof seen (raw_bytes n) (Err e) (memory_state lends targets bytes encoding) (memory_state lends targets bytes encoding)
   unfolding raw_bytes
   bytes_not_peeked l ended = record { kept = KeptByPeek-same; answer = inr (ends_early n (λ v s h. let k = h.1 in omega arith) (λ _ fault. fault) ended (λ _ _. l)) }
+
+-- bytes that are lent until the next use are not there
+pub bytes_not_lent : {A E : Type 0} {n : ℕ} {lends : Bool} {targets : List GName} {bytes : List ℕ} {encoding : Encoding} {seen : A → List ℕ} {e : E} → length bytes < n → Reads ends_alone (λ _. true) seen (raw_bytes n) (Err e) (memory_state lends targets bytes encoding) (memory_state lends targets bytes encoding)
+bytes_not_lent {E = E} {e = e} l = bytes_missed l (input_ended (ends_alone {E = E}) (λ _. true) false e refl refl)

@@ -9,3 +9,6 @@ pub mod AddressLemmas
 pub mod BufferLemmas
 pub mod RoundTripLemmas
 pub mod CollectionLemmas
+pub mod LentLemmas
+pub mod ViewLemmas
+pub mod OwnedReaderLemmas

@@ -1,5 +1,5 @@
 -- What was written is what is read, by the laws of the layout.
-use Rattle.std.specs.Prelude.{◌≡◌, ℕ, ◌+◌, ◌*◌, List, [], ◌++◌, length, Bool, IsTrue, ◌⊎◌, Result, Ok, Err, refl}
+use Rattle.std.specs.Prelude.{◌≡◌, ℕ, ◌+◌, ◌*◌, List, [], ◌++◌, length, Bool, false, IsTrue, ◌⊎◌, Result, Ok, Err, refl}
 use Rattle.std.proofs.Common.{sym, ◌∙◌, ap, subst, arith, inl, inr}
 use Rattle.std.proofs.lemmas.List.{length-append, append-nil}
 use Rattle.speedy_base.specs.declared.error.Error.{Error}
@@ -12,7 +12,7 @@ use Rattle.speedy_layout.specs.Laws.{Laws}
 use Rattle.speedy_layout.specs.Lists.{repeat, vector, vector_laws}
 use Rattle.speedy_layout.specs.Owned.{owned_content}
 use Rattle.speedy_read.specs.Buffers.{bytes_state}
-use Rattle.speedy_read.specs.Reading.{ReaderState, IsTold, Excused, Refused, RefusesBuffer, Reads, AnswersBuffer}
+use Rattle.speedy_read.specs.Reading.{ReaderState, IsTold, Excused, Refused, RefusesBuffer, Reads, AnswersBuffer, AnswersCopied}
 use Rattle.speedy_read.specs.RoundTrip.{AnswersWritten, ReadsWritten, ReadsWrittenFirst, WrittenIsAnswered, WrittenIsRead, WrittenItemsAreRead}
 
 module _ {E A V : Type 0} (gives : Error → E → Type 0) (eof : E → Bool) (seen : A → V) (least : ℕ) where
@@ -84,3 +84,12 @@ module _ {E A V : Type 0} (gives : Error → E → Type 0) (eof : E → Bool) (s
         told = λ {encoding} {vs} bytes {rest} {n} h l t f e a. (vectors n).told (sym l, h) t f e a;
         made = λ {encoding} {at} {after} {vs} bytes {rest} {buffer} {left} {n} h l e s f a. (vectors n).made (sym l, h) e s f a;
       }
+
+-- what borrows nothing is answered alike from bytes that are lent and from bytes that are not
+pub copied_alike : {E A V : Type 0} {gives : Error → E → Type 0} {eof : E → Bool} {seen : A → V} {least : ℕ} {L : Format V} {result : Result A E} {count : ℕ} {bytes : List ℕ} → L.needs_lending ≡ false → AnswersCopied gives eof seen least L result count bytes → AnswersBuffer gives eof seen least L result count bytes
+copied_alike {result = Ok x} none a = record { too_small = a.too_small; value = a.value; refused = λ _. tt }
+copied_alike {result = Err e} none a = record {
+  too_small = a.too_small;
+  value = tt;
+  refused = λ l. elim (a.refused l) [ inl m ↦ inl m | inr x ↦ inr (record { kind = x.kind; because = x.because none }) ];
+}

@@ -4,6 +4,9 @@ pub mod Sequences
 pub mod Codes
 pub mod Flags
 pub mod Buffers
+pub mod CopyingView
+pub mod OwnedView
+pub mod Lending
 pub mod RoundTrip
 pub mod Exits
 pub mod Collections

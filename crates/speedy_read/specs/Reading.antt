@@ -1,5 +1,5 @@
 -- What a read does.
-use Rattle.std.specs.Prelude.{◌≡◌, ℕ, ℤ, ◌≤◌, ◌<◌, ◌-◌, ◌^◌, List, ◌++◌, length, Bool, false, IsTrue, ◌⊎◌, ◌↔◌, Option, Some, Result, MatchResult, IfOk, IfErr, IsErrAnd}
+use Rattle.std.specs.Prelude.{◌≡◌, ℕ, ℤ, ◌≤◌, ◌<◌, ◌-◌, ◌^◌, List, [], ◌++◌, length, Bool, true, false, IsTrue, ◌⊎◌, ◌↔◌, Option, Some, MatchOption, Result, MatchResult, IfOk, IfErr, IsErrAnd}
 use Rattle.std.specs.Borrow.{GName}
 use Rattle.std.specs.Int.{Width}
 use Rattle.speedy_base.specs.declared.error.ErrorKind.TheVariants as kinds
@@ -11,6 +11,7 @@ use Rattle.speedy_base.specs.Digits.{AreBytes}
 use Rattle.speedy_base.specs.Encoding.{Encoding}
 use Rattle.speedy_layout.specs.Format.{Format}
 use Rattle.speedy_layout.specs.Numbers.{unsigned_number, signed_number}
+use Rattle.speedy_layout.specs.Texts.{raw_bytes}
 
 -- A reader, as reads see it.
 pub record ReaderState : Type 0 where
@@ -92,6 +93,10 @@ pub record Counts (spelled : List ℕ → Type 0) (count : ℕ) (bytes : List �
 abbrev pub Excused : {E : Type 0} → (Error → E → Type 0) → Bool → E → ReaderState → ReaderState → Type 0
 Excused gives takes e old new = (gives (error_of kinds.OutOfMemory) e × (IsTrue takes ⊎ IsTrue old.takes_memory)) ⊎ HasGrown old.faults new.faults
 
+-- no value shows a byte
+abbrev pub ShowsNothing : {A : Type 0} → (A → List ℕ) → Type 0
+ShowsNothing {A = A} shows = (x : A) → shows x ≡ []
+
 module _ {E : Type 0} (gives : Error → E → Type 0) (eof : E → Bool) where
   -- the bytes ended, as the reader says it
   abbrev pub IsEnd : Bool → E → Type 0
@@ -130,12 +135,43 @@ module _ {E : Type 0} (gives : Error → E → Type 0) (eof : E → Bool) where
     pub kept : KeptByPeek old new
     pub answer : MatchResult result (λ x. Ahead (L.spells (seen x)) old) (λ e. Excused gives L.takes_memory e old new ⊎ Refused L e old)
 
+  -- What a read answers that lends its bytes. Where the reader lends, it answers, refuses and takes as a read of so many bytes does, and what is lent shows the bytes that were taken. A reader that lends nothing answers nothing and takes nothing; so does one whose loans show nothing.
+  abbrev pub LendsBytes : {A : Type 0} → (A → List ℕ) → ℕ → Option (Result A E) → ReaderState → ReaderState → Type 0
+  LendsBytes shows n lent old new = MatchOption lent ((IsTrue old.lends → ShowsNothing shows) × (new ≡ old)) (λ result. IsTrue old.lends × Reads shows (raw_bytes n) result old new)
+
+  -- A read of a value that is borrowed, from a reader that lends nothing: where the bytes are there that are read before it, it is refused as `Unsized`.
+  abbrev pub RefusesUnsized : {A U : Type 0} → Format U → Result A E → ReaderState → ReaderState → Type 0
+  RefusesUnsized {U = U} before result old new = old.lends ≡ false → IsTold before old → (u : U) (front rest : List ℕ) → before.spells u front → old.to_come ≡ front ++ rest → IsErrAnd result (λ e. Excused gives before.takes_memory e old new ⊎ gives (error_of kinds.Unsized) e)
+
   -- What a function that reads from a buffer answers: a buffer that is shorter than the least size is refused with both sizes; else a value is answered exactly when a front of the bytes spells it, and the count is the length of that front.
   pub record AnswersBuffer {A V : Type 0} (seen : A → V) (least : ℕ) (L : Format V) (result : Result A E) (count : ℕ) (bytes : List ℕ) : Type 0 where
     pub too_small : length bytes < least → IsErrAnd result (λ e. gives (error_of (kinds.InputBufferIsTooSmall (length bytes) least)) e) × (count ≡ 0)
     pub value : IfOk result (λ x. Counts (L.spells (seen x)) count bytes)
     pub refused : least ≤ length bytes → IfErr result (λ e. (gives (error_of kinds.OutOfMemory) e × IsTrue L.takes_memory) ⊎ RefusesBuffer L e bytes)
 
+  -- what is refused of bytes that are not lent: as `RefusesBuffer`, but what borrows may be refused though the bytes spell a value
+  pub record RefusesCopied {V : Type 0} (L : Format V) (e : E) (bytes : List ℕ) : Type 0 where
+    pub kind : IsEnd false e ⊎ IsNamed gives L.names e
+    pub because : L.needs_lending ≡ false → Unspelled L e bytes
+
+  -- What a function answers that copies from a buffer: as `AnswersBuffer`, but what borrows may be refused though the bytes spell a value.
+  pub record AnswersCopied {A V : Type 0} (seen : A → V) (least : ℕ) (L : Format V) (result : Result A E) (count : ℕ) (bytes : List ℕ) : Type 0 where
+    pub too_small : length bytes < least → IsErrAnd result (λ e. gives (error_of (kinds.InputBufferIsTooSmall (length bytes) least)) e) × (count ≡ 0)
+    pub value : IfOk result (λ x. Counts (L.spells (seen x)) count bytes)
+    pub refused : least ≤ length bytes → IfErr result (λ e. (gives (error_of kinds.OutOfMemory) e × IsTrue L.takes_memory) ⊎ RefusesCopied L e bytes)
+
 -- what a reader says of the number of bytes to come is right
 abbrev pub IsRight : Option Bool → ReaderState → ℕ → Type 0
 IsRight answer old n = (b : Bool) → answer ≡ Some b → IsTrue old.tells → IsTrue b ↔ (n ≤ length old.to_come)
+
+-- what is lent shows all bytes to come, and all are taken; or nothing is lent, and none is taken
+abbrev pub LendsAll : {A : Type 0} → (A → List ℕ) → Option A → ReaderState → ReaderState → Type 0
+LendsAll shows lent old new = Kept old new × MatchOption lent (new ≡ old) (λ x. IsTrue old.tells → (shows x ≡ old.to_come) × (new.to_come ≡ []))
+
+-- an error of one value, which stands for the end of the bytes
+abbrev pub ends_alone : {E : Type 0} → Error → E → Type 0
+ends_alone error _ = error ≡ error_of kinds.UnexpectedEndOfInput
+
+-- What a read answers that lends bytes until the reader is used again: as a read of so many bytes, refused by the one error that says that they ended; or nothing is lent, and none is taken.
+abbrev pub LendsUntilUsed : {A E : Type 0} → (A → List ℕ) → ℕ → Option (Result A E) → ReaderState → ReaderState → Type 0
+LendsUntilUsed shows n lent old new = MatchOption lent (new ≡ old) (λ result. Reads ends_alone (λ _. true) shows (raw_bytes n) result old new)

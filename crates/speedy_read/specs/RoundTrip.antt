@@ -1,5 +1,5 @@
 -- What was written is what is read.
-use Rattle.std.specs.Prelude.{◌≡◌, ℕ, ◌-◌, ◌^◌, ◌<◌, List, ◌++◌, length, Bool, IsTrue, Result, IfOk, OnOk, IfErr, OnErr}
+use Rattle.std.specs.Prelude.{◌≡◌, ℕ, ◌-◌, ◌^◌, ◌<◌, List, ◌++◌, length, Bool, false, IsTrue, Result, IfOk, OnOk, IfErr, OnErr}
 use Rattle.std.proofs.Common.{Fits, w8, get_or}
 use Rattle.speedy_base.specs.declared.error.Error.{Error}
 use Rattle.speedy_base.specs.declared.error.ErrorKind.TheVariants as kinds
@@ -8,7 +8,7 @@ use Rattle.speedy_base.specs.Encoding.{Encoding}
 use Rattle.speedy_layout.specs.Format.{Format, Each}
 use Rattle.speedy_layout.specs.Lists.{vector}
 use Rattle.speedy_read.specs.Buffers.{bytes_state}
-use Rattle.speedy_read.specs.Reading.{ReaderState, IsTold, Excused, Reads, AnswersBuffer}
+use Rattle.speedy_read.specs.Reading.{ReaderState, IsTold, Excused, Reads, AnswersBuffer, AnswersCopied}
 
 -- What a function that reads from a buffer answers where a written form of so many bytes stands at the front: the value that was written, and the number of those bytes. It is refused only for want of memory.
 pub record AnswersWritten {E A V : Type 0} (gives : Error → E → Type 0) (seen : A → V) (L : Format V) (v : V) (size : ℕ) (result : Result A E) (count : ℕ) : Type 0 where
@@ -51,3 +51,7 @@ module _ {E A : Type 0} (gives : Error → E → Type 0) (eof : E → Bool) wher
     pub told : {encoding : Encoding} {vs : List V} (bytes : List ℕ) {rest : List ℕ} {n : ℕ} {result : Result A E} {old new : ReaderState} → Each (format encoding).writes vs bytes → n ≡ length vs → IsTrue old.tells → old.encoding ≡ encoding → old.to_come ≡ bytes ++ rest → Reads gives eof seen (vector n (format old.encoding)) result old new → ReadsWritten gives eof seen (vector n (format encoding)) vs rest result old new
     -- from a reader of bytes in memory that has just been made
     pub made : {encoding at after : Encoding} {vs : List V} (bytes : List ℕ) {rest buffer left : List ℕ} {n : ℕ} {result : Result A E} {old : ReaderState} → Each (format encoding).writes vs bytes → n ≡ length vs → buffer ≡ bytes ++ rest → old ≡ bytes_state buffer at → at ≡ encoding → Reads gives eof seen (vector n (format old.encoding)) result old (bytes_state left after) → ReadsWrittenFirst gives seen vs rest buffer result left
+
+  -- The law of the functions that copy from a buffer: where the type borrows nothing, they answer as those do that lend it.
+  abbrev pub CopiedIsAnswered : {V : Type 0} → (A → V) → ℕ → (Encoding → Format V) → Type 0
+  CopiedIsAnswered {V = V} seen least format = (encoding : Encoding) → (format encoding).needs_lending ≡ false → (result : Result A E) (count : ℕ) (bytes : List ℕ) → AnswersCopied gives eof seen least (format encoding) result count bytes → AnswersBuffer gives eof seen least (format encoding) result count bytes

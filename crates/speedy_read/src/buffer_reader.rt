@@ -1,11 +1,14 @@
 //! Reading from bytes in memory.
-ghost use Rattle.std.specs.Prelude.{◌≡◌, ◌↔◌, [], IsTrue, length, nat_le, Some, OnErr, refl};
+ghost use Rattle.std.specs.Prelude.{◌≡◌, ◌↔◌, [], IsTrue, length, nat_le, Some, OnErr, IfSome, IsSome, refl};
 ghost use Rattle.std.specs.Borrow.{sem, Lends};
+ghost use Rattle.std.specs.Io.BufRead.{Rests};
+ghost use mir.Syntax.{named};
 ghost use Rattle.speedy_layout.specs.Texts.{raw_bytes, any_bytes};
-ghost use Rattle.speedy_read.specs.Reading.{Reads, Peeks};
+ghost use Rattle.speedy_read.specs.Reading.{Reads, Peeks, LendsBytes, LendsAll, LendsUntilUsed};
+ghost use Rattle.speedy_read.specs.contracts.buffer_reader.BufferReader.{the_row as reader_row};
 ghost use Rattle.speedy_read.specs.Buffers.{bytes_state};
 
-use crate::reader::LendingReader;
+use crate::reader::{EndOfInput, LendingReader};
 use speedy_base::context::Context;
 use speedy_base::error::error_end_of_input;
 use std::alloc::Global;
@@ -117,6 +120,53 @@ impl<'a, C: Context> LendingReader<&'a [u8], C> for BufferReader<'a, C> {
     #[inline(always)]
     fn can_read_at_least(&self, size: usize) -> Option<bool> {
         Some(size <= self.rest.len())
+    }
+
+    #[inline(always)]
+    fn read_bytes_borrowed(&mut self, length: usize) -> Option<Result<&'a [u8], C::Error>>
+        ensures lends { let reader = ⟦<BufferReader<'a, C> as LendingReader<&'a [u8], C>>⟧ in
+            LendsBytes C.Error.from_gives C.Error.eof (λ b. b.now) length result
+            (reader.state self.old) (reader.state self.new) }
+        ensures unchanged { IfSome result (λ lent. OnErr lent (self.new ≡ self.old)) }
+    {
+        match self.rest.split_at_checked(length) {
+            Some((lent, rest)) => {
+                self.rest = rest;
+                Some(Ok(lent))
+            }
+            None => Some(Err(error_end_of_input())),
+        }
+    }
+
+    #[inline(always)]
+    fn read_bytes_borrowed_from_reader(
+        &mut self,
+        length: usize,
+    ) -> Option<Result<&[u8], EndOfInput>>
+        ensures* after { sem 𝓛 (Rests (reader_row (record { mir = named 1; lft = [] }) C.row)
+            self.entry (λ new. LendsUntilUsed (λ b. b.now) length result
+            (⟦<BufferReader<'a, C> as LendingReader<&'a [u8], C>>⟧.state self.old)
+            (⟦<BufferReader<'a, C> as LendingReader<&'a [u8], C>>⟧.state new))) }
+        ensures is_lent { IsSome result }
+    {
+        match self.rest.split_at_checked(length) {
+            Some((front, rest)) => {
+                self.rest = rest;
+                Some(Ok(front))
+            }
+            None => Some(Err(EndOfInput {})),
+        }
+    }
+
+    #[inline(always)]
+    fn read_bytes_borrowed_until_eof(&mut self) -> Option<&'a [u8]>
+        ensures lends { let reader = ⟦<BufferReader<'a, C> as LendingReader<&'a [u8], C>>⟧ in
+            LendsAll (λ b. b.now) result (reader.state self.old) (reader.state self.new) }
+        ensures is_lent { IsSome result }
+    {
+        let rest = self.rest;
+        self.rest = &[];
+        Some(rest)
     }
 
     #[inline(always)]

@@ -1,10 +1,14 @@
-//! How what owns its content or borrows it is read: as owned.
+//! How what owns its content or borrows it is read.
+ghost use Rattle.std.specs.Prelude.{◌≡◌};
+
+use crate::private::cow_bytes_to_cow_str;
 use crate::readable::{ReadFrom, ReadMany};
 use crate::reader::LendingReader;
 use speedy_base::context::Context;
-use std::borrow::Cow;
+use std::borrow::{Cow, CowSlice, CowStr};
 use std::convert::AsSlice;
 
+// It is read as owned, by any reader.
 impl<'a, L: AsSlice<u8> + Drop, C: Context, T: ReadFrom<L, C>> ReadFrom<L, C> for Cow<'a, T> {
     #[inline]
     fn read_from<R: LendingReader<L, C>>(reader: &mut R) -> Result<Cow<'a, T>, C::Error> {
@@ -19,3 +23,42 @@ impl<'a, L: AsSlice<u8> + Drop, C: Context, T: ReadFrom<L, C>> ReadFrom<L, C> fo
 }
 
 impl<'a, L: AsSlice<u8> + Drop, C: Context, T: ReadFrom<L, C>> ReadMany<L, C> for Cow<'a, T> {}
+
+// Bytes point into those that the reader lends; other items are owned.
+impl<'a, C: Context, T: ReadMany<&'a [u8], C> + 'a> ReadFrom<&'a [u8], C> for CowSlice<'a, T> {
+    #[inline]
+    fn read_from<R: LendingReader<&'a [u8], C>>(
+        reader: &mut R,
+    ) -> Result<CowSlice<'a, T>, C::Error> {
+        let length = reader.read_u32()?;
+        reader.read_cow(length as usize)
+    }
+
+    #[inline]
+    fn minimum_bytes_needed() -> usize
+        ensures { result ≡ 4 }
+    {
+        4
+    }
+}
+
+impl<'a, C: Context, T: ReadMany<&'a [u8], C> + 'a> ReadMany<&'a [u8], C> for CowSlice<'a, T> {}
+
+// It points into the bytes that the reader lends, and is owned where it lends nothing.
+impl<'a, C: Context> ReadFrom<&'a [u8], C> for CowStr<'a> {
+    #[inline]
+    fn read_from<R: LendingReader<&'a [u8], C>>(reader: &mut R) -> Result<CowStr<'a>, C::Error> {
+        let length = reader.read_u32()?;
+        let bytes: CowSlice<'a, u8> = reader.read_cow(length as usize)?;
+        cow_bytes_to_cow_str(bytes)
+    }
+
+    #[inline]
+    fn minimum_bytes_needed() -> usize
+        ensures { result ≡ 4 }
+    {
+        4
+    }
+}
+
+impl<'a, C: Context> ReadMany<&'a [u8], C> for CowStr<'a> {}

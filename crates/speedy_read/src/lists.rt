@@ -1,8 +1,16 @@
 //! How lists are read.
+ghost use Rattle.std.specs.Prelude.{◌≡◌, false, IsErrAnd};
+ghost use Rattle.speedy_base.specs.Error.{error_of};
+ghost use Rattle.speedy_layout.specs.Numbers.{unsigned_number};
+ghost use Rattle.speedy_read.specs.Reading.{Reads, RefusesUnsized};
+
+use crate::lent::lent_in_range;
 use crate::readable::{ReadFrom, ReadMany};
 use crate::reader::LendingReader;
 use smallvec::SmallVec;
 use speedy_base::context::Context;
+use speedy_base::error::{ErrorKind, error_unsized};
+use speedy_layout::layout::Layout;
 use std::alloc::Global;
 use std::boxed::BoxedSlice;
 use std::convert::AsSlice;
@@ -82,3 +90,70 @@ impl<L: AsSlice<u8> + Drop, C: Context, T: ReadMany<L, C>, const N: usize> ReadF
 
 impl<L: AsSlice<u8> + Drop, C: Context, T: ReadMany<L, C>, const N: usize> ReadMany<L, C>
     for [T; N] {}
+
+// They are lent by the reader.
+impl<'a, C: Context> ReadFrom<&'a [u8], C> for &'a [u8] {
+    #[inline]
+    fn read_from<R: LendingReader<&'a [u8], C>>(reader: &mut R) -> Result<&'a [u8], C::Error>
+        ensures reads { let bytes = ⟦<&'a [u8] as Layout>⟧ in
+            Reads C.Error.from_gives C.Error.eof bytes.seen
+            (bytes.format (R.state reader.old).encoding) result
+            (R.state reader.old) (R.state reader.new) }
+        ensures not_lent { let number = unsigned_number 4 (R.state reader.old).encoding in
+            RefusesUnsized C.Error.from_gives C.Error.eof number result
+            (R.state reader.old) (R.state reader.new) }
+    {
+        let length = reader.read_u32()?;
+        match reader.read_bytes_borrowed(length as usize) {
+            Some(lent) => {
+                let bytes = lent?;
+                lent_in_range(&bytes);
+                Ok(bytes)
+            }
+            None => Err(error_unsized()),
+        }
+    }
+
+    #[inline]
+    fn minimum_bytes_needed() -> usize
+        ensures { result ≡ 4 }
+    {
+        4
+    }
+}
+
+impl<'a, C: Context> ReadMany<&'a [u8], C> for &'a [u8] {}
+
+// They are lent by the reader, with no count before them.
+impl<'a, C: Context, const N: usize> ReadFrom<&'a [u8], C> for &'a [u8; N] {
+    #[inline]
+    fn read_from<R: LendingReader<&'a [u8], C>>(reader: &mut R) -> Result<&'a [u8; N], C::Error>
+        ensures reads { let bytes = ⟦<&'a [u8; N] as Layout>⟧ in
+            Reads C.Error.from_gives C.Error.eof bytes.seen
+            (bytes.format (R.state reader.old).encoding) result
+            (R.state reader.old) (R.state reader.new) }
+        ensures not_lent { (R.state reader.old).lends ≡ false
+            → IsErrAnd result (λ e. C.Error.from_gives (error_of ErrorKind.Unsized) e) }
+    {
+        match reader.read_bytes_borrowed(N) {
+            Some(lent) => {
+                let bytes = lent?;
+                lent_in_range(&bytes);
+                match <&'a [u8; N]>::try_from(bytes) {
+                    Ok(array) => Ok(array),
+                    Err(_) => unreachable!(),
+                }
+            }
+            None => Err(error_unsized()),
+        }
+    }
+
+    #[inline]
+    fn minimum_bytes_needed() -> usize
+        ensures { result ≡ ⟦<&'a [u8; N] as Layout>⟧.least }
+    {
+        N
+    }
+}
+
+impl<'a, C: Context, const N: usize> ReadMany<&'a [u8], C> for &'a [u8; N] {}

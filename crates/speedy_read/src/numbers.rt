@@ -1,7 +1,11 @@
 //! How numbers are read.
 ghost use Rattle.std.specs.Prelude.{◌≡◌};
 ghost use Rattle.speedy_base.specs.Digits.{AreBytes};
+ghost use Rattle.speedy_layout.specs.Lists.{vector};
+ghost use Rattle.speedy_layout.specs.Numbers.{unsigned_number};
+ghost use Rattle.speedy_read.specs.Reading.{Reads};
 
+use crate::lent::{AsBytes, FromLent, Many, lent_in_range};
 use crate::readable::{ReadFrom, ReadMany, vec_for};
 use crate::reader::LendingReader;
 use speedy_base::context::Context;
@@ -20,26 +24,48 @@ impl<L: AsSlice<u8> + Drop, C: Context> ReadFrom<L, C> for u8 {
     }
 }
 
+// Bytes are taken at once where the reader lends them, and else a chunk at a time.
 impl<L: AsSlice<u8> + Drop, C: Context> ReadMany<L, C> for u8 {
-    // Bytes are read a chunk at a time. The count may be any, so no more room is asked for than for what was read,
-    // but where the reader says that so many are there.
-    fn read_many<R: LendingReader<L, C>>(
+    fn read_many_lent<W: FromLent<L, u8>, R: LendingReader<L, C>>(
         reader: &mut R,
         length: usize,
-    ) -> Result<Vec<u8>, C::Error> {
-        let mut bytes = vec_for::<u8, L, C, R>(reader, 1, length)?;
-        let mut chunk = [0_u8; 512];
-        let mut left = length;
-        while left > 0 {
-            let size = left.min(chunk.len());
-            reader.read_bytes(&mut chunk[..size])?;
-            if bytes.extend_from_slice(&chunk[..size]).is_err() {
-                return Err(error_out_of_memory());
+    ) -> Result<Many<W, u8>, C::Error> {
+        match reader.read_bytes_borrowed(length) {
+            Some(Ok(bytes)) => {
+                lent_in_range(&bytes);
+                match W::from_lent::<AsBytes>(bytes, reader.alloc()) {
+                    Some(made) => Ok(Many::Made(made)),
+                    None => Err(error_out_of_memory()),
+                }
             }
-            left -= size;
+            Some(Err(error)) => Err(error),
+            None => Ok(Many::Owned(read_chunks::<L, C, R>(reader, length)?)),
         }
-        Ok(in_range(bytes))
     }
+}
+
+// Reads so many bytes, a chunk at a time. The count may be any, so no more room is asked for than for what was read,
+// but where the reader says that so many are there.
+fn read_chunks<L: AsSlice<u8> + Drop, C: Context, R: LendingReader<L, C>>(
+    reader: &mut R,
+    length: usize,
+) -> Result<Vec<u8>, C::Error>
+    ensures { Reads C.Error.from_gives C.Error.eof (λ v. v.items)
+        (vector length (unsigned_number 1 (R.state reader.old).encoding)) result
+        (R.state reader.old) (R.state reader.new) }
+{
+    let mut bytes = vec_for::<u8, L, C, R>(reader, 1, length)?;
+    let mut chunk = [0_u8; 512];
+    let mut left = length;
+    while left > 0 {
+        let size = left.min(chunk.len());
+        reader.read_bytes(&mut chunk[..size])?;
+        if bytes.extend_from_slice(&chunk[..size]).is_err() {
+            return Err(error_out_of_memory());
+        }
+        left -= size;
+    }
+    Ok(in_range(bytes))
 }
 
 impl<L: AsSlice<u8> + Drop, C: Context> ReadFrom<L, C> for u16 {

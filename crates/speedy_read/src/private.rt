@@ -1,10 +1,12 @@
 //! What reading runs beside readers.
 ghost use Rattle.std.specs.Prelude.{◌≡◌, MatchResult};
 ghost use Rattle.std.specs.String.{string_bytes};
+ghost use Rattle.std.specs.Cow.{cow_slice_items, cow_str_bytes};
 ghost use Rattle.std.specs.Str.{IsUtf8};
 ghost use Rattle.speedy_base.specs.Error.{error_of};
 
-use speedy_base::error::{Error, ErrorKind, error_invalid_string_utf8};
+use speedy_base::error::{Error, ErrorKind, error_invalid_str_utf8, error_invalid_string_utf8};
+use std::borrow::{CowSlice, CowStr};
 
 /// The text whose UTF-8 the bytes are, without a copy, or a refusal with `InvalidUtf8`.
 #[inline]
@@ -15,5 +17,31 @@ pub fn vec_to_string<E: From<Error>>(vec: Vec<u8>) -> Result<String, E>
     match String::from_utf8(vec) {
         Ok(text) => Ok(text),
         Err(_) => Err(error_invalid_string_utf8()),
+    }
+}
+
+/// The text whose UTF-8 the bytes are, without a copy, or a refusal with `InvalidUtf8`. Bytes that are refused
+/// are dropped.
+#[inline]
+pub fn cow_bytes_to_cow_str<'a, E: From<Error>>(bytes: CowSlice<'a, u8>) -> Result<CowStr<'a>, E>
+    ensures { let all = cow_slice_items bytes.entry in
+        MatchResult result (λ text. (cow_str_bytes text ≡ all) × IsUtf8 all)
+        (λ e. E.from_gives (error_of ErrorKind.InvalidUtf8) e × ¬ IsUtf8 all) }
+{
+    match bytes {
+        CowSlice::Borrowed(lent) => Ok(CowStr::Borrowed(bytes_to_str(lent)?)),
+        CowSlice::Owned(vec) => Ok(CowStr::Owned(vec_to_string(vec)?)),
+    }
+}
+
+// The text whose UTF-8 the bytes are, or a refusal with `InvalidUtf8`.
+#[inline]
+pub(crate) fn bytes_to_str<E: From<Error>>(bytes: &[u8]) -> Result<&str, E>
+    ensures { MatchResult result (λ text. (text.now ≡ bytes.now) × IsUtf8 bytes.now)
+        (λ e. E.from_gives (error_of ErrorKind.InvalidUtf8) e × ¬ IsUtf8 bytes.now) }
+{
+    match str::from_utf8(bytes) {
+        Ok(shown) => Ok(shown),
+        Err(_) => Err(error_invalid_str_utf8()),
     }
 }

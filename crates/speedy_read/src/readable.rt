@@ -1,13 +1,17 @@
 //! What types that are read do.
-ghost use Rattle.std.specs.Prelude.{◌≡◌, ℕ, [], map, MatchResult};
+ghost use Rattle.std.specs.Prelude.{◌≡◌, ℕ, [], List, map, MatchResult};
 ghost use Rattle.speedy_base.specs.Error.{error_of};
 ghost use Rattle.speedy_base.specs.Encoding.{plain_encoding};
 ghost use Rattle.speedy_layout.specs.Lists.{vector};
 ghost use Rattle.speedy_read.specs.Collections.{gatherer, Collects};
-ghost use Rattle.speedy_read.specs.Reading.{Reads, AnswersBuffer};
+ghost use Rattle.speedy_read.specs.Lending.{many_items};
+ghost use Rattle.speedy_read.specs.Reading.{Reads, AnswersBuffer, AnswersCopied};
 
 pub use crate::buffer_reader::BufferReader;
 use crate::collections::{FromItems, collect_items};
+pub use crate::copying_reader::CopyingBufferReader;
+use crate::lent::{FromLent, Many, Nothing};
+pub use crate::owned_reader::OwnedReader;
 use crate::reader::LendingReader;
 use speedy_base::context::{Context, PlainContext};
 use speedy_base::endianness::Endianness;
@@ -41,7 +45,24 @@ pub trait ReadFrom<L: AsSlice<u8> + Drop, C: Context>: Layout + Sized + Drop {
 /// The body serves each type. One that is read faster in bulk has a body of its own.
 pub trait ReadMany<L: AsSlice<u8> + Drop, C: Context>: ReadFrom<L, C> {
     /// Reads so many values, one after another.
-    fn read_many<R: LendingReader<L, C>>(
+    ///
+    /// This body reads each by itself. Bytes have a body of their own, which takes them at once where the reader
+    /// lends them, and makes what is asked for of those.
+    fn read_many_lent<W: FromLent<L, Self>, R: LendingReader<L, C>>(
+        reader: &mut R,
+        length: usize,
+    ) -> Result<Many<W, Self>, C::Error>
+        ensures { Reads C.Error.from_gives C.Error.eof
+            (λ many. map Self.seen (many_items W.shown many))
+            (vector length (Self.format (R.state reader.old).encoding)) result
+            (R.state reader.old) (R.state reader.new) }
+    {
+        read_each::<W, Self, L, C, R>(reader, length)
+    }
+
+    /// Reads so many values, one after another, into a vector.
+    #[inline]
+    final fn read_many<R: LendingReader<L, C>>(
         reader: &mut R,
         length: usize,
     ) -> Result<Vec<Self>, C::Error>
@@ -49,7 +70,24 @@ pub trait ReadMany<L: AsSlice<u8> + Drop, C: Context>: ReadFrom<L, C> {
             (vector length (Self.format (R.state reader.old).encoding)) result
             (R.state reader.old) (R.state reader.new) }
     {
-        read_each::<Self, L, C, R>(reader, length)
+        Self::read_many_cow::<Vec<Self>, R>(reader, length)
+    }
+
+    /// Reads so many values, one after another, into a cow or what else borrows what is lent.
+    #[inline]
+    final fn read_many_cow<W: FromLent<L, Self>, R: LendingReader<L, C>>(
+        reader: &mut R,
+        length: usize,
+    ) -> Result<W, C::Error>
+        ensures { Reads C.Error.from_gives C.Error.eof (λ w. map Self.seen (W.shown w))
+            (vector length (Self.format (R.state reader.old).encoding)) result
+            (R.state reader.old) (R.state reader.new) }
+    {
+        match Self::read_many_lent::<W, R>(reader, length) {
+            Ok(Many::Made(made)) => Ok(made),
+            Ok(Many::Owned(values)) => Ok(W::from_values(values)),
+            Err(error) => Err(error),
+        }
     }
 
     /// Reads so many values, one after another, and gathers them.
@@ -130,17 +168,146 @@ pub trait Readable<'a, C: Context>: ReadMany<&'a [u8], C> {
         let result = Self::read_from(&mut reader);
         (result, buffer.len() - reader.len())
     }
+
+    /// As [`read_from_buffer`](Self::read_from_buffer), but nothing of the buffer is borrowed: types that
+    /// borrow are refused as `Unsized`.
+    final fn read_from_buffer_copying_data(alloc: Global, buffer: &[u8]) -> Result<Self, C::Error>
+    where
+        C: PlainContext,
+        ensures { (count : ℕ) × AnswersCopied C.Error.from_gives C.Error.eof Self.seen Self.least
+            (Self.format (plain_encoding Endianness.LittleEndian)) result count buffer.now }
+    {
+        Self::read_from_buffer_copying_data_with_ctx(alloc, C::plain(), buffer)
+    }
+
+    /// As [`read_with_length_from_buffer`](Self::read_with_length_from_buffer), but nothing of the buffer is
+    /// borrowed: types that borrow are refused as `Unsized`.
+    final fn read_with_length_from_buffer_copying_data(
+        alloc: Global,
+        buffer: &[u8],
+    ) -> (Result<Self, C::Error>, usize)
+    where
+        C: PlainContext,
+        ensures { AnswersCopied C.Error.from_gives C.Error.eof Self.seen Self.least
+            (Self.format (plain_encoding Endianness.LittleEndian)) result.0 result.1 buffer.now }
+    {
+        Self::read_with_length_from_buffer_copying_data_with_ctx(alloc, C::plain(), buffer)
+    }
+
+    /// As [`read_from_buffer_with_ctx`](Self::read_from_buffer_with_ctx), but nothing of the buffer is
+    /// borrowed: types that borrow are refused as `Unsized`.
+    final fn read_from_buffer_copying_data_with_ctx(
+        alloc: Global,
+        context: C,
+        buffer: &[u8],
+    ) -> Result<Self, C::Error>
+        ensures { (count : ℕ) × AnswersCopied C.Error.from_gives C.Error.eof Self.seen Self.least
+            (Self.format (C.encoding context)) result count buffer.now }
+    {
+        Self::read_with_length_from_buffer_copying_data_with_ctx(alloc, context, buffer).0
+    }
+
+    /// As [`read_with_length_from_buffer_with_ctx`](Self::read_with_length_from_buffer_with_ctx), but nothing
+    /// of the buffer is borrowed: types that borrow are refused as `Unsized`.
+    final fn read_with_length_from_buffer_copying_data_with_ctx(
+        alloc: Global,
+        context: C,
+        buffer: &[u8],
+    ) -> (Result<Self, C::Error>, usize)
+        ensures { AnswersCopied C.Error.from_gives C.Error.eof Self.seen Self.least
+            (Self.format (C.encoding context)) result.0 result.1 buffer.now }
+    {
+        let mut context = context;
+        Self::read_with_length_from_buffer_copying_data_with_ctx_mut(alloc, &mut context, buffer)
+    }
+
+    /// The value that a front of the buffer spells under the context, and how many bytes spell it. Nothing of
+    /// the buffer is borrowed: types that borrow are refused as `Unsized`.
+    ///
+    /// A buffer that is shorter than the type's least size is refused with `InputBufferIsTooSmall` and the count 0.
+    final fn read_with_length_from_buffer_copying_data_with_ctx_mut(
+        alloc: Global,
+        context: &mut C,
+        buffer: &[u8],
+    ) -> (Result<Self, C::Error>, usize)
+        ensures encoding { C.encoding context.new ≡ C.encoding context.old }
+        ensures answers { AnswersCopied C.Error.from_gives C.Error.eof Self.seen Self.least
+            (Self.format (C.encoding context.old)) result.0 result.1 buffer.now }
+    {
+        let least = Self::minimum_bytes_needed();
+        let length = buffer.len();
+        if length < least {
+            return (Err(error_input_buffer_is_too_small(length, least)), 0);
+        }
+        let mut reader = CopyingBufferReader::new(alloc, context, buffer);
+        let result = Self::read_from(&mut reader);
+        let left = reader.finish();
+        (result, length - left)
+    }
 }
 
 impl<'a, C: Context, T: ReadMany<&'a [u8], C>> Readable<'a, C> for T {}
 
-// Reads so many values, each by itself. It stands outside the trait, so that it is proved once for all types.
+/// Types that are read where nothing is lent, so they borrow nothing and are never refused as `Unsized`: what
+/// Rust says by `for<'a> Readable<'a, C>`.
+///
+/// A generic function that makes its own buffer reads from it by these forms.
+pub trait ReadableOwned<C: Context>: ReadMany<Nothing, C> {
+    /// The value that a front of the buffer spells in the little byte order.
+    ///
+    /// A buffer that is shorter than the type's least size is refused with `InputBufferIsTooSmall`.
+    final fn read_owned(alloc: Global, buffer: &[u8]) -> Result<Self, C::Error>
+    where
+        C: PlainContext,
+        ensures { (count : ℕ) × AnswersBuffer C.Error.from_gives C.Error.eof Self.seen Self.least
+            (Self.format (plain_encoding Endianness.LittleEndian)) result count buffer.now }
+    {
+        Self::read_owned_with_ctx(alloc, C::plain(), buffer)
+    }
+
+    /// The value that a front of the buffer spells under the context.
+    ///
+    /// A buffer that is shorter than the type's least size is refused with `InputBufferIsTooSmall`.
+    final fn read_owned_with_ctx(alloc: Global, context: C, buffer: &[u8]) -> Result<Self, C::Error>
+        ensures { (count : ℕ) × AnswersBuffer C.Error.from_gives C.Error.eof Self.seen Self.least
+            (Self.format (C.encoding context)) result count buffer.now }
+    {
+        Self::read_owned_with_length_with_ctx(alloc, context, buffer).0
+    }
+
+    /// The value that a front of the buffer spells under the context, and how many bytes spell it.
+    ///
+    /// A buffer that is shorter than the type's least size is refused with `InputBufferIsTooSmall` and the count 0.
+    final fn read_owned_with_length_with_ctx(
+        alloc: Global,
+        context: C,
+        buffer: &[u8],
+    ) -> (Result<Self, C::Error>, usize)
+        ensures { AnswersBuffer C.Error.from_gives C.Error.eof Self.seen Self.least
+            (Self.format (C.encoding context)) result.0 result.1 buffer.now }
+    {
+        let least = Self::minimum_bytes_needed();
+        let length = buffer.len();
+        if length < least {
+            return (Err(error_input_buffer_is_too_small(length, least)), 0);
+        }
+        let mut reader = BufferReader::new(alloc, context, buffer);
+        let result = reader.read_owned_value();
+        (result, length - reader.len())
+    }
+}
+
+impl<C: Context, T: ReadMany<Nothing, C>> ReadableOwned<C> for T {}
+
+// Reads so many values, each by itself. It stands outside the trait, so that it is proved once for all types. What
+// `W` shows is left open, since a function that is told would ask more of an array than its impl knows.
 #[inline]
-fn read_each<T: ReadFrom<L, C>, L: AsSlice<u8> + Drop, C: Context, R: LendingReader<L, C>>(
+fn read_each<W: Drop, T: ReadFrom<L, C>, L: AsSlice<u8> + Drop, C: Context, R: LendingReader<L, C>>(
     reader: &mut R,
     length: usize,
-) -> Result<Vec<T>, C::Error>
-    ensures { Reads C.Error.from_gives C.Error.eof (λ v. map T.seen v.items)
+) -> Result<Many<W, T>, C::Error>
+    ensures { (shown : W → List T) → Reads C.Error.from_gives C.Error.eof
+        (λ many. map T.seen (many_items shown many))
         (vector length (T.format (R.state reader.old).encoding)) result
         (R.state reader.old) (R.state reader.new) }
 {
@@ -151,7 +318,7 @@ fn read_each<T: ReadFrom<L, C>, L: AsSlice<u8> + Drop, C: Context, R: LendingRea
             return Err(error_out_of_memory());
         }
     }
-    Ok(items)
+    Ok(Many::Owned(items))
 }
 
 // An empty vector, with room for so many items where the reader says that their bytes are to come.

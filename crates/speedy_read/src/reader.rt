@@ -1,6 +1,7 @@
 //! What every reader does.
 ghost use Rattle.std.specs.Prelude.{◌≡◌, ℕ, ◌<◌, ◌≤◌, ◌*◌, ◌-◌, ◌^◌, ◌⊎◌, ◌↔◌, IsTrue, slice_index, length, length as count, map, Bool, Option, Some, false, IsErrAnd};
 ghost use Rattle.std.specs.Borrow.{sem, Lends};
+ghost use Rattle.std.specs.Io.BufRead.{Rests};
 ghost use Rattle.std.specs.Int.{w8, w16, w32, w64, w128};
 ghost use Rattle.std.specs.String.{string_bytes};
 ghost use Rattle.speedy_base.specs.Error.{error_of};
@@ -9,9 +10,11 @@ ghost use Rattle.speedy_layout.specs.Numbers.{unsigned_number};
 ghost use Rattle.speedy_layout.specs.Lists.{vector};
 ghost use Rattle.speedy_layout.specs.Varint.{varint};
 ghost use Rattle.speedy_read.specs.Collections.{gatherer, Collects};
-ghost use Rattle.speedy_read.specs.Reading.{ReaderState, Reads, ReadsUnsigned, ReadsSigned, Peeks, IsRight};
+ghost use Rattle.speedy_read.specs.Reading.{ReaderState, Reads, ReadsUnsigned, ReadsSigned, Peeks, IsRight, LendsBytes, LendsAll, LendsUntilUsed};
 
 use crate::collections::FromItems;
+use crate::lent::{FromLent, Nothing};
+use crate::owned_reader::OwnedReader;
 use crate::private::vec_to_string;
 use crate::readable::{ReadFrom, ReadMany};
 use speedy_base::context::Context;
@@ -67,6 +70,29 @@ pub trait LendingReader<L: AsSlice<u8> + Drop, C: Context> {
     fn can_read_at_least(&self, size: usize) -> Option<bool>
         ensures says { result ≡ can_read self.now size }
         ensures right { IsRight result (state self.now) size };
+
+    /// The next bytes, so many, which the reader lends; `None` where it lends nothing.
+    fn read_bytes_borrowed(&mut self, length: usize) -> Option<Result<L, C::Error>>
+        ensures { LendsBytes C.Error.from_gives C.Error.eof L.items length result
+            (state self.old) (state self.new) };
+
+    /// The next bytes, so many, which are lent until the reader is used again; `None` where it cannot.
+    fn read_bytes_borrowed_from_reader(
+        &mut self,
+        _length: usize,
+    ) -> Option<Result<&[u8], EndOfInput>>
+        ensures* after { sem 𝓛 (Rests Self.row self.entry (λ new.
+            LendsUntilUsed (λ b. b.now) _length result (state self.old) (state new))) }
+    {
+        None
+    }
+
+    /// All bytes to come, which the reader lends; `None` where it cannot.
+    fn read_bytes_borrowed_until_eof(&mut self) -> Option<L>
+        ensures { LendsAll L.items result (state self.old) (state self.new) }
+    {
+        None
+    }
 
     /// Where values that own memory get it.
     fn alloc(&self) -> Global;
@@ -254,6 +280,20 @@ pub trait LendingReader<L: AsSlice<u8> + Drop, C: Context> {
         T::read_from(self)
     }
 
+    /// The next value, of a type that borrows nothing, whatever the reader lends.
+    #[inline]
+    final fn read_owned_value<T: ReadFrom<Nothing, C>>(&mut self) -> Result<T, C::Error>
+    where
+        Self: Sized,
+        ensures { Reads C.Error.from_gives C.Error.eof T.seen (T.format (state self.old).encoding)
+            result (state self.old) (state self.new) }
+    {
+        let mut reader: OwnedReader<L, Self> = OwnedReader::new(self);
+        let value = T::read_from(&mut reader);
+        reader.into_inner();
+        value
+    }
+
     /// So many values, one after another.
     ///
     /// It is refused before any item where fewer bytes are to come than so many items have at least, if the
@@ -273,6 +313,31 @@ pub trait LendingReader<L: AsSlice<u8> + Drop, C: Context> {
             return Err(error_end_of_input());
         }
         T::read_many(self, length)
+    }
+
+    /// So many values, one after another, as a cow or what else they go into: bytes are borrowed where the
+    /// reader lends, and all else is owned.
+    ///
+    /// It is refused before any item where [`read_vec`](Self::read_vec) is.
+    #[inline]
+    final fn read_cow<W: FromLent<L, T>, T: ReadMany<L, C>>(
+        &mut self,
+        length: usize,
+    ) -> Result<W, C::Error>
+    where
+        Self: Sized,
+        ensures reads { Reads C.Error.from_gives C.Error.eof (λ w. map T.seen (W.shown w))
+            (vector length (T.format (state self.old).encoding)) result
+            (state self.old) (state self.new) }
+        ensures early { ((2 ^ 64 ≤ T.least * length) ⊎ (can_read self.old (T.least * length) ≡ Some false))
+            → IsErrAnd result (λ e. C.Error.from_gives (error_of ErrorKind.UnexpectedEndOfInput) e)
+            × (self.new ≡ self.old) }
+    {
+        let least = T::minimum_bytes_needed();
+        if ends_before::<L, C, Self>(self, least, length) {
+            return Err(error_end_of_input());
+        }
+        T::read_many_cow(self, length)
     }
 
     /// What so many values gather to, one after another.
@@ -325,6 +390,10 @@ pub trait LendingReader<L: AsSlice<u8> + Drop, C: Context> {
     ghost state_with: { (r : Self) (c : C) →
         state (with_context r c) ≡ record (state r) { encoding = C.encoding c } };
 }
+
+/// The bytes ended before a stretch that was to be lent.
+#[derive(Clone, Copy, Debug, PartialEq, Eq)]
+pub struct EndOfInput {}
 
 /// Readers that may lend parts of their bytes for `'a`.
 pub trait Reader<'a, C: Context>: LendingReader<&'a [u8], C> {}

@@ -1,7 +1,14 @@
 //! How texts are read.
+ghost use Rattle.std.specs.Prelude.{◌≡◌};
+ghost use Rattle.speedy_layout.specs.Numbers.{unsigned_number};
+ghost use Rattle.speedy_read.specs.Reading.{Reads, RefusesUnsized};
+
+use crate::private::bytes_to_str;
 use crate::readable::{ReadFrom, ReadMany};
 use crate::reader::LendingReader;
 use speedy_base::context::Context;
+use speedy_base::error::error_unsized;
+use speedy_layout::layout::Layout;
 use std::boxed::BoxedStr;
 use std::convert::AsSlice;
 
@@ -34,3 +41,32 @@ impl<L: AsSlice<u8> + Drop, C: Context> ReadFrom<L, C> for BoxedStr {
 }
 
 impl<L: AsSlice<u8> + Drop, C: Context> ReadMany<L, C> for BoxedStr {}
+
+// It points into the bytes that the reader lends.
+impl<'a, C: Context> ReadFrom<&'a [u8], C> for &'a str {
+    #[inline]
+    fn read_from<R: LendingReader<&'a [u8], C>>(reader: &mut R) -> Result<&'a str, C::Error>
+        ensures reads { let text = ⟦<&'a str as Layout>⟧ in
+            Reads C.Error.from_gives C.Error.eof text.seen
+            (text.format (R.state reader.old).encoding) result
+            (R.state reader.old) (R.state reader.new) }
+        ensures not_lent { let number = unsigned_number 4 (R.state reader.old).encoding in
+            RefusesUnsized C.Error.from_gives C.Error.eof number result
+            (R.state reader.old) (R.state reader.new) }
+    {
+        let length = reader.read_u32()?;
+        match reader.read_bytes_borrowed(length as usize) {
+            Some(lent) => bytes_to_str(lent?),
+            None => Err(error_unsized()),
+        }
+    }
+
+    #[inline]
+    fn minimum_bytes_needed() -> usize
+        ensures { result ≡ 4 }
+    {
+        4
+    }
+}
+
+impl<'a, C: Context> ReadMany<&'a [u8], C> for &'a str {}

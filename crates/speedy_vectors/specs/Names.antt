@@ -17,7 +17,7 @@ use Rattle.speedy_layout.specs.SeenKeys.{IsLess}
 use Rattle.speedy_layout.specs.Maps.{tree_map, index_map}
 use Rattle.speedy_layout.specs.Sets.{tree_set, index_set}
 use Rattle.speedy_layout.specs.Texts.{text, raw_bytes}
-use Rattle.speedy_layout.specs.Owned.{owned_content}
+use Rattle.speedy_layout.specs.Owned.{owned_content, borrowed_content}
 use Rattle.speedy_layout.specs.Varint.{varint}
 use Rattle.speedy_vectors.specs.declared.line.TypeName.{TypeName}
 use Rattle.speedy_vectors.specs.declared.line.TypeName.TheVariants as names
@@ -93,3 +93,11 @@ named names.IndexMapU8U8 = by (codes "index_map_u8_u8") refl 4 (λ encoding. ind
 named names.VecChar = by (codes "vec_char") refl 4 (λ encoding. list encoding (character encoding))
 named names.VecUnit = by (codes "vec_unit") refl 4 (λ encoding. list encoding unit)
 named names.VecOptString = by (codes "vec_opt_string") refl 4 (λ encoding. list encoding (option encoding (text encoding)))
+named names.CowStr = by (codes "cow_str") refl 4 text
+named names.CowU8 = by (codes "cow_u8") refl 4 (λ encoding. list encoding (unsigned_number 1 encoding))
+named names.CowU16 = by (codes "cow_u16") refl 4 (λ encoding. list encoding (unsigned_number 2 encoding))
+named names.StrRef = by (codes "str_ref") refl 4 (λ encoding. borrowed_content (text encoding))
+named names.BytesRef = by (codes "bytes_ref") refl 4 (λ encoding. borrowed_content (list encoding (unsigned_number 1 encoding)))
+named names.BytesRef4 = by (codes "bytes_ref_4") refl 4 (λ encoding. borrowed_content (vector 4 (unsigned_number 1 encoding)))
+named names.ViewI8 = by (codes "view_i8") refl 4 (λ encoding. borrowed_content (list encoding (signed_number w8 encoding)))
+named names.ArrayViewI8x4 = by (codes "array_view_i8_4") refl 4 (λ encoding. borrowed_content (vector 4 (signed_number w8 encoding)))

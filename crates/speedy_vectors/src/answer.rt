@@ -10,11 +10,13 @@ use indexmap::{IndexMap, IndexSet};
 use smallvec::SmallVec;
 use speedy::private::{ErrorKind, get_error_kind};
 use speedy::varint::VarInt64;
+use speedy::views::{ArrayView, SliceView};
 use speedy::{
     BigEndian, Context, Endianness, Error, LittleEndian, Readable, StrictBigEndian,
     StrictLittleEndian, Writable,
 };
 use std::alloc::{AllocError, Global};
+use std::borrow::{CowSlice, CowStr};
 use std::boxed::{BoxedSlice, BoxedStr};
 use std::collections::{BTreeMap, BTreeSet};
 use std::fmt;

@@ -117,6 +117,22 @@ pub enum TypeName {
     VecUnit,
     /// `Vec<Option<String>>`.
     VecOptString,
+    /// `CowStr`.
+    CowStr,
+    /// `CowSlice<u8>`.
+    CowU8,
+    /// `CowSlice<u16>`.
+    CowU16,
+    /// `&str`.
+    StrRef,
+    /// `&[u8]`.
+    BytesRef,
+    /// `&[u8; 4]`.
+    BytesRef4,
+    /// `SliceView<i8>`.
+    ViewI8,
+    /// `ArrayView<i8, 4>`.
+    ArrayViewI8x4,
 }
 
 // Each type of the program: its name on a line, its variant, and the type. The row of its bytes is in `specs/`.
@@ -168,6 +184,14 @@ macro_rules! for_each_name {
             b"vec_char" VecChar Vec<char>;
             b"vec_unit" VecUnit Vec<()>;
             b"vec_opt_string" VecOptString Vec<Option<String>>;
+            b"cow_str" CowStr CowStr;
+            b"cow_u8" CowU8 CowSlice<u8>;
+            b"cow_u16" CowU16 CowSlice<u16>;
+            b"str_ref" StrRef &str;
+            b"bytes_ref" BytesRef &[u8];
+            b"bytes_ref_4" BytesRef4 &[u8; 4];
+            b"view_i8" ViewI8 SliceView<i8>;
+            b"array_view_i8_4" ArrayViewI8x4 ArrayView<i8, 4>;
         }
     };
 }

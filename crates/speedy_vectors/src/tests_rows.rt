@@ -191,6 +191,26 @@ const STRICTLY_GATHERED: [(&str, &str); 5] = [
     ),
 ];
 
+/// What borrows the bytes, and cows.
+const BORROWED: [(&str, &str); 13] = [
+    ("le cow_str 020000004869", "ok 6 020000004869\n"),
+    ("le cow_str 01000000ff", "refused InvalidUtf8\n"),
+    ("be cow_u8 0000000200ff", "ok 6 0000000200ff\n"),
+    ("be cow_u16 0000000100ff", "ok 6 0000000100ff\n"),
+    ("le str_ref 020000004869", "ok 6 020000004869\n"),
+    ("le str_ref 01000000ff", "refused InvalidUtf8\n"),
+    ("le bytes_ref 0300000001", "refused UnexpectedEndOfInput\n"),
+    ("be bytes_ref 00000001ff00", "ok 5 00000001ff\n"),
+    (
+        "le bytes_ref_4 010203",
+        "refused InputBufferIsTooSmall 3 4\n",
+    ),
+    ("le bytes_ref_4 0102030405", "ok 4 01020304\n"),
+    ("be view_i8 00000002ff80", "ok 6 00000002ff80\n"),
+    ("le view_i8 02000000ff", "refused UnexpectedEndOfInput\n"),
+    ("be array_view_i8_4 ff800102", "ok 4 ff800102\n"),
+];
+
 /// What the strict orders refuse, and what they do not.
 const STRICT: [(&str, &str); 10] = [
     ("sle varint 8000", "refused NotWrittenForm\n"),
@@ -251,6 +271,11 @@ fn maps_and_sets_are_answered(rt: HostRuntime) {
 }
 
 #[test]
+fn what_borrows_is_answered(rt: HostRuntime) {
+    assert_answers(&rt, rt.alloc(), &BORROWED);
+}
+
+#[test]
 fn strict_orders_are_answered(rt: HostRuntime) {
     assert_answers(&rt, rt.alloc(), &STRICT);
 }
@@ -264,4 +289,5 @@ fn strict_orders_answer_written_forms_alone(rt: HostRuntime) {
     assert_strict_answers(&rt, rt.alloc(), &COMPOSED);
     assert_strict_answers(&rt, rt.alloc(), &OWNED);
     assert_strict_answers(&rt, rt.alloc(), &GATHERED);
+    assert_strict_answers(&rt, rt.alloc(), &BORROWED);
 }

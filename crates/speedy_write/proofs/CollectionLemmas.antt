@@ -4,7 +4,7 @@ use Rattle.std.proofs.Common.{sym, ap, subst, inl, inr}
 use Rattle.std.proofs.iter.Next.{Yields-more}
 use Rattle.std.proofs.iter.Yields.{gives_left, gives_Drains, listed}
 use Rattle.std.proofs.lemmas.List.{length-map}
-use Rattle.std.specs.Iterator.{Yields, Drains, AlwaysYields}
+use Rattle.std.specs.Iterator.{Yields, YieldsFirst, Drains, AlwaysYields}
 use Rattle.std.specs.Map.Iter.{TakesFirst}
 use Rattle.speedy_base.specs.declared.error.ErrorKind.{ErrorKind}
 use Rattle.speedy_base.specs.declared.error.Error.{Error}
@@ -92,6 +92,12 @@ pub shown_in_order : {A X V : Type 0} {s xs : List X} (shows : A → X) (seen : 
 shown_in_order {xs = xs} shows seen same =
     subst (λ l. AlwaysYields (TakesFirst shows) (λ a. seen (shows a)) l (map seen xs)) (sym same)
     (listed (TakesFirst shows) (λ a. seen (shows a)) (map seen) (λ s t h. ap (λ l. length (map seen l)) h.0) (λ s x t h. ap (map seen) h) xs)
+
+-- and so does one whose items are shown by what it has left
+pub left_in_order : {S A V : Type 0} (left : S → List A) (seen : A → V) {s : S} {items : List A} → left s ≡ items → AlwaysYields (YieldsFirst left) seen s (map seen items)
+left_in_order left seen {s = s} same =
+    subst (λ xs. AlwaysYields (YieldsFirst left) seen s (map seen xs)) same
+    (listed (YieldsFirst left) seen (λ t. map seen (left t)) (λ s t h. ap (λ xs. length (map seen xs)) h.0) (λ s x t h. ap (map seen) h) s)
 
 -- ---- the collection
 

@@ -18,6 +18,7 @@ pub mod sets;
 pub mod texts;
 pub mod tuples;
 pub mod varint;
+pub mod views;
 pub mod writable;
 pub mod writer;
 

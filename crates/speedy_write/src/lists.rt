@@ -49,7 +49,7 @@ impl<C: Context, T: Writable<C>, const N: usize> Writable<C> for [T; N] {
 
 // The number of items, and then the items.
 #[inline]
-fn write_counted<C: Context, T: Writable<C>, W: Writer<C>>(
+pub(crate) fn write_counted<C: Context, T: Writable<C>, W: Writer<C>>(
     items: &[T],
     writer: &mut W,
 ) -> Result<(), C::Error>

@@ -33,7 +33,10 @@ impl<C: Context> Writable<C> for BoxedStr {
 
 // The number of bytes, and then the bytes.
 #[inline]
-fn write_text<C: Context, W: Writer<C>>(text: &str, writer: &mut W) -> Result<(), C::Error>
+pub(crate) fn write_text<C: Context, W: Writer<C>>(
+    text: &str,
+    writer: &mut W,
+) -> Result<(), C::Error>
     ensures { Writes C.Error.from_gives text_format text.now result
         (W.state writer.old) (W.state writer.new) (λ b. W.appends writer.old b writer.new) }
 {

@@ -17,17 +17,17 @@ loop-i-preserved g c =
     )
 
 pub returns : goal.returns
-returns g c = got_items _ _ c.loop-i.invariant.1 (c.loop-i.invariant.0 ∙ omega arith)
+returns g c shown = got_items _ _ c.loop-i.invariant.1 (c.loop-i.invariant.0 ∙ omega arith)
 
 pub returns-in_err-item : goal.returns-in_err-item
-returns-in_err-item g c =
+returns-in_err-item g c shown =
     let so_far = c.loop-i.invariant.1 in
     let fewer : length (map g.T.Layout.seen c.loop-i.items.items) < c.args.length = let count = c.loop-i.invariant.0 in omega arith in
     rw (exit_is c.from_residual-in_err-item.result c.from_residual-in_err-item.ensures.1)
     (refused_item (g.met.T.Layout.layout_laws _) _ _ {new = g.R.LendingReader.state c.read_from.new.reader} fewer so_far (rw so_far.kept.encoding at c.in_err-item.ensures))
 
 pub returns-in_err-items : goal.returns-in_err-items
-returns-in_err-items g c = rw (exit_is c.from_residual.result c.from_residual.ensures.1) (refused_room _ _ Kept-same c.in_err-items.ensures)
+returns-in_err-items g c shown = rw (exit_is c.from_residual.result c.from_residual.ensures.1) (refused_room _ _ Kept-same c.in_err-items.ensures)
 
 pub returns-then-is_err : goal.returns-then-is_err
-returns-then-is_err g c = refused_room _ _ (Kept-after c.loop-i.invariant.1.kept c.in_ok-item.ensures.kept) c.error_out_of_memory.ensures
+returns-then-is_err g c shown = refused_room _ _ (Kept-after c.loop-i.invariant.1.kept c.in_ok-item.ensures.kept) c.error_out_of_memory.ensures

@@ -1,0 +1,411 @@
+//! What is lent: borrowed values and cows, and readers that copy.
+ghost use Rattle.std.specs.Prelude.{◌≡◌};
+ghost use Rattle.speedy_layout.specs.Lists.{list_laws};
+ghost use Rattle.speedy_layout.specs.Numbers.{unsigned_number_laws};
+ghost use Rattle.speedy_layout.specs.Owned.{borrowed_content_laws};
+ghost use Rattle.speedy_layout.specs.Texts.{text_laws};
+ghost use Rattle.speedy_layout.specs.Tuples.{pair_laws};
+
+use crate::asserting::{
+    assert_bytes, assert_kind, assert_ok, assert_ok_items, assert_refused, assert_same,
+};
+use crate::context::{Context, LittleEndian};
+use crate::endianness::Endianness;
+use crate::error::Error;
+use crate::layout::Layout;
+use crate::private::{cow_bytes_to_cow_str, get_error_kind};
+use crate::readable::{
+    BufferReader, CopyingBufferReader, ReadFrom, ReadMany, Readable, ReadableOwned,
+};
+use crate::reader::{LendingReader, Reader};
+use std::alloc::Global;
+use std::borrow::{CowSlice, CowStr};
+use std::collections::BTreeMap;
+use std::convert::AsSlice;
+use std::process::Abort;
+
+/// The text "Hi" with its count.
+const HI: [u8; 6] = [2, 0, 0, 0, 72, 105];
+
+/// A message's number and text. The text is that of the bytes, where it lies.
+pub fn parse_message<'a>(alloc: Global, bytes: &'a [u8]) -> Result<(u16, &'a str), Error> {
+    <(u16, &'a str) as Readable<LittleEndian>>::read_from_buffer(alloc, bytes)
+}
+
+#[test]
+fn a_message_is_parsed_where_it_lies(rt: HostRuntime) {
+    let alloc = rt.alloc();
+    let bytes = [2, 1, 2, 0, 0, 0, 72, 105, 9];
+    let (number, text) = parse_message(alloc, &bytes).expect(&rt, "a message");
+    assert_same(&rt, number, 258);
+    assert_same(&rt, text, "Hi");
+    let outcome = parse_message(alloc, &bytes[..7]);
+    assert_refused(&rt, alloc, outcome, "UnexpectedEndOfInput");
+}
+
+/// A name and what it stands for, which point into what they are read from.
+#[derive(Drop)]
+struct Entry<'a> {
+    name: &'a str,
+    content: CowSlice<'a, u8>,
+}
+
+impl<'a> Layout for Entry<'a> {
+    ghost Seen = { ⟦<(&'a str, CowSlice<'a, u8>) as Layout>⟧.Seen };
+
+    ghost seen = { λ entry. ⟦<(&'a str, CowSlice<'a, u8>) as Layout>⟧.seen (entry.name, entry.content) };
+
+    ghost format = { ⟦<(&'a str, CowSlice<'a, u8>) as Layout>⟧.format };
+
+    ghost least = { 8 };
+
+    ghost layout_laws = { λ f.
+        pair_laws (borrowed_content_laws (text_laws f)) (list_laws f (unsigned_number_laws 1 f)) };
+}
+
+impl<'a, C: Context> ReadFrom<&'a [u8], C> for Entry<'a> {
+    fn read_from<R: LendingReader<&'a [u8], C>>(reader: &mut R) -> Result<Entry<'a>, C::Error> {
+        let name = reader.read_value()?;
+        let content = reader.read_value()?;
+        Ok(Entry { name, content })
+    }
+
+    fn minimum_bytes_needed() -> usize
+        ensures { result ≡ 8 }
+    {
+        8
+    }
+}
+
+impl<'a, C: Context> ReadMany<&'a [u8], C> for Entry<'a> {}
+
+#[test]
+fn a_record_points_into_what_it_is_read_from(rt: HostRuntime) {
+    let alloc = rt.alloc();
+    let bytes = [2, 0, 0, 0, 72, 105, 3, 0, 0, 0, 7, 8, 9, 1];
+    let (outcome, count) = <Entry as Readable<LittleEndian>>::read_with_length_from_buffer(
+        alloc, &bytes,
+    );
+    let entry = outcome.expect(&rt, "an entry");
+    assert_same(&rt, entry.name, "Hi");
+    assert_borrows(&rt, entry.content, &[7, 8, 9], true);
+    assert_same(&rt, count, 13);
+    let outcome = <Entry as Readable<LittleEndian>>::read_from_buffer(alloc, &bytes[..12]);
+    assert_refused(&rt, alloc, outcome, "UnexpectedEndOfInput");
+    let outcome = <Entry as Readable<LittleEndian>>::read_from_buffer_copying_data(alloc, &bytes);
+    assert_refused(&rt, alloc, outcome, "Unsized");
+}
+
+#[test]
+fn a_text_is_borrowed_where_it_is_lent(rt: HostRuntime) {
+    let alloc = rt.alloc();
+    let outcome = <&str as Readable<LittleEndian>>::read_from_buffer(alloc, &HI);
+    assert_ok(&rt, outcome, "Hi");
+    let outcome = <&str as Readable<LittleEndian>>::read_from_buffer_copying_data(alloc, &HI);
+    assert_refused(&rt, alloc, outcome, "Unsized");
+    let outcome = <&str as Readable<LittleEndian>>::read_from_buffer_copying_data(alloc, &[]);
+    assert_refused(
+        &rt,
+        alloc,
+        outcome,
+        "InputBufferIsTooSmall { actual_size: 0, expected_size: 4 }",
+    );
+    let outcome = <&str as Readable<LittleEndian>>::read_from_buffer(alloc, &[1, 0, 0, 0, 255]);
+    assert_refused(&rt, alloc, outcome, "InvalidUtf8");
+}
+
+#[test]
+fn bytes_are_borrowed_where_they_are_lent(rt: HostRuntime) {
+    let alloc = rt.alloc();
+    let outcome = <&[u8] as Readable<LittleEndian>>::read_from_buffer(alloc, &HI);
+    assert_bytes(&rt, outcome.expect(&rt, "bytes"), &[72, 105]);
+    let outcome = <&[u8] as Readable<LittleEndian>>::read_from_buffer(alloc, &[3, 0, 0, 0, 1]);
+    assert_refused(&rt, alloc, outcome, "UnexpectedEndOfInput");
+    let outcome = <&[u8] as Readable<LittleEndian>>::read_from_buffer_copying_data(alloc, &HI);
+    assert_refused(&rt, alloc, outcome, "Unsized");
+    let outcome = <&[u8; 2] as Readable<LittleEndian>>::read_from_buffer(alloc, &[7, 8, 9]);
+    assert_bytes(&rt, outcome.expect(&rt, "bytes"), &[7, 8]);
+    let outcome = <&[u8; 4] as Readable<LittleEndian>>::read_from_buffer(alloc, &[1, 2, 3]);
+    assert_refused(
+        &rt,
+        alloc,
+        outcome,
+        "InputBufferIsTooSmall { actual_size: 3, expected_size: 4 }",
+    );
+    let four = [1, 2, 3, 4];
+    let outcome = <&[u8; 4] as Readable<LittleEndian>>::read_from_buffer(alloc, &four);
+    assert_bytes(&rt, outcome.expect(&rt, "bytes"), &four);
+    let outcome = <&[u8; 4] as Readable<LittleEndian>>::read_from_buffer_copying_data(alloc, &four);
+    assert_refused(&rt, alloc, outcome, "Unsized");
+}
+
+/// Asserts that it borrows the bytes or not.
+fn assert_borrows(rt: &impl Abort, cow: CowSlice<'_, u8>, bytes: &[u8], borrows: bool) {
+    assert_bytes(rt, cow.as_slice(), bytes);
+    assert_same(rt, matches!(cow, CowSlice::Borrowed(_)), borrows);
+}
+
+#[test]
+fn cows_borrow_bytes_where_they_are_lent(rt: HostRuntime) {
+    let alloc = rt.alloc();
+    let outcome = <CowSlice<u8> as Readable<LittleEndian>>::read_from_buffer(alloc, &HI);
+    assert_borrows(&rt, outcome.expect(&rt, "a cow"), &[72, 105], true);
+    let outcome = <CowSlice<u8> as Readable<LittleEndian>>::read_from_buffer_copying_data(
+        alloc, &HI,
+    );
+    assert_borrows(&rt, outcome.expect(&rt, "a cow"), &[72, 105], false);
+    let numbers = [1, 0, 0, 0, 4, 3];
+    let outcome = <CowSlice<u16> as Readable<LittleEndian>>::read_from_buffer(alloc, &numbers);
+    assert_same(&rt, outcome.expect(&rt, "a cow").as_slice(), &[0x0304]);
+}
+
+/// Asserts that the reader has these two numbers, and a byte after them.
+fn assert_cow_of_numbers<'a>(
+    rt: &impl Abort,
+    reader: &mut impl Reader<'a, Endianness>,
+    numbers: &[u16],
+) {
+    let cow: CowSlice<'a, u16> = reader.read_cow(2).expect(rt, "two numbers");
+    assert_same(rt, cow.as_slice(), numbers);
+    assert_ok(rt, reader.read_u8(), 9);
+}
+
+#[test]
+fn cows_of_numbers_follow_the_order(rt: HostRuntime) {
+    let alloc = rt.alloc();
+    let bytes = [1, 2, 3, 4, 9];
+    let rows = [
+        (Endianness::LittleEndian, [0x0201, 0x0403]),
+        (Endianness::BigEndian, [0x0102, 0x0304]),
+    ];
+    for (order, numbers) in &rows {
+        let mut reader = BufferReader::new(alloc, *order, &bytes);
+        assert_cow_of_numbers(&rt, &mut reader, numbers);
+        let mut held = *order;
+        let mut reader = CopyingBufferReader::new(alloc, &mut held, &bytes);
+        assert_cow_of_numbers(&rt, &mut reader, numbers);
+    }
+}
+
+/// Asserts that it is "Hi", and borrows it or not.
+fn assert_hi(rt: &impl Abort, outcome: Result<CowStr<'_>, Error>, borrows: bool) {
+    let cow = outcome.expect(rt, "a cow");
+    assert_same(rt, cow.as_str(), "Hi");
+    assert_same(rt, matches!(cow, CowStr::Borrowed(_)), borrows);
+}
+
+#[test]
+fn cows_of_texts(rt: HostRuntime) {
+    let alloc = rt.alloc();
+    let outcome = <CowStr as Readable<LittleEndian>>::read_from_buffer(alloc, &HI);
+    assert_hi(&rt, outcome, true);
+    let outcome = <CowStr as Readable<LittleEndian>>::read_from_buffer_copying_data(alloc, &HI);
+    assert_hi(&rt, outcome, false);
+    let outcome: Result<CowStr, Error> = cow_bytes_to_cow_str(CowSlice::Borrowed(&[255]));
+    assert_refused(&rt, alloc, outcome, "InvalidUtf8");
+}
+
+/// So many bytes that they are more than two chunks of those in which bytes are copied, and others after them.
+const MANY: usize = 1300;
+
+/// The bytes from 0 to 250, again and again, so that a chunk of them is not the one before it.
+fn make_many(rt: &impl Abort, alloc: Global) -> Vec<u8> {
+    let mut bytes = Vec::new(alloc);
+    let mut byte = 0_u8;
+    for _ in 0..2 * MANY {
+        assert!(rt; bytes.push(byte).is_ok(), "no room for a byte");
+        byte = byte.wrapping_add(1) % 251;
+    }
+    bytes
+}
+
+/// Asserts that the reader has these bytes, which it reads as a vector and as many values.
+fn assert_many<L: AsSlice<u8> + Drop, R: LendingReader<L, Endianness>>(
+    rt: &impl Abort,
+    reader: &mut R,
+    bytes: &[u8],
+) {
+    let (first, second) = bytes.split_at_checked(MANY).expect(rt, "so many bytes");
+    let read: Vec<u8> = reader.read_vec(first.len()).expect(rt, "a vector");
+    assert_bytes(rt, read.as_slice(), first);
+    let read = <u8 as ReadMany<L, Endianness>>::read_many(reader, second.len());
+    assert_bytes(rt, read.expect(rt, "values").as_slice(), second);
+    assert!(rt; reader.read_u8().is_err());
+}
+
+#[test]
+fn many_bytes_are_read_alike_by_each_reader(rt: HostRuntime) {
+    let alloc = rt.alloc();
+    let bytes = make_many(&rt, alloc);
+    let mut order = Endianness::LittleEndian;
+    assert_many(&rt, &mut BufferReader::new(alloc, order, &bytes), &bytes);
+    let mut reader = CopyingBufferReader::new(alloc, &mut order, &bytes);
+    assert_many::<&[u8], CopyingBufferReader<'_, Endianness>>(&rt, &mut reader, &bytes);
+}
+
+/// Asserts that the reader lends all that is left, and then nothing.
+fn assert_lends_the_rest(rt: &impl Abort, reader: &mut BufferReader<'_, Endianness>) {
+    let rest = reader
+        .read_bytes_borrowed_until_eof()
+        .expect(rt, "all bytes");
+    assert_bytes(rt, rest, &[3, 4]);
+    assert_same(rt, reader.len(), 0);
+}
+
+#[test]
+fn a_buffer_lends_its_bytes(rt: HostRuntime) {
+    let alloc = rt.alloc();
+    let mut reader = BufferReader::new(alloc, Endianness::BigEndian, &[0, 1, 2, 3, 4]);
+    let lent = reader.read_bytes_borrowed(2).expect(&rt, "it lends");
+    assert_bytes(&rt, lent.expect(&rt, "two bytes"), &[0, 1]);
+    let lent = reader.read_bytes_borrowed(4).expect(&rt, "it lends");
+    assert_refused(&rt, alloc, lent, "UnexpectedEndOfInput");
+    let lent = reader
+        .read_bytes_borrowed_from_reader(1)
+        .expect(&rt, "it lends");
+    assert_bytes(&rt, lent.expect(&rt, "a byte"), &[2]);
+    assert_lends_the_rest(&rt, &mut reader);
+}
+
+#[test]
+fn a_copying_reader_lends_until_its_next_use(rt: HostRuntime) {
+    let mut order = Endianness::BigEndian;
+    let mut reader = CopyingBufferReader::new(rt.alloc(), &mut order, &[0, 1, 2, 3, 4]);
+    assert!(rt; reader.read_bytes_borrowed(2).is_none());
+    assert!(rt; reader.read_bytes_borrowed_until_eof().is_none());
+    let lent = reader
+        .read_bytes_borrowed_from_reader(1)
+        .expect(&rt, "it lends");
+    assert_bytes(&rt, lent.expect(&rt, "a byte"), &[0]);
+    let lent = reader
+        .read_bytes_borrowed_from_reader(5)
+        .expect(&rt, "it lends");
+    assert!(rt; lent.is_err());
+    assert_ok(&rt, reader.read_u16(), 0x0102);
+    assert_same(&rt, reader.finish(), 2);
+    assert_same(&rt, order, Endianness::BigEndian);
+}
+
+#[test]
+fn owned_values_are_read_from_any_buffer(rt: HostRuntime) {
+    let alloc = rt.alloc();
+    let text = <String as ReadableOwned<LittleEndian>>::read_owned(alloc, &HI);
+    assert_same(&rt, text.expect(&rt, "a text").as_str(), "Hi");
+    let big = Endianness::BigEndian;
+    let (outcome, count) = <u16 as ReadableOwned<Endianness>>::read_owned_with_length_with_ctx(
+        alloc,
+        big,
+        &[1, 2, 3],
+    );
+    assert_ok(&rt, outcome, 0x0102);
+    assert_same(&rt, count, 2);
+}
+
+#[test]
+fn owned_values_are_read_from_any_reader(rt: HostRuntime) {
+    let mut order = Endianness::BigEndian;
+    let mut reader = CopyingBufferReader::new(rt.alloc(), &mut order, &[1, 2, 0, 0, 0, 1, 7]);
+    let number: Result<u16, Error> = reader.read_owned_value();
+    assert_ok(&rt, number, 0x0102);
+    let numbers: Result<Vec<u8>, Error> = reader.read_owned_value();
+    assert_ok_items(&rt, numbers, &[7]);
+    assert_same(&rt, reader.finish(), 0);
+}
+
+/// Asserts that two outcomes are the same value, or are refused alike.
+fn assert_alike<T: PartialEq + Drop>(
+    rt: &impl Abort,
+    alloc: Global,
+    one: &Result<T, Error>,
+    other: &Result<T, Error>,
+) {
+    match (one, other) {
+        (Ok(one), Ok(other)) => assert!(rt; one == other, "another value"),
+        (Err(one), Err(other)) => {
+            let kind = format!(in alloc; "{:?}", get_error_kind(one)).expect(rt, "its kind");
+            assert_kind(rt, alloc, other, kind.as_str());
+        }
+        _ => assert!(rt; false, "one of them is refused"),
+    }
+}
+
+/// How many bytes the value is read of, if there is one. They are lent and copied, and both answer the same value, or are
+/// refused alike, and count the same.
+fn count_alike<'a, T: Readable<'a, Endianness> + PartialEq>(
+    rt: &impl Abort,
+    alloc: Global,
+    order: Endianness,
+    bytes: &'a [u8],
+) -> Option<usize> {
+    let (lent, count) = T::read_with_length_from_buffer_with_ctx(alloc, order, bytes);
+    let (copied, copied_count) = T::read_with_length_from_buffer_copying_data_with_ctx(
+        alloc, order, bytes,
+    );
+    assert_alike(rt, alloc, &lent, &copied);
+    assert_same(rt, copied_count, count);
+    lent.is_ok().then_some(count)
+}
+
+/// Asserts that in both orders the bytes of each row are read alike in each way, and that in the little order a value is
+/// read of so many of them, if there is one.
+fn assert_read_alike<'a, T: Readable<'a, Endianness> + PartialEq>(
+    rt: &impl Abort,
+    alloc: Global,
+    rows: &[(&'a [u8], Option<usize>)],
+) {
+    for (bytes, read) in rows {
+        let count = count_alike::<T>(rt, alloc, Endianness::LittleEndian, bytes);
+        assert_same(rt, count, *read);
+        count_alike::<T>(rt, alloc, Endianness::BigEndian, bytes);
+    }
+}
+
+#[test]
+fn lists_are_read_alike_in_each_way(rt: HostRuntime) {
+    let alloc = rt.alloc();
+    let rows: [(&[u8], Option<usize>); 6] = [
+        (&[0, 0, 0, 0], Some(4)),
+        (&[2, 0, 0, 0, 7, 8, 9], Some(6)),
+        (&[0, 0, 0, 2, 7, 8, 9], None),
+        (&[3, 0, 0, 0, 7, 8], None),
+        (&[255, 255, 255, 255, 7], None),
+        (&[2, 0, 0], None),
+    ];
+    assert_read_alike::<Vec<u8>>(&rt, alloc, &rows);
+    let rows: [(&[u8], Option<usize>); 5] = [
+        (&[2, 0, 0, 0, 7, 1, 0, 0, 0, 1, 2, 6, 0, 0, 0, 0], Some(16)),
+        (&[0, 0, 0, 2, 7, 0, 0, 0, 1, 1, 2, 7, 0, 0, 0, 0], None),
+        (&[2, 0, 0, 0, 7, 0, 0, 0, 0, 6], None),
+        (&[1, 0, 0, 0, 7, 255, 255, 255, 127, 1, 2], None),
+        (&[255, 255, 255, 127, 8], None),
+    ];
+    assert_read_alike::<BTreeMap<u8, Vec<u16>>>(&rt, alloc, &rows);
+}
+
+#[test]
+fn the_ways_that_copy_answer_alike(rt: HostRuntime) {
+    let alloc = rt.alloc();
+    let bytes = [1, 2, 3];
+    let (outcome, count) = <u16 as Readable<
+        LittleEndian,
+    >>::read_with_length_from_buffer_copying_data(alloc, &bytes);
+    assert_ok(&rt, outcome, 0x0201);
+    assert_same(&rt, count, 2);
+    let outcome = <u16 as Readable<Endianness>>::read_from_buffer_copying_data_with_ctx(
+        alloc,
+        Endianness::BigEndian,
+        &bytes,
+    );
+    assert_ok(&rt, outcome, 0x0102);
+}
+
+#[test]
+fn a_lent_context_keeps_its_order(rt: HostRuntime) {
+    let mut order = Endianness::BigEndian;
+    let (outcome, count) = <u16 as Readable<
+        Endianness,
+    >>::read_with_length_from_buffer_copying_data_with_ctx_mut(rt.alloc(), &mut order, &[1, 2, 3]);
+    assert_ok(&rt, outcome, 0x0102);
+    assert_same(&rt, count, 2);
+    assert_same(&rt, order, Endianness::BigEndian);
+}

@@ -1,0 +1,209 @@
+//! Views show the items that their bytes spell under the little order, wherever the bytes lie, and are written in
+//! either order.
+use crate::asserting::{assert_refused, assert_same, assert_written, make_text, make_vec};
+use crate::context::LittleEndian;
+use crate::readable::Readable;
+use crate::view_items::ViewItem;
+use crate::views::{ArrayView, SliceView, ViewIter};
+use std::alloc::Global;
+use std::borrow::{CowSlice, CowStr};
+use std::fmt::Debug;
+use std::process::Abort;
+
+/// Asserts that the items that are left are these, that so many are said to be left, and that the walk ends after
+/// them.
+fn assert_left<T: ViewItem + PartialEq + Debug>(
+    rt: &impl Abort,
+    left: ViewIter<'_, T>,
+    items: &[T],
+) {
+    let mut left = left;
+    assert_same(rt, left.len(), items.len());
+    for item in items {
+        assert_same(rt, left.next(), Some(*item));
+    }
+    assert_same(rt, left.next(), None);
+    assert_same(rt, left.next(), None);
+}
+
+/// Asserts that the view shows these items: as many, in a walk, and one at each index and none past the last one.
+fn assert_shows<T: ViewItem + PartialEq + Debug>(
+    rt: &impl Abort,
+    view: &SliceView<'_, T>,
+    items: &[T],
+) {
+    assert_same(rt, view.len(), items.len());
+    for (index, item) in items.iter().enumerate() {
+        assert_same(rt, view.get(index), Some(*item));
+    }
+    assert_same(rt, view.get(items.len()), None);
+    assert_same(rt, view.get(usize::MAX), None);
+    assert_left(rt, view.iter(), items);
+    assert_left(rt, view.into_iter(), items);
+}
+
+/// Asserts the same of a view of so many items.
+fn assert_array_shows<T: ViewItem + PartialEq + Debug, const N: usize>(
+    rt: &impl Abort,
+    view: &ArrayView<'_, T, N>,
+    items: &[T],
+) {
+    assert_same(rt, view.len(), items.len());
+    for (index, item) in items.iter().enumerate() {
+        assert_same(rt, view.get(index), Some(*item));
+    }
+    assert_same(rt, view.get(items.len()), None);
+    assert_left(rt, view.iter(), items);
+    assert_left(rt, view.into_iter(), items);
+}
+
+#[test]
+fn views_show_what_their_bytes_spell(rt: HostRuntime) {
+    let view: SliceView<u16> = SliceView::over(&[1, 2, 3, 4]);
+    assert_shows(&rt, &view, &[513, 1027]);
+    let view: SliceView<u8> = SliceView::over(&[1, 2, 255]);
+    assert_shows(&rt, &view, &[1, 2, 255]);
+    let view: SliceView<i8> = SliceView::over(&[255, 128]);
+    assert_shows(&rt, &view, &[-1, -128]);
+    let view: SliceView<i16> = SliceView::over(&[223, 255, 0, 128]);
+    assert_shows(&rt, &view, &[-33, -32768]);
+    let view: SliceView<u64> = SliceView::over(&[]);
+    assert_shows(&rt, &view, &[]);
+}
+
+#[test]
+fn views_show_wide_numbers(rt: HostRuntime) {
+    let view: SliceView<u32> = SliceView::over(&[4, 3, 2, 1]);
+    assert_shows(&rt, &view, &[16909060]);
+    let view: SliceView<i32> = SliceView::over(&[223, 255, 255, 255]);
+    assert_shows(&rt, &view, &[-33]);
+    let view: SliceView<u64> = SliceView::over(&[33, 0, 0, 0, 0, 0, 0, 0]);
+    assert_shows(&rt, &view, &[33]);
+    let view: SliceView<i64> = SliceView::over(&[223, 255, 255, 255, 255, 255, 255, 255]);
+    assert_shows(&rt, &view, &[-33]);
+    let wide = [33, 0, 0, 0, 0, 0, 0, 0, 0, 0, 0, 0, 0, 0, 0, 0];
+    let view: SliceView<u128> = SliceView::over(&wide);
+    assert_shows(&rt, &view, &[33]);
+    let view: SliceView<i128> = SliceView::over(&wide);
+    assert_shows(&rt, &view, &[33]);
+}
+
+#[test]
+fn views_lie_at_any_address(rt: HostRuntime) {
+    let bytes = [9, 1, 2, 3, 4, 9];
+    let view: SliceView<u16> = SliceView::over(&bytes[1..5]);
+    assert_shows(&rt, &view, &[513, 1027]);
+    let view: SliceView<u16> = SliceView::over(&bytes[2..]);
+    assert_shows(&rt, &view, &[770, 2308]);
+    let view: ArrayView<u16, 2> = ArrayView::over(&bytes[1..5]);
+    assert_array_shows(&rt, &view, &[513, 1027]);
+}
+
+#[test]
+fn array_views_show_so_many_items(rt: HostRuntime) {
+    let view: ArrayView<i8, 4> = ArrayView::over(&[255, 128, 0, 127]);
+    assert_array_shows(&rt, &view, &[-1, -128, 0, 127]);
+    let view: ArrayView<u16, 0> = ArrayView::over(&[]);
+    assert_array_shows(&rt, &view, &[]);
+}
+
+/// Asserts that a view of the items 513 and 1027 is read of the first bytes, and is written in either order.
+fn assert_pair_read(rt: &impl Abort, alloc: Global, bytes: &[u8]) {
+    let (outcome, count) = <SliceView<u16> as Readable<LittleEndian>>::read_with_length_from_buffer(
+        alloc, bytes,
+    );
+    let view = outcome.expect(rt, "a view");
+    assert_same(rt, count, 8);
+    assert_shows(rt, &view, &[513, 1027]);
+    let little = [2, 0, 0, 0, 1, 2, 3, 4, 9];
+    assert_written(rt, alloc, &view, &little, &[0, 0, 0, 2, 2, 1, 4, 3, 9]);
+}
+
+#[test]
+fn views_are_read_where_they_are_lent(rt: HostRuntime) {
+    let alloc = rt.alloc();
+    // The spelling lies twice, so that one of the two lies at an odd address.
+    let bytes = [9, 2, 0, 0, 0, 1, 2, 3, 4, 9, 2, 0, 0, 0, 1, 2, 3, 4];
+    assert_pair_read(&rt, alloc, &bytes[1..]);
+    assert_pair_read(&rt, alloc, &bytes[10..]);
+    let outcome = <SliceView<u16> as Readable<LittleEndian>>::read_from_buffer(
+        alloc,
+        &bytes[10..17],
+    );
+    assert_refused(&rt, alloc, outcome, "UnexpectedEndOfInput");
+    let outcome = <SliceView<u16> as Readable<LittleEndian>>::read_from_buffer_copying_data(
+        alloc,
+        &bytes[1..],
+    );
+    assert_refused(&rt, alloc, outcome, "Unsized");
+}
+
+/// The bytes of the items 513 and 1027.
+const PAIR: [u8; 4] = [1, 2, 3, 4];
+
+#[test]
+fn array_views_are_read_where_they_are_lent(rt: HostRuntime) {
+    let alloc = rt.alloc();
+    let outcome = <ArrayView<u16, 2> as Readable<LittleEndian>>::read_from_buffer(alloc, &PAIR);
+    assert_array_shows(&rt, &outcome.expect(&rt, "a view"), &[513, 1027]);
+    let outcome = <ArrayView<u16, 2> as Readable<LittleEndian>>::read_from_buffer_copying_data(
+        alloc, &PAIR,
+    );
+    assert_refused(&rt, alloc, outcome, "Unsized");
+}
+
+#[test]
+fn views_are_equal_by_what_they_show(rt: HostRuntime) {
+    let view: SliceView<u16> = SliceView::over(&[1, 2, 3, 4]);
+    let other: SliceView<u16> = SliceView::over(&[9, 1, 2, 3, 4][1..]);
+    assert_same(&rt, view, other);
+    assert_same(&rt, view == SliceView::over(&[1, 2, 3, 5]), false);
+    assert_same(&rt, view == SliceView::over(&[1, 2]), false);
+    let array: ArrayView<u16, 2> = ArrayView::over(&[1, 2, 3, 4]);
+    assert_same(&rt, array, ArrayView::over(&[1, 2, 3, 4]));
+    assert_same(&rt, array == ArrayView::over(&[1, 2, 3, 5]), false);
+}
+
+#[test]
+fn views_are_printed_as_lists(rt: HostRuntime) {
+    let view: SliceView<u16> = SliceView::over(&[1, 2, 3, 4]);
+    let printed = format!(in rt.alloc(); "{view:?}").expect(&rt, "a text");
+    assert_same(&rt, printed.as_str(), "[513, 1027]");
+    let array: ArrayView<i8, 1> = ArrayView::over(&[255]);
+    let printed = format!(in rt.alloc(); "{array:?}").expect(&rt, "a text");
+    assert_same(&rt, printed.as_str(), "[-1]");
+}
+
+#[test]
+fn views_are_written_in_either_order(rt: HostRuntime) {
+    let alloc = rt.alloc();
+    let view: SliceView<u16> = SliceView::over(&[1, 2, 3, 4]);
+    let little = [2, 0, 0, 0, 1, 2, 3, 4, 9];
+    let big = [0, 0, 0, 2, 2, 1, 4, 3, 9];
+    assert_written(&rt, alloc, &view, &little, &big);
+    let array: ArrayView<u16, 2> = ArrayView::over(&[1, 2, 3, 4]);
+    assert_written(&rt, alloc, &array, &[1, 2, 3, 4, 9], &[2, 1, 4, 3, 9]);
+    assert_written(
+        &rt,
+        alloc,
+        &&[1_u8, 2, 3, 4],
+        &[1, 2, 3, 4, 9],
+        &[1, 2, 3, 4, 9],
+    );
+}
+
+#[test]
+fn cows_are_written_as_what_they_show(rt: HostRuntime) {
+    let alloc = rt.alloc();
+    let little = [2, 0, 0, 0, 72, 105, 9];
+    let big = [0, 0, 0, 2, 72, 105, 9];
+    let borrowed: CowStr = CowStr::Borrowed("Hi");
+    assert_written(&rt, alloc, &borrowed, &little, &big);
+    let owned: CowStr = CowStr::Owned(make_text(&rt, alloc, "Hi"));
+    assert_written(&rt, alloc, &owned, &little, &big);
+    let borrowed: CowSlice<u8> = CowSlice::Borrowed(b"Hi");
+    assert_written(&rt, alloc, &borrowed, &little, &big);
+    let little = [1, 0, 0, 0, 255, 0, 9];
+    let owned: CowSlice<u16> = CowSlice::Owned(make_vec(&rt, alloc, &[255_u16]));
+    assert_written(&rt, alloc, &owned, &little, &[0, 0, 0, 1, 0, 255, 9]);
+}

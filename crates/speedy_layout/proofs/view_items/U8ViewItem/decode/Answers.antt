@@ -1,0 +1,5 @@
+use Rattle.speedy_layout.specs.Views.{one_byte_number}
+use Rattle.speedy_layout.proofs.view_items.U8ViewItem.decode.Goals as goal
+
+pub returns : goal.returns
+returns c = one_byte_number c.args.bytes.now c.requires

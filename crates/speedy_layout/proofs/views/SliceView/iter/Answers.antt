@@ -1,0 +1,10 @@
+use Rattle.std.proofs.Common.{◌/◌, length}
+use Rattle.speedy_layout.specs.Views.{whole_items}
+use Rattle.speedy_layout.proofs.views.SliceView.iter.Goals as goal
+
+pub returns-clause-spelled : goal.returns-clause-spelled
+returns-clause-spelled g c =
+    let view = c.args.self.now in
+    let size = g.T.FixedSize.SIZE in
+    let long = length view.bytes.now in
+    c.items_of.ensures.spelled (long / size) (whole_items size long view.whole)

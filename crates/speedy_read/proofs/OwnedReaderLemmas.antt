@@ -1,0 +1,65 @@
+-- Reads of a reader that is held by a `&mut`.
+use Rattle.std.specs.Prelude.{ℕ, List, ◌∷◌, Bool, Option, Some, None, Result, Ok, Err}
+use Rattle.std.specs.Borrow.{GName}
+use Rattle.std.proofs.Common.{ap, inl, inr}
+use Rattle.speedy_base.specs.declared.error.Error.{Error}
+use Rattle.speedy_layout.specs.Format.{Format}
+use Rattle.speedy_read.specs.Reading.{ReaderState, Kept, KeptByPeek, Reads, Peeks, LendsUntilUsed}
+use Rattle.speedy_read.specs.Buffers.{held_state}
+
+module _ (name : GName) {old new : ReaderState} where
+  held_kept : Kept old new → Kept (held_state name old) (held_state name new)
+  held_kept k = record {
+    tells = k.tells;
+    lends = k.lends;
+    tidy = k.tidy;
+    buffers = k.buffers;
+    takes_memory = k.takes_memory;
+    ends_by_device = k.ends_by_device;
+    encoding = k.encoding;
+    faults = k.faults;
+    targets = ap (λ (names : List GName). name ∷ names) k.targets;
+    tail = k.tail;
+  }
+
+  held_kept_by_peek : KeptByPeek old new → KeptByPeek (held_state name old) (held_state name new)
+  held_kept_by_peek k = record {
+    tells = k.tells;
+    lends = k.lends;
+    buffers = k.buffers;
+    takes_memory = k.takes_memory;
+    ends_by_device = k.ends_by_device;
+    encoding = k.encoding;
+    faults = k.faults;
+    targets = ap (λ (names : List GName). name ∷ names) k.targets;
+    to_come = k.to_come;
+  }
+
+  module _ {E : Type 0} {gives : Error → E → Type 0} {eof : E → Bool} {A V : Type 0} {seen : A → V} {L : Format V} where
+    -- what reads see of a reader is the same whether it is held or not
+    pub held_reads : {result : Result A E} → Reads gives eof seen L result old new → Reads gives eof seen L result (held_state name old) (held_state name new)
+    held_reads {result = Ok x} r = record { kept = held_kept r.kept; answer = record { front = r.answer.front; front_is = r.answer.front_is; taken = r.answer.taken } }
+    held_reads {result = Err e} r = record {
+      kept = held_kept r.kept;
+      answer =
+          elim r.answer [
+            | inl x ↦ inl x
+            | inr k ↦ inr (record { kind = k.kind; because = λ told. k.because (record { tells = told.tells; are_bytes = told.are_bytes; fit = told.fit; lends = told.lends }) })
+          ];
+    }
+
+    pub held_peeks : {result : Result A E} → Peeks gives eof seen L result old new → Peeks gives eof seen L result (held_state name old) (held_state name new)
+    held_peeks {result = Ok x} r = record { kept = held_kept_by_peek r.kept; answer = record { front = r.answer.front; rest = r.answer.rest; front_is = r.answer.front_is; stands = r.answer.stands } }
+    held_peeks {result = Err e} r = record {
+      kept = held_kept_by_peek r.kept;
+      answer =
+          elim r.answer [
+            | inl x ↦ inl x
+            | inr k ↦ inr (record { kind = k.kind; because = λ told. k.because (record { tells = told.tells; are_bytes = told.are_bytes; fit = told.fit; lends = told.lends }) })
+          ];
+    }
+
+-- and lent alike, until the reader is used again
+pub held_lends : {A E : Type 0} (shows : A → List ℕ) (n : ℕ) (name : GName) (lent : Option (Result A E)) (old new : ReaderState) → LendsUntilUsed shows n lent old new → LendsUntilUsed shows n lent (held_state name old) (held_state name new)
+held_lends shows n name None old new same = ap (λ (s : ReaderState). held_state name s) same
+held_lends shows n name (Some result) old new read = held_reads name read

@@ -1,0 +1,63 @@
+-- Reads of lent bytes make reads of views.
+use Rattle.std.specs.Option.{is_some}
+use Rattle.std.specs.Prelude.{◌≡◌, ℕ, ◌*◌, ◌<◌, ◌≤◌, ◌^◌, List, length, map, Bool, false, IsTrue, Option, Some, None, Result, Ok, Err, refl}
+use Rattle.std.proofs.Common.{sym, ◌∙◌, ap, subst, inr, arith}
+use Rattle.std.proofs.lemmas.List.{length-map}
+use Rattle.speedy_base.specs.declared.error.Error.{Error}
+use Rattle.speedy_base.specs.Digits.{AreBytes}
+use Rattle.speedy_layout.specs.Format.{Format, Each}
+use Rattle.speedy_layout.specs.Lists.{repeat, vector}
+use Rattle.speedy_layout.specs.Owned.{owned_content, borrowed_content}
+use Rattle.speedy_layout.specs.Texts.{raw_bytes}
+use Rattle.speedy_layout.specs.Views.{shown_items, length-shown_many, shown_items_spelled, each_one_size}
+use Rattle.speedy_read.specs.Reading.{ReaderState, Kept, Reads, Refused, IsEnd, LendsBytes, ShowsNothing}
+use Rattle.speedy_read.specs.ReadingLemmas.{Kept-same, ends_early}
+use Rattle.speedy_read.specs.Codes.{Covers, refused_covered, got_covered}
+
+-- items of one size
+module _ {V : Type 0} (size : ℕ) (F : Format V) (one : (v : V) (bytes : List ℕ) → F.spells v bytes → length bytes ≡ size) (n : ℕ) where
+  bytes_cover_view : Covers (raw_bytes (n * size)) (borrowed_content (vector n F))
+  unfolding raw_bytes borrowed_content vector owned_content repeat
+  bytes_cover_view = record {
+    under = λ vs s h. (s, (refl, each_one_size one vs s h.1 ∙ ap (λ m. m * size) h.0));
+    names = λ kind h. absurd h;
+    faults = λ bytes are h. absurd h;
+    takes = λ t. absurd (cc);
+    lends = λ _. refl;
+  }
+
+  module _ {E : Type 0} {gives : Error → E → Type 0} {eof : E → Bool} {old new : ReaderState} {X Y : Type 0} {shows : X → List ℕ} {view : Y → List V} where
+    -- lent bytes that are refused are no items
+    pub view_not_lent : {e : E} → Reads gives eof shows (raw_bytes (n * size)) (Err e) old new → Reads gives eof view (borrowed_content (vector n F)) (Err e) old new
+    view_not_lent r = refused_covered bytes_cover_view r
+
+    -- those that are answered are the items that they show, if any bytes of that size spell one
+    pub view_lent : {A : Type 0} (decoded : List ℕ → A) (seen : A → V) → 0 < size → ((bytes : List ℕ) → length bytes ≡ size → AreBytes bytes → F.spells (seen (decoded bytes)) bytes)
+        → {x : X} {y : Y} → view y ≡ map seen (shown_items decoded size (shows x)) → AreBytes (shows x) → Reads gives eof shows (raw_bytes (n * size)) (Ok x) old new → Reads gives eof view (borrowed_content (vector n F)) (Ok y) old new
+    unfolding raw_bytes borrowed_content vector owned_content repeat
+    view_lent decoded seen some decodes {x = x} {y = y} same are r =
+        got_covered
+        (λ s h.
+        let whole = ap length h.0 ∙ h.1 in
+        let items = map seen (shown_items decoded size (shows x)) in
+        let many : length items ≡ n = length-map (shown_items decoded size (shows x)) seen ∙ length-shown_many decoded size n (shows x) some whole in
+        let spelled : Each F.spells items (shows x) = shown_items_spelled decoded size seen F.spells decodes n (shows x) some whole are in
+        subst (λ (vs : List V). (length vs ≡ n) × Each F.spells vs s) (sym same) (many, subst (λ (t : List ℕ). Each F.spells items t) h.0 spelled))
+        r
+
+  -- no input has more bytes than can be counted
+  pub more_than_all : {E : Type 0} {gives : Error → E → Type 0} {eof : E → Bool} {old new : ReaderState} {X Y : Type 0} {view : Y → List V} (shows : X → List ℕ) (k : ℕ) (lent : Option (Result X E)) {e : E}
+      → 2 ^ 64 ≤ n * size → IsEnd gives eof old.ends_by_device e → LendsBytes gives eof shows k lent old new → Reads gives eof view (borrowed_content (vector n F)) (Err e) old new
+  unfolding borrowed_content vector owned_content repeat
+  more_than_all {E = E} {gives = gives} {eof = eof} {old = old} {new = new} {X = X} shows k lent {e = e} many ended h = record { kept = kept lent h; answer = inr early } where
+    kept : (lent : Option (Result X E)) → LendsBytes gives eof shows k lent old new → Kept old new
+    kept None h = subst (λ (s : ReaderState). Kept old s) (sym h.1) Kept-same
+    kept (Some r) h = h.1.kept
+
+    early : Refused gives eof (borrowed_content (vector n F)) e old
+    early = ends_early (n * size) (λ vs s h. let l = each_one_size one vs s h.1 ∙ ap (λ m. m * size) h.0 in omega arith) (λ _ fault. fault) ended (λ _ fit. omega arith)
+
+-- nothing was lent
+pub none_lent : {E X : Type 0} (gives : Error → E → Type 0) (eof : E → Bool) {old new : ReaderState} (shows : X → List ℕ) (k : ℕ) (lent : Option (Result X E)) → is_some lent ≡ false → LendsBytes gives eof shows k lent old new → (IsTrue old.lends → ShowsNothing shows) × (new ≡ old)
+none_lent gives eof shows k None none h = h
+none_lent gives eof shows k (Some r) none h = absurd (cc)

@@ -1,0 +1,111 @@
+//! Reading of values that borrow nothing, from any reader.
+ghost use Rattle.std.specs.Prelude.{◌≡◌, length, refl};
+ghost use Rattle.std.specs.Borrow.{sem, Lends};
+ghost use Rattle.std.proofs.Common.{ap};
+ghost use Rattle.speedy_layout.specs.Texts.{raw_bytes, any_bytes};
+ghost use Rattle.speedy_read.specs.Reading.{Reads, Peeks, IsRight};
+ghost use Rattle.speedy_read.specs.Buffers.{held_state};
+
+use crate::lent::Nothing;
+use crate::reader::{EndOfInput, LendingReader};
+use speedy_base::context::Context;
+use std::alloc::Global;
+use std::convert::AsSlice;
+use std::marker::PhantomData;
+
+/// Reads values that borrow nothing, from any reader, which goes on behind them.
+///
+/// `L` is what that reader lends. None of it is passed on, so no value that is read here is refused as `Unsized`.
+#[derive(Drop)]
+pub struct OwnedReader<'a, L, R> {
+    reader: &'a mut R,
+    lends: PhantomData<L>,
+}
+
+impl<'a, L, R> OwnedReader<'a, L, R> {
+    ghost use Rattle.speedy_read.specs.OwnedView.{owned_view};
+
+    /// A reader at the place of this one.
+    #[inline]
+    pub fn new(reader: &'a mut R) -> OwnedReader<'a, L, R>
+        ensures same_reader { (owned_view result).reader_name ≡ reader.entry.ghost_name }
+        ensures reader { (owned_view result).reader ≡ reader.old }
+    {
+        OwnedReader {
+            reader,
+            lends: PhantomData,
+        }
+    }
+
+    /// The reader, which goes on behind what was read.
+    #[inline]
+    pub fn into_inner(self) -> &'a mut R
+        ensures same_reader { result.ghost_name ≡ (owned_view self.entry).reader_name }
+        ensures reader { result.now ≡ (owned_view self.entry).reader }
+    {
+        self.reader
+    }
+}
+
+impl<'a, L: AsSlice<u8> + Drop, C: Context, R: LendingReader<L, C>> LendingReader<Nothing, C>
+    for OwnedReader<'a, L, R> {
+    ghost at = { λ r. R.at r.reader.now };
+
+    ghost with_context = { λ r c. record r { reader = record r.reader { now = R.with_context r.reader.now c } } };
+
+    ghost state = { λ r. held_state r.reader.ghost_name (R.state r.reader.now) };
+
+    ghost can_read = { λ r n. R.can_read r.reader.now n };
+
+    #[inline(always)]
+    fn read_bytes(&mut self, output: &mut [u8]) -> Result<(), C::Error> {
+        self.reader.read_bytes(output)
+    }
+
+    #[inline(always)]
+    fn peek_bytes(&mut self, output: &mut [u8]) -> Result<(), C::Error> {
+        self.reader.peek_bytes(output)
+    }
+
+    #[inline(always)]
+    fn skip_bytes(&mut self, length: usize) -> Result<(), C::Error> {
+        self.reader.skip_bytes(length)
+    }
+
+    #[inline(always)]
+    fn can_read_at_least(&self, size: usize) -> Option<bool> {
+        self.reader.can_read_at_least(size)
+    }
+
+    #[inline(always)]
+    fn read_bytes_borrowed(&mut self, _length: usize) -> Option<Result<Nothing, C::Error>> {
+        None
+    }
+
+    #[inline(always)]
+    fn read_bytes_borrowed_from_reader(
+        &mut self,
+        length: usize,
+    ) -> Option<Result<&[u8], EndOfInput>> {
+        self.reader.read_bytes_borrowed_from_reader(length)
+    }
+
+    #[inline(always)]
+    fn alloc(&self) -> Global {
+        self.reader.alloc()
+    }
+
+    #[inline(always)]
+    fn context(&self) -> &C {
+        self.reader.context()
+    }
+
+    #[inline(always)]
+    fn context_mut(&mut self) -> &mut C {
+        self.reader.context_mut()
+    }
+
+    ghost encoding_at = { λ r. R.encoding_at r.reader.now };
+
+    ghost state_with = { λ r c. ap (λ s. held_state r.reader.ghost_name s) (R.state_with r.reader.now c) };
+}

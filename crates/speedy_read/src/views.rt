@@ -1,0 +1,119 @@
+//! How views are read: over the bytes that a reader lends.
+ghost use Rattle.std.specs.Prelude.{◌≡◌, ◌≤◌, ◌*◌, ◌^◌, ℕ, List, false, IsErrAnd, MatchOption};
+ghost use Rattle.speedy_base.specs.Encoding.{plain_encoding};
+ghost use Rattle.speedy_base.specs.Error.{error_of};
+ghost use Rattle.speedy_base.specs.declared.endianness.Endianness.TheVariants.{LittleEndian as LittleOrder};
+ghost use Rattle.speedy_layout.specs.Numbers.{unsigned_number};
+ghost use Rattle.speedy_read.specs.Reading.{Reads, RefusesUnsized};
+
+use crate::lent::lent_in_range;
+use crate::readable::{ReadFrom, ReadMany};
+use crate::reader::LendingReader;
+use speedy_base::context::Context;
+use speedy_base::error::{ErrorKind, error_end_of_input, error_unsized};
+use speedy_layout::layout::Layout;
+use speedy_layout::view_items::{ViewItem, ZeroCopyable};
+use speedy_layout::views::{ArrayView, SliceView};
+use std::convert::AsSlice;
+
+impl<'a, C: Context, T: ZeroCopyable<C>> ReadFrom<&'a [u8], C> for SliceView<'a, T> {
+    #[inline]
+    fn read_from<R: LendingReader<&'a [u8], C>>(
+        reader: &mut R,
+    ) -> Result<SliceView<'a, T>, C::Error>
+        ensures reads { let view = ⟦<SliceView<'a, T> as Layout>⟧ in
+            Reads C.Error.from_gives C.Error.eof view.seen
+            (view.format (R.state reader.old).encoding) result
+            (R.state reader.old) (R.state reader.new) }
+        ensures not_lent { let number = unsigned_number 4 (R.state reader.old).encoding in
+            RefusesUnsized C.Error.from_gives C.Error.eof number result
+            (R.state reader.old) (R.state reader.new) }
+    {
+        spelled_as_little::<T, &'a [u8], C, R>(reader);
+        let length = reader.read_u32()?;
+        match reader.read_bytes_borrowed(size_of_items::<T>(length)) {
+            Some(lent) => {
+                let bytes = lent?;
+                lent_in_range(&bytes);
+                Ok(SliceView::over(bytes))
+            }
+            None => Err(error_unsized()),
+        }
+    }
+
+    #[inline]
+    fn minimum_bytes_needed() -> usize
+        ensures { result ≡ 4 }
+    {
+        4
+    }
+}
+
+impl<'a, C: Context, T: ZeroCopyable<C>> ReadMany<&'a [u8], C> for SliceView<'a, T> {}
+
+impl<'a, C: Context, T: ZeroCopyable<C>, const N: usize> ReadFrom<&'a [u8], C>
+    for ArrayView<'a, T, N> {
+    #[inline]
+    fn read_from<R: LendingReader<&'a [u8], C>>(
+        reader: &mut R,
+    ) -> Result<ArrayView<'a, T, N>, C::Error>
+        ensures reads { let view = ⟦<ArrayView<'a, T, N> as Layout>⟧ in
+            Reads C.Error.from_gives C.Error.eof view.seen
+            (view.format (R.state reader.old).encoding) result
+            (R.state reader.old) (R.state reader.new) }
+        ensures not_lent { (R.state reader.old).lends ≡ false
+            → IsErrAnd result (λ e. C.Error.from_gives (error_of ErrorKind.Unsized) e) }
+    {
+        spelled_as_little::<T, &'a [u8], C, R>(reader);
+        let Some(size) = size_of_array::<T, N>() else {
+            // No input has so many bytes.
+            if reader.read_bytes_borrowed(usize::MAX).is_none() {
+                return Err(error_unsized());
+            }
+            return Err(error_end_of_input());
+        };
+        match reader.read_bytes_borrowed(size) {
+            Some(lent) => {
+                let bytes = lent?;
+                lent_in_range(&bytes);
+                Ok(ArrayView::over(bytes))
+            }
+            None => Err(error_unsized()),
+        }
+    }
+
+    #[inline]
+    fn minimum_bytes_needed() -> usize
+        ensures { result ≡ ⟦<ArrayView<'a, T, N> as Layout>⟧.least }
+    {
+        N.saturating_mul(T::SIZE)
+    }
+}
+
+impl<'a, C: Context, T: ZeroCopyable<C>, const N: usize> ReadMany<&'a [u8], C>
+    for ArrayView<'a, T, N> {}
+
+// What a proof knows of a context without a lifetime, it is told here for readers that lend for one.
+#[inline]
+fn spelled_as_little<T: ZeroCopyable<C>, L: AsSlice<u8> + Drop, C: Context, R: LendingReader<L, C>>(
+    _reader: &R,
+)
+    ensures { (v : T.Seen) (bytes : List ℕ) → (T.format (plain_encoding LittleOrder)).spells v bytes
+        → (T.format (R.state _reader.now).encoding).spells v bytes }
+{}
+
+// How many bytes so many items have.
+#[inline]
+fn size_of_items<T: ViewItem>(length: u32) -> usize
+    ensures { result ≡ length * T.SIZE }
+{
+    length as usize * T::SIZE
+}
+
+// How many bytes an array of items has, if they can be counted.
+#[inline]
+fn size_of_array<T: ViewItem, const N: usize>() -> Option<usize>
+    ensures { MatchOption result (2 ^ 64 ≤ N * T.SIZE) (λ size. size ≡ N * T.SIZE) }
+{
+    N.checked_mul(T::SIZE)
+}
