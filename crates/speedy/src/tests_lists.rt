@@ -21,7 +21,6 @@ fn vectors_of_bytes_lie_after_their_counts(rt: HostRuntime) {
         &[0, 0, 0, 2, 10, 11, 1][..],
     )];
     assert_encoding(&rt, alloc, 4, &rows);
-    assert_encoding_in_types(&rt, alloc, 4, &rows);
 }
 
 #[test]
@@ -52,7 +51,6 @@ fn vectors_of_numbers_lie_after_their_counts(rt: HostRuntime) {
         &[0, 0, 0, 2, 0, 0, 0, 10, 0, 0, 0, 11, 1][..],
     )];
     assert_encoding(&rt, alloc, 4, &rows);
-    assert_encoding_in_types(&rt, alloc, 4, &rows);
 }
 
 #[test]
@@ -82,7 +80,6 @@ fn vectors_of_vectors_lie_within_each_other(rt: HostRuntime) {
         ][..],
     )];
     assert_encoding(&rt, alloc, 4, &rows);
-    assert_encoding_in_types(&rt, alloc, 4, &rows);
 }
 
 /// A vector of these items, of which four have room in the value itself.

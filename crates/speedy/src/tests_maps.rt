@@ -3,7 +3,7 @@
 use crate::asserting::{
     assert_encoding, assert_other_spellings, assert_reads, assert_same, gather, make_text,
 };
-use crate::context::{LittleEndian, StrictLittleEndian};
+use crate::context::LittleEndian;
 use crate::writable::Writable;
 use indexmap::IndexMap;
 use std::alloc::Global;
@@ -109,54 +109,16 @@ fn maps_lie_within_each_other(rt: HostRuntime) {
     assert_encoding(&rt, alloc, 4, &[(nested, &little, &big)]);
 }
 
-/// Pairs of which the first and the last have one key.
-const REPEATED: [u8; 11] = [3, 0, 0, 0, 9, 1, 7, 2, 9, 3, 0];
-
 /// Pairs of one key alone, and the one that stands.
 const ONE_KEY: [u8; 11] = [3, 0, 0, 0, 7, 1, 7, 3, 7, 2, 0];
 
 const LAST: [u8; 7] = [1, 0, 0, 0, 7, 2, 0];
-
-/// Pairs that don't ascend.
-const UNORDERED: [u8; 9] = [2, 0, 0, 0, 7, 1, 6, 1, 0];
-
-#[test]
-fn tree_maps_are_read_from_other_lists_too(rt: HostRuntime) {
-    let alloc = rt.alloc();
-    let last = make_tree_map(&rt, alloc, &[(7, 2)]);
-    let repeated = make_tree_map(&rt, alloc, &[(9, 3), (7, 2)]);
-    let unordered = make_tree_map(&rt, alloc, &[(7, 1), (6, 1)]);
-    let rows = [
-        (last, &ONE_KEY[..], &LAST[..]),
-        (repeated, &REPEATED[..], &[2, 0, 0, 0, 7, 2, 9, 3, 0][..]),
-        (unordered, &UNORDERED[..], &[2, 0, 0, 0, 6, 1, 7, 1, 0][..]),
-    ];
-    assert_other_spellings(&rt, alloc, &rows);
-}
 
 #[test]
 fn hashed_maps_are_read_from_other_lists_too(rt: HostRuntime) {
     let alloc = rt.alloc();
     let last = make_hash_map(&rt, alloc, &[(7, 2)]);
     assert_other_spellings(&rt, alloc, &[(last, &ONE_KEY[..], &LAST[..])]);
-    let repeated = make_hash_map(&rt, alloc, &[(9, 3), (7, 2)]);
-    assert_reads(&rt, alloc, LittleEndian {}, &repeated, &REPEATED, 10);
-    let unordered = make_hash_map(&rt, alloc, &[(6, 1), (7, 1)]);
-    assert_reads(&rt, alloc, StrictLittleEndian {}, &unordered, &UNORDERED, 8);
-}
-
-#[test]
-fn indexed_maps_are_read_from_other_lists_too(rt: HostRuntime) {
-    let alloc = rt.alloc();
-    let last = make_index_map(&rt, alloc, &[(7, 2)]);
-    let repeated = make_index_map(&rt, alloc, &[(9, 3), (7, 2)]);
-    let rows = [
-        (last, &ONE_KEY[..], &LAST[..]),
-        (repeated, &REPEATED[..], &[2, 0, 0, 0, 9, 3, 7, 2, 0][..]),
-    ];
-    assert_other_spellings(&rt, alloc, &rows);
-    let unordered = make_index_map(&rt, alloc, &[(7, 1), (6, 1)]);
-    assert_reads(&rt, alloc, StrictLittleEndian {}, &unordered, &UNORDERED, 8);
 }
 
 /// A hashed map of so many texts, each with its number.

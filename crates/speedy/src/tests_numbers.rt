@@ -12,11 +12,8 @@ fn numbers_lie_in_the_order_of_the_context(rt: HostRuntime) {
 
 #[test]
 fn numbers_lie_in_the_order_of_a_context_s_type(rt: HostRuntime) {
-    let alloc = rt.alloc();
-    assert_encoding_in_types(&rt, alloc, 1, &[(7_u8, &[7, 1], &[7, 1])]);
-    assert_encoding_in_types(&rt, alloc, 2, &[(2_u16, &[2, 0, 1], &[0, 2, 1])]);
-    let rows = [(0x01020304_u32, &[4, 3, 2, 1, 1][..], &[1, 2, 3, 4, 1][..])];
-    assert_encoding_in_types(&rt, alloc, 4, &rows);
+    let rows = [(2_u16, &[2, 0, 1][..], &[0, 2, 1][..])];
+    assert_encoding_in_types(&rt, rt.alloc(), 2, &rows);
 }
 
 #[test]

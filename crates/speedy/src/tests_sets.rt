@@ -1,11 +1,11 @@
 //! Sets: items that gather to them, in any order and repeated, and the items that are written. The bytes come from
 //! outside.
 use crate::asserting::{assert_encoding, assert_other_spellings, assert_reads, gather};
-use crate::context::{LittleEndian, StrictLittleEndian};
+use crate::context::LittleEndian;
 use crate::varint::VarInt64;
 use indexmap::IndexSet;
 use std::alloc::Global;
-use std::collections::{BTreeMap, BTreeSet, HashSet};
+use std::collections::{BTreeSet, HashSet};
 use std::process::Abort;
 
 /// A tree set of these items.
@@ -80,57 +80,11 @@ fn indexed_sets_lie_in_their_own_order(rt: HostRuntime) {
 /// Items of which the first and the last are the same.
 const REPEATED: [u8; 11] = [3, 0, 0, 0, 2, 0, 1, 0, 2, 0, 9];
 
-/// One item, repeated, and alone.
-const ONE_ITEM: [u8; 9] = [2, 0, 0, 0, 7, 0, 7, 0, 9];
-
-const ONCE: [u8; 7] = [1, 0, 0, 0, 7, 0, 9];
-
-/// Items that don't ascend.
-const UNORDERED: [u8; 9] = [2, 0, 0, 0, 2, 0, 1, 0, 9];
-
-#[test]
-fn tree_sets_are_read_from_other_lists_too(rt: HostRuntime) {
-    let alloc = rt.alloc();
-    let rows = [
-        (make_tree_set(&rt, alloc, &[7]), &ONE_ITEM[..], &ONCE[..]),
-        (
-            make_tree_set(&rt, alloc, &[1, 2]),
-            &REPEATED[..],
-            &[2, 0, 0, 0, 1, 0, 2, 0, 9][..],
-        ),
-        (
-            make_tree_set(&rt, alloc, &[1, 2]),
-            &UNORDERED[..],
-            &[2, 0, 0, 0, 1, 0, 2, 0, 9][..],
-        ),
-    ];
-    assert_other_spellings(&rt, alloc, &rows);
-}
-
 #[test]
 fn hashed_sets_are_read_from_other_lists_too(rt: HostRuntime) {
     let alloc = rt.alloc();
-    let once = make_hash_set(&rt, alloc, &[7]);
-    assert_other_spellings(&rt, alloc, &[(once, &ONE_ITEM[..], &ONCE[..])]);
     let both = make_hash_set(&rt, alloc, &[1, 2]);
     assert_reads(&rt, alloc, LittleEndian {}, &both, &REPEATED, 10);
-    assert_reads(&rt, alloc, StrictLittleEndian {}, &both, &UNORDERED, 8);
-}
-
-#[test]
-fn indexed_sets_are_read_from_other_lists_too(rt: HostRuntime) {
-    let alloc = rt.alloc();
-    let rows = [
-        (make_index_set(&rt, alloc, &[7]), &ONE_ITEM[..], &ONCE[..]),
-        (
-            make_index_set(&rt, alloc, &[2, 1]),
-            &REPEATED[..],
-            &UNORDERED[..],
-        ),
-    ];
-    assert_other_spellings(&rt, alloc, &rows);
-    let unordered = make_index_set(&rt, alloc, &[2, 1]);
-    assert_reads(&rt, alloc, StrictLittleEndian {}, &unordered, &UNORDERED, 8);
 }
 
 #[test]
@@ -140,16 +94,6 @@ fn items_that_are_spelled_in_two_ways_are_one(rt: HostRuntime) {
     let spelled = [2, 0, 0, 0, 0x80, 5, 5, 9];
     let written = [1, 0, 0, 0, 5, 9];
     assert_other_spellings(&rt, alloc, &[(set, &spelled[..], &written[..])]);
-}
-
-#[test]
-fn sets_hold_a_map_once(rt: HostRuntime) {
-    let alloc = rt.alloc();
-    let map: BTreeMap<u8, u8> = gather(&rt, alloc, &[(7, 2)]);
-    let mut maps = BTreeSet::new(alloc);
-    assert!(rt; maps.insert(map).is_ok(), "no room for a map");
-    let spelled = [2, 0, 0, 0, 1, 0, 0, 0, 7, 2, 2, 0, 0, 0, 7, 1, 7, 2, 9];
-    assert_reads(&rt, alloc, LittleEndian {}, &maps, &spelled, 18);
 }
 
 #[test]

@@ -1,5 +1,5 @@
 //! Texts of each kind. The bytes come from outside.
-use crate::asserting::{assert_encoding, assert_encoding_in_types, make_text};
+use crate::asserting::{assert_encoding, make_text};
 use std::boxed::BoxedStr;
 
 #[test]
@@ -18,7 +18,6 @@ fn texts_lie_after_their_counts(rt: HostRuntime) {
         ),
     ];
     assert_encoding(&rt, alloc, 4, &rows);
-    assert_encoding_in_types(&rt, alloc, 4, &rows);
 }
 
 #[test]

@@ -177,7 +177,7 @@ const GATHERED: [(&str, &str); 6] = [
 ];
 
 /// What the strict orders refuse of them, and what they do not.
-const STRICTLY_GATHERED: [(&str, &str); 5] = [
+const STRICTLY_GATHERED: [(&str, &str); 7] = [
     ("sle map_u8_u8 0200000007010702", "refused NotWrittenForm\n"),
     ("sle map_u8_u8 0200000007010601", "refused NotWrittenForm\n"),
     ("sle map_u8_u8 0200000006010701", "ok 8 0200000006010701\n"),
@@ -186,9 +186,14 @@ const STRICTLY_GATHERED: [(&str, &str); 5] = [
         "ok 8 0200000007010601\n",
     ),
     (
+        "sle index_map_u8_u8 0200000007010702",
+        "refused NotWrittenForm\n",
+    ),
+    (
         "sle index_set_u16 0200000001000100",
         "refused NotWrittenForm\n",
     ),
+    ("sle set_u16 0200000002000100", "refused NotWrittenForm\n"),
 ];
 
 /// What borrows the bytes, and cows.
