@@ -49,6 +49,8 @@ mod tests_ranges;
 #[cfg(test)]
 mod tests_readers;
 #[cfg(test)]
+mod tests_ring;
+#[cfg(test)]
 mod tests_sets;
 #[cfg(test)]
 mod tests_strict;
@@ -74,7 +76,7 @@ pub use layout::Layout;
 pub use readable::{ReadFrom, ReadMany, Readable, ReadableOwned};
 pub use reader::{LendingReader, Reader};
 pub use same_key::SameKey;
-pub use speedy_base::{context, device, endianness, error};
+pub use speedy_base::{circular_buffer, context, device, endianness, error};
 pub use speedy_layout::{layout, same_key, varint, view_items, views};
 pub use speedy_read::{buffer, collections, lent, readable, reader};
 pub use speedy_write::{writable, writer};

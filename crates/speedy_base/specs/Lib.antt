@@ -6,5 +6,6 @@ pub mod DigitsLemmas
 pub mod Error
 pub mod ErrorKind
 pub mod Encoding
+pub mod Ring
 pub mod Signed
 pub mod SignedLemmas
