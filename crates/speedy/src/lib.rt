@@ -53,6 +53,10 @@ mod tests_ring;
 #[cfg(test)]
 mod tests_sets;
 #[cfg(test)]
+mod tests_sinks;
+#[cfg(test)]
+mod tests_streams;
+#[cfg(test)]
 mod tests_strict;
 #[cfg(test)]
 mod tests_texts;

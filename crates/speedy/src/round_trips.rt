@@ -6,6 +6,7 @@ ghost use Rattle.speedy.specs.Format.{Each};
 ghost use Rattle.speedy.specs.Reading.{Counts};
 
 use crate::asserting::{assert_ok, assert_ok_items, assert_refused, make_vec};
+use crate::device::VecSink;
 use crate::laws::{
     written_form_alone, written_is_answered, written_is_read, written_items_are_read,
 };
@@ -28,6 +29,22 @@ fn again(alloc: Global, order: Endianness, value: &Option<String>) -> Result<Opt
     written_is_answered::<Option<String>, Endianness>();
     let bytes = value.write_to_vec_with_ctx(alloc, order)?;
     <Option<String> as Readable<Endianness>>::read_from_buffer_with_ctx(alloc, order, &bytes)
+}
+
+/// Writes a value to a sink that keeps it in memory, and reads it back from there.
+fn again_through_a_sink(
+    alloc: Global,
+    order: Endianness,
+    value: &Option<String>,
+) -> Result<Option<String>, Error>
+    ensures { let seen = ⟦<Option<String> as Layout>⟧.seen in
+        IfOk result (λ x. seen x ≡ seen value.now) }
+{
+    written_is_answered::<Option<String>, Endianness>();
+    let mut sink = VecSink::new(alloc);
+    value.write_to_stream_with_ctx(alloc, order, &mut sink)?;
+    let bytes = sink.bytes();
+    <Option<String> as Readable<Endianness>>::read_from_buffer_with_ctx(alloc, order, bytes)
 }
 
 /// Writes any value to the front of a buffer, and reads it back.
@@ -172,6 +189,7 @@ fn values_come_back(rt: HostRuntime) -> Result<(), Fail> {
     let order = Endianness::BigEndian;
     let text = Some(String::from_str(alloc, "Hello")?);
     assert!(rt; again(alloc, order, &text)? == text);
+    assert!(rt; again_through_a_sink(alloc, order, &text)? == text);
     let mut buffer = [0; 16];
     let number: u32 = again_in(alloc, order, &0x1234_5678, &mut buffer)?;
     assert_eq!(rt; number, 0x1234_5678);

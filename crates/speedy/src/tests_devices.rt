@@ -1,9 +1,13 @@
 //! Sources and sinks: what they move, and what a failed call leaves.
 use crate::asserting::{assert_bytes, assert_same};
 use crate::device::{Counted, Sink, Source, VecSink};
+use std::alloc::{Allocator, Global};
+use std::cell::Cell;
+use std::fs::{Metadata, OpenFile, OpenOptions};
 use std::io;
-use std::io::{Read, Write};
+use std::io::{Read, Seek, SeekFrom, Write};
 use std::process::Abort;
+use std::rt::Files;
 
 /// A device that fails once, where it is told to, and then moves at most so many bytes a call. It counts its calls.
 #[derive(Drop)]
@@ -55,6 +59,179 @@ impl Write for Device {
     }
 }
 
+/// A writer that keeps what it takes, at most so many bytes a call, and of which one call fails, counted from 1. It
+/// counts its calls.
+#[derive(Drop)]
+pub(crate) struct Recorder {
+    pub(crate) taken: Vec<u8>,
+    pub(crate) calls: usize,
+    most: usize,
+    fails_at: usize,
+    fails_with: io::ErrorKind,
+}
+
+pub(crate) fn make_recorder(
+    alloc: Global,
+    most: usize,
+    fails_at: usize,
+    fails_with: io::ErrorKind,
+) -> Counted<Recorder> {
+    Counted::new(Recorder {
+        taken: Vec::new(alloc),
+        calls: 0,
+        most,
+        fails_at,
+        fails_with,
+    })
+}
+
+impl Write for Recorder {
+    fn write(&mut self, buf: &[u8]) -> io::Result<usize> {
+        self.calls = self.calls.saturating_add(1);
+        if self.calls == self.fails_at {
+            return Err(io::Error::from(self.fails_with));
+        }
+        let count = buf.len().min(self.most);
+        if self.taken.extend_from_slice(&buf[..count]).is_err() {
+            return Err(io::Error::from(io::ErrorKind::OutOfMemory));
+        }
+        Ok(count)
+    }
+
+    fn flush(&mut self) -> io::Result<()> {
+        Ok(())
+    }
+}
+
+/// What can be called of files.
+#[derive(Clone, Copy, Debug, PartialEq, Eq)]
+pub(crate) enum FileCall {
+    Open,
+    Write,
+    Flush,
+}
+
+/// Files of which each call of one name fails, and which count how often they are written to and flushed.
+#[derive(Drop)]
+pub(crate) struct FailingFiles<'a> {
+    pub(crate) fails: FileCall,
+    pub(crate) calls: &'a Cell<u8>,
+}
+
+/// One of these files, and what is listed of their folders, which is nothing.
+#[derive(Drop)]
+pub(crate) struct FailingFile<'a> {
+    fails: FileCall,
+    calls: &'a Cell<u8>,
+}
+
+impl<'a> FailingFile<'a> {
+    fn call(&mut self, call: FileCall) -> io::Result<()> {
+        self.calls.set(self.calls.get().saturating_add(1));
+        if call == self.fails {
+            return Err(io::Error::from(io::ErrorKind::Other));
+        }
+        Ok(())
+    }
+}
+
+impl<'a> Read for FailingFile<'a> {
+    fn read(&mut self, _buf: &mut [u8]) -> io::Result<usize> {
+        Ok(0)
+    }
+}
+
+impl<'a> Write for FailingFile<'a> {
+    fn write(&mut self, buf: &[u8]) -> io::Result<usize> {
+        self.call(FileCall::Write)?;
+        Ok(buf.len())
+    }
+
+    fn flush(&mut self) -> io::Result<()> {
+        self.call(FileCall::Flush)
+    }
+}
+
+impl<'a> Seek for FailingFile<'a> {
+    fn seek(&mut self, _to: SeekFrom) -> io::Result<u64> {
+        unsupported()
+    }
+}
+
+impl<'a> OpenFile for FailingFile<'a> {
+    fn metadata(&self) -> io::Result<Metadata> {
+        unsupported()
+    }
+
+    fn set_len(&self, _size: u64) -> io::Result<()> {
+        unsupported()
+    }
+
+    fn sync_all(&self) -> io::Result<()> {
+        unsupported()
+    }
+
+    fn sync_data(&self) -> io::Result<()> {
+        unsupported()
+    }
+}
+
+fn unsupported<T>() -> io::Result<T> {
+    Err(io::Error::from(io::ErrorKind::Unsupported))
+}
+
+impl<'a> Files for FailingFiles<'a> {
+    type File = FailingFile<'a>;
+
+    type Dir = FailingFile<'a>;
+
+    fn open_file(&self, _how: &OpenOptions, _path: &str) -> io::Result<FailingFile<'a>> {
+        if self.fails == FileCall::Open {
+            return Err(io::Error::from(io::ErrorKind::Other));
+        }
+        Ok(FailingFile {
+            fails: self.fails,
+            calls: self.calls,
+        })
+    }
+
+    fn open_dir(&self, _path: &str) -> io::Result<FailingFile<'a>> {
+        unsupported()
+    }
+
+    fn metadata(&self, _path: &str) -> io::Result<Metadata> {
+        unsupported()
+    }
+
+    fn symlink_metadata(&self, _path: &str) -> io::Result<Metadata> {
+        unsupported()
+    }
+
+    fn copy(&self, _from: &str, _to: &str) -> io::Result<u64> {
+        unsupported()
+    }
+
+    fn rename(&self, _from: &str, _to: &str) -> io::Result<()> {
+        unsupported()
+    }
+
+    fn remove_file(&self, _path: &str) -> io::Result<()> {
+        unsupported()
+    }
+
+    fn create_dir(&self, _path: &str) -> io::Result<()> {
+        unsupported()
+    }
+
+    fn remove_dir(&self, _path: &str) -> io::Result<()> {
+        unsupported()
+    }
+
+    fn remove_dir_all<B: Allocator>(&self, _alloc: B, _path: &str) -> io::Result<()> {
+        unsupported()
+    }
+}
+
 fn kind_of<T>(outcome: io::Result<T>) -> Result<T, io::ErrorKind> {
     outcome.map_err(|error| error.kind())
 }
@@ -98,7 +275,7 @@ fn a_vec_sink_keeps_what_it_takes(rt: HostRuntime) {
 }
 
 /// The kinds with which a call fails in tests: each comes back, also the one that std's own loops would try again.
-const KINDS: [io::ErrorKind; 2] = [io::ErrorKind::Other, io::ErrorKind::Interrupted];
+pub(crate) const KINDS: [io::ErrorKind; 2] = [io::ErrorKind::Other, io::ErrorKind::Interrupted];
 
 #[test]
 fn a_failed_read_comes_back_and_is_not_tried_again(rt: HostRuntime) {

@@ -18,6 +18,7 @@ use crate::readable::{
     BufferReader, CopyingBufferReader, ReadFrom, ReadMany, Readable, ReadableOwned,
 };
 use crate::reader::{LendingReader, Reader};
+use crate::tests_streams::assert_read_of_streams;
 use std::alloc::Global;
 use std::borrow::{CowSlice, CowStr};
 use std::collections::BTreeMap;
@@ -329,8 +330,8 @@ fn assert_alike<T: PartialEq + Drop>(
     }
 }
 
-/// How many bytes the value is read of, if there is one. They are lent and copied, and both answer the same value, or are
-/// refused alike, and count the same.
+/// How many bytes the value is read of, if there is one. They are lent, copied and pulled from a source, and each way
+/// answers the same value, or refuses.
 fn count_alike<'a, T: Readable<'a, Endianness> + PartialEq>(
     rt: &impl Abort,
     alloc: Global,
@@ -343,7 +344,9 @@ fn count_alike<'a, T: Readable<'a, Endianness> + PartialEq>(
     );
     assert_alike(rt, alloc, &lent, &copied);
     assert_same(rt, copied_count, count);
-    lent.is_ok().then_some(count)
+    let value = lent.ok();
+    assert_read_of_streams(rt, alloc, order, bytes, value.as_ref(), count);
+    value.is_some().then_some(count)
 }
 
 /// Asserts that in both orders the bytes of each row are read alike in each way, and that in the little order a value is

@@ -1,8 +1,8 @@
 //! Refusals: their kinds, their texts, and what makes them.
-ghost use Rattle.std.specs.Prelude.{◌≡◌, Bool};
+ghost use Rattle.std.specs.Prelude.{◌≡◌, Bool, true};
 ghost use Rattle.std.specs.IoError.{error_kind};
-ghost use Rattle.speedy_base.specs.ErrorKind.{is_eof_kind, text_of, BecomesIo};
-ghost use Rattle.speedy_base.specs.Error.{kind_of, error_of, is_eof_error, IsCustomOf, IsIoErrorOf};
+ghost use Rattle.speedy_base.specs.ErrorKind.{is_eof_kind, text_of, BecomesIo, EndsInput};
+ghost use Rattle.speedy_base.specs.Error.{kind_of, error_of, is_eof_error, IsCustomOf, IsIoErrorOf, IsNamed};
 ghost use Rattle.speedy_base.specs.declared.error.ErrorKind.TheVariants.{OutOfMemory};
 
 use std::alloc::{AllocError, AllocFailed, Global};
@@ -290,6 +290,19 @@ pub fn error_end_of_input<T: From<Error>>() -> T
     ensures { T.from_gives (error_of ErrorKind.UnexpectedEndOfInput) result }
 {
     T::from(Error::new(ErrorKind::UnexpectedEndOfInput))
+}
+
+/// A source that ended too soon: an `IoError` of kind `UnexpectedEof`, or `UnexpectedEndOfInput` where its box found
+/// no memory.
+#[cold]
+pub fn error_end_of_stream<T: From<Error>>(alloc: Global) -> T
+    ensures { IsNamed T.from_gives (EndsInput true) result }
+{
+    let error = io::Error::new(io::ErrorKind::UnexpectedEof, "unexpected end of the source");
+    match Box::new(alloc, error) {
+        Ok(boxed) => T::from(Error::new(ErrorKind::IoError(boxed))),
+        Err(_) => error_end_of_input(),
+    }
 }
 
 /// A buffer to write to that ended too soon.

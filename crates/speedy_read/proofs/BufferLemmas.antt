@@ -19,6 +19,7 @@ Kept-drop n {bytes = bytes} = record {
   tidy = λ t. t;
   buffers = refl;
   takes_memory = refl;
+  peeks_take_memory = refl;
   ends_by_device = refl;
   encoding = refl;
   faults = omega arith;
@@ -34,6 +35,7 @@ Kept-all {bytes = bytes} = record {
   tidy = λ t. t;
   buffers = refl;
   takes_memory = refl;
+  peeks_take_memory = refl;
   ends_by_device = refl;
   encoding = refl;
   faults = omega arith;
@@ -85,7 +87,7 @@ module _ {E : Type 0} {gives : Error → E → Type 0} {eof : E → Bool} {A : T
 
   pub bytes_not_peeked : {seen : A → List ℕ} {e : E} → length bytes < n → IsEnd gives eof false e → Peeks gives eof seen (raw_bytes n) (Err e) (memory_state lends targets bytes encoding) (memory_state lends targets bytes encoding)
   unfolding raw_bytes
-  bytes_not_peeked l ended = record { kept = KeptByPeek-same; answer = inr (ends_early n (λ v s h. let k = h.1 in omega arith) (λ _ fault. fault) ended (λ _ _. l)) }
+  bytes_not_peeked l ended = record { kept = KeptByPeek-same; answer = inr (inr (ends_early n (λ v s h. let k = h.1 in omega arith) (λ _ fault. fault) ended (λ _ _. l))) }
 
 -- bytes that are lent until the next use are not there
 pub bytes_not_lent : {A E : Type 0} {n : ℕ} {lends : Bool} {targets : List GName} {bytes : List ℕ} {encoding : Encoding} {seen : A → List ℕ} {e : E} → length bytes < n → Reads ends_alone (λ _. true) seen (raw_bytes n) (Err e) (memory_state lends targets bytes encoding) (memory_state lends targets bytes encoding)

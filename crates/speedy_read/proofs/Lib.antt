@@ -12,3 +12,4 @@ pub mod CollectionLemmas
 pub mod LentLemmas
 pub mod ViewLemmas
 pub mod OwnedReaderLemmas
+pub mod StreamLemmas

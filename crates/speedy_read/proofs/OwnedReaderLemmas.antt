@@ -15,6 +15,7 @@ module _ (name : GName) {old new : ReaderState} where
     tidy = k.tidy;
     buffers = k.buffers;
     takes_memory = k.takes_memory;
+    peeks_take_memory = k.peeks_take_memory;
     ends_by_device = k.ends_by_device;
     encoding = k.encoding;
     faults = k.faults;
@@ -28,6 +29,7 @@ module _ (name : GName) {old new : ReaderState} where
     lends = k.lends;
     buffers = k.buffers;
     takes_memory = k.takes_memory;
+    peeks_take_memory = k.peeks_take_memory;
     ends_by_device = k.ends_by_device;
     encoding = k.encoding;
     faults = k.faults;
@@ -55,7 +57,8 @@ module _ (name : GName) {old new : ReaderState} where
       answer =
           elim r.answer [
             | inl x ↦ inl x
-            | inr k ↦ inr (record { kind = k.kind; because = λ told. k.because (record { tells = told.tells; are_bytes = told.are_bytes; fit = told.fit; lends = told.lends }) })
+            | inr (inl x) ↦ inr (inl x)
+            | inr (inr k) ↦ inr (inr (record { kind = k.kind; because = λ told. k.because (record { tells = told.tells; are_bytes = told.are_bytes; fit = told.fit; lends = told.lends }) }))
           ];
     }
 

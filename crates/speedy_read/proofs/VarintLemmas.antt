@@ -158,17 +158,21 @@ module _ {E : Type 0} {gives : Error → E → Type 0} {eof : E → Bool} (encod
     unfolding raw_bytes varint coding sequence unsigned_number
     rest_not_peeked {e = e} more sized starts one r = record {
       kept = KeptByPeek-after one.kept r.kept;
-      answer = part_refused new one.kept.ends_by_device one.kept.takes_memory one.kept.faults (λ t. t) (λ kind h. absurd h)
-          (λ told because.
-          let same = one.kept.to_come told.tells in
-          let there : IsTold (raw_bytes count) mid = record {
-            tells = subst IsTrue (sym one.kept.tells) told.tells;
-            are_bytes = subst AreBytes (sym same) told.are_bytes;
-            fit = let l = ap length same in let f = told.fit in omega arith;
-            lends = λ t. absurd (cc);
-          } in
-          rest_unspelled more old.to_come one.answer.rest starts (first_to_come one told.tells) (subst (λ (n : ℕ). Unspelled gives eof (raw_bytes n) e old.to_come) sized (subst (Unspelled gives eof (raw_bytes count) e) same (because there))))
-          r.answer;
+      answer =
+          elim r.answer [
+            | inl h ↦ inl (h.0, subst IsTrue one.kept.peeks_take_memory h.1)
+            | inr h ↦ inr (part_refused new one.kept.ends_by_device one.kept.takes_memory one.kept.faults (λ t. t) (λ kind h. absurd h)
+                (λ told because.
+                let same = one.kept.to_come told.tells in
+                let there : IsTold (raw_bytes count) mid = record {
+                  tells = subst IsTrue (sym one.kept.tells) told.tells;
+                  are_bytes = subst AreBytes (sym same) told.are_bytes;
+                  fit = let l = ap length same in let f = told.fit in omega arith;
+                  lends = λ t. absurd (cc);
+                } in
+                rest_unspelled more old.to_come one.answer.rest starts (first_to_come one told.tells) (subst (λ (n : ℕ). Unspelled gives eof (raw_bytes n) e old.to_come) sized (subst (Unspelled gives eof (raw_bytes count) e) same (because there))))
+                h)
+          ];
     }
 
     -- a first byte and those after it are what the read takes
@@ -186,11 +190,11 @@ module _ {E : Type 0} {gives : Error → E → Type 0} {eof : E → Bool} (encod
         let tail = take (length (seen x) - 1) (drop 1 (seen x)) in
         record {
           kept = KeptByPeek-after one.kept r.kept;
-          answer = inr (record {
+          answer = inr (inr (record {
             kind = inr (kinds.NotWrittenForm, inr (inr (strict, refl, reads_wider parts not_fewest)), given);
             because = λ told.
                 unaccepted encoding varint_code (prefixed_digits_laws encoding) _ (prefixed-spelled encoding (length tail) parts.low parts.rest first tail parts.first_is parts.tail_is) (whole_to_come count more one sized r told.tells)
                 (λ v h. not_fewest (subst (IsFewest (length tail)) ((varint_is_code encoding).chosen_means ((length tail, parts.low), parts.rest) v (Accepts-demanded encoding.strict varint_code ((length tail, parts.low), parts.rest) v strict h) ∙ sym parts.value_is) (Accepts-demanded encoding.strict varint_code ((length tail, parts.low), parts.rest) v strict h).0))
                 (kinds.NotWrittenForm, inr (strict, refl, reads_wider parts not_fewest), given);
-          });
+          }));
         }

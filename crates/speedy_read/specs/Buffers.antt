@@ -13,6 +13,7 @@ memory_state lends targets bytes encoding = record {
   tidy = true;
   buffers = false;
   takes_memory = false;
+  peeks_take_memory = false;
   ends_by_device = false;
   encoding = encoding;
   faults = 0;

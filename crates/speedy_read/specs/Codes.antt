@@ -43,7 +43,10 @@ module _ {U V : Type 0} {L : Format U} {N : Format V} (c : Covers L N) {E : Type
     refused_covered r = record { kept = r.kept; answer = part_refused new refl refl (omega arith) c.takes c.names unspelled_covered r.answer }
 
     pub peek_refused_covered : {e : E} → Peeks gives eof seen L (Err e) old new → Peeks gives eof view N (Err e) old new
-    peek_refused_covered r = record { kept = r.kept; answer = part_refused new refl refl (omega arith) c.takes c.names unspelled_covered r.answer }
+    peek_refused_covered r = record {
+      kept = r.kept;
+      answer = elim r.answer [ inl h ↦ inl h | inr h ↦ inr (part_refused new refl refl (omega arith) c.takes c.names unspelled_covered h) ];
+    }
 
 -- what is read under L stands under N, if its spellings do
 module _ {U V : Type 0} {L : Format U} {N : Format V} {E : Type 0} {gives : Error → E → Type 0} {eof : E → Bool} {A B : Type 0} {seen : A → U} {view : B → V} {x : A} {y : B} {old new : ReaderState} (stands : (s : List ℕ) → L.spells (seen x) s → N.spells (view y) s) where

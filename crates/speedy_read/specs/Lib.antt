@@ -6,6 +6,8 @@ pub mod Flags
 pub mod Buffers
 pub mod CopyingView
 pub mod OwnedView
+pub mod StreamView
+pub mod Streams
 pub mod Lending
 pub mod RoundTrip
 pub mod Exits

@@ -26,6 +26,8 @@ pub record ReaderState : Type 0 where
   pub buffers : Bool
   -- its reads may ask for memory
   pub takes_memory : Bool
+  -- its peeks may ask for memory
+  pub peeks_take_memory : Bool
   -- an end of its bytes may be answered as the device's own, an `IoError`, and not only as `UnexpectedEndOfInput`
   pub ends_by_device : Bool
   -- what its context asks of the bytes
@@ -42,6 +44,7 @@ pub record Kept (old new : ReaderState) : Type 0 where
   pub tidy : IsTrue old.tidy → IsTrue new.tidy
   pub buffers : new.buffers ≡ old.buffers
   pub takes_memory : new.takes_memory ≡ old.takes_memory
+  pub peeks_take_memory : new.peeks_take_memory ≡ old.peeks_take_memory
   pub ends_by_device : new.ends_by_device ≡ old.ends_by_device
   pub encoding : new.encoding ≡ old.encoding
   pub faults : old.faults ≤ new.faults
@@ -55,6 +58,7 @@ pub record KeptByPeek (old new : ReaderState) : Type 0 where
   pub lends : new.lends ≡ old.lends
   pub buffers : new.buffers ≡ old.buffers
   pub takes_memory : new.takes_memory ≡ old.takes_memory
+  pub peeks_take_memory : new.peeks_take_memory ≡ old.peeks_take_memory
   pub ends_by_device : new.ends_by_device ≡ old.ends_by_device
   pub encoding : new.encoding ≡ old.encoding
   pub faults : old.faults ≤ new.faults
@@ -93,6 +97,10 @@ pub record Counts (spelled : List ℕ → Type 0) (count : ℕ) (bytes : List �
 abbrev pub Excused : {E : Type 0} → (Error → E → Type 0) → Bool → E → ReaderState → ReaderState → Type 0
 Excused gives takes e old new = (gives (error_of kinds.OutOfMemory) e × (IsTrue takes ⊎ IsTrue old.takes_memory)) ⊎ HasGrown old.faults new.faults
 
+-- want of memory, where a peek may ask for it
+abbrev pub PeekWants : {E : Type 0} → (Error → E → Type 0) → E → ReaderState → Type 0
+PeekWants gives e old = gives (error_of kinds.OutOfMemory) e × IsTrue old.peeks_take_memory
+
 -- no value shows a byte
 abbrev pub ShowsNothing : {A : Type 0} → (A → List ℕ) → Type 0
 ShowsNothing {A = A} shows = (x : A) → shows x ≡ []
@@ -130,10 +138,10 @@ module _ {E : Type 0} (gives : Error → E → Type 0) (eof : E → Bool) where
   abbrev pub ReadsSigned : Width → Result ℤ E → ReaderState → ReaderState → Type 0
   ReadsSigned w result old new = Reads (λ z. z) (signed_number w old.encoding) result old new
 
-  -- A peek of a format's values: as the read, but nothing is taken.
+  -- A peek of a format's values: as the read, but nothing is taken, and it may want memory where the read does not.
   pub record Peeks {A V : Type 0} (seen : A → V) (L : Format V) (result : Result A E) (old new : ReaderState) : Type 0 where
     pub kept : KeptByPeek old new
-    pub answer : MatchResult result (λ x. Ahead (L.spells (seen x)) old) (λ e. Excused gives L.takes_memory e old new ⊎ Refused L e old)
+    pub answer : MatchResult result (λ x. Ahead (L.spells (seen x)) old) (λ e. PeekWants gives e old ⊎ (Excused gives L.takes_memory e old new ⊎ Refused L e old))
 
   -- What a read answers that lends its bytes. Where the reader lends, it answers, refuses and takes as a read of so many bytes does, and what is lent shows the bytes that were taken. A reader that lends nothing answers nothing and takes nothing; so does one whose loans show nothing.
   abbrev pub LendsBytes : {A : Type 0} → (A → List ℕ) → ℕ → Option (Result A E) → ReaderState → ReaderState → Type 0

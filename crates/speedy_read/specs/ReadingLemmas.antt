@@ -22,6 +22,7 @@ Kept-same = record {
   tidy = λ t. t;
   buffers = refl;
   takes_memory = refl;
+  peeks_take_memory = refl;
   ends_by_device = refl;
   encoding = refl;
   faults = omega arith;
@@ -37,6 +38,7 @@ Kept-after {c = c} h k = record {
   tidy = λ t. k.tidy (h.tidy t);
   buffers = k.buffers ∙ h.buffers;
   takes_memory = k.takes_memory ∙ h.takes_memory;
+  peeks_take_memory = k.peeks_take_memory ∙ h.peeks_take_memory;
   ends_by_device = k.ends_by_device ∙ h.ends_by_device;
   encoding = k.encoding ∙ h.encoding;
   faults = let x = h.faults in let y = k.faults in omega arith;
@@ -49,7 +51,7 @@ Kept-after {c = c} h k = record {
 
 -- the same of peeks
 pub KeptByPeek-same : {a : ReaderState} → KeptByPeek a a
-KeptByPeek-same = record { tells = refl; lends = refl; buffers = refl; takes_memory = refl; ends_by_device = refl; encoding = refl; faults = omega arith; targets = refl; to_come = λ _. refl }
+KeptByPeek-same = record { tells = refl; lends = refl; buffers = refl; takes_memory = refl; peeks_take_memory = refl; ends_by_device = refl; encoding = refl; faults = omega arith; targets = refl; to_come = λ _. refl }
 
 pub KeptByPeek-after : {a b c : ReaderState} → KeptByPeek a b → KeptByPeek b c → KeptByPeek a c
 KeptByPeek-after h k = record {
@@ -57,6 +59,7 @@ KeptByPeek-after h k = record {
   lends = k.lends ∙ h.lends;
   buffers = k.buffers ∙ h.buffers;
   takes_memory = k.takes_memory ∙ h.takes_memory;
+  peeks_take_memory = k.peeks_take_memory ∙ h.peeks_take_memory;
   ends_by_device = k.ends_by_device ∙ h.ends_by_device;
   encoding = k.encoding ∙ h.encoding;
   faults = let x = h.faults in let y = k.faults in omega arith;

@@ -76,7 +76,7 @@ module _ {U V : Type 0} {W : U → Type 0} {L : Format U} {M : (u : U) → Forma
   pub peek_refused_first : {A B : Type 0} {seen : A → U} {view : B → V} {e : E} {old new : ReaderState} → Peeks gives eof seen L (Err e) old new → Peeks gives eof view N (Err e) old new
   peek_refused_first {new = new} r = record {
     kept = r.kept;
-    answer = part_refused new refl refl (omega arith) c.takes_first c.names_first (λ told un. unspelled_first (un (IsTold-part c.lends_first told))) r.answer;
+    answer = elim r.answer [ inl h ↦ inl h | inr h ↦ inr (part_refused new refl refl (omega arith) c.takes_first c.names_first (λ told un. unspelled_first (un (IsTold-part c.lends_first told))) h) ];
   }
 
   unspelled_second : {strict : Bool} {least : ℕ} → Laws strict least L → (u : U) {e : E} (front rest : List ℕ) → L.spells u front → Unspelled gives eof (M u) e rest → Unspelled gives eof N e (front ++ rest)

@@ -1,5 +1,5 @@
 //! What readers lend, and what is made of it.
-ghost use Rattle.std.specs.Prelude.{◌≡◌, ℕ, ⊤, [], List};
+ghost use Rattle.std.specs.Prelude.{◌≡◌, ℕ, ⊤, [], List, IsSome};
 ghost use Rattle.std.specs.Cow.{cow_slice_items};
 ghost use Rattle.std.specs.Option.{MatchOption};
 ghost use Rattle.speedy_base.specs.Digits.{AreBytes};
@@ -94,7 +94,8 @@ impl<'a, T: Drop> FromLent<&'a [u8], T> for CowSlice<'a, T> {
 
     #[inline]
     fn from_lent<B: BytesAs<T>>(lent: &'a [u8], _alloc: Global) -> Option<CowSlice<'a, T>>
-        ensures { MatchOption result ⊤ (λ cow. cow_slice_items cow ≡ B.values lent.now) }
+        ensures shows { MatchOption result ⊤ (λ cow. cow_slice_items cow ≡ B.values lent.now) }
+        ensures made { IsSome result }
     {
         Some(CowSlice::Borrowed(B::values_of(lent)))
     }

@@ -22,6 +22,7 @@ pub mod ranges;
 pub mod readable;
 pub mod reader;
 pub mod sets;
+pub mod stream_reader;
 pub mod texts;
 pub mod tuples;
 pub mod varint;

@@ -1,11 +1,12 @@
 //! What types that are read do.
-ghost use Rattle.std.specs.Prelude.{◌≡◌, ℕ, [], List, map, MatchResult};
+ghost use Rattle.std.specs.Prelude.{◌≡◌, ℕ, [], List, map, MatchResult, true, false};
 ghost use Rattle.speedy_base.specs.Error.{error_of};
 ghost use Rattle.speedy_base.specs.Encoding.{plain_encoding};
 ghost use Rattle.speedy_layout.specs.Lists.{vector};
 ghost use Rattle.speedy_read.specs.Collections.{gatherer, Collects};
 ghost use Rattle.speedy_read.specs.Lending.{many_items};
 ghost use Rattle.speedy_read.specs.Reading.{Reads, AnswersBuffer, AnswersCopied};
+ghost use Rattle.speedy_read.specs.Streams.{AnswersStream, AnswersFile};
 
 pub use crate::buffer_reader::BufferReader;
 use crate::collections::{FromItems, collect_items};
@@ -13,12 +14,17 @@ pub use crate::copying_reader::CopyingBufferReader;
 use crate::lent::{FromLent, Many, Nothing};
 pub use crate::owned_reader::OwnedReader;
 use crate::reader::LendingReader;
+pub use crate::stream_reader::StreamReader;
+use crate::stream_reader::read_stream;
 use speedy_base::context::{Context, PlainContext};
+use speedy_base::device::{Counted, Source};
 use speedy_base::endianness::Endianness;
-use speedy_base::error::{ErrorKind, error_input_buffer_is_too_small, error_out_of_memory};
+use speedy_base::error::{Error, ErrorKind, error_input_buffer_is_too_small, error_out_of_memory};
 use speedy_layout::layout::Layout;
 use std::alloc::Global;
 use std::convert::AsSlice;
+use std::fs::{File, Files};
+use std::path::AsPath;
 
 /// What types that are read implement, over what a reader lends.
 ///
@@ -243,6 +249,102 @@ pub trait Readable<'a, C: Context>: ReadMany<&'a [u8], C> {
         let result = Self::read_from(&mut reader);
         let left = reader.finish();
         (result, length - left)
+    }
+
+    /// The value that a front of what the source gives spells in the little byte order. Just that front is taken.
+    ///
+    /// Nothing is borrowed: types that borrow are refused as `Unsized`. An end of the source is an `IoError` of kind
+    /// `UnexpectedEof`.
+    final fn read_from_stream_unbuffered<S: Source>(
+        alloc: Global,
+        source: &mut S,
+    ) -> Result<Self, C::Error>
+    where
+        C: PlainContext,
+        ensures { AnswersStream C.Error.from_gives C.Error.eof Self.seen
+            (Self.format (plain_encoding Endianness.LittleEndian)) false result
+            (S.source source.old) (S.source source.new) }
+    {
+        Self::read_from_stream_unbuffered_with_ctx(alloc, C::plain(), source)
+    }
+
+    /// As [`read_from_stream_unbuffered`](Self::read_from_stream_unbuffered), under the context.
+    final fn read_from_stream_unbuffered_with_ctx<S: Source>(
+        alloc: Global,
+        context: C,
+        source: &mut S,
+    ) -> Result<Self, C::Error>
+        ensures { AnswersStream C.Error.from_gives C.Error.eof Self.seen
+            (Self.format (C.encoding context)) false result
+            (S.source source.old) (S.source source.new) }
+    {
+        read_stream(alloc, context, source, false)
+    }
+
+    /// The value that a front of what the source gives spells in the little byte order. That front is taken, and at
+    /// most 8,191 bytes more, which are lost: it is for sources of one value.
+    ///
+    /// Nothing is borrowed: types that borrow are refused as `Unsized`. An end of the source is `UnexpectedEndOfInput`
+    /// or, in a read of 8,192 bytes and more, an `IoError` of kind `UnexpectedEof`.
+    final fn read_from_stream_buffered<S: Source>(
+        alloc: Global,
+        source: &mut S,
+    ) -> Result<Self, C::Error>
+    where
+        C: PlainContext,
+        ensures { AnswersStream C.Error.from_gives C.Error.eof Self.seen
+            (Self.format (plain_encoding Endianness.LittleEndian)) true result
+            (S.source source.old) (S.source source.new) }
+    {
+        Self::read_from_stream_buffered_with_ctx(alloc, C::plain(), source)
+    }
+
+    /// As [`read_from_stream_buffered`](Self::read_from_stream_buffered), under the context.
+    final fn read_from_stream_buffered_with_ctx<S: Source>(
+        alloc: Global,
+        context: C,
+        source: &mut S,
+    ) -> Result<Self, C::Error>
+        ensures { AnswersStream C.Error.from_gives C.Error.eof Self.seen
+            (Self.format (C.encoding context)) true result
+            (S.source source.old) (S.source source.new) }
+    {
+        read_stream(alloc, context, source, true)
+    }
+
+    /// The value that a front of the file spells in the little byte order.
+    ///
+    /// A file that cannot be opened is an `IoError`, and one that is too short an end of input, as of a stream.
+    final fn read_from_file<R: Files, P: AsPath>(
+        rt: &R,
+        alloc: Global,
+        path: P,
+    ) -> Result<Self, C::Error>
+    where
+        C: PlainContext,
+        ensures { AnswersFile Self.seen
+            (Self.format (plain_encoding Endianness.LittleEndian)) result }
+    {
+        Self::read_from_file_with_ctx(rt, alloc, C::plain(), path)
+    }
+
+    /// As [`read_from_file`](Self::read_from_file), under the context.
+    final fn read_from_file_with_ctx<R: Files, P: AsPath>(
+        rt: &R,
+        alloc: Global,
+        context: C,
+        path: P,
+    ) -> Result<Self, C::Error>
+        ensures { AnswersFile Self.seen
+            (Self.format (C.encoding context)) result }
+    {
+        match File::open(rt, path) {
+            Ok(file) => {
+                let mut source = Counted::new(file);
+                Self::read_from_stream_buffered_with_ctx(alloc, context, &mut source)
+            }
+            Err(error) => Err(Error::from_io_error(alloc, error).into()),
+        }
     }
 }
 

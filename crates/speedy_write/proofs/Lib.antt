@@ -5,4 +5,6 @@ pub mod NonZeroLemmas
 pub mod NumberLemmas
 pub mod OptionLemmas
 pub mod OwnedLemmas
+pub mod PushLemmas
+pub mod StreamLemmas
 pub mod TextLemmas

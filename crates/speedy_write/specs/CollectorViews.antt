@@ -3,6 +3,7 @@ use Rattle.std.specs.Prelude.{ℕ, List}
 use Rattle.std.specs.Borrow.{GName}
 use Rattle.speedy_write.specs.declared.collectors.BufferCollector.{BufferCollector}
 use Rattle.speedy_write.specs.declared.collectors.SizeCalculatorCollector.{SizeCalculatorCollector}
+use Rattle.speedy_write.specs.declared.collectors.WritingCollector.{WritingCollector}
 
 -- the context and the buffer that a collector borrows, and how many bytes it has written at the buffer's front
 pub record BufferView (C : Type 0) : Type 0 where
@@ -29,3 +30,12 @@ pub record SizeView (C : Type 0) : Type 0 where
 
 abbrev pub size_view : {C : Type 0} → SizeCalculatorCollector C → SizeView C
 size_view w = record { context = w.context.now; context_name = w.context.ghost_name; size = w.size }
+
+-- the context that a collector holds, and the sink that it borrows
+pub record WritingView (S C : Type 0) : Type 0 where
+  pub context : C
+  pub sink : S
+  pub sink_name : GName
+
+abbrev pub writing_view : {S C : Type 0} → WritingCollector S C → WritingView S C
+writing_view w = record { context = w.context; sink = w.sink.now; sink_name = w.sink.ghost_name }

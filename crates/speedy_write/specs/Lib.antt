@@ -6,3 +6,4 @@ pub mod CollectorViews
 pub mod Sequences
 pub mod Codes
 pub mod Collections
+pub mod Pushing

@@ -53,19 +53,20 @@ Kept-after h k = record {
   full = k.full ∙ h.full;
   targets = k.targets ∙ h.targets;
   faults = let x = h.faults in let y = k.faults in omega arith;
+  tells = k.tells ∙ h.tells;
 }
 
 -- a writer that stays as it is
 pub Kept-same : (a : WriterState) → Kept a a
-Kept-same a = record { encoding = refl; full = refl; targets = refl; faults = omega arith }
+Kept-same a = record { encoding = refl; full = refl; targets = refl; faults = omega arith; tells = refl }
 
 -- what was put is said in other words
 pub Put-as : {writes other appended : List ℕ → Type 0} {old new : WriterState} → ((b : List ℕ) → writes b → other b) → Put writes old new appended → Put other old new appended
-Put-as f p = record { bytes = p.bytes; is_written = f p.bytes p.is_written; is_appended = p.is_appended; fits = p.fits; space = p.space }
+Put-as f p = record { bytes = p.bytes; is_written = f p.bytes p.is_written; is_appended = p.is_appended; fits = p.fits; space = p.space; no_fault = p.no_fault }
 
 -- nothing was put
 pub Put-nothing : {appended : List ℕ → Type 0} (old : WriterState) → appended [] → Put (λ b. b ≡ []) old old appended
-Put-nothing old h = record { bytes = []; is_written = refl; is_appended = h; fits = fits_nothing old.space; space = less_nothing old.space }
+Put-nothing old h = record { bytes = []; is_written = refl; is_appended = h; fits = fits_nothing old.space; space = less_nothing old.space; no_fault = refl }
 
 -- one part was put after the other
 pub Put-both : {first second front back whole : List ℕ → Type 0} {old mid new : WriterState} → ((a b : List ℕ) → front a → back b → whole (a ++ b)) → Put first old mid front → Put second mid new back → Put (Parts first second) old new whole
@@ -77,6 +78,7 @@ Put-both {old = old} join p q =
       is_appended = join p.bytes q.bytes p.is_appended q.is_appended;
       fits = subst (λ n. Fits n old.space) (sym l) (fits_both old.space (length p.bytes) (length q.bytes) p.fits (subst (Fits (length q.bytes)) p.space q.fits));
       space = q.space ∙ (ap (λ s. less s (length q.bytes)) p.space ∙ (less_both old.space (length p.bytes) (length q.bytes) ∙ ap (less old.space) (sym l)));
+      no_fault = q.no_fault ∙ p.no_fault;
     }
 
 -- the written forms of a value have one length

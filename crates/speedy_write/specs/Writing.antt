@@ -24,6 +24,8 @@ pub record WriterState : Type 0 where
   pub full : ErrorKind
   -- the `&mut`s that it holds
   pub targets : List GName
+  -- whether it tells which bytes were written
+  pub tells : Bool
 
 -- so many bytes fit
 abbrev pub Fits : ℕ → Option ℕ → Type 0
@@ -41,14 +43,16 @@ pub record Kept (old new : WriterState) : Type 0 where
   pub full : new.full ≡ old.full
   pub targets : new.targets ≡ old.targets
   pub faults : old.faults ≤ new.faults
+  pub tells : new.tells ≡ old.tells
 
--- a written form was put, and just it was appended
+-- a written form was put, just it was appended, and no call of the device failed
 pub record Put (writes : List ℕ → Type 0) (old new : WriterState) (appended : List ℕ → Type 0) : Type 0 where
   pub bytes : List ℕ
   pub is_written : writes bytes
   pub is_appended : appended bytes
   pub fits : Fits (length bytes) old.space
   pub space : new.space ≡ less old.space (length bytes)
+  pub no_fault : new.faults ≡ old.faults
 
 -- a beginning of a written form was appended
 pub record Begun (writes : List ℕ → Type 0) (appended : List ℕ → Type 0) : Type 0 where
@@ -78,7 +82,7 @@ module _ {E : Type 0} (gives : Error → E → Type 0) where
     pub beginning : (b : List ℕ) → F.writes v b → Begun (F.writes v) appended
     pub because : HasGrown old.faults new.faults ⊎ Unwritten F v e old
 
-  -- The write of a value, in the format of the writer's encoding. What succeeds appends a written form that fits. What is refused appends a beginning of one, where there is one; and either a call of the device failed, or no written form fits.
+  -- The write of a value, in the format of the writer's encoding. What succeeds appends a written form that fits, and no call of the device failed. What is refused appends a beginning of one, where there is one; and either a call of the device failed, or no written form fits.
   pub record Writes {V : Type 0} (F : Encoding → Format V) (v : V) (result : Result (Unit {0}) E) (old new : WriterState) (appended : List ℕ → Type 0) : Type 0 where
     pub kept : Kept old new
     pub answer : MatchResult result (λ _. Put ((F old.encoding).writes v) old new appended) (λ e. Refused (F old.encoding) v e old new appended)

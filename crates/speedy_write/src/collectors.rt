@@ -1,12 +1,16 @@
-//! The writers that the ways of writing need: one into a buffer, and one that only counts.
-ghost use Rattle.std.specs.Prelude.{◌≡◌, ◌-◌, ◌^◌, ◌≤◌, [], ◌∷◌, length, Some, OnErr, nat_le, refl};
+//! The writers that the ways of writing need: one into a buffer, one into a sink, and one that only counts.
+ghost use Rattle.std.specs.Prelude.{◌≡◌, ◌-◌, ◌^◌, ◌≤◌, [], ◌∷◌, length, Some, None, IsOk, IfErr, OnErr, nat_le, refl};
 ghost use Rattle.speedy_write.specs.Writing.{WritesBytes, RefusesFull};
-ghost use Rattle.speedy_write.specs.Collectors.{buffer_state, BufferAppends, size_state, SizeAppends};
-ghost use Rattle.speedy_write.specs.CollectorLemmas.{buffer_nothing, buffer_additive, size_nothing, size_additive};
+ghost use Rattle.speedy_write.specs.Pushing.{PushesAll, IsErrorOf, IsOfFailedCall};
+ghost use Rattle.speedy_write.specs.Collectors.{buffer_state, BufferAppends, size_state, SizeAppends, sink_state, Takes};
+ghost use Rattle.speedy_write.specs.CollectorLemmas.{buffer_nothing, buffer_additive, size_nothing, size_additive, sink_nothing, sink_additive};
 
 use crate::writer::Writer;
 use speedy_base::context::Context;
-use speedy_base::error::{error_end_of_output_buffer, error_out_of_range_length};
+use speedy_base::device::Sink;
+use speedy_base::error::{Error, error_end_of_output_buffer, error_out_of_range_length};
+use std::alloc::Global;
+use std::io;
 
 /// Writes to the front of a buffer.
 #[derive(Drop)]
@@ -103,6 +107,119 @@ impl<'a, C: Context> Writer<C> for BufferCollector<'a, C> {
     fn can_write_at_least(&self, size: usize) -> Option<bool> {
         Some(size <= self.buffer.len() - self.position)
     }
+}
+
+/// Pushes to a sink, each piece as it comes. Who wants fewer pushes puts a buffer in front of the sink.
+#[derive(Drop)]
+pub struct WritingCollector<'s, S, C> {
+    alloc: Global,
+    context: C,
+    sink: &'s mut S,
+}
+
+impl<'s, S, C: Drop> WritingCollector<'s, S, C> {
+    ghost use Rattle.speedy_write.specs.CollectorViews.{writing_view};
+
+    /// Goes on behind what the sink took. Memory is asked for where a push fails, for its error.
+    #[inline]
+    pub fn new(alloc: Global, context: C, sink: &'s mut S) -> WritingCollector<'s, S, C>
+        ensures context { (writing_view result).context ≡ context }
+        ensures same_sink { (writing_view result).sink_name ≡ sink.entry.ghost_name }
+        ensures sink { (writing_view result).sink ≡ sink.old }
+    {
+        WritingCollector {
+            alloc,
+            context,
+            sink,
+        }
+    }
+
+    /// The sink, with all that was written. It was not flushed.
+    #[inline]
+    pub fn into_sink(self) -> &'s mut S
+        ensures same_sink { result.ghost_name ≡ (writing_view self.entry).sink_name }
+        ensures sink { result.now ≡ (writing_view self.entry).sink }
+    {
+        self.sink
+    }
+}
+
+impl<'s, S: Sink, C: Context> Writer<C> for WritingCollector<'s, S, C> {
+    ghost at = { λ w. w.context };
+
+    ghost with_context = { λ w c. record w { context = c } };
+
+    ghost state = { λ w. sink_state (C.encoding w.context) w.sink.ghost_name (S.sink w.sink.now) };
+
+    ghost appends = { λ a s b. Takes (S.sink a.sink.now) s (S.sink b.sink.now) };
+
+    ghost can_write = { λ w n. None };
+
+    ghost encoding_at = { λ w. refl };
+
+    ghost state_with = { λ w c. refl };
+
+    ghost nothing = { λ w. sink_nothing (S.sink w.sink.now) };
+
+    ghost additive = { λ a b c s t h k. sink_additive h k };
+
+    ghost appends_with = { λ a b s c h. (h, h) };
+
+    /// Pushes until all is taken. Of no bytes nothing is pushed.
+    ///
+    /// The error is that of a push that failed, which is not tried again, an interrupted one too. The sink has then
+    /// taken a beginning of the bytes.
+    #[inline]
+    fn write_bytes(&mut self, slice: &[u8]) -> Result<(), C::Error>
+        ensures writes { let writer = ⟦<WritingCollector<'s, S, C> as Writer<C>>⟧ in
+            WritesBytes C.Error.from_gives slice.now result (writer.state self.old)
+            (writer.state self.new) (λ b. writer.appends self.old b self.new) }
+        ensures full { let writer = ⟦<WritingCollector<'s, S, C> as Writer<C>>⟧ in
+            RefusesFull C.Error.from_gives result (writer.state self.old) (writer.state self.new) }
+        ensures nothing { slice.now ≡ [] → IsOk result × (self.new ≡ self.old) }
+        ensures error { IfErr result (IsOfFailedCall C.Error.from_gives) }
+    {
+        push_all(self.alloc, slice, &mut *self.sink)
+    }
+
+    #[inline(always)]
+    fn context(&self) -> &C {
+        &self.context
+    }
+
+    #[inline(always)]
+    fn context_mut(&mut self) -> &mut C {
+        &mut self.context
+    }
+
+    #[inline(always)]
+    fn can_write_at_least(&self, _size: usize) -> Option<bool> {
+        None
+    }
+}
+
+// What the error of a failed call is answered as.
+#[cold]
+pub(crate) fn error_of_failed_call<E: From<Error>>(alloc: Global, error: io::Error) -> E
+    ensures { IsErrorOf E.from_gives error result }
+{
+    E::from(Error::from_io_error(alloc, error))
+}
+
+// Pushes all the bytes, in as many calls as it takes.
+#[inline]
+fn push_all<S: Sink, E: From<Error>>(alloc: Global, bytes: &[u8], sink: &mut S) -> Result<(), E>
+    ensures pushes { PushesAll E.from_gives bytes.now result (S.sink sink.old) (S.sink sink.new) }
+    ensures nothing { bytes.now ≡ [] → IsOk result × (sink.new ≡ sink.old) }
+{
+    let mut rest = bytes;
+    while !rest.is_empty() {
+        match sink.push(rest) {
+            Ok(count) => rest = &rest[count..],
+            Err(error) => return Err(error_of_failed_call(alloc, error)),
+        }
+    }
+    Ok(())
 }
 
 /// Writes nothing, and adds up how much it would be. Sums past `usize::MAX` are refused.

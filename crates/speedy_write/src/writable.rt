@@ -1,17 +1,24 @@
 //! What can be written, and the ways of writing it.
-ghost use Rattle.std.specs.Prelude.{◌≡◌, ◌≤◌, ℕ, List, length, vec_len, MatchResult, IsOk};
+ghost use Rattle.std.specs.Prelude.{◌≡◌, ◌≤◌, ◌⊎◌, ℕ, List, length, vec_len, IsTrue, MatchResult, IsOk, IfErr, OnOk};
 ghost use Rattle.speedy_base.specs.Error.{error_of};
 ghost use Rattle.speedy_base.specs.Encoding.{plain_encoding};
+ghost use Rattle.speedy_write.specs.Pushing.{IsOfFailedCall};
 ghost use Rattle.speedy_write.specs.Writing.{Writes, WritesEach};
-ghost use Rattle.speedy_write.specs.WaysOfWriting.{Needs, Stands, WritesToBuffer, WritesToVec};
+ghost use Rattle.speedy_write.specs.WaysOfWriting.{Needs, Stands, WritesToBuffer, WritesToVec, WritesToStream, WritesToFile};
 
-pub use crate::collectors::{BufferCollector, SizeCalculatorCollector};
+use crate::collectors::error_of_failed_call;
+pub use crate::collectors::{BufferCollector, SizeCalculatorCollector, WritingCollector};
 use crate::writer::Writer;
 use speedy_base::context::{Context, PlainContext};
+use speedy_base::device::{Counted, Sink};
 use speedy_base::endianness::Endianness;
 use speedy_base::error::{Error, ErrorKind, error_out_of_memory, error_output_buffer_is_too_small};
 use speedy_layout::Layout;
 use std::alloc::Global;
+use std::fs;
+use std::io::BufWriter;
+use std::path::AsPath;
+use std::rt::Files;
 
 /// Values that can be written.
 ///
@@ -133,6 +140,113 @@ pub trait Writable<C: Context>: Layout {
         let mut bytes = zeroed(alloc, needed)?;
         fill(self, context, bytes.as_mut_slice())?;
         Ok(bytes)
+    }
+
+    /// Writes the value to a sink, in the little byte order. The sink is not flushed.
+    #[inline]
+    final fn write_to_stream<S: Sink>(&self, alloc: Global, sink: &mut S) -> Result<(), C::Error>
+    where
+        C: PlainContext,
+        ensures { let format = Self.format (plain_encoding Endianness.LittleEndian) in
+            WritesToStream C.Error.from_gives format (Self.seen self.now) result
+            (S.sink sink.old) (S.sink sink.new) }
+    {
+        self.write_to_stream_with_ctx(alloc, C::plain(), sink)
+    }
+
+    /// Writes the value to a sink, as the context says. The sink is not flushed.
+    ///
+    /// Each part of the value is pushed as it comes. Memory is asked for where a push fails, for its error.
+    #[inline]
+    final fn write_to_stream_with_ctx<S: Sink>(
+        &self,
+        alloc: Global,
+        context: C,
+        sink: &mut S,
+    ) -> Result<(), C::Error>
+        ensures { let format = Self.format (C.encoding context) in
+            WritesToStream C.Error.from_gives format (Self.seen self.now) result
+            (S.sink sink.old) (S.sink sink.new) }
+    {
+        let mut collector = WritingCollector::new(alloc, context, sink);
+        let outcome = self.write_to(&mut collector);
+        collector.into_sink();
+        outcome
+    }
+
+    /// Writes the value to a file, in the little byte order. The file is made or emptied, and flushed at the end.
+    #[inline]
+    final fn write_to_file<R: Files, P: AsPath>(
+        &self,
+        rt: &R,
+        alloc: Global,
+        path: P,
+    ) -> Result<(), C::Error>
+    where
+        C: PlainContext,
+        ensures { let format = Self.format (plain_encoding Endianness.LittleEndian) in
+            WritesToFile C.Error.from_gives format (Self.seen self.now) result }
+    {
+        self.write_to_file_with_ctx(rt, alloc, C::plain(), path)
+    }
+
+    /// Writes the value to a file, as the context says. The file is made or emptied, and flushed at the end.
+    ///
+    /// A failed call of the file is answered, that of the flush too, but for an interrupted write, which the buffer
+    /// before the file tries again. After a refusal the file may hold a part of the value.
+    final fn write_to_file_with_ctx<R: Files, P: AsPath>(
+        &self,
+        rt: &R,
+        alloc: Global,
+        context: C,
+        path: P,
+    ) -> Result<(), C::Error>
+        ensures { let format = Self.format (C.encoding context) in
+            WritesToFile C.Error.from_gives format (Self.seen self.now) result }
+    {
+        let mut sink = Counted::new(create_buffered(rt, alloc, path)?);
+        let outcome = write_and_flush(self, alloc, context, &mut sink);
+        // The buffer's own drop would try once more to write what a failed call left.
+        let (_file, _left) = sink.into_inner().into_parts();
+        outcome
+    }
+}
+
+// Makes or empties the file, with a buffer in front of it.
+fn create_buffered<R: Files, P: AsPath, E: From<Error>>(
+    rt: &R,
+    alloc: Global,
+    path: P,
+) -> Result<BufWriter<R::File>, E>
+    ensures { IfErr result (λ e. IsOfFailedCall E.from_gives e
+        ⊎ E.from_gives (error_of ErrorKind.OutOfMemory) e) }
+{
+    let file = match fs::create(rt, path) {
+        Ok(file) => file,
+        Err(error) => return Err(error_of_failed_call(alloc, error)),
+    };
+    match BufWriter::new(alloc, file) {
+        Ok(buffered) => Ok(buffered),
+        Err(_) => Err(error_out_of_memory()),
+    }
+}
+
+// Writes a value to a sink and flushes it. Where it succeeds, no call of the sink failed, and nothing waits.
+fn write_and_flush<C: Context, T: Writable<C>, S: Sink>(
+    value: &T,
+    alloc: Global,
+    context: C,
+    sink: &mut S,
+) -> Result<(), C::Error>
+    ensures writes { let format = T.format (C.encoding context) in
+        WritesToStream C.Error.from_gives format (T.seen value.now) result
+        (S.sink sink.old) (S.sink sink.new) }
+    ensures settled { OnOk result (IsTrue (S.sink sink.new).settled) }
+{
+    value.write_to_stream_with_ctx(alloc, context, sink)?;
+    match sink.flush() {
+        Ok(()) => Ok(()),
+        Err(error) => Err(error_of_failed_call(alloc, error)),
     }
 }
 

@@ -1,0 +1,215 @@
+//! Writing to sinks and to files: what is pushed, and what a failed call leaves.
+use crate::asserting::{assert_bytes, assert_ok, assert_same, make_text, make_vec};
+use crate::context::LittleEndian;
+use crate::device::VecSink;
+use crate::endianness::Endianness;
+use crate::error::Error;
+use crate::private::{ErrorKind, get_error_kind};
+use crate::tests_devices::{FailingFiles, FileCall, KINDS, make_recorder};
+use crate::writable::{Writable, WritingCollector};
+use crate::writer::Writer;
+use std::alloc::Global;
+use std::cell::Cell;
+use std::process::Abort;
+use std::rt::Files;
+use std::{fs, io};
+
+/// Asserts that the outcome is the error of a failed call, of this kind.
+fn assert_failed_call(rt: &impl Abort, outcome: Result<(), Error>, kind: io::ErrorKind) {
+    let error = outcome.err().expect(rt, "a call failed");
+    let found = match get_error_kind(&error) {
+        ErrorKind::IoError(inner) => Some(inner.kind()),
+        _ => None,
+    };
+    assert_same(rt, found, Some(kind));
+}
+
+/// Asserts that in the order the value is pushed as the bytes, to a sink that takes all it is given and to one that
+/// takes a byte a push.
+fn assert_pushed_in<T: Writable<Endianness>>(
+    rt: &impl Abort,
+    alloc: Global,
+    order: Endianness,
+    value: &T,
+    bytes: &[u8],
+) {
+    let mut sink = VecSink::new(alloc);
+    let outcome = value.write_to_stream_with_ctx(alloc, order, &mut sink);
+    assert_ok(rt, outcome, ());
+    assert_bytes(rt, sink.bytes(), bytes);
+    let mut sink = make_recorder(alloc, 1, 0, io::ErrorKind::Other);
+    let outcome = value.write_to_stream_with_ctx(alloc, order, &mut sink);
+    assert_ok(rt, outcome, ());
+    assert_bytes(rt, sink.into_inner().taken.as_slice(), bytes);
+}
+
+/// Asserts that in the order, where a push of one byte fails with the kind, its error is answered, the bytes before it
+/// were taken, and no other push comes after it.
+fn assert_cut_off_in<T: Writable<Endianness>>(
+    rt: &impl Abort,
+    alloc: Global,
+    order: Endianness,
+    value: &T,
+    bytes: &[u8],
+    kind: io::ErrorKind,
+) {
+    for count in 0..bytes.len() {
+        let mut sink = make_recorder(alloc, 1, count + 1, kind);
+        let outcome = value.write_to_stream_with_ctx(alloc, order, &mut sink);
+        assert_failed_call(rt, outcome, kind);
+        let recorder = sink.into_inner();
+        assert_bytes(rt, recorder.taken.as_slice(), &bytes[..count]);
+        assert_same(rt, recorder.calls, count + 1);
+    }
+}
+
+/// Asserts that in both orders the value is pushed as the bytes, as far as no push fails.
+fn assert_pushed<T: Writable<Endianness>>(
+    rt: &impl Abort,
+    alloc: Global,
+    value: &T,
+    little: &[u8],
+    big: &[u8],
+) {
+    for (order, bytes) in [
+        (Endianness::LittleEndian, little),
+        (Endianness::BigEndian, big),
+    ] {
+        assert_pushed_in(rt, alloc, order, value, bytes);
+        for kind in KINDS {
+            assert_cut_off_in(rt, alloc, order, value, bytes, kind);
+        }
+    }
+}
+
+#[test]
+fn a_number_is_pushed(rt: HostRuntime) {
+    assert_pushed(&rt, rt.alloc(), &0x0102_u16, &[2, 1], &[1, 2]);
+}
+
+#[test]
+fn a_vector_is_pushed(rt: HostRuntime) {
+    let alloc = rt.alloc();
+    let numbers = make_vec(&rt, alloc, &[1_u16, 2]);
+    let little = [2, 0, 0, 0, 1, 0, 2, 0];
+    let big = [0, 0, 0, 2, 0, 1, 0, 2];
+    assert_pushed(&rt, alloc, &numbers, &little, &big);
+}
+
+#[test]
+fn a_nested_value_is_pushed(rt: HostRuntime) {
+    let alloc = rt.alloc();
+    let texts = [Some(make_text(&rt, alloc, "a")), None];
+    let little = [1, 1, 0, 0, 0, 97, 0];
+    let big = [1, 0, 0, 0, 1, 97, 0];
+    assert_pushed(&rt, alloc, &texts, &little, &big);
+}
+
+#[test]
+fn without_a_context_the_little_order_is_pushed(rt: HostRuntime) {
+    let alloc = rt.alloc();
+    let mut sink = VecSink::new(alloc);
+    for _ in 0..2 {
+        let outcome = Writable::<LittleEndian>::write_to_stream(&2_u16, alloc, &mut sink);
+        assert_ok(&rt, outcome, ());
+    }
+    assert_bytes(&rt, sink.bytes(), &[2, 0, 2, 0]);
+}
+
+#[test]
+fn nothing_is_pushed_of_a_value_without_bytes(rt: HostRuntime) {
+    let alloc = rt.alloc();
+    let mut sink = make_recorder(alloc, 0, 0, io::ErrorKind::Other);
+    let outcome = Writable::<LittleEndian>::write_to_stream(&(), alloc, &mut sink);
+    assert_ok(&rt, outcome, ());
+    let outcome = Writable::<LittleEndian>::write_to_stream(&1_u8, alloc, &mut sink);
+    assert_failed_call(&rt, outcome, io::ErrorKind::WriteZero);
+    assert_same(&rt, sink.into_inner().calls, 1);
+}
+
+/// Writes 1 as two bytes, no byte, and 2 as two in the other order.
+fn write_in_both_orders(rt: &impl Abort, writer: &mut impl Writer<Endianness>) {
+    assert_ok(rt, writer.write_value(&1_u16), ());
+    assert_ok(rt, writer.write_bytes(&[]), ());
+    *writer.context_mut() = Endianness::BigEndian;
+    assert_ok(rt, writer.write_u16(2), ());
+}
+
+#[test]
+fn a_collector_gives_its_sink_back(rt: HostRuntime) {
+    let alloc = rt.alloc();
+    let mut sink = make_recorder(alloc, 9, 0, io::ErrorKind::Other);
+    let mut writer = WritingCollector::new(alloc, Endianness::LittleEndian, &mut sink);
+    assert_same(&rt, writer.can_write_at_least(0), None);
+    assert_same(&rt, *writer.context(), Endianness::LittleEndian);
+    write_in_both_orders(&rt, &mut writer);
+    let outcome = 3_u8.write_to_stream_with_ctx(alloc, Endianness::BigEndian, writer.into_sink());
+    assert_ok(&rt, outcome, ());
+    let recorder = sink.into_inner();
+    assert_bytes(&rt, recorder.taken.as_slice(), &[1, 0, 0, 2, 3]);
+    assert_same(&rt, recorder.calls, 3);
+}
+
+const PATH: &str = "speedy_tests_sinks.bin";
+
+/// Asserts that the file holds these bytes.
+fn assert_file<R: Files + AllocGlobal + Abort>(rt: &R, path: &str, bytes: &[u8]) {
+    let kept = fs::read(rt, path).expect(rt, "a file");
+    assert_bytes(rt, kept.as_slice(), bytes);
+}
+
+#[test]
+fn a_file_is_emptied_and_written(rt: HostRuntime) {
+    let alloc = rt.alloc();
+    let numbers = make_vec(&rt, alloc, &[1_u16, 2]);
+    let outcome = numbers.write_to_file_with_ctx(&rt, alloc, Endianness::BigEndian, PATH);
+    assert_ok(&rt, outcome, ());
+    assert_file(&rt, PATH, &[0, 0, 0, 2, 0, 1, 0, 2]);
+    let outcome = Writable::<LittleEndian>::write_to_file(&2_u16, &rt, alloc, PATH);
+    assert_ok(&rt, outcome, ());
+    assert_file(&rt, PATH, &[2, 0]);
+    fs::remove_file(&rt, PATH).expect(&rt, "it is removed");
+}
+
+#[test]
+fn a_file_may_be_longer_than_the_buffer_before_it(rt: HostRuntime) {
+    let alloc = rt.alloc();
+    let path = "speedy_tests_sinks_long.bin";
+    let bytes = vec![in alloc; 7_u8; 20_000].expect(&rt, "a vector");
+    let outcome = bytes.write_to_file_with_ctx(&rt, alloc, Endianness::BigEndian, path);
+    assert_ok(&rt, outcome, ());
+    let kept = fs::read(&rt, path).expect(&rt, "a file");
+    assert_same(&rt, kept.len(), 20_004);
+    assert_same(&rt, kept.starts_with(&[0, 0, 0x4e, 0x20, 7]), true);
+    fs::remove_file(&rt, path).expect(&rt, "it is removed");
+}
+
+#[test]
+fn a_file_that_cannot_be_made_is_refused(rt: HostRuntime) {
+    let path = "speedy_tests_no_such_folder/file";
+    let outcome = 2_u16.write_to_file_with_ctx(&rt, rt.alloc(), Endianness::BigEndian, path);
+    assert_failed_call(&rt, outcome, io::ErrorKind::NotFound);
+}
+
+#[test]
+fn a_failed_call_of_a_file_is_answered_and_not_tried_again(rt: HostRuntime) {
+    for (fails, expected) in [
+        (FileCall::Open, 0),
+        (FileCall::Write, 1),
+        (FileCall::Flush, 2),
+    ] {
+        let calls = Cell::new(0);
+        let files = FailingFiles {
+            fails,
+            calls: &calls,
+        };
+        let outcome = 2_u16.write_to_file_with_ctx(
+            &files,
+            rt.alloc(),
+            Endianness::LittleEndian,
+            "any",
+        );
+        assert_failed_call(&rt, outcome, io::ErrorKind::Other);
+        assert_same(&rt, calls.get(), expected);
+    }
+}

@@ -1,0 +1,319 @@
+-- Reads from a source.
+use Rattle.std.specs.Prelude.{◌≡◌, ℕ, ◌+◌, ◌-◌, ◌^◌, ◌<◌, ◌≤◌, List, [], ◌++◌, length, take, drop, Bool, true, false, IsTrue, ◌⊎◌, Result, Ok, Err, IfOk, IfErr, OnOk, is_err, refl}
+use Rattle.std.specs.Borrow.{GName}
+use Rattle.std.proofs.Common.{sym, ◌∙◌, ap, subst, arith, inl, inr}
+use Rattle.std.proofs.lemmas.List.{append_assoc, append-nil, length-append, length-drop, length-take-le, take-append-drop}
+use Rattle.std.proofs.lemmas.Bool.{true≢false, true_from_ne_false, and_from, and_parts, eqb-true, eq-eqb, leb-true, le-leb}
+use Rattle.speedy_base.specs.declared.error.ErrorKind.{ErrorKind}
+use Rattle.speedy_base.specs.declared.error.ErrorKind.TheVariants as kinds
+use Rattle.speedy_base.specs.declared.error.Error.{Error}
+use Rattle.speedy_base.specs.Error.{error_of, is_eof_error, IsNamed}
+use Rattle.speedy_base.specs.ErrorKind.{EndsInput, is_eof_kind}
+use Rattle.speedy_base.specs.Device.{SourceState, HasGrown}
+use Rattle.speedy_base.specs.Digits.{AreBytes}
+use Rattle.speedy_base.specs.Encoding.{Encoding}
+use Rattle.speedy_base.specs.Ring.{Ring}
+use Rattle.speedy_layout.specs.Format.{Format}
+use Rattle.speedy_layout.specs.Texts.{raw_bytes}
+use Rattle.speedy_read.specs.Reading.{ReaderState, Kept, KeptByPeek, IsEnd, Unspelled, Refused, Reads, Peeks}
+use Rattle.speedy_read.specs.ReadingLemmas.{KeptByPeek-after, ends_early}
+use Rattle.speedy_read.specs.declared.stream_reader.StreamReader.{StreamReader}
+use Rattle.speedy_read.specs.StreamView.{StreamView, stream_view, first_capacity, most_held, is_tidy, ring_state, stream_state}
+use Rattle.speedy_read.specs.Streams.{FillsList, FillsRing, Fills, TookFront, RefusesStream, AnswersStream, AnswersFile}
+
+-- ---- tidiness
+
+tidy_parts : (ring : Ring) (b : Bool) → IsTrue (is_tidy ring b) → (ring.capacity ≡ first_capacity b) × (length ring.bytes ≤ most_held b)
+tidy_parts ring b t =
+    let parts = and_parts _ _ t in
+    (eqb-true ring.capacity (first_capacity b) parts.0, leb-true (length ring.bytes) (most_held b) parts.1)
+
+tidy_whole : (ring : Ring) (b : Bool) → ring.capacity ≡ first_capacity b → length ring.bytes ≤ most_held b → IsTrue (is_tidy ring b)
+tidy_whole ring b c l = and_from _ _ (eq-eqb ring.capacity (first_capacity b) c) (le-leb (length ring.bytes) (most_held b) l)
+
+-- ---- ends
+
+-- a kind with which input ends says so
+ends_eof : (by_device : Bool) (kind : ErrorKind) → EndsInput by_device kind → is_eof_kind kind ≡ true
+ends_eof by_device kinds.UnexpectedEndOfInput h = refl
+ends_eof by_device (kinds.IoError e) h = h.1
+ends_eof by_device _ h = absurd h
+
+-- the end of a device's bytes
+pub device_ended : {E : Type 0} (gives : Error → E → Type 0) (eof : E → Bool) (e : E) → ((r : Error) (x : E) → gives r x → eof x ≡ is_eof_error r) → IsNamed gives (EndsInput true) e → IsEnd gives eof true e
+device_ended gives eof e keeps n = (n, keeps (error_of n.0) e n.2 ∙ ends_eof true n.0 n.1)
+
+-- fewer bytes are to come
+stream_ended : {E : Type 0} {gives : Error → E → Type 0} {eof : E → Bool} {n : ℕ} {e : E} {old : ReaderState} → IsEnd gives eof old.ends_by_device e → (IsTrue old.tells → length old.to_come < n) → Refused gives eof (raw_bytes n) e old
+unfolding raw_bytes
+stream_ended {n = n} ended fewer = ends_early n (λ v s h. let k = h.1 in omega arith) (λ _ fault. fault) ended (λ told _. fewer told)
+
+-- ---- what is read after a peek
+
+kept_after_peek : {old mid new : ReaderState} → KeptByPeek old mid → (IsTrue old.tidy → IsTrue new.tidy) → Kept mid new → Kept old new
+kept_after_peek h tidy k = record {
+  tells = k.tells ∙ h.tells;
+  lends = k.lends ∙ h.lends;
+  tidy = tidy;
+  buffers = k.buffers ∙ h.buffers;
+  takes_memory = k.takes_memory ∙ h.takes_memory;
+  peeks_take_memory = k.peeks_take_memory ∙ h.peeks_take_memory;
+  ends_by_device = k.ends_by_device ∙ h.ends_by_device;
+  encoding = k.encoding ∙ h.encoding;
+  faults = let x = h.faults in let y = k.faults in omega arith;
+  targets = k.targets ∙ h.targets;
+  tail = λ told.
+      let second = k.tail (subst IsTrue (sym h.tells) told) in
+      (second.0, sym (h.to_come told) ∙ second.1);
+}
+
+module _ {E : Type 0} {gives : Error → E → Type 0} {eof : E → Bool} {A V : Type 0} {seen : A → V} {x : A} {L : Format V} where
+  read_after_peek : {old mid new : ReaderState} → KeptByPeek old mid → (IsTrue old.tidy → IsTrue new.tidy) → Reads gives eof seen L (Ok x) mid new → Reads gives eof seen L (Ok x) old new
+  read_after_peek h tidy r = record {
+    kept = kept_after_peek h tidy r.kept;
+    answer = record { front = r.answer.front; front_is = r.answer.front_is; taken = λ told. sym (h.to_come told) ∙ r.answer.taken (subst IsTrue (sym h.tells) told) };
+  }
+
+-- ---- the ring alone
+
+-- what a ring and then a source give is the front of the ring, and then the rest of both
+front_and_rest : (n : ℕ) (bytes more : List ℕ) → bytes ++ more ≡ take n bytes ++ (drop n bytes ++ more)
+front_and_rest n bytes more = ap (λ (l : List ℕ). l ++ more) (sym (take-append-drop n bytes)) ∙ append_assoc (take n bytes) (drop n bytes) more
+
+module _ {E : Type 0} {gives : Error → E → Type 0} {eof : E → Bool} {A : Type 0} {seen : A → List ℕ} {n : ℕ} {x : A} {name : GName} {b : Bool} {encoding : Encoding} (source : SourceState) (ring : Ring) where
+  front_served : n ≤ length ring.bytes → seen x ≡ take n ring.bytes → Reads gives eof seen (raw_bytes n) (Ok x) (ring_state name source ring b encoding) (ring_state name source (record ring { bytes = drop n ring.bytes; room = [] }) b encoding)
+  unfolding raw_bytes
+  front_served l same =
+      let rest : Ring = record ring { bytes = drop n ring.bytes; room = [] } in
+      let whole = front_and_rest n ring.bytes source.to_come in
+      record {
+        kept = record {
+          tells = refl;
+          lends = refl;
+          tidy = λ t. let p = tidy_parts ring b t in tidy_whole rest b p.0 (let m = p.1 in omega (arith, length-drop n ring.bytes));
+          buffers = refl;
+          takes_memory = refl;
+          peeks_take_memory = refl;
+          ends_by_device = refl;
+          encoding = refl;
+          faults = omega arith;
+          targets = refl;
+          tail = λ _. (take n ring.bytes, whole);
+        };
+        answer = record { front = take n ring.bytes; front_is = (same, length-take-le n ring.bytes l); taken = λ _. whole };
+      }
+
+  -- a read that the ring serves
+  pub ring_served : {rest : Ring} → n ≤ length ring.bytes → seen x ≡ take n ring.bytes → rest ≡ record ring { bytes = drop n ring.bytes; room = [] } → Reads gives eof seen (raw_bytes n) (Ok x) (ring_state name source ring b encoding) (ring_state name source rest b encoding)
+  ring_served l same is = subst (λ (r : Ring). Reads gives eof seen (raw_bytes n) (Ok x) (ring_state name source ring b encoding) (ring_state name source r b encoding)) (sym is) (front_served l same)
+
+-- ---- filling the ring
+
+module _ {E : Type 0} {gives : Error → E → Type 0} {eof : E → Bool} {A : Type 0} {n : ℕ} {held keeps : Ring} {name : GName} {b : Bool} {encoding : Encoding} {old new : SourceState} where
+  -- the source ended before the ring held enough
+  pub fill_ended : {enough : Bool} {F : Type 0} {e : E} → enough ≡ false → FillsRing {E = F} n b (Ok enough) held keeps old new → IsEnd gives eof true e → Fills gives eof {A = A} n (Err e) held keeps (ring_state name old held b encoding) (ring_state name new keeps b encoding)
+  fill_ended less f ended = record {
+    kept = record { tells = f.tells; lends = refl; buffers = refl; takes_memory = refl; peeks_take_memory = refl; ends_by_device = refl; encoding = refl; faults = f.faults; targets = refl; to_come = f.moved };
+    capacity = f.capacity;
+    untouched = λ enough. absurd (let short = f.short less in let same = (f.untouched enough).1 in omega (arith, ap (λ (r : Ring). length r.bytes) same));
+    exact = f.exact;
+    enough = tt;
+    short = f.short less;
+    why = inr (stream_ended ended (λ told.
+        let short = f.short less in
+        let all = ap length (sym (f.moved told) ∙ (ap (λ (l : List ℕ). keeps.bytes ++ l) (f.ended less told) ∙ append-nil keeps.bytes)) in
+        omega (arith, all)));
+  }
+
+module _ {E : Type 0} {gives : Error → E → Type 0} {eof : E → Bool} {A B : Type 0} {seen : A → List ℕ} {n : ℕ} {x : A} {u : B} {held keeps : Ring} {name after : GName} {b c : Bool} {encoding encoding' : Encoding} (old new : SourceState) where
+  -- a read by the ring, which was filled before
+  pub filled_read : {rest : Ring} → length held.bytes < n → Fills gives eof n (Ok u) held keeps (ring_state name old held b encoding) (ring_state after new keeps c encoding') → seen x ≡ take n keeps.bytes → rest ≡ record keeps { bytes = drop n keeps.bytes; room = [] }
+      → Reads gives eof seen (raw_bytes n) (Ok x) (ring_state name old held b encoding) (ring_state after new rest c encoding')
+  filled_read {rest = rest} more f same is =
+      read_after_peek f.kept
+      (λ t.
+      let first : keeps.capacity ≡ first_capacity c = f.capacity ∙ ((tidy_parts held b t).0 ∙ ap (λ (b : Bool). first_capacity b) (sym f.kept.buffers)) in
+      let most : length keeps.bytes ≤ keeps.capacity = f.enough.1 in
+      let size : length rest.bytes ≡ length keeps.bytes - n = ap (λ (r : Ring). length r.bytes) is ∙ length-drop n keeps.bytes in
+      tidy_whole rest c (ap (λ (r : Ring). r.capacity) is ∙ first) (omega (arith, first, size)))
+      (ring_served new keeps f.enough.0 same is)
+
+-- ---- peeks
+
+-- a ring with other room has the same bytes
+same_bytes : (source : SourceState) (ring held : Ring) {name : GName} {b : Bool} {encoding : Encoding} → held.bytes ≡ ring.bytes → KeptByPeek (ring_state name source ring b encoding) (ring_state name source held b encoding)
+same_bytes source ring held same = record {
+  tells = refl;
+  lends = refl;
+  buffers = refl;
+  takes_memory = refl;
+  peeks_take_memory = refl;
+  ends_by_device = refl;
+  encoding = refl;
+  faults = omega arith;
+  targets = refl;
+  to_come = λ _. ap (λ (l : List ℕ). l ++ source.to_come) same;
+}
+
+module _ {E : Type 0} {gives : Error → E → Type 0} {eof : E → Bool} {A B : Type 0} {seen : A → List ℕ} {n : ℕ} {held keeps : Ring} {name after : GName} {b c : Bool} {encoding encoding' : Encoding} (old new : SourceState) (ring : Ring) (same : held.bytes ≡ ring.bytes) where
+  -- a peek of a ring that was filled
+  pub filled_peeked : {x : A} {u : B} → Fills gives eof n (Ok u) held keeps (ring_state name old held b encoding) (ring_state after new keeps c encoding') → seen x ≡ take n keeps.bytes
+      → Peeks gives eof seen (raw_bytes n) (Ok x) (ring_state name old ring b encoding) (ring_state after new keeps c encoding')
+  unfolding raw_bytes
+  filled_peeked f is =
+      let kept = KeptByPeek-after (same_bytes old ring held same) f.kept in
+      record {
+        kept = kept;
+        answer = record { front = take n keeps.bytes; rest = drop n keeps.bytes ++ new.to_come; front_is = (is, length-take-le n keeps.bytes f.enough.0); stands = λ told. sym (kept.to_come told) ∙ front_and_rest n keeps.bytes new.to_come };
+      }
+
+  -- and of one that could not be
+  pub fill_not_peeked : {e : E} → Fills gives eof {A = B} n (Err e) held keeps (ring_state name old held b encoding) (ring_state after new keeps c encoding')
+      → Peeks gives eof seen (raw_bytes n) (Err e) (ring_state name old ring b encoding) (ring_state after new keeps c encoding')
+  fill_not_peeked {e = e} f = record {
+    kept = KeptByPeek-after (same_bytes old ring held same) f.kept;
+    answer =
+        inr (elim f.why [
+          | inl grown ↦ inl (inr grown)
+          | inr h ↦ inr (record {
+            kind = h.kind;
+            because = λ told.
+                subst (λ (l : List ℕ). Unspelled gives eof (raw_bytes n) e (l ++ old.to_come)) same
+                (h.because (record {
+                  tells = told.tells;
+                  are_bytes = subst (λ (l : List ℕ). AreBytes (l ++ old.to_come)) (sym same) told.are_bytes;
+                  fit = subst (λ (l : List ℕ). length (l ++ old.to_come) < 2 ^ 64 - 1) (sym same) told.fit;
+                  lends = told.lends;
+                }));
+          })
+        ]);
+  }
+
+-- ---- reads past the ring
+
+module _ {F : Type 0} {filled : List ℕ} (held rest : Ring) {name : GName} {b : Bool} {encoding : Encoding} {old new : SourceState} (same_capacity : rest.capacity ≡ held.capacity) (emptied : rest.bytes ≡ []) where
+  past_kept : {result : Result Bool F} → FillsList filled result old new → Kept (ring_state name old held b encoding) (ring_state name new rest b encoding)
+  past_kept f = record {
+    tells = f.tells;
+    lends = refl;
+    tidy = λ t. tidy_whole rest b (same_capacity ∙ (tidy_parts held b t).0) (omega (arith, ap length emptied));
+    buffers = refl;
+    takes_memory = refl;
+    peeks_take_memory = refl;
+    ends_by_device = refl;
+    encoding = refl;
+    faults = f.faults;
+    targets = refl;
+    tail = λ told.
+        let t = f.tail told in
+        (held.bytes ++ t.0, ap (λ (l : List ℕ). held.bytes ++ l) t.1 ∙ (sym (append_assoc held.bytes t.0 new.to_come) ∙ ap (λ (l : List ℕ). (held.bytes ++ t.0) ++ (l ++ new.to_come)) (sym emptied)));
+  }
+
+  module _ {E : Type 0} {gives : Error → E → Type 0} {eof : E → Bool} {n : ℕ} {A : Type 0} {seen : A → List ℕ} where
+    -- the output is full
+    pub past_read : {full : Bool} {x : A} → IsTrue full → FillsList {E = F} filled (Ok full) old new → seen x ≡ held.bytes ++ filled → length held.bytes + length filled ≡ n → Reads gives eof seen (raw_bytes n) (Ok x) (ring_state name old held b encoding) (ring_state name new rest b encoding)
+    unfolding raw_bytes
+    past_read all f same sized = record {
+      kept = past_kept f;
+      answer = record {
+        front = held.bytes ++ filled;
+        front_is = (same, length-append held.bytes filled ∙ sized);
+        taken = λ told. ap (λ (l : List ℕ). held.bytes ++ l) (f.full all told) ∙ (sym (append_assoc held.bytes filled new.to_come) ∙ ap (λ (l : List ℕ). (held.bytes ++ filled) ++ (l ++ new.to_come)) (sym emptied));
+      };
+    }
+
+    -- the source ended before
+    pub past_ended : {full : Bool} {e : E} → full ≡ false → FillsList {E = F} filled (Ok full) old new → IsEnd gives eof true e → length held.bytes + length filled ≡ n → Reads gives eof seen (raw_bytes n) (Err e) (ring_state name old held b encoding) (ring_state name new rest b encoding)
+    past_ended less f ended sized = record {
+      kept = past_kept f;
+      answer = inr (stream_ended ended (λ told. let short = f.ended less told in omega (arith, length-append held.bytes old.to_come)));
+    }
+
+  module _ {E : Type 0} {gives : Error → E → Type 0} {eof : E → Bool} {A : Type 0} {seen : A → List ℕ} where
+    -- a call failed
+    pub past_failed : (n : ℕ) {error : F} {e : E} → FillsList filled (Err error) old new → Reads gives eof seen (raw_bytes n) (Err e) (ring_state name old held b encoding) (ring_state name new rest b encoding)
+    past_failed n f = record { kept = past_kept f; answer = inl (inr f.fault) }
+
+-- ---- forms
+
+module _ {E : Type 0} (gives : Error → E → Type 0) (eof : E → Bool) {A V : Type 0} (seen : A → V) (L : Format V) (b c : Bool) (ring left : Ring) (name after : GName) (encoding encoding' : Encoding) (old new : SourceState) (empty : ring.bytes ≡ []) (capacity : ring.capacity ≡ first_capacity b) where
+  value_taken : (result : Result A E) → Reads gives eof seen L result (ring_state name old ring b encoding) (ring_state after new left c encoding') → IfOk result (λ x. TookFront (L.spells (seen x)) (most_held b) old new)
+  value_taken (Ok x) r =
+      let tidy = tidy_parts left c (r.kept.tidy (tidy_whole ring b capacity (omega (arith, ap length empty)))) in
+      record {
+        front = r.answer.front;
+        ahead = left.bytes;
+        front_is = r.answer.front_is;
+        at_most = subst (λ (b : Bool). length left.bytes ≤ most_held b) r.kept.buffers tidy.1;
+        taken = λ told. ap (λ (l : List ℕ). l ++ old.to_come) (sym empty) ∙ r.answer.taken told;
+      }
+  value_taken (Err e) r = tt
+
+  refusal_is : (result : Result A E) → Reads gives eof seen L result (ring_state name old ring b encoding) (ring_state after new left c encoding') → IfErr result (λ e. (gives (error_of kinds.OutOfMemory) e × (IsTrue L.takes_memory ⊎ (IsTrue b × (new ≡ old)))) ⊎ (HasGrown old.faults new.faults ⊎ RefusesStream gives eof L e old))
+  refusal_is (Ok x) r = tt
+  refusal_is (Err e) r =
+      elim r.answer [
+        | inl (inl want) ↦ inl (want.0, elim want.1 [ inl takes ↦ inl takes | inr never ↦ absurd (true≢false (sym never)) ])
+        | inl (inr grown) ↦ inr (inl grown)
+        | inr h ↦ inr (inr (record {
+          kind = h.kind;
+          because = λ tells are fit needs.
+              subst (λ (l : List ℕ). Unspelled gives eof L e (l ++ old.to_come)) empty
+              (h.because (record {
+                tells = tells;
+                are_bytes = subst (λ (l : List ℕ). AreBytes (l ++ old.to_come)) (sym empty) are;
+                fit = subst (λ (l : List ℕ). length (l ++ old.to_come) < 2 ^ 64 - 1) (sym empty) fit;
+                lends = λ need. absurd (true≢false (sym need ∙ needs));
+              }));
+        }))
+      ]
+
+  -- what a new reader of a source answers, and leaves of it
+  reader_answered : (result : Result A E) → Reads gives eof seen L result (ring_state name old ring b encoding) (ring_state after new left c encoding') → AnswersStream gives eof seen L b result old new
+  reader_answered result r = record {
+    tells = r.kept.tells;
+    faults = r.kept.faults;
+    tail = λ told.
+        let t = r.kept.tail told in
+        (t.0 ++ left.bytes, ap (λ (l : List ℕ). l ++ old.to_come) (sym empty) ∙ (t.1 ∙ sym (append_assoc t.0 left.bytes new.to_come)));
+    value = value_taken result r;
+    refused = refusal_is result r;
+  }
+
+-- the reader that was made holds the source under its name
+pub view_name : {S C : Type 0} (r : StreamReader S C) {context : C} {name : GName} {source : S} {ring : Ring} {b : Bool} → stream_view r ≡ record { context = context; source_name = name; source = source; ring = ring; is_buffering = b } → r.source.ghost_name ≡ name
+view_name {S = S} {C = C} r view = ap (λ (v : StreamView S C). v.source_name) view
+
+module _ {E : Type 0} {gives : Error → E → Type 0} {eof : E → Bool} {A V : Type 0} {seen : A → V} where
+  -- and a function that made it
+  pub stream_answered : {S C : Type 0} (source : S → SourceState) (asks : C → Encoding) (format : Encoding → Format V) (first last : StreamReader S C) {context : C} {name : GName} {origin final : S} {ring : Ring} {buffers : Bool} {result : Result A E} → stream_view first ≡ record { context = context; source_name = name; source = origin; ring = ring; is_buffering = buffers } → ring ≡ record { bytes = []; capacity = first_capacity buffers; room = [] } → final ≡ last.source.now
+      → Reads gives eof seen (format (asks first.context)) result (stream_state source asks first) (stream_state source asks last) → AnswersStream gives eof seen (format (asks context)) buffers result (source origin) (source final)
+  stream_answered {S = S} {C = C} source asks format first last {context = context} {origin = origin} {final = final} {buffers = buffers} {result = result} view made is_last r =
+      let new : SourceState = source last.source.now in
+      let ring : first.ring ≡ record { bytes = []; capacity = first_capacity buffers; room = [] } = ap (λ (v : StreamView S C). v.ring) view ∙ made in
+      let same_way : first.is_buffering ≡ buffers = ap (λ (v : StreamView S C). v.is_buffering) view in
+      subst (λ (s : SourceState). AnswersStream gives eof seen (format (asks context)) buffers result (source origin) s) (sym (ap source is_last))
+      (subst (λ (s : S). AnswersStream gives eof seen (format (asks context)) buffers result (source s) new) (ap (λ (v : StreamView S C). v.source) view)
+      (subst (λ (way : Bool). AnswersStream gives eof seen (format (asks context)) way result (source first.source.now) new) same_way
+      (subst (λ (c : C). AnswersStream gives eof seen (format (asks c)) first.is_buffering result (source first.source.now) new) (ap (λ (v : StreamView S C). v.context) view)
+      (reader_answered gives eof seen (format (asks first.context)) first.is_buffering last.is_buffering first.ring last.ring first.source.ghost_name last.source.ghost_name (asks first.context) (asks last.context) (source first.source.now) new (ap (λ (r : Ring). r.bytes) ring) (ap (λ (r : Ring). r.capacity) ring ∙ ap (λ (b : Bool). first_capacity b) (sym same_way)) result r))))
+
+  -- and of a file
+  pub file_answered : {L : Format V} {b : Bool} {old new : SourceState} (result : Result A E) → AnswersStream gives eof seen L b result old new → AnswersFile seen L result
+  file_answered (Ok x) a = (a.value.front, a.value.front_is)
+  file_answered (Err e) a = tt
+
+  -- a function whose ring found no memory
+  pub stream_wants : {L : Format V} {b : Bool} {e : E} {old : SourceState} → (b ≡ false → ⊥) → gives (error_of kinds.OutOfMemory) e → AnswersStream gives eof {A = A} seen L b (Err e) old old
+  stream_wants {b = b} buffers given = record {
+    tells = refl;
+    faults = omega arith;
+    tail = λ _. ([], refl);
+    value = tt;
+    refused = inl (given, inr (true_from_ne_false b buffers, refl));
+  }
+
+-- what a call that succeeded ensures
+pub succeeded : {T F : Type 0} (r : Result T F) {P : Type 0} → is_err r ≡ false → OnOk r P → P
+succeeded (Ok t) right h = h
+succeeded (Err e) right h = absurd (true≢false right)

@@ -1,0 +1,50 @@
+-- What the reader of a source shows.
+use Rattle.std.specs.Prelude.{ℕ, ◌-◌, [], ◌∷◌, ◌++◌, length, Bool, true, false, ◌&&◌, nat_eq, nat_le}
+use Rattle.std.specs.Borrow.{GName}
+use Rattle.speedy_base.specs.Device.{SourceState}
+use Rattle.speedy_base.specs.Encoding.{Encoding}
+use Rattle.speedy_base.specs.Ring.{Ring}
+use Rattle.speedy_read.specs.Reading.{ReaderState}
+use Rattle.speedy_read.specs.declared.stream_reader.StreamReader.{StreamReader}
+
+-- the context that a reader holds, the source that it borrows, the bytes that it keeps of it, and whether it reads ahead
+pub record StreamView (S C : Type 0) : Type 0 where
+  pub context : C
+  pub source_name : GName
+  pub source : S
+  pub ring : Ring
+  pub is_buffering : Bool
+
+abbrev pub stream_view : {S C : Type 0} → StreamReader S C → StreamView S C
+stream_view r = record { context = r.context; source_name = r.source.ghost_name; source = r.source.now; ring = r.ring; is_buffering = r.is_buffering }
+
+-- how many bytes a new reader has room for, and how many it may hold after a read: 8,191, or none
+abbrev pub first_capacity : Bool → ℕ
+first_capacity true = 8192
+first_capacity false = 0
+
+abbrev pub most_held : Bool → ℕ
+most_held is_buffering = first_capacity is_buffering - 1
+
+-- the ring has not grown, and holds no more than a read may leave
+abbrev pub is_tidy : Ring → Bool → Bool
+is_tidy ring is_buffering = nat_eq ring.capacity (first_capacity is_buffering) && nat_le (length ring.bytes) (most_held is_buffering)
+
+-- a reader of a source, whose bytes come from the ring first: its reads ask for no memory, but its peeks may, and it may end as its source does
+abbrev pub ring_state : GName → SourceState → Ring → Bool → Encoding → ReaderState
+ring_state name source ring is_buffering encoding = record {
+  to_come = ring.bytes ++ source.to_come;
+  tells = source.tells;
+  lends = false;
+  tidy = is_tidy ring is_buffering;
+  buffers = is_buffering;
+  takes_memory = false;
+  peeks_take_memory = true;
+  ends_by_device = true;
+  encoding = encoding;
+  faults = source.faults;
+  targets = name ∷ [];
+}
+
+abbrev pub stream_state : {S C : Type 0} → (S → SourceState) → (C → Encoding) → StreamReader S C → ReaderState
+stream_state source encoding r = ring_state r.source.ghost_name (source r.source.now) r.ring r.is_buffering (encoding r.context)

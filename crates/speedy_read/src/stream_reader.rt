@@ -1,0 +1,339 @@
+//! Reading from a source.
+ghost use Rattle.std.specs.Prelude.{◌≡◌, ◌≤◌, ◌<◌, [], ◌++◌, length, max, false, true, nat_le, if◌then◌else◌, Some, None, IfOk, IsOk, refl};
+ghost use Rattle.std.specs.Borrow.{sem, Lends};
+ghost use Rattle.std.specs.Io.BufRead.{Rests};
+ghost use Rattle.speedy_layout.specs.Texts.{raw_bytes};
+ghost use Rattle.speedy_read.specs.Reading.{Reads, Peeks, IsRight, LendsUntilUsed};
+ghost use Rattle.speedy_read.specs.contracts.stream_reader.StreamReader.{the_row as reader_row};
+ghost use mir.Syntax.{named};
+ghost use Rattle.speedy_read.specs.StreamView.{stream_view, stream_state, first_capacity};
+ghost use Rattle.speedy_read.specs.Streams.{FillsList, FillsRing, Fills, AnswersStream};
+
+use crate::readable::ReadFrom;
+use crate::reader::{EndOfInput, LendingReader};
+use speedy_base::circular_buffer::CircularBuffer;
+use speedy_base::context::Context;
+use speedy_base::device::Source;
+use speedy_base::error::{Error, error_end_of_input, error_end_of_stream, error_out_of_memory};
+use std::alloc::{AllocError, Global};
+use std::io;
+
+// How many bytes the ring of a new buffered reader has room for.
+const BUFFERED_CAPACITY: usize = 8192;
+
+/// Reads from a source, under a context that it holds.
+///
+/// A buffered reader asks for more bytes than are read, and keeps what is left over, 8,191 bytes at most, for its next
+/// reads. An unbuffered one asks for just what is read. Only a peek may hold more, and ask for memory. Nothing is lent,
+/// so values that borrow are refused as `Unsized`.
+///
+/// A failed call of the source is answered as it is, and not tried again. An end that is met while bytes are gathered
+/// for a read is `UnexpectedEndOfInput`; one that is met while they go straight to the output, as in all reads of an
+/// unbuffered reader, is an `IoError` of kind `UnexpectedEof`.
+#[derive(Drop)]
+pub struct StreamReader<'s, S, C> {
+    context: C,
+    source: &'s mut S,
+    ring: CircularBuffer,
+    is_buffering: bool,
+    alloc: Global,
+}
+
+impl<'s, S, C: Drop> StreamReader<'s, S, C> {
+    /// A reader at the place of the source. Only a buffered one takes memory here, for 8,192 bytes.
+    #[inline]
+    pub fn new(
+        alloc: Global,
+        context: C,
+        source: &'s mut S,
+        is_buffering: bool,
+    ) -> Result<StreamReader<'s, S, C>, AllocError>
+        ensures made { IfOk result (λ r. stream_view r ≡ record {
+          context = context;
+          source_name = source.entry.ghost_name;
+          source = source.old;
+          ring = record { bytes = []; capacity = first_capacity is_buffering; room = [] };
+          is_buffering = is_buffering;
+        }) }
+        ensures unbuffered { is_buffering ≡ false → IsOk result }
+    {
+        let ring = first_ring(alloc, is_buffering)?;
+        Ok(StreamReader::over(alloc, context, source, ring, is_buffering))
+    }
+
+    // A reader at the place of the source, which keeps its bytes in the ring.
+    fn over(
+        alloc: Global,
+        context: C,
+        source: &'s mut S,
+        ring: CircularBuffer,
+        is_buffering: bool,
+    ) -> StreamReader<'s, S, C>
+        ensures { stream_view result ≡ record {
+          context = context;
+          source_name = source.entry.ghost_name;
+          source = source.old;
+          ring = ring;
+          is_buffering = is_buffering;
+        } }
+    {
+        StreamReader {
+            context,
+            source,
+            ring,
+            is_buffering,
+            alloc,
+        }
+    }
+}
+
+// The ring of a new reader.
+fn first_ring(alloc: Global, is_buffering: bool) -> Result<CircularBuffer, AllocError>
+    ensures made { IfOk result (λ ring. ring
+        ≡ record { bytes = []; capacity = first_capacity is_buffering; room = [] }) }
+    ensures unbuffered { is_buffering ≡ false → IsOk result }
+{
+    let capacity = if is_buffering { BUFFERED_CAPACITY } else { 0 };
+    CircularBuffer::with_capacity(alloc, capacity)
+}
+
+// Pulls until the output is full, and says whether it is.
+fn fill_list<S: Source>(source: &mut S, output: &mut [u8]) -> Result<bool, io::Error>
+    ensures { FillsList output.new result (S.source source.old) (S.source source.new) }
+{
+    let mut filled = 0;
+    while filled < output.len() {
+        let count = source.pull(&mut output[filled..])?;
+        if count == 0 {
+            return Ok(false);
+        }
+        filled += count;
+    }
+    Ok(true)
+}
+
+// Pulls until the ring holds so many bytes, and says whether it does. Each pull is of all that fits where it reads
+// ahead, and else of what lacks.
+fn fill_ring<S: Source>(
+    ring: &mut CircularBuffer,
+    source: &mut S,
+    count: usize,
+    reads_ahead: bool,
+) -> Result<bool, io::Error>
+    requires { count ≤ ring.old.capacity }
+    ensures { FillsRing count reads_ahead result ring.old ring.new
+        (S.source source.old) (S.source source.new) }
+{
+    while ring.len() < count {
+        let most = if reads_ahead {
+            usize::MAX
+        } else {
+            count - ring.len()
+        };
+        let pulled = source.pull(ring.free(most))?;
+        ring.appended(pulled);
+        if pulled == 0 {
+            return Ok(false);
+        }
+    }
+    Ok(true)
+}
+
+impl<'s, S: Source, C: Context> StreamReader<'s, S, C> {
+    /// The source, behind the bytes that the reader still holds of it: these are lost.
+    #[inline]
+    pub fn into_source(self) -> &'s mut S
+        ensures same_source { result.ghost_name ≡ (stream_view self.entry).source_name }
+        ensures source { result.now ≡ (stream_view self.entry).source }
+        ensures lost { (stream_state S.source C.encoding self.entry).to_come
+            ≡ (stream_view self.entry).ring.bytes ++ (S.source result.now).to_come }
+    {
+        self.source
+    }
+
+    // Fills the ring until it holds so many bytes.
+    fn fill(&mut self, count: usize) -> Result<(), C::Error>
+        requires { count ≤ self.old.ring.capacity }
+        ensures { Fills C.Error.from_gives C.Error.eof count result self.old.ring self.new.ring
+            (stream_state S.source C.encoding self.old) (stream_state S.source C.encoding self.new) }
+    {
+        match fill_ring(&mut self.ring, self.source, count, self.is_buffering) {
+            Ok(true) => Ok(()),
+            Ok(false) => Err(error_end_of_input()),
+            Err(error) => Err(Error::from_io_error(self.alloc, error).into()),
+        }
+    }
+
+    // Reads fewer bytes than the ring has room for, and more than it holds.
+    fn read_ahead(&mut self, output: &mut [u8]) -> Result<(), C::Error>
+        requires more { length self.old.ring.bytes < length output.old }
+        requires fits { length output.old < self.old.ring.capacity }
+        ensures { Reads C.Error.from_gives C.Error.eof (λ _. output.new)
+            (raw_bytes (length output.old)) result
+            (stream_state S.source C.encoding self.old) (stream_state S.source C.encoding self.new) }
+    {
+        self.fill(output.len())?;
+        self.ring.consume_into(output);
+        Ok(())
+    }
+
+    // Reads all that the ring holds, and the rest straight from the source.
+    fn read_past_ring(&mut self, output: &mut [u8]) -> Result<(), C::Error>
+        requires { length self.old.ring.bytes < length output.old }
+        ensures { Reads C.Error.from_gives C.Error.eof (λ _. output.new)
+            (raw_bytes (length output.old)) result
+            (stream_state S.source C.encoding self.old) (stream_state S.source C.encoding self.new) }
+    {
+        let held = self.ring.len();
+        self.ring.consume_into(&mut output[..held]);
+        match fill_list(self.source, &mut output[held..]) {
+            Ok(true) => Ok(()),
+            Ok(false) => Err(error_end_of_stream(self.alloc)),
+            Err(error) => Err(Error::from_io_error(self.alloc, error).into()),
+        }
+    }
+
+    // Reads more than the ring holds.
+    #[inline(never)]
+    fn read_more(&mut self, output: &mut [u8]) -> Result<(), C::Error>
+        requires { length self.old.ring.bytes < length output.old }
+        ensures { Reads C.Error.from_gives C.Error.eof (λ _. output.new)
+            (raw_bytes (length output.old)) result
+            (stream_state S.source C.encoding self.old) (stream_state S.source C.encoding self.new) }
+    {
+        if self.is_buffering && output.len() < self.ring.capacity() {
+            self.read_ahead(output)
+        } else {
+            self.read_past_ring(output)
+        }
+    }
+}
+
+impl<'s, 'b, C: Context, S: Source> LendingReader<&'b [u8], C> for StreamReader<'s, S, C> {
+    ghost at = { λ r. r.context };
+
+    ghost with_context = { λ r c. record r { context = c } };
+
+    ghost state = { λ r. stream_state S.source C.encoding r };
+
+    ghost can_read = { λ r n. if nat_le n (length r.ring.bytes) then Some true else None };
+
+    /// Fills the output with the next bytes. Where so many are held, as for an empty output, the source is not called.
+    #[inline(always)]
+    fn read_bytes(&mut self, output: &mut [u8]) -> Result<(), C::Error>
+        ensures reads { let reader = ⟦<StreamReader<'s, S, C> as LendingReader<&'b [u8], C>>⟧ in
+            Reads C.Error.from_gives C.Error.eof (λ _. output.new)
+            (raw_bytes (length output.old)) result
+            (reader.state self.old) (reader.state self.new) }
+        ensures untouched { length output.old ≤ length (stream_view self.old).ring.bytes
+            → IsOk result × ((stream_view self.new).source ≡ (stream_view self.old).source) }
+    {
+        if output.len() <= self.ring.len() {
+            self.ring.consume_into(output);
+            return Ok(());
+        }
+        self.read_more(output)
+    }
+
+    /// Fills the output with the next bytes, and takes none. What is not held yet is pulled into the ring, which may grow.
+    fn peek_bytes(&mut self, output: &mut [u8]) -> Result<(), C::Error>
+        ensures peeks { let reader = ⟦<StreamReader<'s, S, C> as LendingReader<&'b [u8], C>>⟧ in
+            Peeks C.Error.from_gives C.Error.eof (λ _. output.new)
+            (raw_bytes (length output.old)) result
+            (reader.state self.old) (reader.state self.new) }
+        ensures held { let reader = ⟦<StreamReader<'s, S, C> as LendingReader<&'b [u8], C>>⟧ in
+            length output.old ≤ length (stream_view self.old).ring.bytes
+            → IsOk result × (reader.state self.new ≡ reader.state self.old) }
+        ensures exact { (stream_view self.old).is_buffering ≡ false
+            → length (stream_view self.new).ring.bytes
+            ≤ max (length (stream_view self.old).ring.bytes) (length output.old) }
+    {
+        let count = output.len();
+        let lacking = count.saturating_sub(self.ring.len());
+        if self.ring.reserve(lacking).is_err() {
+            return Err(error_out_of_memory());
+        }
+        self.fill(count)?;
+        output.copy_from_slice(self.ring.as_slices_of_length(count).0);
+        Ok(())
+    }
+
+    #[inline(always)]
+    fn can_read_at_least(&self, size: usize) -> Option<bool>
+        ensures says { let reader = ⟦<StreamReader<'s, S, C> as LendingReader<&'b [u8], C>>⟧ in
+            result ≡ reader.can_read self.now size }
+        ensures right { let reader = ⟦<StreamReader<'s, S, C> as LendingReader<&'b [u8], C>>⟧ in
+            IsRight result (reader.state self.now) size }
+    {
+        if size <= self.ring.len() {
+            Some(true)
+        } else {
+            None
+        }
+    }
+
+    #[inline(always)]
+    fn read_bytes_borrowed(&mut self, _length: usize) -> Option<Result<&'b [u8], C::Error>> {
+        None
+    }
+
+    #[inline(always)]
+    fn read_bytes_borrowed_from_reader(
+        &mut self,
+        _length: usize,
+    ) -> Option<Result<&[u8], EndOfInput>>
+        ensures* after { let reader = ⟦<StreamReader<'s, S, C> as LendingReader<&'b [u8], C>>⟧ in
+            sem 𝓛 (Rests (reader_row (record { mir = named 1; lft = [] }) S.row C.row)
+            self.entry (λ new. LendsUntilUsed (λ b. b.now) _length result
+            (reader.state self.old) (reader.state new))) }
+    {
+        None
+    }
+
+    #[inline(always)]
+    fn alloc(&self) -> Global {
+        self.alloc
+    }
+
+    #[inline(always)]
+    fn context(&self) -> &C
+        ensures { let reader = ⟦<StreamReader<'s, S, C> as LendingReader<&'b [u8], C>>⟧ in
+            result.now ≡ reader.at self.now }
+    {
+        &self.context
+    }
+
+    #[inline(always)]
+    fn context_mut(&mut self) -> &mut C
+        ensures* writes_back { let reader = ⟦<StreamReader<'s, S, C> as LendingReader<&'b [u8], C>>⟧ in
+            sem 𝓛 (Lends (reader_row (record { mir = named 1; lft = [] }) S.row C.row) C.row
+            self.entry result (reader.with_context self.old)) }
+        ensures value { let reader = ⟦<StreamReader<'s, S, C> as LendingReader<&'b [u8], C>>⟧ in
+            result.now ≡ reader.at self.old }
+    {
+        &mut self.context
+    }
+
+    ghost encoding_at = { λ r. refl };
+
+    ghost state_with = { λ r c. refl };
+}
+
+// The value that a front of what the source gives spells. What a buffered reader holds at the end is lost.
+pub(crate) fn read_stream<'a, T: ReadFrom<&'a [u8], C>, C: Context, S: Source>(
+    alloc: Global,
+    context: C,
+    source: &mut S,
+    is_buffering: bool,
+) -> Result<T, C::Error>
+    ensures { AnswersStream C.Error.from_gives C.Error.eof T.seen (T.format (C.encoding context))
+        is_buffering result (S.source source.old) (S.source source.new) }
+{
+    let Ok(ring) = first_ring(alloc, is_buffering) else {
+        return Err(error_out_of_memory());
+    };
+    let mut reader = StreamReader::over(alloc, context, source, ring, is_buffering);
+    let value = T::read_from(&mut reader);
+    reader.into_source();
+    value
+}

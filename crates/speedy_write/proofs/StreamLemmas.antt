@@ -1,0 +1,48 @@
+-- What the ways of writing to a sink do follows from what a write into a collector does.
+use Rattle.std.specs.Prelude.{◌≡◌, ℕ, List, ◌⊎◌, None, Result, Ok, Err, refl}
+use Rattle.std.specs.Borrow.{GName}
+use Rattle.std.proofs.Common.{subst, inl, inr}
+use Rattle.speedy_base.specs.declared.error.Error.{Error}
+use Rattle.speedy_base.specs.Device.{SinkState, HasGrown}
+use Rattle.speedy_base.specs.Encoding.{Encoding}
+use Rattle.speedy_layout.specs.Format.{Format}
+use Rattle.speedy_layout.specs.Laws.{Laws}
+use Rattle.speedy_write.specs.Writing.{WriterState, IsOutOfRange, Unwritten, Writes}
+use Rattle.speedy_write.specs.Collectors.{sink_state, Takes}
+use Rattle.speedy_write.specs.WaysOfWriting.{WritesToStream}
+
+module _ {E : Type 0} {gives : Error → E → Type 0} {V : Type 0} {v : V} where
+  -- where space has no bound, what is not written has no spelling
+  no_spelling : {L : Format V} {e : E} {old : WriterState} → old.space ≡ None → Unwritten gives L v e old → ((bytes : List ℕ) → L.spells v bytes → ⊥) × IsOutOfRange gives L.refuses_writing e
+  no_spelling none h = (h.no_spelling none, elim h.kind [ inl k ↦ absurd (k.0 none) | inr k ↦ k ])
+
+  module _ {F : Encoding → Format V} {encoding : Encoding} {least : ℕ} (laws : Laws encoding.strict least (F encoding)) where
+    to_stream : {other : Encoding} {name other_name : GName} (s t : SinkState) (result : Result (Unit {0}) E) → Writes gives F v result (sink_state encoding name s) (sink_state other other_name t) (λ b. Takes s b t) → WritesToStream gives (F encoding) v result s t
+    to_stream s t (Ok _) w =
+        let put = w.answer in
+        record {
+          same_tells = w.kept.tells;
+          faults_kept = w.kept.faults;
+          no_fault = put.no_fault;
+          written = (put.bytes, record { is_written = put.is_written; shortest = λ others k. laws.shortest v put.bytes others put.is_written k }, put.is_appended);
+          succeeds = λ _ _ _. refl;
+          refused = tt;
+          begun = tt;
+        }
+    to_stream s t (Err e) w =
+        let why : HasGrown s.faults t.faults ⊎ (((bytes : List ℕ) → (F encoding).spells v bytes → ⊥) × IsOutOfRange gives (F encoding).refuses_writing e) = elim w.answer.because [ inl h ↦ inl h | inr h ↦ inr (no_spelling refl h) ] in
+        record {
+          same_tells = w.kept.tells;
+          faults_kept = w.kept.faults;
+          no_fault = tt;
+          written = tt;
+          succeeds = λ bytes k clean. absurd (elim why [ inl h ↦ clean h | inr h ↦ h.0 bytes k ]);
+          refused = why;
+          begun = w.answer.beginning;
+        }
+
+    -- a write into a collector, whatever the states of its sink were called
+    pub stream_written : {at other : Encoding} {name other_name : GName} {old new : SinkState} (s t : SinkState) → at ≡ encoding → s ≡ old → t ≡ new → (result : Result (Unit {0}) E) → Writes gives F v result (sink_state at name s) (sink_state other other_name t) (λ b. Takes s b t) → WritesToStream gives (F encoding) v result old new
+    stream_written {other = other} {name = name} {other_name = other_name} {old = old} s t same_encoding starts ends result w =
+        let x = to_stream s t result (subst (λ (f : Encoding). Writes gives F v result (sink_state f name s) (sink_state other other_name t) (λ b. Takes s b t)) same_encoding w) in
+        subst (λ (b : SinkState). WritesToStream gives (F encoding) v result old b) ends (subst (λ (a : SinkState). WritesToStream gives (F encoding) v result a t) starts x)
