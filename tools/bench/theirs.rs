@@ -35,6 +35,16 @@ fn pairs() -> Vec<(u64, u64)> {
     (0..100_000).map(pair).collect()
 }
 
+fn time_streams(numbers: &[u16], text: &str) {
+    let bytes = numbers.write_to_vec().unwrap();
+    timed("read Vec<u16>, buffered stream", || Vec::<u16>::read_from_stream_buffered(&bytes[..]).unwrap());
+    let texts: Vec<String> = (0..10_000).map(|i| format!("a text {i}")).collect();
+    let bytes = texts.write_to_vec().unwrap();
+    timed("read Vec<String>, buffered stream", || Vec::<String>::read_from_stream_buffered(&bytes[..]).unwrap());
+    let bytes = text.write_to_vec().unwrap();
+    timed("read Vec<u8>, unbuffered stream", || Vec::<u8>::read_from_stream_unbuffered(&bytes[..]).unwrap());
+}
+
 fn main() {
     let numbers: Vec<u16> = (0..100_000_u32).map(|i| (i % 65_521) as u16).collect();
     let bytes = time_write("Vec<u16>", &numbers);
@@ -49,4 +59,5 @@ fn main() {
     time_write("HashMap", &hashed);
     time_read::<BTreeMap<u64, u64>>("BTreeMap, ascending keys", &bytes);
     time_read::<HashMap<u64, u64>>("HashMap, ascending keys", &bytes);
+    time_streams(&numbers, &"0123456789".repeat(100_000));
 }
