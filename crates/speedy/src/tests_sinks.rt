@@ -5,6 +5,7 @@ use crate::device::VecSink;
 use crate::endianness::Endianness;
 use crate::error::Error;
 use crate::private::{ErrorKind, get_error_kind};
+use crate::readable::Readable;
 use crate::tests_devices::{FailingFiles, FileCall, KINDS, make_recorder};
 use crate::writable::{Writable, WritingCollector};
 use crate::writer::Writer;
@@ -168,6 +169,8 @@ fn a_file_is_emptied_and_written(rt: HostRuntime) {
     let outcome = Writable::<LittleEndian>::write_to_file(&2_u16, &rt, alloc, PATH);
     assert_ok(&rt, outcome, ());
     assert_file(&rt, PATH, &[2, 0]);
+    let outcome = <u16 as Readable<LittleEndian>>::read_from_file(&rt, alloc, PATH);
+    assert_ok(&rt, outcome, 2);
     fs::remove_file(&rt, PATH).expect(&rt, "it is removed");
 }
 
