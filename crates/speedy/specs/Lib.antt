@@ -1,12 +1,16 @@
 -- The definitions that the contracts of the calls cite, and the lemmas that proofs about types of one's own cite.
 pub use Rattle.speedy_base.specs.Device
+pub use Rattle.speedy_base.specs.DeviceLemmas
 pub use Rattle.speedy_base.specs.Devices
 pub use Rattle.speedy_base.specs.Digits
 pub use Rattle.speedy_base.specs.DigitsLemmas
 pub use Rattle.speedy_base.specs.Encoding
 pub use Rattle.speedy_base.specs.Error
 pub use Rattle.speedy_base.specs.ErrorKind
+pub use Rattle.speedy_base.specs.FailedCalls
+pub use Rattle.speedy_base.specs.Ring
 pub use Rattle.speedy_base.specs.Signed
+pub use Rattle.speedy_base.specs.SignedLemmas
 pub use Rattle.speedy_layout.specs.Adding
 pub use Rattle.speedy_layout.specs.Addresses
 pub use Rattle.speedy_layout.specs.Codes
@@ -45,15 +49,19 @@ pub use Rattle.speedy_read.specs.CopyingView
 pub use Rattle.speedy_read.specs.Exits
 pub use Rattle.speedy_read.specs.Flags as ReadFlags
 pub use Rattle.speedy_read.specs.Lending
+pub use Rattle.speedy_read.specs.OwnedView
 pub use Rattle.speedy_read.specs.Reading
 pub use Rattle.speedy_read.specs.ReadingLemmas
 pub use Rattle.speedy_read.specs.RoundTrip
 pub use Rattle.speedy_read.specs.Sequences as ReadSequences
+pub use Rattle.speedy_read.specs.StreamView
+pub use Rattle.speedy_read.specs.Streams
 pub use Rattle.speedy_write.specs.Codes as WriteCodes
 pub use Rattle.speedy_write.specs.Collections as WriteCollections
 pub use Rattle.speedy_write.specs.CollectorLemmas
 pub use Rattle.speedy_write.specs.CollectorViews
 pub use Rattle.speedy_write.specs.Collectors
+pub use Rattle.speedy_write.specs.Pushing
 pub use Rattle.speedy_write.specs.Sequences as WriteSequences
 pub use Rattle.speedy_write.specs.WaysOfWriting
 pub use Rattle.speedy_write.specs.Writing

@@ -14,6 +14,22 @@ use std::alloc::Global;
 use std::fmt::Debug;
 use std::process::Abort;
 
+/// A spelling, with a byte behind it that is no part of it: the helpers look that it is not taken, and not written.
+macro_rules! followed {
+    ($($byte:expr),* $(,)?) => { &[$($byte,)* 9] };
+}
+
+pub(crate) use followed;
+
+/// A value, and its spellings in the little and in the big order, each with a byte behind it.
+macro_rules! row {
+    ($value:expr, [$($little:expr),* $(,)?], [$($big:expr),* $(,)?] $(,)?) => {
+        ($value, &[$($little,)* 9], &[$($big,)* 9])
+    };
+}
+
+pub(crate) use row;
+
 /// A vector of these items.
 pub(crate) fn make_vec<T: Copy>(rt: &impl Abort, alloc: Global, items: &[T]) -> Vec<T> {
     items.to_vec(alloc).expect(rt, "a vector")
@@ -217,6 +233,21 @@ where
     assert_same(rt, length, count);
 }
 
+/// Asserts that under the context all but the last of the bytes spell the value, whatever is written of it.
+pub(crate) fn assert_spelled<'a, C: Context + Copy, T: Readable<'a, C> + PartialEq>(
+    rt: &impl Abort,
+    alloc: Global,
+    context: C,
+    value: &T,
+    followed: &'a [u8],
+)
+where
+    C::Error: Debug,
+{
+    let count = spelling_of(rt, followed).len();
+    assert_reads(rt, alloc, context, value, followed, count);
+}
+
 /// Asserts that under the context what was read is written as all but the last of the bytes.
 fn assert_written_again<C: Context + Copy, T: Writable<C> + Drop>(
     rt: &impl Abort,
@@ -246,9 +277,8 @@ where
     C::Error: Debug,
     T: Readable<'a, C> + Writable<C> + PartialEq,
 {
-    let count = spelling_of(rt, followed).len();
     assert_written_under(rt, alloc, context, value, followed);
-    assert_reads(rt, alloc, context, value, followed, count);
+    assert_spelled(rt, alloc, context, value, followed);
     let outcome = T::read_from_buffer_with_ctx(alloc, context, followed);
     assert_written_again(rt, alloc, context, outcome, followed);
 }
@@ -294,8 +324,8 @@ fn assert_shorter_refused_by_kind<'a, T: Readable<'a, Endianness>>(
 }
 
 /// Asserts that each value and its bytes in the little and in the big order belong together, in each way of writing
-/// and of reading. A byte follows each spelling, and is not taken. No spelling is shorter than the least size, and
-/// one byte less is refused.
+/// and of reading. The byte behind a spelling is not taken. No spelling is shorter than the least size, and one byte
+/// less is refused.
 pub(crate) fn assert_encoding<'a, T>(
     rt: &impl Abort,
     alloc: Global,
@@ -387,7 +417,7 @@ where
 }
 
 /// Asserts that each value is read of the first bytes and written as the others, and that the first ones are refused
-/// where the written form is demanded. A byte follows each of the two.
+/// where the written form is demanded.
 pub(crate) fn assert_other_spellings<'a, T>(
     rt: &impl Abort,
     alloc: Global,
@@ -398,8 +428,7 @@ where
     T: Readable<'a, StrictLittleEndian> + PartialEq,
 {
     for (value, spelled, written) in rows {
-        let count = spelling_of(rt, spelled).len();
-        assert_reads(rt, alloc, LittleEndian {}, value, spelled, count);
+        assert_spelled(rt, alloc, LittleEndian {}, value, spelled);
         let outcome = T::read_from_buffer_with_ctx(alloc, LittleEndian {}, spelled);
         assert_written_again(rt, alloc, LittleEndian {}, outcome, written);
         let outcome = T::read_from_buffer_with_ctx(alloc, StrictLittleEndian {}, spelled);

@@ -8,6 +8,7 @@
 
 #[cfg(test)]
 mod asserting;
+pub mod ext;
 pub mod laws;
 #[cfg(test)]
 mod own_types;

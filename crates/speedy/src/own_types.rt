@@ -6,7 +6,9 @@ ghost use Rattle.speedy_layout.specs.Codes.{subset, subset_laws};
 ghost use Rattle.speedy_layout.specs.Laws.{saturated_size};
 ghost use Rattle.speedy_layout.specs.Tuples.{pair, pair_laws};
 
-use crate::asserting::{assert_encoding, assert_ok_items, assert_refused, assert_same, make_text};
+use crate::asserting::{
+    assert_encoding, assert_ok_items, assert_refused, assert_same, make_text, row,
+};
 use crate::context::Context;
 use crate::endianness::Endianness;
 use crate::layout::Layout;
@@ -116,7 +118,14 @@ fn parts_lie_one_after_the_other(rt: HostRuntime) {
         label: 258,
         value: text,
     };
-    let little = [2, 1, 0, 0, 1, 0, 0, 0, b'a', 9];
-    let big = [0, 0, 1, 2, 0, 0, 0, 1, b'a', 9];
-    assert_encoding(&rt, rt.alloc(), 8, &[(value, &little, &big)]);
+    assert_encoding(
+        &rt,
+        rt.alloc(),
+        8,
+        &[row!(
+            value,
+            [2, 1, 0, 0, 1, 0, 0, 0, b'a'],
+            [0, 0, 1, 2, 0, 0, 0, 1, b'a']
+        )],
+    );
 }

@@ -8,5 +8,6 @@ pub use speedy_base::error::{
     error_too_big_usize_for_this_architecture, error_unsized, error_zero_non_zero, get_error_kind,
 };
 pub use speedy_layout::varint::VarInt64;
+pub use speedy_layout::view_items::ZeroCopyable;
 pub use speedy_read::private::{cow_bytes_to_cow_str, vec_to_string};
 pub use speedy_write::private::write_length;

@@ -4,7 +4,7 @@ use crate::asserting::{
 };
 use crate::collections::FromItems;
 use crate::context::LittleEndian;
-use crate::readable::{BufferReader, ReadMany};
+use crate::readable::{BufferReader, ReadMany, Readable};
 use crate::reader::LendingReader;
 use crate::writable::{BufferCollector, Writable};
 use crate::writer::Writer;
@@ -74,6 +74,57 @@ fn items_are_gathered_by_their_type(rt: HostRuntime) {
     let mut reader = BufferReader::new(rt.alloc(), LittleEndian {}, &ITEMS);
     let items: Vec<u16> = ReadMany::collect_many(&mut reader, 3).expect(&rt, "three items");
     assert_same(&rt, items.as_slice(), &[2, 1, 2]);
+}
+
+/// Asserts that where the first of two items is no character, and the second one is missing, the first fault is
+/// answered.
+fn assert_first_fault<F: FromItems<char>>(rt: &impl Abort, alloc: Global) {
+    let mut reader = BufferReader::new(alloc, LittleEndian {}, &NO_CHARACTER[4..]);
+    let outcome = reader.read_collection::<F, char>(2);
+    assert_refused(rt, alloc, outcome, "InvalidChar");
+}
+
+/// Asserts the same of keys.
+fn assert_first_fault_of_keys<F: FromItems<(char, u8)>>(rt: &impl Abort, alloc: Global) {
+    let mut reader = BufferReader::new(alloc, LittleEndian {}, &NO_KEY[4..]);
+    let outcome = reader.read_key_value_collection::<F, char, u8>(2);
+    assert_refused(rt, alloc, outcome, "InvalidChar");
+}
+
+/// A count of two, and an item or a key that is no character.
+const NO_CHARACTER: [u8; 8] = [2, 0, 0, 0, 0, 0xd8, 0, 0];
+
+const NO_KEY: [u8; 9] = [2, 0, 0, 0, 0, 0xd8, 0, 0, 7];
+
+#[test]
+fn the_first_fault_of_items_is_answered_before_their_end(rt: HostRuntime) {
+    let alloc = rt.alloc();
+    assert_first_fault::<Vec<char>>(&rt, alloc);
+    assert_first_fault::<BTreeSet<char>>(&rt, alloc);
+    assert_first_fault_of_keys::<Vec<(char, u8)>>(&rt, alloc);
+    assert_first_fault_of_keys::<BTreeMap<char, u8>>(&rt, alloc);
+}
+
+/// Asserts that a list of two is refused for its first item, and not since it is shorter than two items are.
+fn assert_list_faulty<'a, T: Readable<'a, LittleEndian>>(
+    rt: &impl Abort,
+    alloc: Global,
+    bytes: &'a [u8],
+) {
+    assert_refused(rt, alloc, T::read_from_buffer(alloc, bytes), "InvalidChar");
+}
+
+#[test]
+fn sets_and_maps_make_no_test_of_their_items_least_size(rt: HostRuntime) {
+    let alloc = rt.alloc();
+    assert_list_faulty::<BTreeSet<char>>(&rt, alloc, &NO_CHARACTER);
+    assert_list_faulty::<HashSet<char>>(&rt, alloc, &NO_CHARACTER);
+    assert_list_faulty::<IndexSet<char>>(&rt, alloc, &NO_CHARACTER);
+    assert_list_faulty::<BTreeMap<char, u8>>(&rt, alloc, &NO_KEY);
+    assert_list_faulty::<HashMap<char, u8>>(&rt, alloc, &NO_KEY);
+    assert_list_faulty::<IndexMap<char, u8>>(&rt, alloc, &NO_KEY);
+    let outcome = <Vec<char> as Readable<LittleEndian>>::read_from_buffer(alloc, &NO_CHARACTER);
+    assert_refused(&rt, alloc, outcome, "UnexpectedEndOfInput");
 }
 
 /// Asserts for each of the items whether a collection of 1 and 3 is written so with it at the end.

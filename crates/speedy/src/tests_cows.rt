@@ -1,5 +1,5 @@
 //! Cows lie as their content, whether they borrow or own it, and own what is read. The bytes come from outside.
-use crate::asserting::{assert_encoding_under, assert_written, gather};
+use crate::asserting::{assert_encoding_under, assert_written, followed, gather};
 use crate::endianness::Endianness;
 use crate::error::Error;
 use crate::readable::Readable;
@@ -16,7 +16,7 @@ fn assert_owned<T: Drop>(rt: &impl Abort, outcome: Result<Cow<'_, T>, Error>) {
 }
 
 /// Asserts that the bytes in either order are written of a cow that borrows the content, and that they belong to one
-/// that owns it. A byte follows them.
+/// that owns it.
 fn assert_cows<'a, T>(rt: &impl Abort, alloc: Global, content: T, little: &'a [u8], big: &'a [u8])
 where
     T: Readable<'a, Endianness> + Writable<Endianness> + PartialEq,
@@ -30,24 +30,24 @@ where
 }
 
 /// The spellings of a map of one pair, and of a set of one item.
-const LITTLE: [u8; 8] = [1, 0, 0, 0, 2, 1, 7, 9];
+const LITTLE: &[u8] = followed![1, 0, 0, 0, 2, 1, 7];
 
-const BIG: [u8; 8] = [0, 0, 0, 1, 1, 2, 7, 9];
+const BIG: &[u8] = followed![0, 0, 0, 1, 1, 2, 7];
 
 #[test]
 fn cows_of_maps_lie_as_the_maps(rt: HostRuntime) {
     let alloc = rt.alloc();
     let map: BTreeMap<u16, u8> = gather(&rt, alloc, &[(258, 7)]);
-    assert_cows(&rt, alloc, map, &LITTLE, &BIG);
+    assert_cows(&rt, alloc, map, LITTLE, BIG);
     let map: HashMap<u16, u8> = gather(&rt, alloc, &[(258, 7)]);
-    assert_cows(&rt, alloc, map, &LITTLE, &BIG);
+    assert_cows(&rt, alloc, map, LITTLE, BIG);
 }
 
 #[test]
 fn cows_of_sets_lie_as_the_sets(rt: HostRuntime) {
     let alloc = rt.alloc();
     let set: BTreeSet<(u16, u8)> = gather(&rt, alloc, &[(258, 7)]);
-    assert_cows(&rt, alloc, set, &LITTLE, &BIG);
+    assert_cows(&rt, alloc, set, LITTLE, BIG);
     let set: HashSet<(u16, u8)> = gather(&rt, alloc, &[(258, 7)]);
-    assert_cows(&rt, alloc, set, &LITTLE, &BIG);
+    assert_cows(&rt, alloc, set, LITTLE, BIG);
 }

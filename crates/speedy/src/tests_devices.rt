@@ -60,11 +60,12 @@ impl Write for Device {
 }
 
 /// A writer that keeps what it takes, at most so many bytes a call, and of which one call fails, counted from 1. It
-/// counts its calls.
+/// counts its calls, and its flushes apart.
 #[derive(Drop)]
 pub(crate) struct Recorder {
     pub(crate) taken: Vec<u8>,
     pub(crate) calls: usize,
+    pub(crate) flushes: usize,
     most: usize,
     fails_at: usize,
     fails_with: io::ErrorKind,
@@ -79,6 +80,7 @@ pub(crate) fn make_recorder(
     Counted::new(Recorder {
         taken: Vec::new(alloc),
         calls: 0,
+        flushes: 0,
         most,
         fails_at,
         fails_with,
@@ -99,6 +101,7 @@ impl Write for Recorder {
     }
 
     fn flush(&mut self) -> io::Result<()> {
+        self.flushes = self.flushes.saturating_add(1);
         Ok(())
     }
 }
@@ -107,58 +110,87 @@ impl Write for Recorder {
 #[derive(Clone, Copy, Debug, PartialEq, Eq)]
 pub(crate) enum FileCall {
     Open,
+    Read,
     Write,
     Flush,
 }
 
-/// Files of which each call of one name fails, and which count how often they are written to and flushed.
+/// How often files were read, written to and flushed, and how many bytes the last read had room for.
 #[derive(Drop)]
-pub(crate) struct FailingFiles<'a> {
-    pub(crate) fails: FileCall,
-    pub(crate) calls: &'a Cell<u8>,
+pub(crate) struct FileCalls {
+    pub(crate) reads: Cell<u8>,
+    pub(crate) writes: Cell<u8>,
+    pub(crate) flushes: Cell<u8>,
+    pub(crate) room: Cell<usize>,
+}
+
+impl FileCalls {
+    pub(crate) fn none() -> FileCalls {
+        FileCalls {
+            reads: Cell::new(0),
+            writes: Cell::new(0),
+            flushes: Cell::new(0),
+            room: Cell::new(0),
+        }
+    }
+}
+
+/// Files that hold nothing and keep nothing, of which each call of one name fails. They count their calls.
+#[derive(Clone, Copy, Drop)]
+pub(crate) struct FakeFiles<'a> {
+    pub(crate) fails: Option<FileCall>,
+    pub(crate) calls: &'a FileCalls,
 }
 
 /// One of these files, and what is listed of their folders, which is nothing.
 #[derive(Drop)]
-pub(crate) struct FailingFile<'a> {
-    fails: FileCall,
-    calls: &'a Cell<u8>,
+pub(crate) struct FakeFile<'a> {
+    files: FakeFiles<'a>,
 }
 
-impl<'a> FailingFile<'a> {
-    fn call(&mut self, call: FileCall) -> io::Result<()> {
-        self.calls.set(self.calls.get().saturating_add(1));
-        if call == self.fails {
+impl<'a> FakeFiles<'a> {
+    fn call(&self, call: FileCall) -> io::Result<()> {
+        if self.fails == Some(call) {
             return Err(io::Error::from(io::ErrorKind::Other));
         }
         Ok(())
     }
 }
 
-impl<'a> Read for FailingFile<'a> {
-    fn read(&mut self, _buf: &mut [u8]) -> io::Result<usize> {
+/// Counts one more.
+fn count_one(calls: &Cell<u8>) {
+    calls.set(calls.get().saturating_add(1));
+}
+
+impl<'a> Read for FakeFile<'a> {
+    fn read(&mut self, buf: &mut [u8]) -> io::Result<usize> {
+        count_one(&self.files.calls.reads);
+        self.files.calls.room.set(buf.len());
+        self.files.call(FileCall::Read)?;
         Ok(0)
     }
 }
 
-impl<'a> Write for FailingFile<'a> {
+impl<'a> Write for FakeFile<'a> {
     fn write(&mut self, buf: &[u8]) -> io::Result<usize> {
-        self.call(FileCall::Write)?;
+        count_one(&self.files.calls.writes);
+        self.files.call(FileCall::Write)?;
         Ok(buf.len())
     }
 
     fn flush(&mut self) -> io::Result<()> {
-        self.call(FileCall::Flush)
+        count_one(&self.files.calls.flushes);
+        self.files.call(FileCall::Flush)
     }
 }
 
-impl<'a> Seek for FailingFile<'a> {
+impl<'a> Seek for FakeFile<'a> {
     fn seek(&mut self, _to: SeekFrom) -> io::Result<u64> {
         unsupported()
     }
 }
 
-impl<'a> OpenFile for FailingFile<'a> {
+impl<'a> OpenFile for FakeFile<'a> {
     fn metadata(&self) -> io::Result<Metadata> {
         unsupported()
     }
@@ -180,22 +212,17 @@ fn unsupported<T>() -> io::Result<T> {
     Err(io::Error::from(io::ErrorKind::Unsupported))
 }
 
-impl<'a> Files for FailingFiles<'a> {
-    type File = FailingFile<'a>;
+impl<'a> Files for FakeFiles<'a> {
+    type File = FakeFile<'a>;
 
-    type Dir = FailingFile<'a>;
+    type Dir = FakeFile<'a>;
 
-    fn open_file(&self, _how: &OpenOptions, _path: &str) -> io::Result<FailingFile<'a>> {
-        if self.fails == FileCall::Open {
-            return Err(io::Error::from(io::ErrorKind::Other));
-        }
-        Ok(FailingFile {
-            fails: self.fails,
-            calls: self.calls,
-        })
+    fn open_file(&self, _how: &OpenOptions, _path: &str) -> io::Result<FakeFile<'a>> {
+        self.call(FileCall::Open)?;
+        Ok(FakeFile { files: *self })
     }
 
-    fn open_dir(&self, _path: &str) -> io::Result<FailingFile<'a>> {
+    fn open_dir(&self, _path: &str) -> io::Result<FakeFile<'a>> {
         unsupported()
     }
 
@@ -302,6 +329,18 @@ fn a_failed_flush_comes_back_and_is_not_tried_again(rt: HostRuntime) {
         assert_same(&rt, kind_of(writer.flush()), Err(kind));
         assert_same(&rt, writer.into_inner().flushes, 1);
     }
+}
+
+#[test]
+fn a_flush_is_made_even_where_nothing_waits(rt: HostRuntime) {
+    let mut writer = make_device(None, 2);
+    for _ in 0..3 {
+        assert_same(&rt, kind_of(writer.flush()), Ok(()));
+    }
+    assert_same(&rt, kind_of(writer.push(b"ab")), Ok(2));
+    assert_same(&rt, kind_of(writer.flush()), Ok(()));
+    let inner = writer.into_inner();
+    assert_same(&rt, (inner.calls, inner.flushes), (1, 4));
 }
 
 /// Asserts that after a read that fails with the kind the next one reads.

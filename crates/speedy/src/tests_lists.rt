@@ -1,7 +1,7 @@
 //! Lists and arrays. Bytes are read a chunk at a time, wherever the last chunk ends.
 use crate::asserting::{
-    assert_encoding, assert_encoding_in_types, assert_reads, assert_same, assert_written,
-    make_text, make_vec,
+    assert_encoding, assert_encoding_in_types, assert_reads, assert_same, assert_written, followed,
+    make_text, make_vec, row,
 };
 use crate::endianness::Endianness;
 use crate::readable::BufferReader;
@@ -15,28 +15,56 @@ use std::process::Abort;
 fn vectors_of_bytes_lie_after_their_counts(rt: HostRuntime) {
     let alloc = rt.alloc();
     let bytes = make_vec(&rt, alloc, &[10_u8, 11]);
-    let rows = [(
-        bytes,
-        &[2, 0, 0, 0, 10, 11, 1][..],
-        &[0, 0, 0, 2, 10, 11, 1][..],
-    )];
-    assert_encoding(&rt, alloc, 4, &rows);
+    assert_encoding(
+        &rt,
+        alloc,
+        4,
+        &[row!(bytes, [2, 0, 0, 0, 10, 11], [0, 0, 0, 2, 10, 11])],
+    );
+}
+
+/// The numbers from 0 to 2,999.
+fn make_many(rt: &impl Abort, alloc: Global) -> Vec<u16> {
+    let mut numbers = Vec::new(alloc);
+    for number in 0..3_000 {
+        numbers.push(number).expect(rt, "room");
+    }
+    numbers
+}
+
+/// The count and the numbers in the big order, or in the little one, with a byte behind them.
+fn spell(rt: &impl Abort, alloc: Global, count: &[u8], numbers: &[u16], is_big: bool) -> Vec<u8> {
+    let mut bytes = make_vec(rt, alloc, count);
+    for number in numbers {
+        let pair = if is_big {
+            number.to_be_bytes()
+        } else {
+            number.to_le_bytes()
+        };
+        bytes.extend_from_slice(&pair).expect(rt, "room");
+    }
+    bytes.push(9).expect(rt, "room");
+    bytes
 }
 
 #[test]
 fn vectors_of_short_numbers_lie_after_their_counts(rt: HostRuntime) {
     let alloc = rt.alloc();
-    let rows = [
-        (
+    let many = make_many(&rt, alloc);
+    let little = spell(&rt, alloc, &[0xb8, 0x0b, 0, 0], &many, false);
+    let big = spell(&rt, alloc, &[0, 0, 0x0b, 0xb8], &many, true);
+    let rows: [(Vec<u16>, &[u8], &[u8]); 3] = [
+        row!(
             make_vec(&rt, alloc, &[10_u16, 11]),
-            &[2, 0, 0, 0, 10, 0, 11, 0, 1][..],
-            &[0, 0, 0, 2, 0, 10, 0, 11, 1][..],
+            [2, 0, 0, 0, 10, 0, 11, 0],
+            [0, 0, 0, 2, 0, 10, 0, 11]
         ),
-        (
+        row!(
             make_vec(&rt, alloc, &[1_u16, 2]),
-            &[2, 0, 0, 0, 1, 0, 2, 0, 1][..],
-            &[0, 0, 0, 2, 0, 1, 0, 2, 1][..],
+            [2, 0, 0, 0, 1, 0, 2, 0],
+            [0, 0, 0, 2, 0, 1, 0, 2]
         ),
+        (many, &little, &big),
     ];
     assert_encoding(&rt, alloc, 4, &rows);
     assert_encoding_in_types(&rt, alloc, 4, &rows);
@@ -45,24 +73,31 @@ fn vectors_of_short_numbers_lie_after_their_counts(rt: HostRuntime) {
 #[test]
 fn vectors_of_numbers_lie_after_their_counts(rt: HostRuntime) {
     let alloc = rt.alloc();
-    let rows = [(
-        make_vec(&rt, alloc, &[10_u32, 11]),
-        &[2, 0, 0, 0, 10, 0, 0, 0, 11, 0, 0, 0, 1][..],
-        &[0, 0, 0, 2, 0, 0, 0, 10, 0, 0, 0, 11, 1][..],
-    )];
-    assert_encoding(&rt, alloc, 4, &rows);
+    assert_encoding(
+        &rt,
+        alloc,
+        4,
+        &[row!(
+            make_vec(&rt, alloc, &[10_u32, 11]),
+            [2, 0, 0, 0, 10, 0, 0, 0, 11, 0, 0, 0],
+            [0, 0, 0, 2, 0, 0, 0, 10, 0, 0, 0, 11]
+        )],
+    );
 }
 
 #[test]
 fn vectors_of_wide_numbers_lie_after_their_counts(rt: HostRuntime) {
-    let little = [
-        2, 0, 0, 0, 10, 0, 0, 0, 0, 0, 0, 0, 11, 0, 0, 0, 0, 0, 0, 0, 1,
-    ];
-    let big = [
-        0, 0, 0, 2, 0, 0, 0, 0, 0, 0, 0, 10, 0, 0, 0, 0, 0, 0, 0, 11, 1,
-    ];
     let numbers = make_vec(&rt, rt.alloc(), &[10_u64, 11]);
-    assert_encoding(&rt, rt.alloc(), 4, &[(numbers, &little, &big)]);
+    assert_encoding(
+        &rt,
+        rt.alloc(),
+        4,
+        &[row!(
+            numbers,
+            [2, 0, 0, 0, 10, 0, 0, 0, 0, 0, 0, 0, 11, 0, 0, 0, 0, 0, 0, 0],
+            [0, 0, 0, 2, 0, 0, 0, 0, 0, 0, 0, 10, 0, 0, 0, 0, 0, 0, 0, 11]
+        )],
+    );
 }
 
 #[test]
@@ -70,16 +105,20 @@ fn vectors_of_vectors_lie_within_each_other(rt: HostRuntime) {
     let alloc = rt.alloc();
     let texts = vec![in alloc; make_text(&rt, alloc, "a"), String::new(alloc)];
     let nested = vec![in alloc; texts.expect(&rt, "a vector"), Vec::new(alloc)];
-    let rows = [(
-        nested.expect(&rt, "a vector"),
-        &[
-            2, 0, 0, 0, 2, 0, 0, 0, 1, 0, 0, 0, 97, 0, 0, 0, 0, 0, 0, 0, 0, 1,
-        ][..],
-        &[
-            0, 0, 0, 2, 0, 0, 0, 2, 0, 0, 0, 1, 97, 0, 0, 0, 0, 0, 0, 0, 0, 1,
-        ][..],
-    )];
-    assert_encoding(&rt, alloc, 4, &rows);
+    assert_encoding(
+        &rt,
+        alloc,
+        4,
+        &[row!(
+            nested.expect(&rt, "a vector"),
+            [
+                2, 0, 0, 0, 2, 0, 0, 0, 1, 0, 0, 0, 97, 0, 0, 0, 0, 0, 0, 0, 0
+            ],
+            [
+                0, 0, 0, 2, 0, 0, 0, 2, 0, 0, 0, 1, 97, 0, 0, 0, 0, 0, 0, 0, 0
+            ]
+        )],
+    );
 }
 
 /// A vector of these items, of which four have room in the value itself.
@@ -90,29 +129,29 @@ fn make_small(rt: &impl Abort, alloc: Global, items: &[u16]) -> SmallVec<u16, 4>
 #[test]
 fn small_vectors_lie_after_their_counts_whatever_their_room(rt: HostRuntime) {
     let alloc = rt.alloc();
-    let rows = [
-        (
-            make_small(&rt, alloc, &[]),
-            &[0, 0, 0, 0, 9][..],
-            &[0, 0, 0, 0, 9][..],
-        ),
-        (
-            make_small(&rt, alloc, &[1, 2, 3]),
-            &[3, 0, 0, 0, 1, 0, 2, 0, 3, 0, 9][..],
-            &[0, 0, 0, 3, 0, 1, 0, 2, 0, 3, 9][..],
-        ),
-        (
-            make_small(&rt, alloc, &[1, 2, 3, 4]),
-            &[4, 0, 0, 0, 1, 0, 2, 0, 3, 0, 4, 0, 9][..],
-            &[0, 0, 0, 4, 0, 1, 0, 2, 0, 3, 0, 4, 9][..],
-        ),
-        (
-            make_small(&rt, alloc, &[1, 2, 3, 4, 5]),
-            &[5, 0, 0, 0, 1, 0, 2, 0, 3, 0, 4, 0, 5, 0, 9][..],
-            &[0, 0, 0, 5, 0, 1, 0, 2, 0, 3, 0, 4, 0, 5, 9][..],
-        ),
-    ];
-    assert_encoding(&rt, alloc, 4, &rows);
+    assert_encoding(
+        &rt,
+        alloc,
+        4,
+        &[
+            row!(make_small(&rt, alloc, &[]), [0, 0, 0, 0], [0, 0, 0, 0]),
+            row!(
+                make_small(&rt, alloc, &[1, 2, 3]),
+                [3, 0, 0, 0, 1, 0, 2, 0, 3, 0],
+                [0, 0, 0, 3, 0, 1, 0, 2, 0, 3]
+            ),
+            row!(
+                make_small(&rt, alloc, &[1, 2, 3, 4]),
+                [4, 0, 0, 0, 1, 0, 2, 0, 3, 0, 4, 0],
+                [0, 0, 0, 4, 0, 1, 0, 2, 0, 3, 0, 4]
+            ),
+            row!(
+                make_small(&rt, alloc, &[1, 2, 3, 4, 5]),
+                [5, 0, 0, 0, 1, 0, 2, 0, 3, 0, 4, 0, 5, 0],
+                [0, 0, 0, 5, 0, 1, 0, 2, 0, 3, 0, 4, 0, 5]
+            ),
+        ],
+    );
 }
 
 #[test]
@@ -120,33 +159,46 @@ fn small_vectors_of_texts_lie_within_each_other(rt: HostRuntime) {
     let alloc = rt.alloc();
     let texts = vec![in alloc; make_text(&rt, alloc, "a"), String::new(alloc)];
     let small: SmallVec<String, 1> = SmallVec::from_vec(texts.expect(&rt, "a vector"));
-    let little = [2, 0, 0, 0, 1, 0, 0, 0, 97, 0, 0, 0, 0, 9];
-    let big = [0, 0, 0, 2, 0, 0, 0, 1, 97, 0, 0, 0, 0, 9];
-    assert_encoding(&rt, alloc, 4, &[(small, &little, &big)]);
+    assert_encoding(
+        &rt,
+        alloc,
+        4,
+        &[row!(
+            small,
+            [2, 0, 0, 0, 1, 0, 0, 0, 97, 0, 0, 0, 0],
+            [0, 0, 0, 2, 0, 0, 0, 1, 97, 0, 0, 0, 0]
+        )],
+    );
 }
 
 #[test]
 fn arrays_of_numbers_lie_item_after_item(rt: HostRuntime) {
-    let rows = [([1_u16, 1024], &[1, 0, 0, 4, 1][..], &[0, 1, 4, 0, 1][..])];
-    assert_encoding(&rt, rt.alloc(), 4, &rows);
+    assert_encoding(
+        &rt,
+        rt.alloc(),
+        4,
+        &[row!([1_u16, 1024], [1, 0, 0, 4], [0, 1, 4, 0])],
+    );
     let bytes: [u8; 32] = [
         10, 11, 12, 13, 14, 15, 16, 17, 18, 19, 20, 21, 22, 23, 24, 25, 26, 27, 28, 29, 30, 31, 32,
         33, 34, 35, 36, 37, 38, 39, 40, 41,
     ];
-    let mut followed = [1; 33];
-    followed[..32].copy_from_slice(&bytes);
-    assert_encoding(&rt, rt.alloc(), 32, &[(bytes, &followed, &followed)]);
+    let spelling = followed![
+        10, 11, 12, 13, 14, 15, 16, 17, 18, 19, 20, 21, 22, 23, 24, 25, 26, 27, 28, 29, 30, 31, 32,
+        33, 34, 35, 36, 37, 38, 39, 40, 41,
+    ];
+    assert_encoding(&rt, rt.alloc(), 32, &[(bytes, spelling, spelling)]);
 }
 
 #[test]
 fn slices_and_borrowed_texts_are_written_after_their_counts(rt: HostRuntime) {
     let items = [10_u8, 11];
-    let little = [2, 0, 0, 0, 10, 11, 1];
-    let big = [0, 0, 0, 2, 10, 11, 1];
-    assert_written(&rt, rt.alloc(), &items.as_slice(), &little, &big);
-    let little = [5, 0, 0, 0, 72, 101, 108, 108, 111, 1];
-    let big = [0, 0, 0, 5, 72, 101, 108, 108, 111, 1];
-    assert_written(&rt, rt.alloc(), &"Hello", &little, &big);
+    let little = followed![2, 0, 0, 0, 10, 11];
+    let big = followed![0, 0, 0, 2, 10, 11];
+    assert_written(&rt, rt.alloc(), &items.as_slice(), little, big);
+    let little = followed![5, 0, 0, 0, 72, 101, 108, 108, 111];
+    let big = followed![0, 0, 0, 5, 72, 101, 108, 108, 111];
+    assert_written(&rt, rt.alloc(), &"Hello", little, big);
 }
 
 #[test]
@@ -154,9 +206,16 @@ fn options_of_texts_lie_within_a_vector(rt: HostRuntime) {
     let alloc = rt.alloc();
     let text = String::from_str(alloc, "Hi").expect(&rt, "a text");
     let texts = vec![in alloc; Some(text), None].expect(&rt, "a vector");
-    let little = [2, 0, 0, 0, 1, 2, 0, 0, 0, 72, 105, 0, 9];
-    let big = [0, 0, 0, 2, 1, 0, 0, 0, 2, 72, 105, 0, 9];
-    assert_encoding(&rt, alloc, 4, &[(texts, &little, &big)]);
+    assert_encoding(
+        &rt,
+        alloc,
+        4,
+        &[row!(
+            texts,
+            [2, 0, 0, 0, 1, 2, 0, 0, 0, 72, 105, 0],
+            [0, 0, 0, 2, 1, 0, 0, 0, 2, 72, 105, 0]
+        )],
+    );
 }
 
 /// So many bytes that count up from 0, again and again.

@@ -1,7 +1,8 @@
 //! Maps: pairs that gather to them, in any order and with repeated keys, and the pairs that are written. The bytes come
 //! from outside.
 use crate::asserting::{
-    assert_encoding, assert_other_spellings, assert_reads, assert_same, gather, make_text,
+    assert_encoding, assert_other_spellings, assert_reads, assert_same, followed, gather,
+    make_text, row,
 };
 use crate::context::LittleEndian;
 use crate::writable::Writable;
@@ -28,55 +29,55 @@ fn make_index_map(rt: &impl Abort, alloc: Global, pairs: &[(u8, u8)]) -> IndexMa
 #[test]
 fn tree_maps_lie_in_the_order_of_their_keys(rt: HostRuntime) {
     let alloc = rt.alloc();
-    let rows = [
-        (
-            make_tree_map(&rt, alloc, &[]),
-            &[0, 0, 0, 0, 9][..],
-            &[0, 0, 0, 0, 9][..],
-        ),
-        (
-            make_tree_map(&rt, alloc, &[(7, 2), (6, 1)]),
-            &[2, 0, 0, 0, 6, 1, 7, 2, 9][..],
-            &[0, 0, 0, 2, 6, 1, 7, 2, 9][..],
-        ),
-    ];
-    assert_encoding(&rt, alloc, 4, &rows);
+    assert_encoding(
+        &rt,
+        alloc,
+        4,
+        &[
+            row!(make_tree_map(&rt, alloc, &[]), [0, 0, 0, 0], [0, 0, 0, 0]),
+            row!(
+                make_tree_map(&rt, alloc, &[(7, 2), (6, 1)]),
+                [2, 0, 0, 0, 6, 1, 7, 2],
+                [0, 0, 0, 2, 6, 1, 7, 2]
+            ),
+        ],
+    );
 }
 
 #[test]
 fn hashed_maps_lie_after_their_counts(rt: HostRuntime) {
     let alloc = rt.alloc();
-    let rows = [
-        (
-            make_hash_map(&rt, alloc, &[]),
-            &[0, 0, 0, 0, 9][..],
-            &[0, 0, 0, 0, 9][..],
-        ),
-        (
-            make_hash_map(&rt, alloc, &[(7, 2)]),
-            &[1, 0, 0, 0, 7, 2, 9][..],
-            &[0, 0, 0, 1, 7, 2, 9][..],
-        ),
-    ];
-    assert_encoding(&rt, alloc, 4, &rows);
+    assert_encoding(
+        &rt,
+        alloc,
+        4,
+        &[
+            row!(make_hash_map(&rt, alloc, &[]), [0, 0, 0, 0], [0, 0, 0, 0]),
+            row!(
+                make_hash_map(&rt, alloc, &[(7, 2)]),
+                [1, 0, 0, 0, 7, 2],
+                [0, 0, 0, 1, 7, 2]
+            ),
+        ],
+    );
 }
 
 #[test]
 fn indexed_maps_lie_in_their_own_order(rt: HostRuntime) {
     let alloc = rt.alloc();
-    let rows = [
-        (
-            make_index_map(&rt, alloc, &[]),
-            &[0, 0, 0, 0, 9][..],
-            &[0, 0, 0, 0, 9][..],
-        ),
-        (
-            make_index_map(&rt, alloc, &[(9, 3), (7, 2)]),
-            &[2, 0, 0, 0, 9, 3, 7, 2, 9][..],
-            &[0, 0, 0, 2, 9, 3, 7, 2, 9][..],
-        ),
-    ];
-    assert_encoding(&rt, alloc, 4, &rows);
+    assert_encoding(
+        &rt,
+        alloc,
+        4,
+        &[
+            row!(make_index_map(&rt, alloc, &[]), [0, 0, 0, 0], [0, 0, 0, 0]),
+            row!(
+                make_index_map(&rt, alloc, &[(9, 3), (7, 2)]),
+                [2, 0, 0, 0, 9, 3, 7, 2],
+                [0, 0, 0, 2, 9, 3, 7, 2]
+            ),
+        ],
+    );
 }
 
 /// A map from texts to maps, some of them of no pairs.
@@ -100,25 +101,34 @@ fn maps_lie_within_each_other(rt: HostRuntime) {
     let alloc = rt.alloc();
     let pairs = [(2, None), (1, Some(258))];
     let nested = make_nested(&rt, alloc, &[("b", &[]), ("a", &pairs)]);
-    let little = [
-        2, 0, 0, 0, 1, 0, 0, 0, 97, 2, 0, 0, 0, 1, 1, 2, 1, 2, 0, 1, 0, 0, 0, 98, 0, 0, 0, 0, 9,
-    ];
-    let big = [
-        0, 0, 0, 2, 0, 0, 0, 1, 97, 0, 0, 0, 2, 1, 1, 1, 2, 2, 0, 0, 0, 0, 1, 98, 0, 0, 0, 0, 9,
-    ];
-    assert_encoding(&rt, alloc, 4, &[(nested, &little, &big)]);
+    assert_encoding(
+        &rt,
+        alloc,
+        4,
+        &[row!(
+            nested,
+            [
+                2, 0, 0, 0, 1, 0, 0, 0, 97, 2, 0, 0, 0, 1, 1, 2, 1, 2, 0, 1, 0, 0, 0, 98, 0, 0, 0,
+                0
+            ],
+            [
+                0, 0, 0, 2, 0, 0, 0, 1, 97, 0, 0, 0, 2, 1, 1, 1, 2, 2, 0, 0, 0, 0, 1, 98, 0, 0, 0,
+                0
+            ]
+        )],
+    );
 }
 
 /// Pairs of one key alone, and the one that stands.
-const ONE_KEY: [u8; 11] = [3, 0, 0, 0, 7, 1, 7, 3, 7, 2, 0];
+const ONE_KEY: &[u8] = followed![3, 0, 0, 0, 7, 1, 7, 3, 7, 2];
 
-const LAST: [u8; 7] = [1, 0, 0, 0, 7, 2, 0];
+const LAST: &[u8] = followed![1, 0, 0, 0, 7, 2];
 
 #[test]
 fn hashed_maps_are_read_from_other_lists_too(rt: HostRuntime) {
     let alloc = rt.alloc();
     let last = make_hash_map(&rt, alloc, &[(7, 2)]);
-    assert_other_spellings(&rt, alloc, &[(last, &ONE_KEY[..], &LAST[..])]);
+    assert_other_spellings(&rt, alloc, &[(last, ONE_KEY, LAST)]);
 }
 
 /// A hashed map of so many texts, each with its number.

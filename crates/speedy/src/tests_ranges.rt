@@ -1,5 +1,5 @@
 //! Ranges lie as their ends. One that is read can be walked: it has all of its numbers, both ends included.
-use crate::asserting::{assert_encoding, assert_same};
+use crate::asserting::{assert_encoding, assert_same, followed};
 use crate::context::{BigEndian, Context, LittleEndian};
 use crate::endianness::Endianness;
 use crate::readable::{BufferReader, ReadFrom, Readable};
@@ -11,10 +11,10 @@ use std::process::Abort;
 
 #[test]
 fn ranges_lie_as_their_ends(rt: HostRuntime) {
-    let little = [10, 0, 11, 0, 9];
-    let big = [0, 10, 0, 11, 9];
-    assert_encoding(&rt, rt.alloc(), 4, &[(10_u16..11, &little, &big)]);
-    assert_encoding(&rt, rt.alloc(), 4, &[(10_u16..=11, &little, &big)]);
+    let little = followed![10, 0, 11, 0];
+    let big = followed![0, 10, 0, 11];
+    assert_encoding(&rt, rt.alloc(), 4, &[(10_u16..11, little, big)]);
+    assert_encoding(&rt, rt.alloc(), 4, &[(10_u16..=11, little, big)]);
 }
 
 type Numbers = RangeInclusive<u16>;

@@ -1,6 +1,8 @@
 //! Sets: items that gather to them, in any order and repeated, and the items that are written. The bytes come from
 //! outside.
-use crate::asserting::{assert_encoding, assert_other_spellings, assert_reads, gather};
+use crate::asserting::{
+    assert_encoding, assert_other_spellings, assert_spelled, followed, gather, row,
+};
 use crate::context::LittleEndian;
 use crate::varint::VarInt64;
 use indexmap::IndexSet;
@@ -26,74 +28,74 @@ fn make_index_set(rt: &impl Abort, alloc: Global, items: &[u16]) -> IndexSet<u16
 #[test]
 fn tree_sets_lie_in_ascending_order(rt: HostRuntime) {
     let alloc = rt.alloc();
-    let rows = [
-        (
-            make_tree_set(&rt, alloc, &[]),
-            &[0, 0, 0, 0, 9][..],
-            &[0, 0, 0, 0, 9][..],
-        ),
-        (
-            make_tree_set(&rt, alloc, &[256, 2]),
-            &[2, 0, 0, 0, 2, 0, 0, 1, 9][..],
-            &[0, 0, 0, 2, 0, 2, 1, 0, 9][..],
-        ),
-    ];
-    assert_encoding(&rt, alloc, 4, &rows);
+    assert_encoding(
+        &rt,
+        alloc,
+        4,
+        &[
+            row!(make_tree_set(&rt, alloc, &[]), [0, 0, 0, 0], [0, 0, 0, 0]),
+            row!(
+                make_tree_set(&rt, alloc, &[256, 2]),
+                [2, 0, 0, 0, 2, 0, 0, 1],
+                [0, 0, 0, 2, 0, 2, 1, 0]
+            ),
+        ],
+    );
 }
 
 #[test]
 fn hashed_sets_lie_after_their_counts(rt: HostRuntime) {
     let alloc = rt.alloc();
-    let rows = [
-        (
-            make_hash_set(&rt, alloc, &[]),
-            &[0, 0, 0, 0, 9][..],
-            &[0, 0, 0, 0, 9][..],
-        ),
-        (
-            make_hash_set(&rt, alloc, &[256]),
-            &[1, 0, 0, 0, 0, 1, 9][..],
-            &[0, 0, 0, 1, 1, 0, 9][..],
-        ),
-    ];
-    assert_encoding(&rt, alloc, 4, &rows);
+    assert_encoding(
+        &rt,
+        alloc,
+        4,
+        &[
+            row!(make_hash_set(&rt, alloc, &[]), [0, 0, 0, 0], [0, 0, 0, 0]),
+            row!(
+                make_hash_set(&rt, alloc, &[256]),
+                [1, 0, 0, 0, 0, 1],
+                [0, 0, 0, 1, 1, 0]
+            ),
+        ],
+    );
 }
 
 #[test]
 fn indexed_sets_lie_in_their_own_order(rt: HostRuntime) {
     let alloc = rt.alloc();
-    let rows = [
-        (
-            make_index_set(&rt, alloc, &[]),
-            &[0, 0, 0, 0, 9][..],
-            &[0, 0, 0, 0, 9][..],
-        ),
-        (
-            make_index_set(&rt, alloc, &[256, 2]),
-            &[2, 0, 0, 0, 0, 1, 2, 0, 9][..],
-            &[0, 0, 0, 2, 1, 0, 0, 2, 9][..],
-        ),
-    ];
-    assert_encoding(&rt, alloc, 4, &rows);
+    assert_encoding(
+        &rt,
+        alloc,
+        4,
+        &[
+            row!(make_index_set(&rt, alloc, &[]), [0, 0, 0, 0], [0, 0, 0, 0]),
+            row!(
+                make_index_set(&rt, alloc, &[256, 2]),
+                [2, 0, 0, 0, 0, 1, 2, 0],
+                [0, 0, 0, 2, 1, 0, 0, 2]
+            ),
+        ],
+    );
 }
 
 /// Items of which the first and the last are the same.
-const REPEATED: [u8; 11] = [3, 0, 0, 0, 2, 0, 1, 0, 2, 0, 9];
+const REPEATED: &[u8] = followed![3, 0, 0, 0, 2, 0, 1, 0, 2, 0];
 
 #[test]
 fn hashed_sets_are_read_from_other_lists_too(rt: HostRuntime) {
     let alloc = rt.alloc();
     let both = make_hash_set(&rt, alloc, &[1, 2]);
-    assert_reads(&rt, alloc, LittleEndian {}, &both, &REPEATED, 10);
+    assert_spelled(&rt, alloc, LittleEndian {}, &both, REPEATED);
 }
 
 #[test]
 fn items_that_are_spelled_in_two_ways_are_one(rt: HostRuntime) {
     let alloc = rt.alloc();
     let set: BTreeSet<VarInt64> = gather(&rt, alloc, &[VarInt64::from(5_u64)]);
-    let spelled = [2, 0, 0, 0, 0x80, 5, 5, 9];
-    let written = [1, 0, 0, 0, 5, 9];
-    assert_other_spellings(&rt, alloc, &[(set, &spelled[..], &written[..])]);
+    let spelled = followed![2, 0, 0, 0, 0x80, 5, 5];
+    let written = followed![1, 0, 0, 0, 5];
+    assert_other_spellings(&rt, alloc, &[(set, spelled, written)]);
 }
 
 #[test]
@@ -102,6 +104,6 @@ fn sets_hold_a_set_once(rt: HostRuntime) {
     let set: BTreeSet<u8> = gather(&rt, alloc, &[7]);
     let mut sets = HashSet::new(alloc);
     assert!(rt; sets.insert(set).is_ok(), "no room for a set");
-    let spelled = [2, 0, 0, 0, 1, 0, 0, 0, 7, 2, 0, 0, 0, 7, 7, 9];
-    assert_reads(&rt, alloc, LittleEndian {}, &sets, &spelled, 15);
+    let spelled = followed![2, 0, 0, 0, 1, 0, 0, 0, 7, 2, 0, 0, 0, 7, 7];
+    assert_spelled(&rt, alloc, LittleEndian {}, &sets, spelled);
 }

@@ -1,16 +1,17 @@
 //! Writing to sinks and to files: what is pushed, and what a failed call leaves.
+ghost use Rattle.std.specs.Prelude.{[], false};
+
 use crate::asserting::{assert_bytes, assert_ok, assert_same, make_text, make_vec};
 use crate::context::LittleEndian;
-use crate::device::VecSink;
+use crate::device::{Faults, Sink, VecSink};
 use crate::endianness::Endianness;
 use crate::error::Error;
 use crate::private::{ErrorKind, get_error_kind};
 use crate::readable::Readable;
-use crate::tests_devices::{FailingFiles, FileCall, KINDS, make_recorder};
+use crate::tests_devices::{FakeFiles, FileCall, FileCalls, KINDS, make_recorder};
 use crate::writable::{Writable, WritingCollector};
 use crate::writer::Writer;
 use std::alloc::Global;
-use std::cell::Cell;
 use std::process::Abort;
 use std::rt::Files;
 use std::{fs, io};
@@ -41,7 +42,9 @@ fn assert_pushed_in<T: Writable<Endianness>>(
     let mut sink = make_recorder(alloc, 1, 0, io::ErrorKind::Other);
     let outcome = value.write_to_stream_with_ctx(alloc, order, &mut sink);
     assert_ok(rt, outcome, ());
-    assert_bytes(rt, sink.into_inner().taken.as_slice(), bytes);
+    let recorder = sink.into_inner();
+    assert_bytes(rt, recorder.taken.as_slice(), bytes);
+    assert_same(rt, recorder.flushes, 0);
 }
 
 /// Asserts that in the order, where a push of one byte fails with the kind, its error is answered, the bytes before it
@@ -60,7 +63,7 @@ fn assert_cut_off_in<T: Writable<Endianness>>(
         assert_failed_call(rt, outcome, kind);
         let recorder = sink.into_inner();
         assert_bytes(rt, recorder.taken.as_slice(), &bytes[..count]);
-        assert_same(rt, recorder.calls, count + 1);
+        assert_same(rt, (recorder.calls, recorder.flushes), (count + 1, 0));
     }
 }
 
@@ -104,6 +107,51 @@ fn a_nested_value_is_pushed(rt: HostRuntime) {
     let little = [1, 1, 0, 0, 0, 97, 0];
     let big = [1, 0, 0, 0, 1, 97, 0];
     assert_pushed(&rt, alloc, &texts, &little, &big);
+}
+
+/// A sink that takes all that it is given and forgets it. It counts its pushes and its flushes.
+#[derive(Drop)]
+struct Tally {
+    pushes: usize,
+    flushes: usize,
+    settled: bool,
+    faults: Faults,
+}
+
+impl Sink for Tally {
+    ghost sink = { λ s. record { tells = false; taken = []; faults = s.faults; settled = s.settled } };
+
+    fn push(&mut self, bytes: &[u8]) -> Result<usize, io::Error> {
+        self.pushes = self.pushes.saturating_add(1);
+        self.settled = false;
+        Ok(bytes.len())
+    }
+
+    fn flush(&mut self) -> Result<(), io::Error> {
+        self.flushes = self.flushes.saturating_add(1);
+        self.settled = true;
+        Ok(())
+    }
+}
+
+#[test]
+fn no_form_over_a_sink_flushes_it(rt: HostRuntime) {
+    let alloc = rt.alloc();
+    let mut sink = Tally {
+        pushes: 0,
+        flushes: 0,
+        settled: true,
+        faults: Faults::none(),
+    };
+    let outcome = Writable::<LittleEndian>::write_to_stream(&(), alloc, &mut sink);
+    assert_ok(&rt, outcome, ());
+    assert_same(&rt, (sink.pushes, sink.flushes), (0, 0));
+    let outcome = Writable::<LittleEndian>::write_to_stream(&2_u16, alloc, &mut sink);
+    assert_ok(&rt, outcome, ());
+    let outcome = 2_u16.write_to_stream_with_ctx(alloc, Endianness::BigEndian, &mut sink);
+    assert_ok(&rt, outcome, ());
+    assert_same(&rt, (sink.pushes, sink.flushes), (2, 0));
+    assert_same(&rt, sink.settled, false);
 }
 
 #[test]
@@ -194,25 +242,34 @@ fn a_file_that_cannot_be_made_is_refused(rt: HostRuntime) {
     assert_failed_call(&rt, outcome, io::ErrorKind::NotFound);
 }
 
+/// The outcome of writing two bytes to a file of which each call of this name fails, and how often it was written to and
+/// flushed.
+fn write_to_fake(alloc: Global, fails: Option<FileCall>) -> (Result<(), Error>, (u8, u8)) {
+    let calls = FileCalls::none();
+    let files = FakeFiles {
+        fails,
+        calls: &calls,
+    };
+    let outcome = 2_u16.write_to_file_with_ctx(&files, alloc, Endianness::LittleEndian, "any");
+    (outcome, (calls.writes.get(), calls.flushes.get()))
+}
+
 #[test]
 fn a_failed_call_of_a_file_is_answered_and_not_tried_again(rt: HostRuntime) {
-    for (fails, expected) in [
-        (FileCall::Open, 0),
-        (FileCall::Write, 1),
-        (FileCall::Flush, 2),
+    for (call, expected) in [
+        (FileCall::Open, (0, 0)),
+        (FileCall::Write, (1, 0)),
+        (FileCall::Flush, (1, 1)),
     ] {
-        let calls = Cell::new(0);
-        let files = FailingFiles {
-            fails,
-            calls: &calls,
-        };
-        let outcome = 2_u16.write_to_file_with_ctx(
-            &files,
-            rt.alloc(),
-            Endianness::LittleEndian,
-            "any",
-        );
+        let (outcome, found) = write_to_fake(rt.alloc(), Some(call));
         assert_failed_call(&rt, outcome, io::ErrorKind::Other);
-        assert_same(&rt, calls.get(), expected);
+        assert_same(&rt, found, expected);
     }
+}
+
+#[test]
+fn a_file_is_flushed_once(rt: HostRuntime) {
+    let (outcome, found) = write_to_fake(rt.alloc(), None);
+    assert_ok(&rt, outcome, ());
+    assert_same(&rt, found, (1, 1));
 }

@@ -1,52 +1,68 @@
 //! Reading from sources and files: what is answered, and what the source has left.
-use crate::asserting::{assert_bytes, assert_ok, assert_refused, assert_same};
+ghost use Rattle.std.specs.Prelude.{[], false};
+
+use crate::asserting::{
+    assert_bytes, assert_kind, assert_ok, assert_ok_items, assert_refused, assert_same,
+};
 use crate::context::LittleEndian;
-use crate::device::{Counted, Source};
+use crate::device::{Faults, Source};
 use crate::endianness::Endianness;
 use crate::error::{Error, ErrorKind, IsEof, get_error_kind};
 use crate::readable::{Readable, StreamReader};
 use crate::reader::LendingReader;
+use crate::tests_devices::{FakeFiles, FileCall, FileCalls};
 use std::alloc::Global;
-use std::io::Read;
+use std::collections::BTreeSet;
 use std::process::Abort;
 use std::{fs, io};
 
-/// Bytes that come so many a call at most. After so many calls one fails, and then they come again.
+/// Bytes that come so many a pull at most. After so many pulls one fails with an error of the system, and then they come
+/// again.
 #[derive(Drop)]
 struct Pieces<'a> {
     left: &'a [u8],
     most: usize,
-    calls_before_fault: Option<usize>,
-    calls: usize,
+    pulls_before_fault: Option<usize>,
+    code: i32,
+    pulls: usize,
+    faults: Faults,
 }
 
-fn make_pieces<'a>(
-    left: &'a [u8],
-    most: usize,
-    calls_before_fault: Option<usize>,
-) -> Counted<Pieces<'a>> {
-    Counted::new(Pieces {
+/// The codes of the system's errors for an interrupted call and for a lost connection: std's own loops try the first
+/// again.
+const INTERRUPTED: i32 = 4;
+
+const CODES: [i32; 2] = [INTERRUPTED, 104];
+
+fn make_pieces<'a>(left: &'a [u8], most: usize, pulls_before_fault: Option<usize>) -> Pieces<'a> {
+    Pieces {
         left,
         most,
-        calls_before_fault,
-        calls: 0,
-    })
+        pulls_before_fault,
+        code: INTERRUPTED,
+        pulls: 0,
+        faults: Faults::none(),
+    }
 }
 
-impl Read for Pieces<'_> {
-    fn read(&mut self, buf: &mut [u8]) -> io::Result<usize> {
-        self.calls = self.calls.saturating_add(1);
-        match self.calls_before_fault {
+impl Source for Pieces<'_> {
+    ghost source = { λ s. record { tells = false; to_come = []; faults = s.faults } };
+
+    fn pull(&mut self, output: &mut [u8]) -> Result<usize, io::Error> {
+        self.pulls = self.pulls.saturating_add(1);
+        match self.pulls_before_fault {
             Some(0) => {
-                self.calls_before_fault = None;
-                return Err(io::Error::from(io::ErrorKind::Interrupted));
+                self.pulls_before_fault = None;
+                let error = io::Error::from_raw_os_error(self.code);
+                self.faults.add(error);
+                return Err(error);
             }
-            Some(calls) => self.calls_before_fault = Some(calls - 1),
+            Some(pulls) => self.pulls_before_fault = Some(pulls - 1),
             None => (),
         }
-        let count = buf.len().min(self.most).min(self.left.len());
+        let count = output.len().min(self.most).min(self.left.len());
         let (front, left) = self.left.split_at(count);
-        buf[..count].copy_from_slice(front);
+        output[..count].copy_from_slice(front);
         self.left = left;
         Ok(count)
     }
@@ -61,9 +77,20 @@ fn device_kind(error: &Error) -> Option<io::ErrorKind> {
 }
 
 /// Asserts that the outcome is a refusal that holds a device's error of this kind.
-fn assert_fault<T: Drop>(rt: &impl Abort, outcome: Result<T, Error>, kind: io::ErrorKind) {
+fn assert_device_refused<T: Drop>(rt: &impl Abort, outcome: Result<T, Error>, kind: io::ErrorKind) {
     let error = outcome.err().expect(rt, "it is refused");
     assert_same(rt, device_kind(&error), Some(kind));
+}
+
+/// Asserts that the outcome is a refusal that holds the system's error of this code, and that it is no end of the bytes.
+fn assert_fault<T: Drop>(rt: &impl Abort, outcome: Result<T, Error>, code: i32) {
+    let error = outcome.err().expect(rt, "it is refused");
+    let found = match get_error_kind(&error) {
+        ErrorKind::IoError(inner) => inner.raw_os_error(),
+        _ => None,
+    };
+    assert_same(rt, found, Some(code));
+    assert_same(rt, error.is_eof(), false);
 }
 
 /// The next message: a number and a text. The source has lost just its bytes.
@@ -121,9 +148,7 @@ fn a_buffered_reader_keeps_what_it_read_ahead(rt: HostRuntime) {
     let alloc = rt.alloc();
     let bytes = vec![in alloc; 7; 20_000].expect(&rt, "a buffer");
     let mut source: &[u8] = &bytes;
-    let mut reader = StreamReader::new(alloc, LittleEndian {}, &mut source, true).expect(
-        &rt, "a reader",
-    );
+    let mut reader = make_reader(&rt, alloc, &mut source, true);
     assert_ok(&rt, reader.read_u8(), 7);
     assert_same(&rt, reader.can_read_at_least(8_191), Some(true));
     assert_same(&rt, reader.can_read_at_least(8_192), None);
@@ -136,9 +161,7 @@ fn a_long_read_empties_the_ring_and_takes_no_more(rt: HostRuntime) {
     let bytes = vec![in alloc; 7; 20_000].expect(&rt, "a buffer");
     let mut output = vec![in alloc; 0; 10_000].expect(&rt, "an output");
     let mut source: &[u8] = &bytes;
-    let mut reader = StreamReader::new(alloc, LittleEndian {}, &mut source, true).expect(
-        &rt, "a reader",
-    );
+    let mut reader = make_reader(&rt, alloc, &mut source, true);
     assert_ok(&rt, reader.read_u8(), 7);
     assert_ok(&rt, reader.read_bytes(output.as_mut_slice()), ());
     assert_same(&rt, reader.can_read_at_least(1), None);
@@ -150,9 +173,7 @@ fn a_long_read_empties_the_ring_and_takes_no_more(rt: HostRuntime) {
 fn a_peek_takes_nothing_and_pulls_what_lacks(rt: HostRuntime) {
     let alloc = rt.alloc();
     let mut source: &[u8] = &[1, 2, 3, 4, 5];
-    let mut reader = StreamReader::new(alloc, LittleEndian {}, &mut source, false).expect(
-        &rt, "a reader",
-    );
+    let mut reader = make_reader(&rt, alloc, &mut source, false);
     assert_ok(&rt, reader.peek_u8(), 1);
     let mut pair = [0; 2];
     assert_ok(&rt, reader.peek_bytes(&mut pair), ());
@@ -208,9 +229,7 @@ fn what_borrows_is_refused_by_a_stream(rt: HostRuntime) {
 #[test]
 fn a_peeked_integer_is_read_next(rt: HostRuntime) {
     let mut source = make_pieces(&[0xBF, 0xFF], 1, None);
-    let mut reader = StreamReader::new(rt.alloc(), LittleEndian {}, &mut source, true).expect(
-        &rt, "a reader",
-    );
+    let mut reader = make_reader(&rt, rt.alloc(), &mut source, true);
     assert_ok(&rt, reader.peek_u64_varint(), 16_383);
     assert_ok(&rt, reader.peek_u64_varint(), 16_383);
     assert_ok(&rt, reader.read_u64_varint(), 16_383);
@@ -246,7 +265,7 @@ fn assert_long_vector(rt: &impl Abort, alloc: Global, most: usize) {
     );
     let read = outcome.expect(rt, "a vector");
     assert_bytes(rt, read.as_slice(), &bytes[4..10_004]);
-    assert_same(rt, source.into_inner().left.len(), 9);
+    assert_same(rt, source.left.len(), 9);
     let mut source = make_pieces(&bytes, most, None);
     let outcome = <Vec<u8> as Readable<LittleEndian>>::read_from_stream_buffered(
         alloc,
@@ -254,7 +273,7 @@ fn assert_long_vector(rt: &impl Abort, alloc: Global, most: usize) {
     );
     let read = outcome.expect(rt, "a vector");
     assert_bytes(rt, read.as_slice(), &bytes[4..10_004]);
-    assert!(rt; source.into_inner().left.len() <= 9);
+    assert!(rt; source.left.len() <= 9);
 }
 
 #[test]
@@ -271,29 +290,216 @@ fn nothing_is_read_without_a_call(rt: HostRuntime) {
     assert_ok(&rt, outcome, ());
     let outcome = <() as Readable<LittleEndian>>::read_from_stream_buffered(alloc, &mut source);
     assert_ok(&rt, outcome, ());
-    assert_same(&rt, source.into_inner().calls, 0);
+    assert_same(&rt, source.pulls, 0);
+}
+
+/// A reader of the source.
+fn make_reader<'s, S: Source>(
+    rt: &impl Abort,
+    alloc: Global,
+    source: &'s mut S,
+    is_buffering: bool,
+) -> StreamReader<'s, S, LittleEndian> {
+    StreamReader::new(alloc, LittleEndian {}, source, is_buffering).expect(rt, "a reader")
 }
 
 #[test]
-fn a_failed_call_is_answered_and_not_tried_again(rt: HostRuntime) {
+fn a_reader_makes_no_call_for_no_byte(rt: HostRuntime) {
+    let alloc = rt.alloc();
+    for is_buffering in [false, true] {
+        let mut source = make_pieces(&[], 1, Some(0));
+        let mut reader = make_reader(&rt, alloc, &mut source, is_buffering);
+        assert_ok(&rt, reader.read_bytes(&mut []), ());
+        assert_ok(&rt, reader.peek_bytes(&mut []), ());
+        assert_ok(&rt, reader.skip_bytes(0), ());
+        assert_ok_items(&rt, reader.read_vec::<u8>(0), &[]);
+        assert_same(&rt, reader.into_source().pulls, 0);
+    }
+}
+
+/// Asserts that a read of so many bytes is refused as an end of the input, where the source lacks one of them: with the
+/// kind of a device's error, or as `UnexpectedEndOfInput` where there is none.
+fn assert_ends_early(
+    rt: &impl Abort,
+    alloc: Global,
+    is_buffering: bool,
+    count: usize,
+    kind: Option<io::ErrorKind>,
+) {
+    let mut output = vec![in alloc; 0; count].expect(rt, "an output");
+    let bytes = vec![in alloc; 7; count.saturating_sub(1)].expect(rt, "a buffer");
+    let mut source: &[u8] = &bytes;
+    let mut reader = make_reader(rt, alloc, &mut source, is_buffering);
+    let outcome = reader.read_bytes(output.as_mut_slice());
+    let error = outcome.err().expect(rt, "a byte is missing");
+    assert_same(rt, device_kind(&error), kind);
+    assert_same(rt, error.is_eof(), true);
+    if kind.is_none() {
+        assert_kind(rt, alloc, &error, "UnexpectedEndOfInput");
+    }
+}
+
+#[test]
+fn a_long_read_that_ends_early_is_refused_by_the_way_it_takes(rt: HostRuntime) {
+    let past_the_ring = Some(io::ErrorKind::UnexpectedEof);
+    for (is_buffering, count, kind) in [
+        (true, 1, None),
+        (true, 5_000, None),
+        (true, 8_191, None),
+        (true, 8_192, past_the_ring),
+        (true, 10_000, past_the_ring),
+        (false, 1, past_the_ring),
+        (false, 5_000, past_the_ring),
+    ] {
+        assert_ends_early(&rt, rt.alloc(), is_buffering, count, kind);
+    }
+}
+
+/// Ways to read or to see the next three bytes.
+#[derive(Clone, Copy, Debug, PartialEq, Eq)]
+enum Way {
+    Read,
+    Peek,
+    Skip,
+    Bytes,
+    Number,
+    Option,
+    Text,
+    Varint,
+    PeekedVarint,
+    Set,
+}
+
+const WAYS: [Way; 10] = [
+    Way::Read,
+    Way::Peek,
+    Way::Skip,
+    Way::Bytes,
+    Way::Number,
+    Way::Option,
+    Way::Text,
+    Way::Varint,
+    Way::PeekedVarint,
+    Way::Set,
+];
+
+/// Three bytes and one behind them: a variable integer of three bytes, an option of a number, or three items.
+const THREE: [u8; 4] = [0xC0, 0x02, 0x01, 9];
+
+/// The outcome without its value.
+fn without_value<T: Drop>(outcome: Result<T, Error>) -> Result<(), Error> {
+    match outcome {
+        Ok(_) => Ok(()),
+        Err(error) => Err(error),
+    }
+}
+
+/// Whether the three bytes are read in this way.
+fn read_by(reader: &mut StreamReader<'_, Pieces<'_>, LittleEndian>, way: Way) -> Result<(), Error> {
+    match way {
+        Way::Read => reader.read_bytes(&mut [0; 3]),
+        Way::Peek => reader.peek_bytes(&mut [0; 3]),
+        Way::Skip => reader.skip_bytes(3),
+        Way::Bytes => without_value(reader.read_vec::<u8>(3)),
+        Way::Number => without_value(reader.read_owned_value::<(u16, u8)>()),
+        Way::Option => without_value(reader.read_owned_value::<Option<u16>>()),
+        Way::Text => without_value(reader.read_string(3)),
+        Way::Varint => without_value(reader.read_u64_varint()),
+        Way::PeekedVarint => without_value(reader.peek_u64_varint()),
+        Way::Set => without_value(reader.read_collection::<BTreeSet<u8>, u8>(3)),
+    }
+}
+
+/// Asserts that where a pull fails, whichever of the three it is, its error is what the reading answers, and no pull
+/// comes after it.
+fn assert_cut_off(rt: &impl Abort, alloc: Global, way: Way, is_buffering: bool, code: i32) {
+    for pulls in 0..3 {
+        let mut source = Pieces {
+            code,
+            ..make_pieces(&THREE, 1, Some(pulls))
+        };
+        let mut reader = make_reader(rt, alloc, &mut source, is_buffering);
+        let outcome = read_by(&mut reader, way);
+        assert_fault(rt, outcome, code);
+        let source = reader.into_source();
+        assert!(rt; source.pulls == pulls + 1, "{way:?} after {pulls} pulls");
+    }
+}
+
+#[test]
+fn a_failed_pull_is_answered_by_each_way_and_not_tried_again(rt: HostRuntime) {
+    for way in WAYS {
+        for code in CODES {
+            assert_cut_off(&rt, rt.alloc(), way, false, code);
+            assert_cut_off(&rt, rt.alloc(), way, true, code);
+        }
+    }
+}
+
+#[test]
+fn a_failed_peek_loses_nothing(rt: HostRuntime) {
+    let alloc = rt.alloc();
+    for pulls in 0..3 {
+        let mut source = make_pieces(&THREE, 1, Some(pulls));
+        let mut reader = make_reader(&rt, alloc, &mut source, false);
+        assert_fault(&rt, reader.peek_bytes(&mut [0; 3]), INTERRUPTED);
+        assert_ok(&rt, reader.peek_u64_varint(), 0x102);
+        assert_ok(&rt, reader.peek_u8(), 0xC0);
+        assert_ok_items(&rt, reader.read_vec::<u8>(3), &THREE[..3]);
+        assert_same(&rt, reader.into_source().pulls, 4);
+    }
+}
+
+/// Asserts that whichever pull fails, of one a byte, its error is what each form answers, and no pull comes after it.
+fn assert_form_cut_off<'a, T: Readable<'a, Endianness>>(
+    rt: &impl Abort,
+    alloc: Global,
+    bytes: &[u8],
+    code: i32,
+) {
+    for pulls in 0..bytes.len() {
+        for is_buffering in [false, true] {
+            let mut source = Pieces {
+                code,
+                ..make_pieces(bytes, 1, Some(pulls))
+            };
+            let order = Endianness::LittleEndian;
+            let outcome = if is_buffering {
+                T::read_from_stream_buffered_with_ctx(alloc, order, &mut source)
+            } else {
+                T::read_from_stream_unbuffered_with_ctx(alloc, order, &mut source)
+            };
+            assert_fault(rt, outcome, code);
+            assert_same(rt, source.pulls, pulls + 1);
+        }
+    }
+}
+
+#[test]
+fn a_failed_pull_is_answered_by_each_form_and_not_tried_again(rt: HostRuntime) {
+    for code in CODES {
+        assert_form_cut_off::<u32>(&rt, rt.alloc(), &[1, 2, 3, 4], code);
+        let list = [2, 0, 0, 0, 7, 8];
+        assert_form_cut_off::<Vec<u8>>(&rt, rt.alloc(), &list, code);
+    }
+}
+
+#[test]
+fn a_source_goes_on_after_a_failed_pull(rt: HostRuntime) {
     let alloc = rt.alloc();
     let mut source = make_pieces(&[1, 2, 3, 4, 5, 6], 1, Some(2));
     let outcome = <u32 as Readable<LittleEndian>>::read_from_stream_unbuffered(alloc, &mut source);
-    assert_fault(&rt, outcome, io::ErrorKind::Interrupted);
+    assert_fault(&rt, outcome, INTERRUPTED);
     let outcome = <u8 as Readable<LittleEndian>>::read_from_stream_unbuffered(alloc, &mut source);
     assert_ok(&rt, outcome, 3);
-    assert_same(&rt, source.into_inner().calls, 4);
-    let mut source = make_pieces(&[1, 2, 3, 4, 5, 6], 1, Some(2));
-    let outcome = <u32 as Readable<LittleEndian>>::read_from_stream_buffered(alloc, &mut source);
-    assert_fault(&rt, outcome, io::ErrorKind::Interrupted);
-    assert_same(&rt, source.into_inner().calls, 3);
+    assert_same(&rt, source.pulls, 4);
 }
 
 #[test]
 fn a_file_that_is_not_there_is_an_io_error(rt: HostRuntime) {
     let alloc = rt.alloc();
     let outcome = <u16 as Readable<LittleEndian>>::read_from_file(&rt, alloc, "no/such/file");
-    assert_fault(&rt, outcome, io::ErrorKind::NotFound);
+    assert_device_refused(&rt, outcome, io::ErrorKind::NotFound);
 }
 
 #[test]
@@ -306,6 +512,33 @@ fn a_file_is_read_as_a_stream(rt: HostRuntime) {
     let outcome = <u64 as Readable<LittleEndian>>::read_from_file(&rt, alloc, path);
     assert_refused(&rt, alloc, outcome, "UnexpectedEndOfInput");
     assert!(rt; fs::remove_file(&rt, path).is_ok());
+}
+
+/// Files that hold nothing, of which each call of this name fails.
+fn make_files(fails: Option<FileCall>, calls: &FileCalls) -> FakeFiles<'_> {
+    FakeFiles { fails, calls }
+}
+
+#[test]
+fn a_file_is_read_by_the_buffered_form(rt: HostRuntime) {
+    let calls = FileCalls::none();
+    let files = make_files(None, &calls);
+    let outcome = <u16 as Readable<LittleEndian>>::read_from_file(&files, rt.alloc(), "any");
+    assert_refused(&rt, rt.alloc(), outcome, "UnexpectedEndOfInput");
+    assert_same(&rt, (calls.reads.get(), calls.room.get()), (1, 8_192));
+}
+
+#[test]
+fn a_failed_read_of_a_file_is_answered_and_not_tried_again(rt: HostRuntime) {
+    let calls = FileCalls::none();
+    let files = make_files(Some(FileCall::Read), &calls);
+    let outcome = <u16 as Readable<LittleEndian>>::read_from_file(&files, rt.alloc(), "any");
+    assert_device_refused(&rt, outcome, io::ErrorKind::Other);
+    assert_same(&rt, calls.reads.get(), 1);
+    let files = make_files(Some(FileCall::Open), &calls);
+    let outcome = <u16 as Readable<LittleEndian>>::read_from_file(&files, rt.alloc(), "any");
+    assert_device_refused(&rt, outcome, io::ErrorKind::Other);
+    assert_same(&rt, calls.reads.get(), 1);
 }
 
 /// Asserts that what was read of a stream is this value, or that it is refused where there is none.
@@ -336,7 +569,7 @@ fn assert_read_in_pieces<'a, T: Readable<'a, Endianness> + PartialEq>(
     let outcome = T::read_from_stream_unbuffered_with_ctx(alloc, order, &mut source);
     assert_value_or_refused(rt, outcome, value);
     if value.is_some() {
-        let left = source.into_inner().left.len();
+        let left = source.left.len();
         assert_same(rt, left, bytes.len().saturating_sub(count));
     }
     let mut source = make_pieces(bytes, most, None);

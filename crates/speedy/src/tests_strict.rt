@@ -3,7 +3,7 @@
 //!
 //! A helper here is generic in the context and names the type that it reads, so it is proved once for all contexts.
 use crate::asserting::{
-    assert_encoding_under, assert_ok, assert_ok_items, assert_refused, assert_same,
+    assert_encoding_under, assert_ok, assert_ok_items, assert_refused, assert_same, followed,
 };
 use crate::context::{BigEndian, Context, LittleEndian, StrictBigEndian, StrictLittleEndian};
 use crate::endianness::Endianness;
@@ -200,16 +200,16 @@ fn nanoseconds_carry_where_no_form_is_demanded(rt: HostRuntime) {
     assert_carries(&rt, alloc, Endianness::LittleEndian, &rows);
 }
 
-/// Asserts that the value is written as all but the last of the bytes, and read of them.
+/// Asserts that the value is written as its bytes, and read of them.
 fn assert_written_form<C: Context<Error = Error> + Copy>(
     rt: &impl Abort,
     alloc: Global,
     context: C,
     value: Option<Duration>,
 ) {
-    let little = [1, 1, 0, 0, 0, 0, 0, 0, 0, 255, 0xc9, 0x9a, 0x3b, 9];
-    let big = [1, 0, 0, 0, 0, 0, 0, 0, 1, 0x3b, 0x9a, 0xc9, 255, 9];
-    let bytes = in_order(context, &little, &big);
+    let little = followed![1, 1, 0, 0, 0, 0, 0, 0, 0, 255, 0xc9, 0x9a, 0x3b];
+    let big = followed![1, 0, 0, 0, 0, 0, 0, 0, 1, 0x3b, 0x9a, 0xc9, 255];
+    let bytes = in_order(context, little, big);
     assert_encoding_under(rt, alloc, context, &value, bytes);
 }
 

@@ -1,26 +1,26 @@
 //! Tuples lie part by part. The bytes come from outside.
-use crate::asserting::assert_encoding;
+use crate::asserting::{assert_encoding, followed, row};
 
-/// Bytes that count up from 0, with one after them.
-const COUNTED: [u8; 61] = [
+/// Bytes that count up from 0.
+const COUNTED: &[u8] = followed![
     0, 1, 2, 3, 4, 5, 6, 7, 8, 9, 10, 11, 12, 13, 14, 15, 16, 17, 18, 19, 20, 21, 22, 23, 24, 25,
     26, 27, 28, 29, 30, 31, 32, 33, 34, 35, 36, 37, 38, 39, 40, 41, 42, 43, 44, 45, 46, 47, 48, 49,
-    50, 51, 52, 53, 54, 55, 56, 57, 58, 59, 60,
+    50, 51, 52, 53, 54, 55, 56, 57, 58, 59,
 ];
 
 #[test]
 fn tuples_lie_part_by_part(rt: HostRuntime) {
     let alloc = rt.alloc();
-    assert_encoding(&rt, alloc, 2, &[((10_u16,), &[10, 0, 9], &[0, 10, 9])]);
-    let rows = [(
-        (10_u16, 11_u16),
-        &[10, 0, 11, 0, 9][..],
-        &[0, 10, 0, 11, 9][..],
-    )];
-    assert_encoding(&rt, alloc, 4, &rows);
-    let little = [1, 2, 0, 3, 0, 0, 0, 9];
-    let big = [1, 0, 2, 0, 0, 0, 3, 9];
-    assert_encoding(&rt, alloc, 7, &[((1_u8, 2_u16, 3_u32), &little, &big)]);
+    assert_encoding(&rt, alloc, 2, &[row!((10_u16,), [10, 0], [0, 10])]);
+    assert_encoding(
+        &rt,
+        alloc,
+        4,
+        &[row!((10_u16, 11_u16), [10, 0, 11, 0], [0, 10, 0, 11])],
+    );
+    let little = followed![1, 2, 0, 3, 0, 0, 0];
+    let big = followed![1, 0, 2, 0, 0, 0, 3];
+    assert_encoding(&rt, alloc, 7, &[((1_u8, 2_u16, 3_u32), little, big)]);
 }
 
 // A tuple of each size from 4 on, whose parts are counted from 0.
@@ -41,15 +41,22 @@ fn long_tuples_lie_part_by_part(rt: HostRuntime) {
         49_u8, 50_u8, 51_u8, 52_u8, 53_u8, 54_u8, 55_u8, 56_u8, 57_u8, 58_u8, 59_u8,
     );
     let all = (four, five, six, seven, eight, nine, ten, eleven);
-    assert_encoding(&rt, rt.alloc(), 60, &[(all, &COUNTED, &COUNTED)]);
+    assert_encoding(&rt, rt.alloc(), 60, &[(all, COUNTED, COUNTED)]);
 }
 
 #[test]
 fn tuples_and_options_lie_within_each_other(rt: HostRuntime) {
     let alloc = rt.alloc();
     let bytes = vec![in alloc; 3_u8].expect(&rt, "a vector");
-    let little = [7, 1, 2, 0, 1, 0, 0, 0, 3, 9];
-    let big = [7, 1, 0, 2, 0, 0, 0, 1, 3, 9];
     let nested = (7_u8, Some((2_u16, bytes)));
-    assert_encoding(&rt, alloc, 2, &[(nested, &little, &big)]);
+    assert_encoding(
+        &rt,
+        alloc,
+        2,
+        &[row!(
+            nested,
+            [7, 1, 2, 0, 1, 0, 0, 0, 3],
+            [7, 1, 0, 2, 0, 0, 0, 1, 3]
+        )],
+    );
 }

@@ -1,6 +1,8 @@
 //! Views show the items that their bytes spell under the little order, wherever the bytes lie, and are written in
 //! either order.
-use crate::asserting::{assert_refused, assert_same, assert_written, make_text, make_vec};
+use crate::asserting::{
+    assert_refused, assert_same, assert_written, followed, make_text, make_vec,
+};
 use crate::context::LittleEndian;
 use crate::readable::Readable;
 use crate::view_items::ViewItem;
@@ -115,8 +117,9 @@ fn assert_pair_read(rt: &impl Abort, alloc: Global, bytes: &[u8]) {
     let view = outcome.expect(rt, "a view");
     assert_same(rt, count, 8);
     assert_shows(rt, &view, &[513, 1027]);
-    let little = [2, 0, 0, 0, 1, 2, 3, 4, 9];
-    assert_written(rt, alloc, &view, &little, &[0, 0, 0, 2, 2, 1, 4, 3, 9]);
+    let little = followed![2, 0, 0, 0, 1, 2, 3, 4];
+    let big = followed![0, 0, 0, 2, 2, 1, 4, 3];
+    assert_written(rt, alloc, &view, little, big);
 }
 
 #[test]
@@ -178,32 +181,27 @@ fn views_are_printed_as_lists(rt: HostRuntime) {
 fn views_are_written_in_either_order(rt: HostRuntime) {
     let alloc = rt.alloc();
     let view: SliceView<u16> = SliceView::over(&[1, 2, 3, 4]);
-    let little = [2, 0, 0, 0, 1, 2, 3, 4, 9];
-    let big = [0, 0, 0, 2, 2, 1, 4, 3, 9];
-    assert_written(&rt, alloc, &view, &little, &big);
+    let little = followed![2, 0, 0, 0, 1, 2, 3, 4];
+    let big = followed![0, 0, 0, 2, 2, 1, 4, 3];
+    assert_written(&rt, alloc, &view, little, big);
     let array: ArrayView<u16, 2> = ArrayView::over(&[1, 2, 3, 4]);
-    assert_written(&rt, alloc, &array, &[1, 2, 3, 4, 9], &[2, 1, 4, 3, 9]);
-    assert_written(
-        &rt,
-        alloc,
-        &&[1_u8, 2, 3, 4],
-        &[1, 2, 3, 4, 9],
-        &[1, 2, 3, 4, 9],
-    );
+    let little = followed![1, 2, 3, 4];
+    assert_written(&rt, alloc, &array, little, followed![2, 1, 4, 3]);
+    assert_written(&rt, alloc, &&[1_u8, 2, 3, 4], little, little);
 }
 
 #[test]
 fn cows_are_written_as_what_they_show(rt: HostRuntime) {
     let alloc = rt.alloc();
-    let little = [2, 0, 0, 0, 72, 105, 9];
-    let big = [0, 0, 0, 2, 72, 105, 9];
+    let little = followed![2, 0, 0, 0, 72, 105];
+    let big = followed![0, 0, 0, 2, 72, 105];
     let borrowed: CowStr = CowStr::Borrowed("Hi");
-    assert_written(&rt, alloc, &borrowed, &little, &big);
+    assert_written(&rt, alloc, &borrowed, little, big);
     let owned: CowStr = CowStr::Owned(make_text(&rt, alloc, "Hi"));
-    assert_written(&rt, alloc, &owned, &little, &big);
+    assert_written(&rt, alloc, &owned, little, big);
     let borrowed: CowSlice<u8> = CowSlice::Borrowed(b"Hi");
-    assert_written(&rt, alloc, &borrowed, &little, &big);
-    let little = [1, 0, 0, 0, 255, 0, 9];
+    assert_written(&rt, alloc, &borrowed, little, big);
+    let little = followed![1, 0, 0, 0, 255, 0];
     let owned: CowSlice<u16> = CowSlice::Owned(make_vec(&rt, alloc, &[255_u16]));
-    assert_written(&rt, alloc, &owned, &little, &[0, 0, 0, 1, 0, 255, 9]);
+    assert_written(&rt, alloc, &owned, little, followed![0, 0, 0, 1, 0, 255]);
 }

@@ -1,72 +1,73 @@
 -- What sources and sinks of bytes do in one call.
-use Rattle.std.specs.Prelude.{◌≡◌, ℕ, ◌-◌, ◌^◌, ◌<◌, ◌≤◌, ◌⊎◌, Bool, List, [], ◌++◌, length, take, IsTrue, Result, IfOk, OnOk, OnErr}
+use Rattle.std.specs.Prelude.{◌≡◌, ℕ, ◌<◌, ◌≤◌, Bool, List, [], ◌++◌, length, take, IsTrue, Result, IfOk, OnOk, IfErr, OnErr}
+use Rattle.std.specs.declared.io.Error.{Error as StdIoError}
+use Rattle.speedy_base.specs.declared.device.Faults.{Faults}
+use Rattle.speedy_base.specs.FailedCalls.{OneFailed}
 
--- a source: whether it tells which bytes it will give, those bytes where it does, and how many of its calls have failed
+-- a source: whether it tells which bytes it will give, those bytes where it does, and its failed calls
 pub record SourceState : Type 0 where
   pub tells : Bool
   pub to_come : List ℕ
-  pub faults : ℕ
+  pub faults : Faults
 
--- a sink: whether it tells which bytes it took, those bytes where it does, how many of its calls have failed, and whether all that it took was passed on
+-- a sink: whether it tells which bytes it took, those bytes where it does, its failed calls, and whether all that it took was passed on
 pub record SinkState : Type 0 where
   pub tells : Bool
   pub taken : List ℕ
-  pub faults : ℕ
+  pub faults : Faults
   pub settled : Bool
 
--- a number of failed calls that is kept in 64 bits stays at its greatest value, and counts as grown there
-abbrev pub HasGrown : ℕ → ℕ → Type 0
-HasGrown old new = (old < new) ⊎ (2 ^ 64 - 1 ≤ new)
-
 -- one call of `pull`, which left this output
-pub record Pulls {E : Type 0} (result : Result ℕ E) (old new : SourceState) (output : List ℕ) : Type 0 where
+pub record Pulls (result : Result ℕ StdIoError) (old new : SourceState) (output : List ℕ) : Type 0 where
   -- what tells its bytes goes on doing so
   pub same_tells : new.tells ≡ old.tells
   -- no failed call is forgotten
-  pub faults_kept : old.faults ≤ new.faults
+  pub faults_kept : old.faults.count ≤ new.faults.count
   -- `Ok(n)` is a count of bytes of the output
   pub within : IfOk result (λ n. n ≤ length output)
-  -- what succeeds is not counted as failed
+  -- what succeeds is no failed call
   pub no_fault : OnOk result (new.faults ≡ old.faults)
   -- the first n bytes to come are at the front of the output, and the others are still to come
   pub moved : IfOk result (λ n. IsTrue old.tells → old.to_come ≡ take n output ++ new.to_come)
   -- none are given only where none are to come, or where there is no room
   pub ends : IfOk result (λ n. IsTrue old.tells → n ≡ 0 → 0 < length output → old.to_come ≡ [])
-  -- what fails is counted
-  pub fault : OnErr result (HasGrown old.faults new.faults)
+  -- what fails is counted, and its error is kept as the last
+  pub fault : IfErr result (λ error. OneFailed error old.faults new.faults)
   -- and takes no byte from those to come
   pub unmoved : OnErr result (IsTrue old.tells → new.to_come ≡ old.to_come)
 
 -- one call of `push` with these bytes
-pub record Pushes {E : Type 0} (result : Result ℕ E) (old new : SinkState) (bytes : List ℕ) : Type 0 where
+pub record Pushes (result : Result ℕ StdIoError) (old new : SinkState) (bytes : List ℕ) : Type 0 where
   -- what tells its bytes goes on doing so
   pub same_tells : new.tells ≡ old.tells
   -- no failed call is forgotten
-  pub faults_kept : old.faults ≤ new.faults
+  pub faults_kept : old.faults.count ≤ new.faults.count
   -- `Ok(n)` is a count of these bytes
   pub within : IfOk result (λ n. n ≤ length bytes)
   -- to take none of some bytes is a failure
   pub takes_some : IfOk result (λ n. 0 < length bytes → 0 < n)
-  -- what succeeds is not counted as failed
+  -- what succeeds is no failed call
   pub no_fault : OnOk result (new.faults ≡ old.faults)
   -- the first n bytes were taken, after those that were taken before
   pub moved : IfOk result (λ n. IsTrue old.tells → new.taken ≡ old.taken ++ take n bytes)
-  -- what fails is counted
-  pub fault : OnErr result (HasGrown old.faults new.faults)
+  -- what fails is counted, and its error is kept as the last
+  pub fault : IfErr result (λ error. OneFailed error old.faults new.faults)
   -- and takes no byte
   pub unmoved : OnErr result (IsTrue old.tells → new.taken ≡ old.taken)
+  -- what waited before goes on waiting: to pass it on is what a flush is for
+  pub waits : IsTrue new.settled → IsTrue old.settled
 
 -- one call of `flush`
-pub record Flushes {T E : Type 0} (result : Result T E) (old new : SinkState) : Type 0 where
+pub record Flushes {T : Type 0} (result : Result T StdIoError) (old new : SinkState) : Type 0 where
   -- what tells its bytes goes on doing so
   pub same_tells : new.tells ≡ old.tells
   -- a flush takes no byte
   pub same_taken : new.taken ≡ old.taken
   -- no failed call is forgotten
-  pub faults_kept : old.faults ≤ new.faults
-  -- what succeeds is not counted as failed
+  pub faults_kept : old.faults.count ≤ new.faults.count
+  -- what succeeds is no failed call
   pub no_fault : OnOk result (new.faults ≡ old.faults)
-  -- what fails is counted
-  pub fault : OnErr result (HasGrown old.faults new.faults)
+  -- what fails is counted, and its error is kept as the last
+  pub fault : IfErr result (λ error. OneFailed error old.faults new.faults)
   -- what succeeds leaves nothing that was taken waiting
   pub settles : OnOk result (IsTrue new.settled)

@@ -1,14 +1,27 @@
--- Numbers of failed calls that grew.
-use Rattle.std.specs.Prelude.{ℕ, ◌≤◌}
-use Rattle.std.proofs.Common.{arith, inl, inr}
-use Rattle.speedy_base.specs.Device.{HasGrown}
+-- What holds of failed calls.
+use Rattle.std.specs.Prelude.{◌≡◌, ℕ, ◌-◌, ◌^◌, ◌<◌, ◌≤◌, ◌⊎◌, Bool}
+use Rattle.std.specs.declared.io.Error.{Error as StdIoError}
+use Rattle.std.proofs.Common.{subst, arith, inl, inr}
+use Rattle.std.proofs.lemmas.Bool.{cases_lt}
+use Rattle.speedy_base.specs.declared.error.Error.{Error}
+use Rattle.speedy_base.specs.declared.device.Faults.{Faults}
+use Rattle.speedy_base.specs.FailedCalls.{one_fault_more, HasGrown, OneFailed, IsErrorOf, IsOfFault}
 
--- what grew in the second of two steps grew in both
-pub HasGrown-after : {a b c : ℕ} → a ≤ b → HasGrown b c → HasGrown a c
-HasGrown-after h (inl k) = inl (omega arith)
-HasGrown-after h (inr k) = inr k
+one_more_grew : (a b : ℕ) → b ≡ one_fault_more a → (a < b) ⊎ (2 ^ 64 - 1 ≤ b)
+one_more_grew a b h =
+    elim (cases_lt a (2 ^ 64 - 1)) [
+      | inl less ↦ inl (omega (arith, h))
+      | inr most ↦ inr (omega (arith, h))
+    ]
 
--- and what grew in the first
-pub HasGrown-before : {a b c : ℕ} → HasGrown a b → b ≤ c → HasGrown a c
-HasGrown-before (inl k) h = inl (omega arith)
-HasGrown-before (inr k) h = inr (omega arith)
+-- where one call failed, the count has grown
+pub grown : (error : StdIoError) (old new : Faults) → OneFailed error old new → HasGrown old new
+grown error old new h = one_more_grew old.count new.count h.0
+
+-- so what became of its error is that of a fault, whether it is told which one or not
+pub failed_call : {E : Type 0} (gives : Error → E → Type 0) (tells : Bool) (error : StdIoError) (e : E) (old new : Faults) → OneFailed error old new → IsErrorOf gives error e → IsOfFault gives tells e old new
+failed_call gives tells error e old new h is = (grown error old new h, λ _. (error, h, is))
+
+-- the fault of a later part is one of the whole, where no call failed before
+pub fault_after : {E : Type 0} (gives : Error → E → Type 0) (tells : Bool) (e : E) (old mid new : Faults) → mid ≡ old → IsOfFault gives tells e mid new → IsOfFault gives tells e old new
+fault_after gives tells e old mid new same h = subst (λ (f : Faults). IsOfFault gives tells e f new) same h

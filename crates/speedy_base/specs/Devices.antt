@@ -1,19 +1,24 @@
 -- What contracts see of the devices that this crate has.
-use Rattle.std.specs.Prelude.{ℕ, ◌+◌, ◌-◌, ◌^◌, min, Bool, true, false, List, []}
+use Rattle.std.specs.Prelude.{ℕ, Bool, true, false, List, [], None}
+use Rattle.speedy_base.specs.declared.device.Faults.{Faults}
 use Rattle.speedy_base.specs.declared.device.VecSink.{VecSink}
 use Rattle.speedy_base.specs.declared.device.Counted.{Counted}
 use Rattle.speedy_base.specs.Device.{SourceState, SinkState}
 
+-- no call has failed
+abbrev pub no_faults : Faults
+no_faults = record { count = 0; last = None }
+
 -- a list of bytes that is read to its end
 abbrev pub bytes_source : List ℕ → SourceState
-bytes_source bytes = record { tells = true; to_come = bytes; faults = 0 }
+bytes_source bytes = record { tells = true; to_come = bytes; faults = no_faults }
 
 -- the bytes that a `VecSink` took
 abbrev pub vec_sink_bytes : VecSink → List ℕ
 vec_sink_bytes sink = sink.bytes.items
 
--- how many of its calls failed
-abbrev pub vec_sink_faults : VecSink → ℕ
+-- its failed calls
+abbrev pub vec_sink_faults : VecSink → Faults
 vec_sink_faults sink = sink.faults
 
 -- the same, as a sink that tells, and in which nothing waits
@@ -24,8 +29,8 @@ vec_sink_state sink = record { tells = true; taken = sink.bytes.items; faults = 
 abbrev pub counted_inner : {S : Type 0} → Counted S → S
 counted_inner counted = counted.inner
 
--- how many of those calls failed
-abbrev pub counted_faults : {S : Type 0} → Counted S → ℕ
+-- those of these calls that failed
+abbrev pub counted_faults : {S : Type 0} → Counted S → Faults
 counted_faults counted = counted.faults
 
 -- nothing was pushed since a flush that succeeded
@@ -38,7 +43,3 @@ counted_source counted = record { tells = false; to_come = []; faults = counted.
 
 abbrev pub counted_sink : {S : Type 0} → Counted S → SinkState
 counted_sink counted = record { tells = false; taken = []; faults = counted.faults; settled = counted.settled }
-
--- one failed call more, of a count that is kept in 64 bits
-abbrev pub one_fault_more : ℕ → ℕ
-one_fault_more faults = min (faults + 1) (2 ^ 64 - 1)

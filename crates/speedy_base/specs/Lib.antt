@@ -2,6 +2,7 @@ pub mod Device
 pub mod DeviceLemmas
 pub mod Devices
 pub mod Digits
+pub mod FailedCalls
 pub mod DigitsLemmas
 pub mod Error
 pub mod ErrorKind

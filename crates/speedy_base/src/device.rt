@@ -1,16 +1,50 @@
 //! Where bytes come from and go to.
-ghost use Rattle.std.specs.Prelude.{◌≡◌, min, [], ◌++◌, length, take, drop, IsOk, IfOk, IfErr, OnOk, OnErr, false};
+ghost use Rattle.std.specs.Prelude.{◌≡◌, ◌≤◌, min, [], ◌++◌, length, take, drop, IsOk, IfOk, IfErr, OnOk, OnErr, false};
+ghost use Rattle.speedy_base.specs.FailedCalls.{OneFailed};
 ghost use Rattle.std.specs.IoError.{error_kind};
 ghost use Rattle.std.specs.Io.KnownBytes.{ReadConsumes, WriteAppends, Keeps};
 ghost use Rattle.speedy_base.specs.Device.{SourceState, SinkState, Pulls, Pushes, Flushes};
-ghost use Rattle.speedy_base.specs.Devices.{bytes_source, vec_sink_bytes, vec_sink_faults, vec_sink_state, counted_inner, counted_faults, counted_settled, counted_source, counted_sink, one_fault_more};
+ghost use Rattle.speedy_base.specs.Devices.{bytes_source, vec_sink_bytes, vec_sink_faults, vec_sink_state, counted_inner, counted_faults, counted_settled, counted_source, counted_sink, no_faults};
 
 use std::alloc::Global;
 use std::io::{self, ErrorKind, Read, Write};
 
+/// The failed calls of a source or a sink: how many there were, and what the last of them answered.
+///
+/// The count stays at its greatest value once it is there.
+#[derive(Clone, Copy, Drop)]
+pub struct Faults {
+    /// How many calls failed.
+    pub count: u64,
+    /// The error of the last one.
+    pub last: Option<io::Error>,
+}
+
+impl Faults {
+    /// No call has failed.
+    pub fn none() -> Faults
+        ensures { result ≡ no_faults }
+    {
+        Faults {
+            count: 0,
+            last: None,
+        }
+    }
+
+    /// One call more has failed, and answered this error.
+    pub fn add(&mut self, error: io::Error)
+        ensures one { OneFailed error self.old self.new }
+        ensures kept { self.old.count ≤ self.new.count }
+    {
+        self.count = self.count.saturating_add(1);
+        self.last = Some(error);
+    }
+}
+
 /// Where bytes come from.
 ///
-/// A failed call is a fault, and a source counts its faults. It is the caller who decides whether to go on after one.
+/// A source counts its failed calls, and keeps the error of the last one. It is the caller who decides whether to go
+/// on after one.
 pub trait Source {
     ghost source: { Self → SourceState };
 
@@ -21,7 +55,8 @@ pub trait Source {
 
 /// Where bytes go to.
 ///
-/// A failed call is a fault, and a sink counts its faults. It is the caller who decides whether to go on after one.
+/// A sink counts its failed calls, and keeps the error of the last one. It is the caller who decides whether to go on
+/// after one. A push passes nothing on that waited before: that is what a flush is for.
 pub trait Sink {
     ghost sink: { Self → SinkState };
 
@@ -59,18 +94,18 @@ impl Source for &[u8] {
 #[derive(Drop)]
 pub struct VecSink {
     bytes: Vec<u8>,
-    faults: u64,
+    faults: Faults,
 }
 
 impl VecSink {
     /// A sink that has taken nothing.
     pub fn new(alloc: Global) -> VecSink
         ensures empty { vec_sink_bytes result ≡ [] }
-        ensures no_faults { vec_sink_faults result ≡ 0 }
+        ensures no_faults { vec_sink_faults result ≡ no_faults }
     {
         VecSink {
             bytes: Vec::new(alloc),
-            faults: 0,
+            faults: Faults::none(),
         }
     }
 
@@ -98,12 +133,11 @@ impl Sink for VecSink {
             bytes.now }
         ensures all { IfOk result (λ n. n ≡ length bytes.now) }
         ensures why { IfErr result (λ e. error_kind e ≡ ErrorKind.OutOfMemory) }
-        ensures one_fault { OnErr result (vec_sink_faults self.new
-            ≡ one_fault_more (vec_sink_faults self.old)) }
     {
         if self.bytes.extend_from_slice(bytes).is_err() {
-            self.faults = self.faults.saturating_add(1);
-            return Err(io::Error::new(ErrorKind::OutOfMemory, "no memory for the bytes"));
+            let error = io::Error::new(ErrorKind::OutOfMemory, "no memory for the bytes");
+            self.faults.add(error);
+            return Err(error);
         }
         Ok(bytes.len())
     }
@@ -117,14 +151,12 @@ impl Sink for VecSink {
     }
 }
 
-/// A reader or a writer of the standard library, how many calls of it have failed, and whether it was flushed since
-/// it was last written to.
-///
-/// The count stays at its greatest value once it is there.
+/// A reader or a writer of the standard library, with its failed calls, and whether it was flushed since it was last
+/// written to.
 #[derive(Drop)]
 pub struct Counted<S> {
     inner: S,
-    faults: u64,
+    faults: Faults,
     settled: bool,
 }
 
@@ -132,12 +164,12 @@ impl<S> Counted<S> {
     /// With no failed call yet, and no flush: what was written before may wait.
     pub fn new(inner: S) -> Counted<S>
         ensures same { counted_inner result ≡ inner }
-        ensures no_faults { counted_faults result ≡ 0 }
+        ensures no_faults { counted_faults result ≡ no_faults }
         ensures not_settled { counted_settled result ≡ false }
     {
         Counted {
             inner,
-            faults: 0,
+            faults: Faults::none(),
             settled: false,
         }
     }
@@ -160,13 +192,11 @@ impl<R: Read> Source for Counted<R> {
             output.new }
         ensures reads { ReadConsumes (R.remaining (counted_inner self.old))
             (R.remaining (counted_inner self.new)) result output.new }
-        ensures one_fault { OnErr result (counted_faults self.new
-            ≡ one_fault_more (counted_faults self.old)) }
     {
         match self.inner.read(output) {
             Ok(count) => Ok(count),
             Err(error) => {
-                self.faults = self.faults.saturating_add(1);
+                self.faults.add(error);
                 Err(error)
             }
         }
@@ -183,18 +213,17 @@ impl<W: Write> Sink for Counted<W> {
         ensures waits { counted_settled self.new ≡ false }
         ensures writes { WriteAppends (W.contents (counted_inner self.old))
             (W.contents (counted_inner self.new)) result bytes.now }
-        ensures one_fault { OnErr result (counted_faults self.new
-            ≡ one_fault_more (counted_faults self.old)) }
     {
         self.settled = false;
         match self.inner.write(bytes) {
             Ok(0) if !bytes.is_empty() => {
-                self.faults = self.faults.saturating_add(1);
-                Err(io::Error::new(ErrorKind::WriteZero, "the writer took no byte"))
+                let error = io::Error::new(ErrorKind::WriteZero, "the writer took no byte");
+                self.faults.add(error);
+                Err(error)
             }
             Ok(count) => Ok(count),
             Err(error) => {
-                self.faults = self.faults.saturating_add(1);
+                self.faults.add(error);
                 Err(error)
             }
         }
@@ -205,8 +234,6 @@ impl<W: Write> Sink for Counted<W> {
         ensures flushes { Flushes result (counted_sink self.old) (counted_sink self.new) }
         ensures keeps { Keeps (W.contents (counted_inner self.old))
             (W.contents (counted_inner self.new)) }
-        ensures one_fault { OnErr result (counted_faults self.new
-            ≡ one_fault_more (counted_faults self.old)) }
     {
         match self.inner.flush() {
             Ok(()) => {
@@ -214,7 +241,7 @@ impl<W: Write> Sink for Counted<W> {
                 Ok(())
             }
             Err(error) => {
-                self.faults = self.faults.saturating_add(1);
+                self.faults.add(error);
                 Err(error)
             }
         }

@@ -13,7 +13,7 @@ use Rattle.speedy_layout.specs.Numbers.{unsigned_number}
 use Rattle.speedy_layout.specs.Owned.{owned_content}
 use Rattle.speedy_layout.specs.Texts.{raw_bytes, any_bytes, each_byte, each_byte_is}
 use Rattle.speedy_read.specs.Reading.{ReaderState, Reads, Unspelled}
-use Rattle.speedy_read.specs.ReadingLemmas.{Kept-after, IsTold-after, part_refused, ReadSoFar, more_so_far, all_so_far}
+use Rattle.speedy_read.specs.ReadingLemmas.{Kept-after, IsTold-after, part_refused, Got-as, ReadSoFar, more_so_far, all_so_far}
 use Rattle.speedy_read.specs.Codes.{Covers, refused_covered}
 
 -- the front of a chunk that was filled
@@ -62,7 +62,7 @@ module _ {E : Type 0} {gives : Error → E → Type 0} {eof : E → Bool} {old m
   unfolding raw_bytes any_bytes
   chunk_refused {e = e} {total = total} count within so_far read = record {
     kept = Kept-after so_far.kept read.kept;
-    answer = part_refused new so_far.kept.ends_by_device so_far.kept.takes_memory so_far.kept.faults (λ t. t) (λ kind h. h)
+    answer = part_refused new so_far.kept.ends_by_device so_far.kept.takes_memory so_far.kept.tells_faults so_far.got.no_fault (λ t. t) (λ kind h. h)
         (λ told because.
         let un = because (IsTold-after so_far.kept (λ t. t) told) in
         let short = short_of size mid.to_come un in
@@ -79,7 +79,7 @@ module _ {E : Type 0} {gives : Error → E → Type 0} {eof : E → Bool} {old m
 
   pub bytes_refused : {B : Type 0} {view : B → List ℕ} {e : E} {total : ℕ} (encoding : Encoding) (count : ℕ) (bytes : List ℕ) → length bytes ≡ count → count + size ≤ total → BytesSoFar bytes old mid → Reads gives eof seen (raw_bytes size) (Err e) mid new → Reads gives eof view (vector total (unsigned_number 1 encoding)) (Err e) old new
   bytes_refused {total = total} encoding count bytes l within so_far read =
-      let skipped : SkippedSoFar count old mid = record { kept = so_far.kept; got = record { front = so_far.got.front; front_is = ap length so_far.got.front_is ∙ l; taken = so_far.got.taken } } in
+      let skipped : SkippedSoFar count old mid = record { kept = so_far.kept; got = Got-as (λ s h. ap length h ∙ l) so_far.got } in
       refused_covered (any_bytes_cover total encoding) (chunk_refused {view = λ (u : Unit {0}). u} count within skipped read)
 
 module _ {E : Type 0} {gives : Error → E → Type 0} {eof : E → Bool} {B : Type 0} {old new : ReaderState} where

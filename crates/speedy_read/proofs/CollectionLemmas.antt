@@ -16,7 +16,7 @@ use Rattle.speedy_read.specs.Sequences.{Composes, second_decides, refused_first}
 use Rattle.speedy_layout.specs.Lists.{vector, repeat, list}
 use Rattle.speedy_layout.specs.Owned.{owned_content}
 use Rattle.speedy_read.specs.Reading.{ReaderState, Kept, Unspelled, Reads}
-use Rattle.speedy_read.specs.ReadingLemmas.{Kept-same, ReadSoFar}
+use Rattle.speedy_read.specs.ReadingLemmas.{Kept-same, Got-nothing, Got-as, ReadSoFar}
 use Rattle.speedy_read.specs.Codes.{code_refused}
 use Rattle.speedy_read.specs.Collections.{Gatherer, GotItems, NotWritten, Collects}
 use Rattle.speedy_read.proofs.ListLemmas.{item_more, refused_item, list_composes}
@@ -33,7 +33,7 @@ module _ {T F V : Type 0} {g : Gatherer T F V} {L : Format V} {old : ReaderState
   pub none_gathered : {whole : F} → g.gathers [] whole → g.are_written [] → GatheredSoFar g L 0 whole old old
   none_gathered h k = record {
     kept = Kept-same;
-    so_far = record { items = []; count_is = refl; got = record { front = []; front_is = refl; taken = λ _. refl }; gathered = h; written = λ _. k };
+    so_far = record { items = []; count_is = refl; got = Got-nothing refl; gathered = h; written = λ _. k };
   }
 
   read_so_far : {n : ℕ} {whole : F} {mid : ReaderState} (h : GatheredSoFar g L n whole old mid) → ReadSoFar (Each L.spells (map g.seen h.so_far.items)) old mid
@@ -63,7 +63,7 @@ module _ {T F V : Type 0} {g : Gatherer T F V} {L : Format V} {old : ReaderState
               whole = next;
               demanded = strict;
               at_most = let l = length_pushed h.so_far.items x n h.so_far.count_is in omega arith;
-              ahead = record { front = read.got.front; rest = new.to_come; front_is = read.got.front_is; stands = read.got.taken };
+              ahead = record { front = read.got.front; rest = new.to_come; front_is = read.got.front_is; stands = read.got.taken; no_fault = read.got.no_fault };
               gathered = gathered;
               not_written = not_written;
             },
@@ -85,8 +85,8 @@ on_success (Ok x) h p = p
 on_success (Err e) h p = absurd (cc)
 
 -- want of memory for an item
-pub room_refused : {T F V : Type 0} {g : Gatherer T F V} {L : Format V} {E : Type 0} {gives : Error → E → Type 0} {eof : E → Bool} {old new : ReaderState} {e : E} (all : ℕ) → Kept old new → gives (error_of kinds.OutOfMemory) e → Collects g L all gives eof (Err e) old new
-room_refused all kept given = record { kept = kept; answer = inl (inl (given, inl refl)) }
+pub room_refused : {T F V : Type 0} {g : Gatherer T F V} {L : Format V} {E : Type 0} {gives : Error → E → Type 0} {eof : E → Bool} {old new : ReaderState} {e : E} (all : ℕ) → Kept old new → new.faults ≡ old.faults → gives (error_of kinds.OutOfMemory) e → Collects g L all gives eof (Err e) old new
+room_refused all kept clean given = record { kept = kept; answer = inl (inl (given, inl refl, clean)) }
 
 -- all items were gathered
 pub all_gathered : {T F V : Type 0} {g : Gatherer T F V} {L : Format V} {E : Type 0} {gives : Error → E → Type 0} {eof : E → Bool} {n : ℕ} {whole : F} {old new : ReaderState} → GatheredSoFar g L n whole old new → Collects g L n gives eof (Ok whole) old new
@@ -103,7 +103,7 @@ gathered_at_once {g = g} items {all = all} r gathered written =
       answer = record {
         items = items all;
         count_is = sym (length-map (items all) g.seen) ∙ got.front_is.0;
-        got = record { front = got.front; front_is = got.front_is.1; taken = got.taken };
+        got = Got-as (λ s h. h.1) got;
         gathered = gathered;
         written = written;
       };
@@ -127,7 +127,7 @@ each_begins laws (v ∷ vs) (w ∷ ws) s t r q l h k e =
     let rest = each_begins laws vs ws h.back k.back r q (omega arith) h.second_is k.second_is first.2 in
     (rest.0, let a = first.0 in let b = rest.1 in (cc))
 
-module _ {T F V S : Type 0} {g : Gatherer T F V} {c : Code (List V) S} {view : F → S} (is : IsCodeOf g c view) {L : Format V} {n : ℕ} {old : ReaderState} (h : NotWritten g L n old) where
+module _ {T F V S : Type 0} {g : Gatherer T F V} {c : Code (List V) S} {view : F → S} (is : IsCodeOf g c view) {L : Format V} {n : ℕ} {old : ReaderState} {new : ReaderState} (h : NotWritten g L n old new) where
   wider : ReadsWider c
   wider = record {
     code = map g.seen h.items;
@@ -162,15 +162,12 @@ collected_read {g = g} {c = c} {view = view} {L = L} {n = n} {result = Ok whole}
     let h = r.answer in
     record {
       kept = r.kept;
-      answer = record {
-        front = h.got.front;
-        front_is = record {
-          code = map g.seen h.items;
-          code_is = (length-map h.items g.seen ∙ h.count_is, h.got.front_is);
-          stands = Accepts-is old.encoding.strict c (map g.seen h.items) (view whole) (is.meant h.items whole h.gathered) (λ strict. is.chosen h.items whole h.gathered (h.written strict));
-        };
-        taken = h.got.taken;
-      };
+      answer = Got-as
+          (λ s k. record {
+            code = map g.seen h.items;
+            code_is = (length-map h.items g.seen ∙ h.count_is, k);
+            stands = Accepts-is old.encoding.strict c (map g.seen h.items) (view whole) (is.meant h.items whole h.gathered) (λ strict. is.chosen h.items whole h.gathered (h.written strict));
+          }) h.got;
     }
 collected_read {V = V} {g = g} {c = c} {L = L} {n = n} {gives = gives} {eof = eof} {result = Err e} {old = old} {new = new} laws is r =
     elim r.answer [
@@ -181,7 +178,7 @@ collected_read {V = V} {g = g} {c = c} {L = L} {n = n} {gives = gives} {eof = eo
             code_refused old.encoding c items
         | inr y ↦ record {
           kept = r.kept;
-          answer = inr (record { kind = inr (kinds.NotWrittenForm, inr (inr (y.1.demanded, refl, wider is y.1)), y.0); because = λ told. not_written_unspelled is y.1 laws y.0 told.tells });
+          answer = inr (record { no_fault = y.1.ahead.no_fault; kind = inr (kinds.NotWrittenForm, inr (inr (y.1.demanded, refl, wider is y.1)), y.0); because = λ told. not_written_unspelled is y.1 laws y.0 told.tells });
         }
       ]
     ]

@@ -68,7 +68,7 @@ module _ {E : Type 0} {gives : Error → E → Type 0} {eof : E → Bool} {old n
   unfolding borrowed_content
   not_lent L nothing same g = record {
     kept = subst (λ (s : ReaderState). Kept old s) (sym same) Kept-same;
-    answer = inr (record { kind = inr (kinds.Unsized, inr refl, g); because = λ told. absurd (nothing (told.lends refl)) });
+    answer = inr (record { no_fault = ap (λ (s : ReaderState). s.faults) same; kind = inr (kinds.Unsized, inr refl, g); because = λ told. absurd (nothing (told.lends refl)) });
   }
 
   -- so many were lent

@@ -54,7 +54,7 @@ module _ {V : Type 0} {strict : Bool} {least : ℕ} {L : Format V} (laws : Laws 
     -- fewer bytes are to come than so many items have at least
     pub refused_early : {e : E} → IsEnd gives eof old.ends_by_device e → (IsTrue old.tells → length old.to_come < 2 ^ 64 - 1 → length old.to_come < n * least) → Reads gives eof view (vector n L) (Err e) old old
     unfolding vector owned_content repeat
-    refused_early ended fewer = record { kept = Kept-same; answer = inr (ends_early (n * least) (vector_laws laws n).least_size (λ _ fault. fault) ended fewer) }
+    refused_early ended fewer = record { kept = Kept-same; answer = inr (ends_early refl (n * least) (vector_laws laws n).least_size (λ _ fault. fault) ended fewer) }
 
     -- where an item is refused, the vector is
     pub refused_item : {A : Type 0} {seen : A → V} (vs : List V) {e : E} {mid new : ReaderState} → length vs < n → ReadSoFar (Each L.spells vs) old mid → Reads gives eof seen L (Err e) mid new → Reads gives eof view (vector n L) (Err e) old new
@@ -63,7 +63,7 @@ module _ {V : Type 0} {strict : Bool} {least : ℕ} {L : Format V} (laws : Laws 
         let got = so_far.got in
         record {
           kept = Kept-after so_far.kept r.kept;
-          answer = part_refused new so_far.kept.ends_by_device so_far.kept.takes_memory so_far.kept.faults (λ _. refl) (λ kind h. h)
+          answer = part_refused new so_far.kept.ends_by_device so_far.kept.takes_memory so_far.kept.tells_faults so_far.got.no_fault (λ _. refl) (λ kind h. h)
               (λ told because.
               let un = because (IsTold-after so_far.kept (λ need. need) told) in
               record {
@@ -95,6 +95,6 @@ module _ {E : Type 0} {gives : Error → E → Type 0} {eof : E → Bool} {V : T
   got_items n so_far l = all_so_far so_far (λ s h. (l, h))
 
 -- want of memory for an item
-pub refused_room : {E : Type 0} {gives : Error → E → Type 0} {eof : E → Bool} {V : Type 0} (n : ℕ) (L : Format V) {old new : ReaderState} {B : Type 0} {view : B → List V} {e : E} → Kept old new → gives (error_of kinds.OutOfMemory) e → Reads gives eof view (vector n L) (Err e) old new
+pub refused_room : {E : Type 0} {gives : Error → E → Type 0} {eof : E → Bool} {V : Type 0} (n : ℕ) (L : Format V) {old new : ReaderState} {B : Type 0} {view : B → List V} {e : E} → Kept old new → new.faults ≡ old.faults → gives (error_of kinds.OutOfMemory) e → Reads gives eof view (vector n L) (Err e) old new
 unfolding vector
-refused_room n L k g = memory_refused (repeat n L) k g
+refused_room n L k clean g = memory_refused (repeat n L) k clean g

@@ -1,5 +1,5 @@
 -- Reads of what owns its content.
-use Rattle.std.specs.Prelude.{Bool, Result, Ok, Err, refl}
+use Rattle.std.specs.Prelude.{◌≡◌, Bool, Result, Ok, Err, refl}
 use Rattle.std.proofs.Common.{inl}
 use Rattle.speedy_base.specs.declared.error.ErrorKind.TheVariants as kinds
 use Rattle.speedy_base.specs.declared.error.Error.{Error}
@@ -20,6 +20,6 @@ owned_read {result = Ok x} r = got_covered (λ s h. h) r
 owned_read {result = Err e} r = refused_covered owned_covers r
 
 -- want of memory for it
-pub memory_refused : {E : Type 0} {gives : Error → E → Type 0} {eof : E → Bool} {V : Type 0} (L : Format V) {old new : ReaderState} {A : Type 0} {view : A → V} {e : E} → Kept old new → gives (error_of kinds.OutOfMemory) e → Reads gives eof view (owned_content L) (Err e) old new
+pub memory_refused : {E : Type 0} {gives : Error → E → Type 0} {eof : E → Bool} {V : Type 0} (L : Format V) {old new : ReaderState} {A : Type 0} {view : A → V} {e : E} → Kept old new → new.faults ≡ old.faults → gives (error_of kinds.OutOfMemory) e → Reads gives eof view (owned_content L) (Err e) old new
 unfolding owned_content
-memory_refused L k g = record { kept = k; answer = inl (inl (g, inl refl)) }
+memory_refused L k clean g = record { kept = k; answer = inl (inl (g, inl refl, clean)) }

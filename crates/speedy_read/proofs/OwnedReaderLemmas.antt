@@ -4,7 +4,7 @@ use Rattle.std.specs.Borrow.{GName}
 use Rattle.std.proofs.Common.{ap, inl, inr}
 use Rattle.speedy_base.specs.declared.error.Error.{Error}
 use Rattle.speedy_layout.specs.Format.{Format}
-use Rattle.speedy_read.specs.Reading.{ReaderState, Kept, KeptByPeek, Reads, Peeks, LendsUntilUsed}
+use Rattle.speedy_read.specs.Reading.{ReaderState, Kept, KeptByPeek, Got, Reads, Peeks, LendsUntilUsed}
 use Rattle.speedy_read.specs.Buffers.{held_state}
 
 module _ (name : GName) {old new : ReaderState} where
@@ -18,6 +18,7 @@ module _ (name : GName) {old new : ReaderState} where
     peeks_take_memory = k.peeks_take_memory;
     ends_by_device = k.ends_by_device;
     encoding = k.encoding;
+    tells_faults = k.tells_faults;
     faults = k.faults;
     targets = ap (λ (names : List GName). name ∷ names) k.targets;
     tail = k.tail;
@@ -32,33 +33,37 @@ module _ (name : GName) {old new : ReaderState} where
     peeks_take_memory = k.peeks_take_memory;
     ends_by_device = k.ends_by_device;
     encoding = k.encoding;
+    tells_faults = k.tells_faults;
     faults = k.faults;
     targets = ap (λ (names : List GName). name ∷ names) k.targets;
     to_come = k.to_come;
   }
 
+  held_got : {spelled : List ℕ → Type 0} → Got spelled old new → Got spelled (held_state name old) (held_state name new)
+  held_got g = record { front = g.front; front_is = g.front_is; taken = g.taken; no_fault = g.no_fault; untouched = λ none. ap (λ (s : ReaderState). held_state name s) (g.untouched none) }
+
   module _ {E : Type 0} {gives : Error → E → Type 0} {eof : E → Bool} {A V : Type 0} {seen : A → V} {L : Format V} where
     -- what reads see of a reader is the same whether it is held or not
     pub held_reads : {result : Result A E} → Reads gives eof seen L result old new → Reads gives eof seen L result (held_state name old) (held_state name new)
-    held_reads {result = Ok x} r = record { kept = held_kept r.kept; answer = record { front = r.answer.front; front_is = r.answer.front_is; taken = r.answer.taken } }
+    held_reads {result = Ok x} r = record { kept = held_kept r.kept; answer = held_got r.answer }
     held_reads {result = Err e} r = record {
       kept = held_kept r.kept;
       answer =
           elim r.answer [
             | inl x ↦ inl x
-            | inr k ↦ inr (record { kind = k.kind; because = λ told. k.because (record { tells = told.tells; are_bytes = told.are_bytes; fit = told.fit; lends = told.lends }) })
+            | inr k ↦ inr (record { no_fault = k.no_fault; kind = k.kind; because = λ told. k.because (record { tells = told.tells; are_bytes = told.are_bytes; fit = told.fit; lends = told.lends }) })
           ];
     }
 
     pub held_peeks : {result : Result A E} → Peeks gives eof seen L result old new → Peeks gives eof seen L result (held_state name old) (held_state name new)
-    held_peeks {result = Ok x} r = record { kept = held_kept_by_peek r.kept; answer = record { front = r.answer.front; rest = r.answer.rest; front_is = r.answer.front_is; stands = r.answer.stands } }
+    held_peeks {result = Ok x} r = record { kept = held_kept_by_peek r.kept; answer = record { front = r.answer.front; rest = r.answer.rest; front_is = r.answer.front_is; stands = r.answer.stands; no_fault = r.answer.no_fault } }
     held_peeks {result = Err e} r = record {
       kept = held_kept_by_peek r.kept;
       answer =
           elim r.answer [
             | inl x ↦ inl x
             | inr (inl x) ↦ inr (inl x)
-            | inr (inr k) ↦ inr (inr (record { kind = k.kind; because = λ told. k.because (record { tells = told.tells; are_bytes = told.are_bytes; fit = told.fit; lends = told.lends }) }))
+            | inr (inr k) ↦ inr (inr (record { no_fault = k.no_fault; kind = k.kind; because = λ told. k.because (record { tells = told.tells; are_bytes = told.are_bytes; fit = told.fit; lends = told.lends }) }))
           ];
     }
 

@@ -1,10 +1,11 @@
 -- What was written is what is read, by the laws of the layout.
-use Rattle.std.specs.Prelude.{◌≡◌, ℕ, ◌+◌, ◌*◌, List, [], ◌++◌, length, Bool, false, IsTrue, ◌⊎◌, Result, Ok, Err, refl}
+use Rattle.std.specs.Prelude.{◌≡◌, ℕ, ◌+◌, ◌*◌, ◌≤◌, List, [], ◌∷◌, ◌++◌, length, Bool, false, IsTrue, ◌⊎◌, Result, Ok, Err, refl}
 use Rattle.std.proofs.Common.{sym, ◌∙◌, ap, subst, arith, inl, inr}
 use Rattle.std.proofs.lemmas.List.{length-append, append-nil}
 use Rattle.speedy_base.specs.declared.error.Error.{Error}
 use Rattle.speedy_base.specs.declared.error.ErrorKind.TheVariants as kinds
 use Rattle.speedy_base.specs.Error.{error_of}
+use Rattle.speedy_base.specs.Device.{SourceState}
 use Rattle.speedy_base.specs.DigitsLemmas.{AreBytes-slice}
 use Rattle.speedy_base.specs.Encoding.{Encoding}
 use Rattle.speedy_layout.specs.Format.{Format}
@@ -13,7 +14,14 @@ use Rattle.speedy_layout.specs.Lists.{repeat, vector, vector_laws}
 use Rattle.speedy_layout.specs.Owned.{owned_content}
 use Rattle.speedy_read.specs.Buffers.{bytes_state}
 use Rattle.speedy_read.specs.Reading.{ReaderState, IsTold, Excused, Refused, RefusesBuffer, Reads, AnswersBuffer, AnswersCopied}
-use Rattle.speedy_read.specs.RoundTrip.{AnswersWritten, ReadsWritten, ReadsWrittenFirst, WrittenIsAnswered, WrittenIsRead, WrittenItemsAreRead}
+use Rattle.speedy_read.specs.RoundTrip.{AnswersWritten, ReadsWritten, ReadsWrittenFirst, StreamsWritten, WrittenIsAnswered, WrittenIsRead, WrittenIsStreamed, WrittenItemsAreRead}
+use Rattle.speedy_read.specs.StreamView.{most_held}
+use Rattle.speedy_read.specs.Streams.{AnswersStream}
+
+-- an unbuffered read leaves nothing that was read ahead
+nothing_ahead : (ahead : List ℕ) → length ahead ≤ most_held false → ahead ≡ []
+nothing_ahead [] few = refl
+nothing_ahead (x ∷ ahead) few = absurd (omega arith)
 
 module _ {E A V : Type 0} (gives : Error → E → Type 0) (eof : E → Bool) (seen : A → V) (least : ℕ) where
   module _ (L : Format V) {strict : Bool} (laws : Laws strict least L) (v : V) (bytes rest : List ℕ) (written : L.writes v bytes) where
@@ -37,7 +45,7 @@ module _ {E A V : Type 0} (gives : Error → E → Type 0) (eof : E → Bool) (s
         let one : (seen x ≡ v) × (k.front ≡ bytes) × (new.to_come ≡ rest) = laws.decodes (seen x) v k.front bytes new.to_come rest k.front_is (laws.written_spells v bytes written) (sym (k.taken told) ∙ e) in
         record { same = one.0; rest_is = one.2; refused = λ _. tt }
     read_back (Err x) old new told e a = record { same = tt; rest_is = tt; refused = λ known. refusal known a.answer } where
-      refusal : IsTold L old → Excused gives L.takes_memory x old new ⊎ Refused gives eof L x old → Excused gives L.takes_memory x old new
+      refusal : IsTold L old → Excused gives L.takes_memory x old new ⊎ Refused gives eof L x old new → Excused gives L.takes_memory x old new
       refusal known (inl m) = m
       refusal known (inr r) = absurd ((r.because known).no_front v bytes rest e (laws.written_spells v bytes written))
 
@@ -50,11 +58,42 @@ module _ {E A V : Type 0} (gives : Error → E → Type 0) (eof : E → Bool) (s
       refused = λ bytes fit. want (r.refused (subst (IsTold L) (sym s) (record { tells = refl; are_bytes = AreBytes-slice buffer bytes; fit = fit; lends = λ _. refl })));
     } where
       want : Excused gives L.takes_memory x old (bytes_state left after) → gives (error_of kinds.OutOfMemory) x
-      want (inl (g, _)) = g
-      want (inr (inl h)) = absurd (omega arith)
-      want (inr (inr h)) = absurd (omega arith)
+      want (inl h) = h.0
+      want (inr h) =
+          let none : old.faults.count ≡ 0 = ap (λ (s : ReaderState). s.faults.count) s in
+          elim h.0 [ inl k ↦ absurd (omega (arith, none)) | inr k ↦ absurd (omega arith) ]
+
+    streamed : (buffers : Bool) (result : Result A E) (old new : SourceState) → IsTrue old.tells → old.to_come ≡ bytes ++ rest → AnswersStream gives eof seen L buffers result old new → StreamsWritten gives seen L v buffers rest result old new
+    streamed buffers (Ok x) old new told e a =
+        let k = a.value in
+        let one : (seen x ≡ v) × (k.front ≡ bytes) × (k.ahead ++ new.to_come ≡ rest) = laws.decodes (seen x) v k.front bytes (k.ahead ++ new.to_come) rest k.front_is (laws.written_spells v bytes written) (sym (k.taken told) ∙ e) in
+        record {
+          same = one.0;
+          rest_is = λ unbuffered.
+              let few : length k.ahead ≤ most_held false = subst (λ (b : Bool). length k.ahead ≤ most_held b) unbuffered k.at_most in
+              ap (λ (l : List ℕ). l ++ new.to_come) (sym (nothing_ahead k.ahead few)) ∙ one.2;
+          ahead = (k.ahead, k.at_most, sym one.2);
+          no_fault = k.no_fault;
+          refused = λ _ _ _. tt;
+        }
+    streamed buffers (Err x) old new told e a = record {
+      same = tt;
+      rest_is = tt;
+      ahead = tt;
+      no_fault = tt;
+      refused = λ are fit lends.
+          elim a.refused [
+            | inl want ↦ inl want
+            | inr (inl failed) ↦ inr failed
+            | inr (inr h) ↦ absurd ((h.because told are fit lends).no_front v bytes rest e (laws.written_spells v bytes written))
+          ];
+    }
 
   module _ (format : Encoding → Format V) (laws : (encoding : Encoding) → Laws encoding.strict least (format encoding)) where
+    -- those of the functions over sources
+    pub written_is_streamed : WrittenIsStreamed gives eof seen format
+    written_is_streamed encoding v bytes rest buffers result old new h told e a = streamed (format encoding) (laws encoding) v bytes rest h buffers result old new told e a
+
     -- the laws of the functions over buffers follow from those of the layout
     pub written_is_answered : WrittenIsAnswered gives eof seen least format
     written_is_answered = record {

@@ -3,13 +3,16 @@ use Rattle.std.specs.Prelude.{◌≡◌, ℕ, ◌+◌, ◌-◌, ◌^◌, ◌<◌
 use Rattle.std.specs.Borrow.{GName}
 use Rattle.std.proofs.Common.{sym, ◌∙◌, ap, subst, arith, inl, inr}
 use Rattle.std.proofs.lemmas.List.{append_assoc, append-nil, length-append, length-drop, length-take-le, take-append-drop}
-use Rattle.std.proofs.lemmas.Bool.{true≢false, true_from_ne_false, and_from, and_parts, eqb-true, eq-eqb, leb-true, le-leb}
+use Rattle.std.proofs.lemmas.Bool.{true≢false, and_from, and_parts, eqb-true, eq-eqb, leb-true, le-leb}
 use Rattle.speedy_base.specs.declared.error.ErrorKind.{ErrorKind}
 use Rattle.speedy_base.specs.declared.error.ErrorKind.TheVariants as kinds
 use Rattle.speedy_base.specs.declared.error.Error.{Error}
 use Rattle.speedy_base.specs.Error.{error_of, is_eof_error, IsNamed}
 use Rattle.speedy_base.specs.ErrorKind.{EndsInput, is_eof_kind}
-use Rattle.speedy_base.specs.Device.{SourceState, HasGrown}
+use Rattle.std.specs.declared.io.Error.{Error as StdIoError}
+use Rattle.speedy_base.specs.Device.{SourceState}
+use Rattle.speedy_base.specs.DeviceLemmas.{failed_call}
+use Rattle.speedy_base.specs.FailedCalls.{IsErrorOf, IsOfFailedCall}
 use Rattle.speedy_base.specs.Digits.{AreBytes}
 use Rattle.speedy_base.specs.Encoding.{Encoding}
 use Rattle.speedy_base.specs.Ring.{Ring}
@@ -19,7 +22,7 @@ use Rattle.speedy_read.specs.Reading.{ReaderState, Kept, KeptByPeek, IsEnd, Unsp
 use Rattle.speedy_read.specs.ReadingLemmas.{KeptByPeek-after, ends_early}
 use Rattle.speedy_read.specs.declared.stream_reader.StreamReader.{StreamReader}
 use Rattle.speedy_read.specs.StreamView.{StreamView, stream_view, first_capacity, most_held, is_tidy, ring_state, stream_state}
-use Rattle.speedy_read.specs.Streams.{FillsList, FillsRing, Fills, TookFront, RefusesStream, AnswersStream, AnswersFile}
+use Rattle.speedy_read.specs.Streams.{WantsMemory, FillsList, FillsRing, Fills, TookFront, RefusesStream, AnswersStream, AnswersFile}
 
 -- ---- tidiness
 
@@ -44,9 +47,9 @@ pub device_ended : {E : Type 0} (gives : Error → E → Type 0) (eof : E → Bo
 device_ended gives eof e keeps n = (n, keeps (error_of n.0) e n.2 ∙ ends_eof true n.0 n.1)
 
 -- fewer bytes are to come
-stream_ended : {E : Type 0} {gives : Error → E → Type 0} {eof : E → Bool} {n : ℕ} {e : E} {old : ReaderState} → IsEnd gives eof old.ends_by_device e → (IsTrue old.tells → length old.to_come < n) → Refused gives eof (raw_bytes n) e old
+stream_ended : {E : Type 0} {gives : Error → E → Type 0} {eof : E → Bool} {n : ℕ} {e : E} {old new : ReaderState} → new.faults ≡ old.faults → IsEnd gives eof old.ends_by_device e → (IsTrue old.tells → length old.to_come < n) → Refused gives eof (raw_bytes n) e old new
 unfolding raw_bytes
-stream_ended {n = n} ended fewer = ends_early n (λ v s h. let k = h.1 in omega arith) (λ _ fault. fault) ended (λ told _. fewer told)
+stream_ended {n = n} clean ended fewer = ends_early clean n (λ v s h. let k = h.1 in omega arith) (λ _ fault. fault) ended (λ told _. fewer told)
 
 -- ---- what is read after a peek
 
@@ -60,6 +63,7 @@ kept_after_peek h tidy k = record {
   peeks_take_memory = k.peeks_take_memory ∙ h.peeks_take_memory;
   ends_by_device = k.ends_by_device ∙ h.ends_by_device;
   encoding = k.encoding ∙ h.encoding;
+  tells_faults = k.tells_faults ∙ h.tells_faults;
   faults = let x = h.faults in let y = k.faults in omega arith;
   targets = k.targets ∙ h.targets;
   tail = λ told.
@@ -68,10 +72,16 @@ kept_after_peek h tidy k = record {
 }
 
 module _ {E : Type 0} {gives : Error → E → Type 0} {eof : E → Bool} {A V : Type 0} {seen : A → V} {x : A} {L : Format V} where
-  read_after_peek : {old mid new : ReaderState} → KeptByPeek old mid → (IsTrue old.tidy → IsTrue new.tidy) → Reads gives eof seen L (Ok x) mid new → Reads gives eof seen L (Ok x) old new
-  read_after_peek h tidy r = record {
+  read_after_peek : {old mid new : ReaderState} → KeptByPeek old mid → mid.faults ≡ old.faults → (IsTrue old.tidy → IsTrue new.tidy) → (r : Reads gives eof seen L (Ok x) mid new) → (r.answer.front ≡ [] → ⊥) → Reads gives eof seen L (Ok x) old new
+  read_after_peek h clean tidy r some = record {
     kept = kept_after_peek h tidy r.kept;
-    answer = record { front = r.answer.front; front_is = r.answer.front_is; taken = λ told. sym (h.to_come told) ∙ r.answer.taken (subst IsTrue (sym h.tells) told) };
+    answer = record {
+      front = r.answer.front;
+      front_is = r.answer.front_is;
+      taken = λ told. sym (h.to_come told) ∙ r.answer.taken (subst IsTrue (sym h.tells) told);
+      no_fault = r.answer.no_fault ∙ clean;
+      untouched = λ none. absurd (some none);
+    };
   }
 
 -- ---- the ring alone
@@ -96,11 +106,20 @@ module _ {E : Type 0} {gives : Error → E → Type 0} {eof : E → Bool} {A : T
           peeks_take_memory = refl;
           ends_by_device = refl;
           encoding = refl;
+          tells_faults = refl;
           faults = omega arith;
           targets = refl;
           tail = λ _. (take n ring.bytes, whole);
         };
-        answer = record { front = take n ring.bytes; front_is = (same, length-take-le n ring.bytes l); taken = λ _. whole };
+        answer = record {
+          front = take n ring.bytes;
+          front_is = (same, length-take-le n ring.bytes l);
+          taken = λ _. whole;
+          no_fault = refl;
+          untouched = λ none.
+              let zero : n ≡ 0 = omega (arith, length-take-le n ring.bytes l, ap length none) in
+              ap (λ (m : ℕ). ring_state name source (record ring { bytes = drop m ring.bytes; room = [] }) b encoding) zero;
+        };
       }
 
   -- a read that the ring serves
@@ -111,15 +130,16 @@ module _ {E : Type 0} {gives : Error → E → Type 0} {eof : E → Bool} {A : T
 
 module _ {E : Type 0} {gives : Error → E → Type 0} {eof : E → Bool} {A : Type 0} {n : ℕ} {held keeps : Ring} {name : GName} {b : Bool} {encoding : Encoding} {old new : SourceState} where
   -- the source ended before the ring held enough
-  pub fill_ended : {enough : Bool} {F : Type 0} {e : E} → enough ≡ false → FillsRing {E = F} n b (Ok enough) held keeps old new → IsEnd gives eof true e → Fills gives eof {A = A} n (Err e) held keeps (ring_state name old held b encoding) (ring_state name new keeps b encoding)
+  pub fill_ended : {enough : Bool} {e : E} → enough ≡ false → FillsRing n b (Ok enough) held keeps old new → IsEnd gives eof true e → Fills gives eof {A = A} n (Err e) held keeps (ring_state name old held b encoding) (ring_state name new keeps b encoding)
   fill_ended less f ended = record {
-    kept = record { tells = f.tells; lends = refl; buffers = refl; takes_memory = refl; peeks_take_memory = refl; ends_by_device = refl; encoding = refl; faults = f.faults; targets = refl; to_come = f.moved };
+    kept = record { tells = f.tells; lends = refl; buffers = refl; takes_memory = refl; peeks_take_memory = refl; ends_by_device = refl; encoding = refl; tells_faults = refl; faults = f.faults; targets = refl; to_come = f.moved };
     capacity = f.capacity;
     untouched = λ enough. absurd (let short = f.short less in let same = (f.untouched enough).1 in omega (arith, ap (λ (r : Ring). length r.bytes) same));
     exact = f.exact;
     enough = tt;
+    no_fault = tt;
     short = f.short less;
-    why = inr (stream_ended ended (λ told.
+    why = inr (stream_ended f.no_fault ended (λ told.
         let short = f.short less in
         let all = ap length (sym (f.moved told) ∙ (ap (λ (l : List ℕ). keeps.bytes ++ l) (f.ended less told) ∙ append-nil keeps.bytes)) in
         omega (arith, all)));
@@ -129,14 +149,16 @@ module _ {E : Type 0} {gives : Error → E → Type 0} {eof : E → Bool} {A B :
   -- a read by the ring, which was filled before
   pub filled_read : {rest : Ring} → length held.bytes < n → Fills gives eof n (Ok u) held keeps (ring_state name old held b encoding) (ring_state after new keeps c encoding') → seen x ≡ take n keeps.bytes → rest ≡ record keeps { bytes = drop n keeps.bytes; room = [] }
       → Reads gives eof seen (raw_bytes n) (Ok x) (ring_state name old held b encoding) (ring_state after new rest c encoding')
+  unfolding raw_bytes
   filled_read {rest = rest} more f same is =
-      read_after_peek f.kept
+      let served = ring_served new keeps f.enough.0 same is in
+      read_after_peek f.kept f.no_fault
       (λ t.
       let first : keeps.capacity ≡ first_capacity c = f.capacity ∙ ((tidy_parts held b t).0 ∙ ap (λ (b : Bool). first_capacity b) (sym f.kept.buffers)) in
       let most : length keeps.bytes ≤ keeps.capacity = f.enough.1 in
       let size : length rest.bytes ≡ length keeps.bytes - n = ap (λ (r : Ring). length r.bytes) is ∙ length-drop n keeps.bytes in
       tidy_whole rest c (ap (λ (r : Ring). r.capacity) is ∙ first) (omega (arith, first, size)))
-      (ring_served new keeps f.enough.0 same is)
+      served (λ none. let l = served.answer.front_is.1 in omega (arith, ap length none, l, more))
 
 -- ---- peeks
 
@@ -150,6 +172,7 @@ same_bytes source ring held same = record {
   peeks_take_memory = refl;
   ends_by_device = refl;
   encoding = refl;
+  tells_faults = refl;
   faults = omega arith;
   targets = refl;
   to_come = λ _. ap (λ (l : List ℕ). l ++ source.to_come) same;
@@ -164,7 +187,7 @@ module _ {E : Type 0} {gives : Error → E → Type 0} {eof : E → Bool} {A B :
       let kept = KeptByPeek-after (same_bytes old ring held same) f.kept in
       record {
         kept = kept;
-        answer = record { front = take n keeps.bytes; rest = drop n keeps.bytes ++ new.to_come; front_is = (is, length-take-le n keeps.bytes f.enough.0); stands = λ told. sym (kept.to_come told) ∙ front_and_rest n keeps.bytes new.to_come };
+        answer = record { front = take n keeps.bytes; rest = drop n keeps.bytes ++ new.to_come; front_is = (is, length-take-le n keeps.bytes f.enough.0); stands = λ told. sym (kept.to_come told) ∙ front_and_rest n keeps.bytes new.to_come; no_fault = f.no_fault };
       }
 
   -- and of one that could not be
@@ -174,8 +197,9 @@ module _ {E : Type 0} {gives : Error → E → Type 0} {eof : E → Bool} {A B :
     kept = KeptByPeek-after (same_bytes old ring held same) f.kept;
     answer =
         inr (elim f.why [
-          | inl grown ↦ inl (inr grown)
+          | inl h ↦ inl (inr (failed_call gives true h.0 e old.faults new.faults h.1 h.2))
           | inr h ↦ inr (record {
+            no_fault = h.no_fault;
             kind = h.kind;
             because = λ told.
                 subst (λ (l : List ℕ). Unspelled gives eof (raw_bytes n) e (l ++ old.to_come)) same
@@ -191,8 +215,8 @@ module _ {E : Type 0} {gives : Error → E → Type 0} {eof : E → Bool} {A B :
 
 -- ---- reads past the ring
 
-module _ {F : Type 0} {filled : List ℕ} (held rest : Ring) {name : GName} {b : Bool} {encoding : Encoding} {old new : SourceState} (same_capacity : rest.capacity ≡ held.capacity) (emptied : rest.bytes ≡ []) where
-  past_kept : {result : Result Bool F} → FillsList filled result old new → Kept (ring_state name old held b encoding) (ring_state name new rest b encoding)
+module _ {filled : List ℕ} (held rest : Ring) {name : GName} {b : Bool} {encoding : Encoding} {old new : SourceState} (same_capacity : rest.capacity ≡ held.capacity) (emptied : rest.bytes ≡ []) where
+  past_kept : {result : Result Bool StdIoError} → FillsList filled result old new → Kept (ring_state name old held b encoding) (ring_state name new rest b encoding)
   past_kept f = record {
     tells = f.tells;
     lends = refl;
@@ -202,6 +226,7 @@ module _ {F : Type 0} {filled : List ℕ} (held rest : Ring) {name : GName} {b :
     peeks_take_memory = refl;
     ends_by_device = refl;
     encoding = refl;
+    tells_faults = refl;
     faults = f.faults;
     targets = refl;
     tail = λ told.
@@ -211,30 +236,36 @@ module _ {F : Type 0} {filled : List ℕ} (held rest : Ring) {name : GName} {b :
 
   module _ {E : Type 0} {gives : Error → E → Type 0} {eof : E → Bool} {n : ℕ} {A : Type 0} {seen : A → List ℕ} where
     -- the output is full
-    pub past_read : {full : Bool} {x : A} → IsTrue full → FillsList {E = F} filled (Ok full) old new → seen x ≡ held.bytes ++ filled → length held.bytes + length filled ≡ n → Reads gives eof seen (raw_bytes n) (Ok x) (ring_state name old held b encoding) (ring_state name new rest b encoding)
+    pub past_read : {full : Bool} {x : A} → IsTrue full → FillsList filled (Ok full) old new → seen x ≡ held.bytes ++ filled → length held.bytes + length filled ≡ n → length held.bytes < n → Reads gives eof seen (raw_bytes n) (Ok x) (ring_state name old held b encoding) (ring_state name new rest b encoding)
     unfolding raw_bytes
-    past_read all f same sized = record {
+    past_read all f same sized more = record {
       kept = past_kept f;
       answer = record {
         front = held.bytes ++ filled;
         front_is = (same, length-append held.bytes filled ∙ sized);
         taken = λ told. ap (λ (l : List ℕ). held.bytes ++ l) (f.full all told) ∙ (sym (append_assoc held.bytes filled new.to_come) ∙ ap (λ (l : List ℕ). (held.bytes ++ filled) ++ (l ++ new.to_come)) (sym emptied));
+        no_fault = f.no_fault;
+        untouched = λ none. absurd (omega (arith, ap length none, length-append held.bytes filled, sized, more));
       };
     }
 
     -- the source ended before
-    pub past_ended : {full : Bool} {e : E} → full ≡ false → FillsList {E = F} filled (Ok full) old new → IsEnd gives eof true e → length held.bytes + length filled ≡ n → Reads gives eof seen (raw_bytes n) (Err e) (ring_state name old held b encoding) (ring_state name new rest b encoding)
+    pub past_ended : {full : Bool} {e : E} → full ≡ false → FillsList filled (Ok full) old new → IsEnd gives eof true e → length held.bytes + length filled ≡ n → Reads gives eof seen (raw_bytes n) (Err e) (ring_state name old held b encoding) (ring_state name new rest b encoding)
     past_ended less f ended sized = record {
       kept = past_kept f;
-      answer = inr (stream_ended ended (λ told. let short = f.ended less told in omega (arith, length-append held.bytes old.to_come)));
+      answer = inr (stream_ended f.no_fault ended (λ told. let short = f.ended less told in omega (arith, length-append held.bytes old.to_come)));
     }
 
   module _ {E : Type 0} {gives : Error → E → Type 0} {eof : E → Bool} {A : Type 0} {seen : A → List ℕ} where
     -- a call failed
-    pub past_failed : (n : ℕ) {error : F} {e : E} → FillsList filled (Err error) old new → Reads gives eof seen (raw_bytes n) (Err e) (ring_state name old held b encoding) (ring_state name new rest b encoding)
-    past_failed n f = record { kept = past_kept f; answer = inl (inr f.fault) }
+    pub past_failed : (n : ℕ) {error : StdIoError} {e : E} → FillsList filled (Err error) old new → IsErrorOf gives error e → Reads gives eof seen (raw_bytes n) (Err e) (ring_state name old held b encoding) (ring_state name new rest b encoding)
+    past_failed n {error = error} {e = e} f is = record { kept = past_kept f; answer = inl (inr (failed_call gives true error e old.faults new.faults f.fault is)) }
 
 -- ---- forms
+
+-- sources of which the same is seen
+source_same : (a b : SourceState) → a.tells ≡ b.tells → a.to_come ≡ b.to_come → a.faults ≡ b.faults → a ≡ b
+source_same a b tells to_come faults = λ i. record { tells = tells i; to_come = to_come i; faults = faults i }
 
 module _ {E : Type 0} (gives : Error → E → Type 0) (eof : E → Bool) {A V : Type 0} (seen : A → V) (L : Format V) (b c : Bool) (ring left : Ring) (name after : GName) (encoding encoding' : Encoding) (old new : SourceState) (empty : ring.bytes ≡ []) (capacity : ring.capacity ≡ first_capacity b) where
   value_taken : (result : Result A E) → Reads gives eof seen L result (ring_state name old ring b encoding) (ring_state after new left c encoding') → IfOk result (λ x. TookFront (L.spells (seen x)) (most_held b) old new)
@@ -246,16 +277,23 @@ module _ {E : Type 0} (gives : Error → E → Type 0) (eof : E → Bool) {A V :
         front_is = r.answer.front_is;
         at_most = subst (λ (b : Bool). length left.bytes ≤ most_held b) r.kept.buffers tidy.1;
         taken = λ told. ap (λ (l : List ℕ). l ++ old.to_come) (sym empty) ∙ r.answer.taken told;
+        no_fault = r.answer.no_fault;
+        untouched = λ none nothing_ahead.
+            let same = r.answer.untouched none in
+            source_same new old (ap (λ (s : ReaderState). s.tells) same)
+            (ap (λ (l : List ℕ). l ++ new.to_come) (sym nothing_ahead) ∙ (ap (λ (s : ReaderState). s.to_come) same ∙ ap (λ (l : List ℕ). l ++ old.to_come) empty))
+            r.answer.no_fault;
       }
   value_taken (Err e) r = tt
 
-  refusal_is : (result : Result A E) → Reads gives eof seen L result (ring_state name old ring b encoding) (ring_state after new left c encoding') → IfErr result (λ e. (gives (error_of kinds.OutOfMemory) e × (IsTrue L.takes_memory ⊎ (IsTrue b × (new ≡ old)))) ⊎ (HasGrown old.faults new.faults ⊎ RefusesStream gives eof L e old))
+  refusal_is : (result : Result A E) → Reads gives eof seen L result (ring_state name old ring b encoding) (ring_state after new left c encoding') → IfErr result (λ e. WantsMemory gives L.takes_memory b e old new ⊎ (IsOfFailedCall gives e old.faults new.faults ⊎ RefusesStream gives eof L e old new))
   refusal_is (Ok x) r = tt
   refusal_is (Err e) r =
       elim r.answer [
-        | inl (inl want) ↦ inl (want.0, elim want.1 [ inl takes ↦ inl takes | inr never ↦ absurd (true≢false (sym never)) ])
-        | inl (inr grown) ↦ inr (inl grown)
+        | inl (inl want) ↦ inl (record { given = want.0; of = elim want.1 [ inl takes ↦ inl takes | inr never ↦ absurd (true≢false (sym never)) ]; no_fault = want.2 })
+        | inl (inr fault) ↦ inr (inl (fault.1 refl))
         | inr h ↦ inr (inr (record {
+          no_fault = h.no_fault;
           kind = h.kind;
           because = λ tells are fit needs.
               subst (λ (l : List ℕ). Unspelled gives eof L e (l ++ old.to_come)) empty
@@ -299,19 +337,14 @@ module _ {E : Type 0} {gives : Error → E → Type 0} {eof : E → Bool} {A V :
       (reader_answered gives eof seen (format (asks first.context)) first.is_buffering last.is_buffering first.ring last.ring first.source.ghost_name last.source.ghost_name (asks first.context) (asks last.context) (source first.source.now) new (ap (λ (r : Ring). r.bytes) ring) (ap (λ (r : Ring). r.capacity) ring ∙ ap (λ (b : Bool). first_capacity b) (sym same_way)) result r))))
 
   -- and of a file
-  pub file_answered : {L : Format V} {b : Bool} {old new : SourceState} (result : Result A E) → AnswersStream gives eof seen L b result old new → AnswersFile seen L result
+  pub file_answered : {L : Format V} {b : Bool} {old new : SourceState} (result : Result A E) → AnswersStream gives eof seen L b result old new → AnswersFile gives eof seen L result
   file_answered (Ok x) a = (a.value.front, a.value.front_is)
-  file_answered (Err e) a = tt
-
-  -- a function whose ring found no memory
-  pub stream_wants : {L : Format V} {b : Bool} {e : E} {old : SourceState} → (b ≡ false → ⊥) → gives (error_of kinds.OutOfMemory) e → AnswersStream gives eof {A = A} seen L b (Err e) old old
-  stream_wants {b = b} buffers given = record {
-    tells = refl;
-    faults = omega arith;
-    tail = λ _. ([], refl);
-    value = tt;
-    refused = inl (given, inr (true_from_ne_false b buffers, refl));
-  }
+  file_answered (Err e) a =
+      elim a.refused [
+        | inl want ↦ inr (inl want.given)
+        | inr (inl failed) ↦ inl (failed.0, failed.2)
+        | inr (inr h) ↦ inr (inr h.kind)
+      ]
 
 -- what a call that succeeded ensures
 pub succeeded : {T F : Type 0} (r : Result T F) {P : Type 0} → is_err r ≡ false → OnOk r P → P

@@ -160,8 +160,8 @@ module _ {E : Type 0} {gives : Error → E → Type 0} {eof : E → Bool} (encod
       kept = KeptByPeek-after one.kept r.kept;
       answer =
           elim r.answer [
-            | inl h ↦ inl (h.0, subst IsTrue one.kept.peeks_take_memory h.1)
-            | inr h ↦ inr (part_refused new one.kept.ends_by_device one.kept.takes_memory one.kept.faults (λ t. t) (λ kind h. absurd h)
+            | inl h ↦ inl (h.0, subst IsTrue one.kept.peeks_take_memory h.1, h.2 ∙ one.answer.no_fault)
+            | inr h ↦ inr (part_refused new one.kept.ends_by_device one.kept.takes_memory one.kept.tells_faults one.answer.no_fault (λ t. t) (λ kind h. absurd h)
                 (λ told because.
                 let same = one.kept.to_come told.tells in
                 let there : IsTold (raw_bytes count) mid = record {
@@ -179,7 +179,7 @@ module _ {E : Type 0} {gives : Error → E → Type 0} {eof : E → Bool} (encod
     pub varint_peeked : {x : A} {y : B} (more : ℕ) → Peeks gives eof (λ n. n) (unsigned_number 1 encoding) (Ok first) old mid → (varint encoding).spells (view y) (first ∷ take (length (seen x) - 1) (drop 1 (seen x))) → count ≡ more + 1 → Peeks gives eof seen (raw_bytes count) (Ok x) mid new → Peeks gives eof view (varint encoding) (Ok y) old new
     varint_peeked {x = x} more one spelled sized r = record {
       kept = KeptByPeek-after one.kept r.kept;
-      answer = record { front = first ∷ take (length (seen x) - 1) (drop 1 (seen x)); rest = r.answer.rest; front_is = spelled; stands = whole_to_come count more one sized r };
+      answer = record { front = first ∷ take (length (seen x) - 1) (drop 1 (seen x)); rest = r.answer.rest; front_is = spelled; stands = whole_to_come count more one sized r; no_fault = r.answer.no_fault ∙ one.answer.no_fault };
     }
 
     -- and are refused where the written form is demanded and they are not
@@ -191,6 +191,7 @@ module _ {E : Type 0} {gives : Error → E → Type 0} {eof : E → Bool} (encod
         record {
           kept = KeptByPeek-after one.kept r.kept;
           answer = inr (inr (record {
+            no_fault = r.answer.no_fault ∙ one.answer.no_fault;
             kind = inr (kinds.NotWrittenForm, inr (inr (strict, refl, reads_wider parts not_fewest)), given);
             because = λ told.
                 unaccepted encoding varint_code (prefixed_digits_laws encoding) _ (prefixed-spelled encoding (length tail) parts.low parts.rest first tail parts.first_is parts.tail_is) (whole_to_come count more one sized r told.tells)

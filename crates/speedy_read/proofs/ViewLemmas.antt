@@ -1,8 +1,7 @@
 -- Reads of lent bytes make reads of views.
-use Rattle.std.specs.Option.{is_some}
-use Rattle.std.specs.Prelude.{◌≡◌, ℕ, ◌*◌, ◌<◌, ◌≤◌, ◌^◌, List, length, map, Bool, false, IsTrue, Option, Some, None, Result, Ok, Err, refl}
+use Rattle.std.specs.Prelude.{◌≡◌, ℕ, ◌+◌, ◌-◌, ◌*◌, ◌<◌, ◌≤◌, ◌^◌, List, ◌++◌, length, replicate, map, Bool, Ok, Err, refl}
 use Rattle.std.proofs.Common.{sym, ◌∙◌, ap, subst, inr, arith}
-use Rattle.std.proofs.lemmas.List.{length-map}
+use Rattle.std.proofs.lemmas.List.{length-append, length-map, length-replicate}
 use Rattle.speedy_base.specs.declared.error.Error.{Error}
 use Rattle.speedy_base.specs.Digits.{AreBytes}
 use Rattle.speedy_layout.specs.Format.{Format, Each}
@@ -10,8 +9,8 @@ use Rattle.speedy_layout.specs.Lists.{repeat, vector}
 use Rattle.speedy_layout.specs.Owned.{owned_content, borrowed_content}
 use Rattle.speedy_layout.specs.Texts.{raw_bytes}
 use Rattle.speedy_layout.specs.Views.{shown_items, length-shown_many, shown_items_spelled, each_one_size}
-use Rattle.speedy_read.specs.Reading.{ReaderState, Kept, Reads, Refused, IsEnd, LendsBytes, ShowsNothing}
-use Rattle.speedy_read.specs.ReadingLemmas.{Kept-same, ends_early}
+use Rattle.speedy_read.specs.Reading.{ReaderState, Reads, IsEnd}
+use Rattle.speedy_read.specs.ReadingLemmas.{ends_early, part_refused}
 use Rattle.speedy_read.specs.Codes.{Covers, refused_covered, got_covered}
 
 -- items of one size
@@ -46,18 +45,33 @@ module _ {V : Type 0} (size : ℕ) (F : Format V) (one : (v : V) (bytes : List �
         r
 
   -- no input has more bytes than can be counted
-  pub more_than_all : {E : Type 0} {gives : Error → E → Type 0} {eof : E → Bool} {old new : ReaderState} {X Y : Type 0} {view : Y → List V} (shows : X → List ℕ) (k : ℕ) (lent : Option (Result X E)) {e : E}
-      → 2 ^ 64 ≤ n * size → IsEnd gives eof old.ends_by_device e → LendsBytes gives eof shows k lent old new → Reads gives eof view (borrowed_content (vector n F)) (Err e) old new
-  unfolding borrowed_content vector owned_content repeat
-  more_than_all {E = E} {gives = gives} {eof = eof} {old = old} {new = new} {X = X} shows k lent {e = e} many ended h = record { kept = kept lent h; answer = inr early } where
-    kept : (lent : Option (Result X E)) → LendsBytes gives eof shows k lent old new → Kept old new
-    kept None h = subst (λ (s : ReaderState). Kept old s) (sym h.1) Kept-same
-    kept (Some r) h = h.1.kept
+  module _ {E : Type 0} {gives : Error → E → Type 0} {eof : E → Bool} {old new : ReaderState} {X Y : Type 0} {shows : X → List ℕ} {view : Y → List V} (many : 2 ^ 64 ≤ n * size) where
+    pub more_than_all : (k : ℕ) {x : X} {e : E} → IsEnd gives eof old.ends_by_device e → Reads gives eof shows (raw_bytes k) (Ok x) old new → Reads gives eof view (borrowed_content (vector n F)) (Err e) old new
+    unfolding borrowed_content vector owned_content repeat
+    more_than_all k ended r = record {
+      kept = r.kept;
+      answer = inr (ends_early r.answer.no_fault (n * size) (λ vs s h. let l = each_one_size one vs s h.1 ∙ ap (λ m. m * size) h.0 in omega arith) (λ _ fault. fault) ended (λ _ fit. omega arith));
+    }
 
-    early : Refused gives eof (borrowed_content (vector n F)) e old
-    early = ends_early (n * size) (λ vs s h. let l = each_one_size one vs s h.1 ∙ ap (λ m. m * size) h.0 in omega arith) (λ _ fault. fault) ended (λ _ fit. omega arith)
-
--- nothing was lent
-pub none_lent : {E X : Type 0} (gives : Error → E → Type 0) (eof : E → Bool) {old new : ReaderState} (shows : X → List ℕ) (k : ℕ) (lent : Option (Result X E)) → is_some lent ≡ false → LendsBytes gives eof shows k lent old new → (IsTrue old.lends → ShowsNothing shows) × (new ≡ old)
-none_lent gives eof shows k None none h = h
-none_lent gives eof shows k (Some r) none h = absurd (cc)
+    -- so where as many as can be counted are refused, the items are
+    pub all_refused : {e : E} → Reads gives eof shows (raw_bytes (2 ^ 64 - 1)) (Err e) old new → Reads gives eof view (borrowed_content (vector n F)) (Err e) old new
+    unfolding raw_bytes borrowed_content vector owned_content repeat
+    all_refused r = record {
+      kept = r.kept;
+      answer = part_refused new refl refl refl refl (λ t. absurd (cc)) (λ kind h. absurd h)
+          (λ told because.
+          let un = because (record { tells = told.tells; are_bytes = told.are_bytes; fit = told.fit; lends = λ t. absurd (cc) }) in
+          let missing = replicate (2 ^ 64 - 1 - length old.to_come) 0 in
+          record {
+            no_front = λ vs front rest is sp.
+                let whole = ap length is ∙ length-append front rest in
+                let l = each_one_size one vs front sp.1 ∙ ap (λ m. m * size) sp.0 in
+                let fit = told.fit in
+                absurd (omega arith);
+            too_short = λ vs more sp.
+                let fit = told.fit in
+                un.too_short (old.to_come ++ missing) missing (refl, length-append old.to_come missing ∙ (ap (λ m. length old.to_come + m) (length-replicate (2 ^ 64 - 1 - length old.to_come) 0) ∙ omega arith));
+            at_fault = λ fault. absurd fault;
+          })
+          r.answer;
+    }

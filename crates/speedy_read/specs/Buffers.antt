@@ -1,6 +1,7 @@
 -- Readers of bytes in memory.
 use Rattle.std.specs.Prelude.{ℕ, List, [], ◌∷◌, Bool, true, false}
 use Rattle.std.specs.Borrow.{GName}
+use Rattle.speedy_base.specs.Devices.{no_faults}
 use Rattle.speedy_base.specs.Encoding.{Encoding}
 use Rattle.speedy_read.specs.Reading.{ReaderState}
 
@@ -16,7 +17,8 @@ memory_state lends targets bytes encoding = record {
   peeks_take_memory = false;
   ends_by_device = false;
   encoding = encoding;
-  faults = 0;
+  faults = no_faults;
+  tells_faults = true;
   targets = targets;
 }
 

@@ -1,6 +1,6 @@
 -- How values are read that are spelled as values of another format.
 use Rattle.std.specs.Prelude.{◌≡◌, ℕ, List, [], ◌++◌, Bool, true, false, IsTrue, ◌⊎◌, Ok, Err, refl}
-use Rattle.std.proofs.Common.{sym, ◌∙◌, ap, subst, arith, inl, inr}
+use Rattle.std.proofs.Common.{sym, ◌∙◌, ap, subst, inl, inr}
 use Rattle.std.proofs.lemmas.List.{append_assoc, append-nil}
 use Rattle.speedy_base.specs.declared.error.ErrorKind.{ErrorKind}
 use Rattle.speedy_base.specs.declared.error.ErrorKind.TheVariants as kinds
@@ -11,7 +11,7 @@ use Rattle.speedy_layout.specs.Format.{Format}
 use Rattle.speedy_layout.specs.Laws.{Laws}
 use Rattle.speedy_layout.specs.Codes.{Code, ReadsWider, coding, Accepts, IsDemand, Accepts-is, Accepts-means, Accepts-demanded, exact_code}
 use Rattle.speedy_read.specs.Reading.{ReaderState, IsTold, Unspelled, Reads, Peeks}
-use Rattle.speedy_read.specs.ReadingLemmas.{IsTold-part, part_refused}
+use Rattle.speedy_read.specs.ReadingLemmas.{IsTold-part, part_refused, Got-as, Ahead-as}
 use Rattle.speedy_base.specs.Encoding.{Encoding}
 
 -- each spelling of N is one of L too
@@ -40,27 +40,21 @@ module _ {U V : Type 0} {L : Format U} {N : Format V} (c : Covers L N) {E : Type
   module _ {A B : Type 0} {seen : A → U} {view : B → V} {old new : ReaderState} where
     -- where L is refused, N is
     pub refused_covered : {e : E} → Reads gives eof seen L (Err e) old new → Reads gives eof view N (Err e) old new
-    refused_covered r = record { kept = r.kept; answer = part_refused new refl refl (omega arith) c.takes c.names unspelled_covered r.answer }
+    refused_covered r = record { kept = r.kept; answer = part_refused new refl refl refl refl c.takes c.names unspelled_covered r.answer }
 
     pub peek_refused_covered : {e : E} → Peeks gives eof seen L (Err e) old new → Peeks gives eof view N (Err e) old new
     peek_refused_covered r = record {
       kept = r.kept;
-      answer = elim r.answer [ inl h ↦ inl h | inr h ↦ inr (part_refused new refl refl (omega arith) c.takes c.names unspelled_covered h) ];
+      answer = elim r.answer [ inl h ↦ inl h | inr h ↦ inr (part_refused new refl refl refl refl c.takes c.names unspelled_covered h) ];
     }
 
 -- what is read under L stands under N, if its spellings do
 module _ {U V : Type 0} {L : Format U} {N : Format V} {E : Type 0} {gives : Error → E → Type 0} {eof : E → Bool} {A B : Type 0} {seen : A → U} {view : B → V} {x : A} {y : B} {old new : ReaderState} (stands : (s : List ℕ) → L.spells (seen x) s → N.spells (view y) s) where
   pub got_covered : Reads gives eof seen L (Ok x) old new → Reads gives eof view N (Ok y) old new
-  got_covered r = record {
-    kept = r.kept;
-    answer = record { front = r.answer.front; front_is = stands r.answer.front r.answer.front_is; taken = r.answer.taken };
-  }
+  got_covered r = record { kept = r.kept; answer = Got-as stands r.answer }
 
   pub ahead_covered : Peeks gives eof seen L (Ok x) old new → Peeks gives eof view N (Ok y) old new
-  ahead_covered r = record {
-    kept = r.kept;
-    answer = record { front = r.answer.front; rest = r.answer.rest; front_is = stands r.answer.front r.answer.front_is; stands = r.answer.stands };
-  }
+  ahead_covered r = record { kept = r.kept; answer = Ahead-as stands r.answer }
 
 -- ---- codes
 
@@ -107,6 +101,7 @@ module _ {E : Type 0} {gives : Error → E → Type 0} {eof : E → Bool} {U V :
   code_unaccepted laws {e = e} nothing named r = record {
     kept = r.kept;
     answer = inr (record {
+      no_fault = r.answer.no_fault;
       kind = inr (IsNamed-more gives {more = λ kind. L.names kind ⊎ (c.fault kind ⊎ IsDemand encoding.strict c kind)} e (λ kind h. inr h) named);
       because = λ told. unaccepted encoding c laws _ r.answer.front_is (r.answer.taken told.tells) nothing named;
     });

@@ -1,5 +1,5 @@
 -- How values are read that a flag or a tag chooses.
-use Rattle.std.specs.Prelude.{◌≡◌, ℕ, [], Bool, true, false, not, nat_eq, ◌<◌, ◌≤◌, Ok, refl}
+use Rattle.std.specs.Prelude.{◌≡◌, ℕ, Bool, true, false, not, nat_eq, ◌<◌, ◌≤◌, Ok, refl}
 use Rattle.std.proofs.Common.{sym, subst, arith, inl, inr}
 use Rattle.std.proofs.lemmas.Bool.Decides.{eqb_tells}
 use Rattle.speedy_base.specs.declared.error.Error.{Error}
@@ -8,7 +8,7 @@ use Rattle.speedy_layout.specs.Format.{Format}
 use Rattle.speedy_layout.specs.Flags.{flag, IsFlag, written_flag, Branch, branch, branch_suffices, variant, option, option_parts, option_join, alternative, alternative_parts, alternative_join}
 use Rattle.speedy_layout.specs.Tuples.{unit}
 use Rattle.speedy_read.specs.Reading.{ReaderState, Reads}
-use Rattle.speedy_read.specs.ReadingLemmas.{Kept-same}
+use Rattle.speedy_read.specs.ReadingLemmas.{Kept-same, Got-nothing}
 use Rattle.speedy_read.specs.Sequences.{Composes, sequence_composes}
 
 -- a byte that is not 0 stands for true
@@ -54,4 +54,4 @@ alternative_composes encoding {V = V} {W = W} = variant_composes alternative_par
 -- no bytes are read
 pub unit_read : {E : Type 0} {gives : Error → E → Type 0} {eof : E → Bool} {A : Type 0} {seen : A → Unit {0}} {x : A} {old : ReaderState} → Reads gives eof seen unit (Ok x) old old
 unfolding unit
-unit_read = record { kept = Kept-same; answer = record { front = []; front_is = refl; taken = λ _. refl } }
+unit_read = record { kept = Kept-same; answer = Got-nothing refl }

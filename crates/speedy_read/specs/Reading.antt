@@ -6,7 +6,8 @@ use Rattle.speedy_base.specs.declared.error.ErrorKind.TheVariants as kinds
 use Rattle.speedy_base.specs.declared.error.Error.{Error}
 use Rattle.speedy_base.specs.Error.{error_of, IsNamed}
 use Rattle.speedy_base.specs.ErrorKind.{EndsInput}
-use Rattle.speedy_base.specs.Device.{HasGrown}
+use Rattle.speedy_base.specs.declared.device.Faults.{Faults}
+use Rattle.speedy_base.specs.FailedCalls.{IsOfFault}
 use Rattle.speedy_base.specs.Digits.{AreBytes}
 use Rattle.speedy_base.specs.Encoding.{Encoding}
 use Rattle.speedy_layout.specs.Format.{Format}
@@ -32,8 +33,9 @@ pub record ReaderState : Type 0 where
   pub ends_by_device : Bool
   -- what its context asks of the bytes
   pub encoding : Encoding
-  -- its device's number of failed calls
-  pub faults : ℕ
+  -- its device's failed calls, and whether a refusal that one of them caused says what it answered
+  pub faults : Faults
+  pub tells_faults : Bool
   -- the `&mut`s that it holds
   pub targets : List GName
 
@@ -47,7 +49,8 @@ pub record Kept (old new : ReaderState) : Type 0 where
   pub peeks_take_memory : new.peeks_take_memory ≡ old.peeks_take_memory
   pub ends_by_device : new.ends_by_device ≡ old.ends_by_device
   pub encoding : new.encoding ≡ old.encoding
-  pub faults : old.faults ≤ new.faults
+  pub tells_faults : new.tells_faults ≡ old.tells_faults
+  pub faults : old.faults.count ≤ new.faults.count
   pub targets : new.targets ≡ old.targets
   -- what is to come is a tail of what was to come
   pub tail : IsTrue old.tells → (front : List ℕ) × (old.to_come ≡ front ++ new.to_come)
@@ -61,22 +64,27 @@ pub record KeptByPeek (old new : ReaderState) : Type 0 where
   pub peeks_take_memory : new.peeks_take_memory ≡ old.peeks_take_memory
   pub ends_by_device : new.ends_by_device ≡ old.ends_by_device
   pub encoding : new.encoding ≡ old.encoding
-  pub faults : old.faults ≤ new.faults
+  pub tells_faults : new.tells_faults ≡ old.tells_faults
+  pub faults : old.faults.count ≤ new.faults.count
   pub targets : new.targets ≡ old.targets
   pub to_come : IsTrue old.tells → new.to_come ≡ old.to_come
 
--- a front of the bytes to come that is spelled so, and just it was taken
+-- a front of the bytes to come that is spelled so, and just it was taken, by calls of the device that did not fail
 pub record Got (spelled : List ℕ → Type 0) (old new : ReaderState) : Type 0 where
   pub front : List ℕ
   pub front_is : spelled front
   pub taken : IsTrue old.tells → old.to_come ≡ front ++ new.to_come
+  pub no_fault : new.faults ≡ old.faults
+  -- to take no byte is to do nothing
+  pub untouched : front ≡ [] → new ≡ old
 
--- a front of the bytes to come that is spelled so
-pub record Ahead (spelled : List ℕ → Type 0) (old : ReaderState) : Type 0 where
+-- a front of the bytes to come that is spelled so, as calls of the device showed that did not fail
+pub record Ahead (spelled : List ℕ → Type 0) (old new : ReaderState) : Type 0 where
   pub front : List ℕ
   pub rest : List ℕ
   pub front_is : spelled front
   pub stands : IsTrue old.tells → old.to_come ≡ front ++ rest
+  pub no_fault : new.faults ≡ old.faults
 
 -- the bytes are told, fewer than `usize::MAX` of them, and lent where the type needs it
 pub record IsTold {V : Type 0} (L : Format V) (old : ReaderState) : Type 0 where
@@ -93,13 +101,13 @@ pub record Counts (spelled : List ℕ → Type 0) (count : ℕ) (bytes : List �
   pub front_is : spelled front
   pub count_is : count ≡ length front
 
--- want of memory, where memory may be asked for, or a failed call of the device
+-- want of memory, where memory may be asked for and no call of the device failed, or a failed call of the device
 abbrev pub Excused : {E : Type 0} → (Error → E → Type 0) → Bool → E → ReaderState → ReaderState → Type 0
-Excused gives takes e old new = (gives (error_of kinds.OutOfMemory) e × (IsTrue takes ⊎ IsTrue old.takes_memory)) ⊎ HasGrown old.faults new.faults
+Excused gives takes e old new = (gives (error_of kinds.OutOfMemory) e × (IsTrue takes ⊎ IsTrue old.takes_memory) × (new.faults ≡ old.faults)) ⊎ IsOfFault gives old.tells_faults e old.faults new.faults
 
--- want of memory, where a peek may ask for it
-abbrev pub PeekWants : {E : Type 0} → (Error → E → Type 0) → E → ReaderState → Type 0
-PeekWants gives e old = gives (error_of kinds.OutOfMemory) e × IsTrue old.peeks_take_memory
+-- want of memory, where a peek may ask for it and no call of the device failed
+abbrev pub PeekWants : {E : Type 0} → (Error → E → Type 0) → E → ReaderState → ReaderState → Type 0
+PeekWants gives e old new = gives (error_of kinds.OutOfMemory) e × IsTrue old.peeks_take_memory × (new.faults ≡ old.faults)
 
 -- no value shows a byte
 abbrev pub ShowsNothing : {A : Type 0} → (A → List ℕ) → Type 0
@@ -117,7 +125,8 @@ module _ {E : Type 0} (gives : Error → E → Type 0) (eof : E → Bool) where
     pub at_fault : L.at_fault bytes → IsNamed gives L.names e
 
   -- a clean refusal
-  pub record Refused {V : Type 0} (L : Format V) (e : E) (old : ReaderState) : Type 0 where
+  pub record Refused {V : Type 0} (L : Format V) (e : E) (old new : ReaderState) : Type 0 where
+    pub no_fault : new.faults ≡ old.faults
     pub kind : IsEnd old.ends_by_device e ⊎ IsNamed gives L.names e
     pub because : IsTold L old → Unspelled L e old.to_come
 
@@ -129,7 +138,7 @@ module _ {E : Type 0} (gives : Error → E → Type 0) (eof : E → Bool) where
   -- A read of a format's values. A value that is answered is spelled by a front of the bytes to come, and just that front is taken. A clean refusal means that no front spells any value.
   pub record Reads {A V : Type 0} (seen : A → V) (L : Format V) (result : Result A E) (old new : ReaderState) : Type 0 where
     pub kept : Kept old new
-    pub answer : MatchResult result (λ x. Got (L.spells (seen x)) old new) (λ e. Excused gives L.takes_memory e old new ⊎ Refused L e old)
+    pub answer : MatchResult result (λ x. Got (L.spells (seen x)) old new) (λ e. Excused gives L.takes_memory e old new ⊎ Refused L e old new)
 
   -- a read of a number of so many digits, and of a signed one of a width, in the encoding of the reader
   abbrev pub ReadsUnsigned : ℕ → Result ℕ E → ReaderState → ReaderState → Type 0
@@ -141,7 +150,7 @@ module _ {E : Type 0} (gives : Error → E → Type 0) (eof : E → Bool) where
   -- A peek of a format's values: as the read, but nothing is taken, and it may want memory where the read does not.
   pub record Peeks {A V : Type 0} (seen : A → V) (L : Format V) (result : Result A E) (old new : ReaderState) : Type 0 where
     pub kept : KeptByPeek old new
-    pub answer : MatchResult result (λ x. Ahead (L.spells (seen x)) old) (λ e. PeekWants gives e old ⊎ (Excused gives L.takes_memory e old new ⊎ Refused L e old))
+    pub answer : MatchResult result (λ x. Ahead (L.spells (seen x)) old new) (λ e. PeekWants gives e old new ⊎ (Excused gives L.takes_memory e old new ⊎ Refused L e old new))
 
   -- What a read answers that lends its bytes. Where the reader lends, it answers, refuses and takes as a read of so many bytes does, and what is lent shows the bytes that were taken. A reader that lends nothing answers nothing and takes nothing; so does one whose loans show nothing.
   abbrev pub LendsBytes : {A : Type 0} → (A → List ℕ) → ℕ → Option (Result A E) → ReaderState → ReaderState → Type 0

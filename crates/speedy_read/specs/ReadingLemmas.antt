@@ -8,9 +8,10 @@ use Rattle.speedy_base.specs.declared.error.Error.{Error}
 use Rattle.speedy_base.specs.Error.{error_of, IsNamed-more}
 use Rattle.speedy_base.specs.Digits.{AreBytes}
 use Rattle.speedy_base.specs.DigitsLemmas.{AreBytes-append_parts}
-use Rattle.speedy_base.specs.DeviceLemmas.{HasGrown-after}
+use Rattle.speedy_base.specs.DeviceLemmas.{fault_after}
+use Rattle.speedy_base.specs.FailedCalls.{IsOfFault}
 use Rattle.speedy_layout.specs.Format.{Format}
-use Rattle.speedy_read.specs.Reading.{ReaderState, Kept, KeptByPeek, Got, IsTold, Excused, IsEnd, Unspelled, Refused, Reads}
+use Rattle.speedy_read.specs.Reading.{ReaderState, Kept, KeptByPeek, Got, Ahead, IsTold, Excused, IsEnd, Unspelled, Refused, Reads}
 
 -- ---- states
 
@@ -25,6 +26,7 @@ Kept-same = record {
   peeks_take_memory = refl;
   ends_by_device = refl;
   encoding = refl;
+  tells_faults = refl;
   faults = omega arith;
   targets = refl;
   tail = λ _. ([], refl);
@@ -41,6 +43,7 @@ Kept-after {c = c} h k = record {
   peeks_take_memory = k.peeks_take_memory ∙ h.peeks_take_memory;
   ends_by_device = k.ends_by_device ∙ h.ends_by_device;
   encoding = k.encoding ∙ h.encoding;
+  tells_faults = k.tells_faults ∙ h.tells_faults;
   faults = let x = h.faults in let y = k.faults in omega arith;
   targets = k.targets ∙ h.targets;
   tail = λ told.
@@ -51,7 +54,7 @@ Kept-after {c = c} h k = record {
 
 -- the same of peeks
 pub KeptByPeek-same : {a : ReaderState} → KeptByPeek a a
-KeptByPeek-same = record { tells = refl; lends = refl; buffers = refl; takes_memory = refl; peeks_take_memory = refl; ends_by_device = refl; encoding = refl; faults = omega arith; targets = refl; to_come = λ _. refl }
+KeptByPeek-same = record { tells = refl; lends = refl; buffers = refl; takes_memory = refl; peeks_take_memory = refl; ends_by_device = refl; encoding = refl; tells_faults = refl; faults = omega arith; targets = refl; to_come = λ _. refl }
 
 pub KeptByPeek-after : {a b c : ReaderState} → KeptByPeek a b → KeptByPeek b c → KeptByPeek a c
 KeptByPeek-after h k = record {
@@ -62,6 +65,7 @@ KeptByPeek-after h k = record {
   peeks_take_memory = k.peeks_take_memory ∙ h.peeks_take_memory;
   ends_by_device = k.ends_by_device ∙ h.ends_by_device;
   encoding = k.encoding ∙ h.encoding;
+  tells_faults = k.tells_faults ∙ h.tells_faults;
   faults = let x = h.faults in let y = k.faults in omega arith;
   targets = k.targets ∙ h.targets;
   to_come = λ told. k.to_come (subst IsTrue (sym h.tells) told) ∙ h.to_come told;
@@ -97,27 +101,29 @@ fronts_nest (x ∷ a) b (y ∷ c) d e =
 pub input_ended : {E : Type 0} (gives : Error → E → Type 0) (eof : E → Bool) (by_device : Bool) (e : E) → gives (error_of kinds.UnexpectedEndOfInput) e → IsTrue (eof e) → IsEnd gives eof by_device e
 input_ended gives eof by_device e g h = ((kinds.UnexpectedEndOfInput, tt, g), h)
 
--- what excuses a part that is read from `mid` on excuses the whole
-excused_after : {E : Type 0} (gives : Error → E → Type 0) (takes more : Bool) (e : E) (old mid new : ReaderState) → mid.takes_memory ≡ old.takes_memory → old.faults ≤ mid.faults → (IsTrue takes → IsTrue more) → Excused gives takes e mid new → Excused gives more e old new
-excused_after gives takes more e old mid new same l f (inl (g, inl t)) = inl (g, inl (f t))
-excused_after gives takes more e old mid new same l f (inl (g, inr t)) = inl (g, inr (subst IsTrue same t))
-excused_after gives takes more e old mid new same l f (inr h) = inr (HasGrown-after l h)
+-- what excuses a part that is read from `mid` on, before which no call failed, excuses the whole
+excused_after : {E : Type 0} (gives : Error → E → Type 0) (takes more : Bool) (e : E) (old mid new : ReaderState) → mid.takes_memory ≡ old.takes_memory → mid.tells_faults ≡ old.tells_faults → mid.faults ≡ old.faults → (IsTrue takes → IsTrue more) → Excused gives takes e mid new → Excused gives more e old new
+excused_after gives takes more e old mid new same tells clean f (inl (g, inl t, none)) = inl (g, inl (f t), none ∙ clean)
+excused_after gives takes more e old mid new same tells clean f (inl (g, inr t, none)) = inl (g, inr (subst IsTrue same t), none ∙ clean)
+excused_after gives takes more e old mid new same tells clean f (inr h) = inr (fault_after gives old.tells_faults e old.faults mid.faults new.faults clean (subst (λ (b : Bool). IsOfFault gives b e mid.faults new.faults) tells h))
 
 -- a part L that is refused from `mid` on refuses the whole N, where what L says of the bytes says it of N
-pub part_refused : {E : Type 0} {gives : Error → E → Type 0} {eof : E → Bool} {U V : Type 0} {L : Format U} {N : Format V} {e : E} {old mid : ReaderState} (new : ReaderState) → mid.ends_by_device ≡ old.ends_by_device → mid.takes_memory ≡ old.takes_memory → old.faults ≤ mid.faults
+pub part_refused : {E : Type 0} {gives : Error → E → Type 0} {eof : E → Bool} {U V : Type 0} {L : Format U} {N : Format V} {e : E} {old mid : ReaderState} (new : ReaderState) → mid.ends_by_device ≡ old.ends_by_device → mid.takes_memory ≡ old.takes_memory → mid.tells_faults ≡ old.tells_faults → mid.faults ≡ old.faults
     → (IsTrue L.takes_memory → IsTrue N.takes_memory) → ((kind : ErrorKind) → L.names kind → N.names kind)
     → (IsTold N old → (IsTold L mid → Unspelled gives eof L e mid.to_come) → Unspelled gives eof N e old.to_come)
-    → Excused gives L.takes_memory e mid new ⊎ Refused gives eof L e mid → Excused gives N.takes_memory e old new ⊎ Refused gives eof N e old
-part_refused {gives = gives} {L = L} {N = N} {e = e} {old = old} {mid = mid} new ends memory faults takes names un (inl x) = inl (excused_after gives L.takes_memory N.takes_memory e old mid new memory faults takes x)
-part_refused {gives = gives} {eof = eof} {L = L} {N = N} {e = e} new ends memory faults takes names un (inr x) = inr (record {
+    → Excused gives L.takes_memory e mid new ⊎ Refused gives eof L e mid new → Excused gives N.takes_memory e old new ⊎ Refused gives eof N e old new
+part_refused {gives = gives} {L = L} {N = N} {e = e} {old = old} {mid = mid} new ends memory tells clean takes names un (inl x) = inl (excused_after gives L.takes_memory N.takes_memory e old mid new memory tells clean takes x)
+part_refused {gives = gives} {eof = eof} {L = L} {N = N} {e = e} new ends memory tells clean takes names un (inr x) = inr (record {
+  no_fault = x.no_fault ∙ clean;
   kind = elim x.kind [ inl h ↦ inl (subst (λ (by_device : Bool). IsEnd gives eof by_device e) ends h) | inr h ↦ inr (IsNamed-more gives e names h) ];
   because = λ told. un told x.because;
 })
 
--- an input that ended before the least size of a format without faults
-pub ends_early : {E : Type 0} {gives : Error → E → Type 0} {eof : E → Bool} {V : Type 0} {L : Format V} {e : E} {old : ReaderState} (least : ℕ) → ((v : V) (s : List ℕ) → L.spells v s → least ≤ length s) → ((bytes : List ℕ) → L.at_fault bytes → ⊥) → IsEnd gives eof old.ends_by_device e
-    → (IsTrue old.tells → length old.to_come < 2 ^ 64 - 1 → length old.to_come < least) → Refused gives eof L e old
-ends_early least size no_fault ended fewer = record {
+-- an input that ended before the least size of a format without faults, and no call of the device failed
+pub ends_early : {E : Type 0} {gives : Error → E → Type 0} {eof : E → Bool} {V : Type 0} {L : Format V} {e : E} {old new : ReaderState} → new.faults ≡ old.faults → (least : ℕ) → ((v : V) (s : List ℕ) → L.spells v s → least ≤ length s) → ((bytes : List ℕ) → L.at_fault bytes → ⊥) → IsEnd gives eof old.ends_by_device e
+    → (IsTrue old.tells → length old.to_come < 2 ^ 64 - 1 → length old.to_come < least) → Refused gives eof L e old new
+ends_early clean least size no_fault ended fewer = record {
+  no_fault = clean;
   kind = inl ended;
   because = λ told. record {
     no_front = λ v front rest is h. let k = size v front h in let l = ap length is ∙ length-append front rest in let f = fewer told.tells told.fit in absurd (omega arith);
@@ -125,6 +131,35 @@ ends_early least size no_fault ended fewer = record {
     at_fault = λ fault. absurd (no_fault _ fault);
   };
 }
+
+-- ---- what was taken
+
+-- no bytes are joined of none
+pub no_parts : (a b : List ℕ) → a ++ b ≡ [] → (a ≡ []) × (b ≡ [])
+no_parts [] b h = (refl, h)
+no_parts (x ∷ a) b h = absurd (cc)
+
+module _ {spelled other : List ℕ → Type 0} {old new : ReaderState} (f : (s : List ℕ) → spelled s → other s) where
+  -- what was taken is spelled otherwise too
+  pub Got-as : Got spelled old new → Got other old new
+  Got-as g = record { front = g.front; front_is = f g.front g.front_is; taken = g.taken; no_fault = g.no_fault; untouched = g.untouched }
+
+  pub Ahead-as : Ahead spelled old new → Ahead other old new
+  Ahead-as g = record { front = g.front; rest = g.rest; front_is = f g.front g.front_is; stands = g.stands; no_fault = g.no_fault }
+
+-- one front was taken after the other
+pub Got-after : {spelled next more : List ℕ → Type 0} {old mid new : ReaderState} → Kept old mid → ((s t : List ℕ) → spelled s → next t → more (s ++ t)) → Got spelled old mid → Got next mid new → Got more old new
+Got-after {new = new} kept f g k = record {
+  front = g.front ++ k.front;
+  front_is = f g.front k.front g.front_is k.front_is;
+  taken = λ told. g.taken told ∙ (ap (λ s. g.front ++ s) (k.taken (subst IsTrue (sym kept.tells) told)) ∙ sym (append_assoc g.front k.front new.to_come));
+  no_fault = k.no_fault ∙ g.no_fault;
+  untouched = λ none. let parts = no_parts g.front k.front none in k.untouched parts.1 ∙ g.untouched parts.0;
+}
+
+-- nothing was taken
+pub Got-nothing : {spelled : List ℕ → Type 0} {old : ReaderState} → spelled [] → Got spelled old old
+Got-nothing h = record { front = []; front_is = h; taken = λ _. refl; no_fault = refl; untouched = λ _. refl }
 
 -- ---- what was read so far
 
@@ -134,23 +169,16 @@ pub record ReadSoFar (spelled : List ℕ → Type 0) (old new : ReaderState) : T
   pub got : Got spelled old new
 
 pub none_so_far : {spelled : List ℕ → Type 0} {old : ReaderState} → spelled [] → ReadSoFar spelled old old
-none_so_far h = record { kept = Kept-same; got = record { front = []; front_is = h; taken = λ _. refl } }
+none_so_far h = record { kept = Kept-same; got = Got-nothing h }
 
 module _ {E : Type 0} {gives : Error → E → Type 0} {eof : E → Bool} {A V : Type 0} {seen : A → V} {x : A} {L : Format V} {spelled : List ℕ → Type 0} where
   -- and a value more
   pub more_so_far : {more : List ℕ → Type 0} {old mid new : ReaderState} → ReadSoFar spelled old mid → Reads gives eof seen L (Ok x) mid new → ((s t : List ℕ) → spelled s → L.spells (seen x) t → more (s ++ t)) → ReadSoFar more old new
-  more_so_far {new = new} h r f = record {
-    kept = Kept-after h.kept r.kept;
-    got = record {
-      front = h.got.front ++ r.answer.front;
-      front_is = f h.got.front r.answer.front h.got.front_is r.answer.front_is;
-      taken = λ told. h.got.taken told ∙ (ap (λ s. h.got.front ++ s) (r.answer.taken (subst IsTrue (sym h.kept.tells) told)) ∙ sym (append_assoc h.got.front r.answer.front new.to_come));
-    };
-  }
+  more_so_far h r f = record { kept = Kept-after h.kept r.kept; got = Got-after h.kept f h.got r.answer }
 
   -- the front is a value
   pub all_so_far : {old new : ReaderState} → ReadSoFar spelled old new → ((s : List ℕ) → spelled s → L.spells (seen x) s) → Reads gives eof seen L (Ok x) old new
-  all_so_far h f = record { kept = h.kept; answer = record { front = h.got.front; front_is = f h.got.front h.got.front_is; taken = h.got.taken } }
+  all_so_far h f = record { kept = h.kept; answer = Got-as f h.got }
 
 -- ---- another value of the same format
 
@@ -161,7 +189,4 @@ module _ {E : Type 0} {gives : Error → E → Type 0} {eof : E → Bool} {A B V
 
   -- and answered, where the same is seen of it
   pub got_as : {x : A} {y : B} → view y ≡ seen x → Reads gives eof seen L (Ok x) old new → Reads gives eof view L (Ok y) old new
-  got_as same r = record {
-    kept = r.kept;
-    answer = record { front = r.answer.front; front_is = subst (λ (v : V). L.spells v r.answer.front) (sym same) r.answer.front_is; taken = r.answer.taken };
-  }
+  got_as same r = record { kept = r.kept; answer = Got-as (λ s h. subst (λ (v : V). L.spells v s) (sym same) h) r.answer }

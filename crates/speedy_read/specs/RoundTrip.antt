@@ -1,14 +1,19 @@
 -- What was written is what is read.
-use Rattle.std.specs.Prelude.{◌≡◌, ℕ, ◌-◌, ◌^◌, ◌<◌, List, ◌++◌, length, Bool, false, IsTrue, Result, IfOk, OnOk, IfErr, OnErr}
+use Rattle.std.specs.Prelude.{◌≡◌, ℕ, ◌-◌, ◌^◌, ◌<◌, ◌≤◌, ◌⊎◌, List, ◌++◌, length, Bool, false, IsTrue, Result, IfOk, OnOk, IfErr, OnErr}
 use Rattle.std.proofs.Common.{Fits, w8, get_or}
 use Rattle.speedy_base.specs.declared.error.Error.{Error}
 use Rattle.speedy_base.specs.declared.error.ErrorKind.TheVariants as kinds
 use Rattle.speedy_base.specs.Error.{error_of}
+use Rattle.speedy_base.specs.Device.{SourceState}
+use Rattle.speedy_base.specs.Digits.{AreBytes}
 use Rattle.speedy_base.specs.Encoding.{Encoding}
+use Rattle.speedy_base.specs.FailedCalls.{IsOfFailedCall}
 use Rattle.speedy_layout.specs.Format.{Format, Each}
 use Rattle.speedy_layout.specs.Lists.{vector}
 use Rattle.speedy_read.specs.Buffers.{bytes_state}
 use Rattle.speedy_read.specs.Reading.{ReaderState, IsTold, Excused, Reads, AnswersBuffer, AnswersCopied}
+use Rattle.speedy_read.specs.StreamView.{most_held}
+use Rattle.speedy_read.specs.Streams.{WantsMemory, AnswersStream}
 
 -- What a function that reads from a buffer answers where a written form of so many bytes stands at the front: the value that was written, and the number of those bytes. It is refused only for want of memory.
 pub record AnswersWritten {E A V : Type 0} (gives : Error → E → Type 0) (seen : A → V) (L : Format V) (v : V) (size : ℕ) (result : Result A E) (count : ℕ) : Type 0 where
@@ -30,6 +35,14 @@ pub record ReadsWrittenFirst {E A V : Type 0} (gives : Error → E → Type 0) (
   pub rest_is : OnOk result (left ≡ rest)
   pub refused : ((i : ℕ) → Fits w8 (get_or buffer i 0)) → length buffer < 2 ^ 64 - 1 → IfErr result (gives (error_of kinds.OutOfMemory))
 
+-- What a function that reads from a source answers where a written form and then the rest are to come: the value that was written, and the rest is still to come, but for what was read ahead of it. It is refused only for want of memory or as what a failed call answered, where the bytes are told and fewer than `usize::MAX`, and the type borrows nothing.
+pub record StreamsWritten {E A V : Type 0} (gives : Error → E → Type 0) (seen : A → V) (L : Format V) (v : V) (buffers : Bool) (rest : List ℕ) (result : Result A E) (old new : SourceState) : Type 0 where
+  pub same : IfOk result (λ x. seen x ≡ v)
+  pub rest_is : OnOk result (buffers ≡ false → new.to_come ≡ rest)
+  pub ahead : OnOk result ((ahead : List ℕ) × (length ahead ≤ most_held buffers) × (rest ≡ ahead ++ new.to_come))
+  pub no_fault : OnOk result (new.faults ≡ old.faults)
+  pub refused : AreBytes old.to_come → length old.to_come < 2 ^ 64 - 1 → L.needs_lending ≡ false → IfErr result (λ e. WantsMemory gives L.takes_memory buffers e old new ⊎ IsOfFailedCall gives e old.faults new.faults)
+
 module _ {E A : Type 0} (gives : Error → E → Type 0) (eof : E → Bool) where
   -- the law of the functions that read from a buffer
   pub record WrittenIsAnswered {V : Type 0} (seen : A → V) (least : ℕ) (format : Encoding → Format V) : Type 0 where
@@ -44,6 +57,10 @@ module _ {E A : Type 0} (gives : Error → E → Type 0) (eof : E → Bool) wher
     pub told : {encoding : Encoding} {v : V} {bytes rest : List ℕ} {result : Result A E} {old new : ReaderState} → (format encoding).writes v bytes → IsTrue old.tells → old.encoding ≡ encoding → old.to_come ≡ bytes ++ rest → Reads gives eof seen (format old.encoding) result old new → ReadsWritten gives eof seen (format encoding) v rest result old new
     -- from a reader of bytes in memory that has just been made
     pub made : {encoding at after : Encoding} {v : V} {bytes rest buffer left : List ℕ} {result : Result A E} {old : ReaderState} → (format encoding).writes v bytes → buffer ≡ bytes ++ rest → old ≡ bytes_state buffer at → at ≡ encoding → Reads gives eof seen (format old.encoding) result old (bytes_state left after) → ReadsWrittenFirst gives seen v rest buffer result left
+
+  -- the law of the functions that read from a source that tells its bytes
+  abbrev pub WrittenIsStreamed : {V : Type 0} → (A → V) → (Encoding → Format V) → Type 0
+  WrittenIsStreamed {V = V} seen format = (encoding : Encoding) (v : V) (bytes rest : List ℕ) (buffers : Bool) (result : Result A E) (old new : SourceState) → (format encoding).writes v bytes → IsTrue old.tells → old.to_come ≡ bytes ++ rest → AnswersStream gives eof seen (format encoding) buffers result old new → StreamsWritten gives seen (format encoding) v buffers rest result old new
 
   -- the law of reads of items by their number
   pub record WrittenItemsAreRead {V : Type 0} (seen : A → List V) (format : Encoding → Format V) : Type 0 where

@@ -43,6 +43,7 @@ ring_state name source ring is_buffering encoding = record {
   ends_by_device = true;
   encoding = encoding;
   faults = source.faults;
+  tells_faults = true;
   targets = name ∷ [];
 }
 

@@ -1,5 +1,5 @@
 //! Reading from bytes in memory.
-ghost use Rattle.std.specs.Prelude.{◌≡◌, ◌↔◌, [], IsTrue, length, nat_le, Some, OnErr, IfSome, IsSome, refl};
+ghost use Rattle.std.specs.Prelude.{IsOk, ◌≡◌, ◌↔◌, [], IsTrue, length, nat_le, Some, OnErr, IfSome, IsSome, refl};
 ghost use Rattle.std.specs.Borrow.{sem, Lends};
 ghost use Rattle.std.specs.Io.BufRead.{Rests};
 ghost use mir.Syntax.{named};
@@ -108,6 +108,8 @@ impl<'a, C: Context> LendingReader<&'a [u8], C> for BufferReader<'a, C> {
         ensures skips { Reads C.Error.from_gives C.Error.eof (λ x. x) (any_bytes length) result
             (⟦<BufferReader<'a, C> as LendingReader<&'a [u8], C>>⟧.state self.old)
             (⟦<BufferReader<'a, C> as LendingReader<&'a [u8], C>>⟧.state self.new) }
+        ensures nothing { let reader = ⟦<BufferReader<'a, C> as LendingReader<&'a [u8], C>>⟧ in
+            length ≡ 0 → IsOk result × (reader.state self.new ≡ reader.state self.old) }
         ensures unchanged { OnErr result (self.new ≡ self.old) }
     {
         if self.rest.len() < length {

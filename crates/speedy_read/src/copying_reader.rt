@@ -1,5 +1,5 @@
 //! Reading from bytes in memory that are not lent.
-ghost use Rattle.std.specs.Prelude.{◌≡◌, [], length, nat_le, Some, None, OnErr, IsSome, refl};
+ghost use Rattle.std.specs.Prelude.{IsOk, ◌≡◌, [], length, nat_le, Some, None, OnErr, IsSome, refl};
 ghost use Rattle.std.specs.Borrow.{sem, Lends};
 ghost use Rattle.std.specs.Io.BufRead.{Rests};
 ghost use Rattle.speedy_layout.specs.Texts.{raw_bytes, any_bytes};
@@ -99,6 +99,8 @@ impl<'a, 'b, C: Context> LendingReader<&'b [u8], C> for CopyingBufferReader<'a, 
         ensures skips { let reader = ⟦<CopyingBufferReader<'a, C> as LendingReader<&'b [u8], C>>⟧ in
             Reads C.Error.from_gives C.Error.eof (λ x. x) (any_bytes length) result
             (reader.state self.old) (reader.state self.new) }
+        ensures nothing { let reader = ⟦<CopyingBufferReader<'a, C> as LendingReader<&'b [u8], C>>⟧ in
+            length ≡ 0 → IsOk result × (reader.state self.new ≡ reader.state self.old) }
         ensures unchanged { OnErr result (self.new ≡ self.old) }
     {
         match self.rest.split_at_checked(length) {

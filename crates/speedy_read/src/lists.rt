@@ -133,7 +133,8 @@ impl<'a, C: Context, const N: usize> ReadFrom<&'a [u8], C> for &'a [u8; N] {
             (bytes.format (R.state reader.old).encoding) result
             (R.state reader.old) (R.state reader.new) }
         ensures not_lent { (R.state reader.old).lends ≡ false
-            → IsErrAnd result (λ e. C.Error.from_gives (error_of ErrorKind.Unsized) e) }
+            → IsErrAnd result (λ e. C.Error.from_gives (error_of ErrorKind.Unsized) e)
+            × (R.state reader.new ≡ R.state reader.old) }
     {
         match reader.read_bytes_borrowed(N) {
             Some(lent) => {

@@ -322,7 +322,7 @@ pub trait Readable<'a, C: Context>: ReadMany<&'a [u8], C> {
     ) -> Result<Self, C::Error>
     where
         C: PlainContext,
-        ensures { AnswersFile Self.seen
+        ensures { AnswersFile C.Error.from_gives C.Error.eof Self.seen
             (Self.format (plain_encoding Endianness.LittleEndian)) result }
     {
         Self::read_from_file_with_ctx(rt, alloc, C::plain(), path)
@@ -335,7 +335,7 @@ pub trait Readable<'a, C: Context>: ReadMany<&'a [u8], C> {
         context: C,
         path: P,
     ) -> Result<Self, C::Error>
-        ensures { AnswersFile Self.seen
+        ensures { AnswersFile C.Error.from_gives C.Error.eof Self.seen
             (Self.format (C.encoding context)) result }
     {
         match File::open(rt, path) {

@@ -1,5 +1,5 @@
 //! What every reader does.
-ghost use Rattle.std.specs.Prelude.{◌≡◌, ℕ, ◌<◌, ◌≤◌, ◌*◌, ◌-◌, ◌^◌, ◌⊎◌, ◌↔◌, IsTrue, slice_index, length, length as count, map, Bool, Option, Some, false, IsErrAnd};
+ghost use Rattle.std.specs.Prelude.{◌≡◌, ℕ, ◌<◌, ◌≤◌, ◌*◌, ◌-◌, ◌^◌, ◌⊎◌, ◌↔◌, IsTrue, slice_index, length, length as count, map, Bool, Option, Some, false, IsOk, IsErrAnd};
 ghost use Rattle.std.specs.Borrow.{sem, Lends};
 ghost use Rattle.std.specs.Io.BufRead.{Rests};
 ghost use Rattle.std.specs.Int.{w8, w16, w32, w64, w128};
@@ -51,10 +51,11 @@ pub trait LendingReader<L: AsSlice<u8> + Drop, C: Context> {
         ensures { Peeks C.Error.from_gives C.Error.eof (λ _. output.new)
             (raw_bytes (length output.old)) result (state self.old) (state self.new) };
 
-    /// Takes so many bytes. This body reads them, a chunk at a time.
+    /// Takes so many bytes. This body reads them, a chunk at a time. To take none is to do nothing.
     fn skip_bytes(&mut self, length: usize) -> Result<(), C::Error>
-        ensures { Reads C.Error.from_gives C.Error.eof (λ x. x) (any_bytes length) result
+        ensures reads { Reads C.Error.from_gives C.Error.eof (λ x. x) (any_bytes length) result
             (state self.old) (state self.new) }
+        ensures nothing { length ≡ 0 → IsOk result × (state self.new ≡ state self.old) }
     {
         let mut chunk = [0u8; 1024];
         let mut left = length;

@@ -62,15 +62,17 @@ impl<'a, C: Context, T: ZeroCopyable<C>, const N: usize> ReadFrom<&'a [u8], C>
             (view.format (R.state reader.old).encoding) result
             (R.state reader.old) (R.state reader.new) }
         ensures not_lent { (R.state reader.old).lends ≡ false
-            → IsErrAnd result (λ e. C.Error.from_gives (error_of ErrorKind.Unsized) e) }
+            → IsErrAnd result (λ e. C.Error.from_gives (error_of ErrorKind.Unsized) e)
+            × (R.state reader.new ≡ R.state reader.old) }
     {
         spelled_as_little::<T, &'a [u8], C, R>(reader);
         let Some(size) = size_of_array::<T, N>() else {
             // No input has so many bytes.
-            if reader.read_bytes_borrowed(usize::MAX).is_none() {
-                return Err(error_unsized());
-            }
-            return Err(error_end_of_input());
+            return match reader.read_bytes_borrowed(usize::MAX) {
+                Some(Ok(_)) => Err(error_end_of_input()),
+                Some(Err(error)) => Err(error),
+                None => Err(error_unsized()),
+            };
         };
         match reader.read_bytes_borrowed(size) {
             Some(lent) => {

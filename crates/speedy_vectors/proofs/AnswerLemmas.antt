@@ -2,13 +2,13 @@
 use Rattle.std.specs.Prelude.{◌≡◌, ℕ, ◌≤◌, List, ◌⊎◌, length, false, IsTrue, Err}
 use Rattle.std.proofs.Common.{sym, ◌∙◌, ap, subst, inl, inr}
 use Rattle.std.proofs.lemmas.Bool.{cases_lt}
-use Rattle.speedy_base.specs.declared.error.Error.{Error}
-use Rattle.speedy_base.specs.declared.error.ErrorKind.{ErrorKind}
-use Rattle.speedy_base.specs.declared.error.ErrorKind.TheVariants as kinds
-use Rattle.speedy_base.specs.Error.{IsNamed, kind_of, error_of, is_eof_error}
-use Rattle.speedy_base.specs.ErrorKind.{EndsInput}
-use Rattle.speedy_layout.specs.Format.{Format}
-use Rattle.speedy_read.specs.Reading.{AnswersBuffer, RefusesBuffer, IsEnd}
+use Rattle.speedy.specs.declared.error.Error.{Error}
+use Rattle.speedy.specs.declared.error.ErrorKind.{ErrorKind}
+use Rattle.speedy.specs.declared.error.ErrorKind.TheVariants as kinds
+use Rattle.speedy.specs.Error.{IsNamed, kind_of, error_of, is_eof_error}
+use Rattle.speedy.specs.ErrorKind.{EndsInput}
+use Rattle.speedy.specs.Format.{Format}
+use Rattle.speedy.specs.Reading.{AnswersBuffer, RefusesBuffer, IsEnd}
 use Rattle.speedy_vectors.specs.Answer.{refused_text, AnswersBytes, AnswersRefusal}
 
 module _ {A V : Type 0} (seen : A → V) (least : ℕ) (L : Format V) (e : Error) (count : ℕ) (bytes answer : List ℕ) where

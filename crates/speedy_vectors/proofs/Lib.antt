@@ -1,3 +1,5 @@
+pub mod EachLemmas
 pub mod LineLemmas
 pub mod AnswerLemmas
 pub mod RunLemmas
+pub mod StreamLemmas

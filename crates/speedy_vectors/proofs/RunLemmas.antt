@@ -1,19 +1,21 @@
 -- Lines that come in pieces are answered like lines that come at once.
-use Rattle.std.specs.Prelude.{◌≡◌, ◌≢◌, ◌==◌, if◌then◌else◌, ℕ, ◌+◌, ◌-◌, ◌^◌, ◌<◌, ◌≤◌, List, [], ◌∷◌, ◌++◌, ◌⊎◌, length, take, drop, Bool, true, false, IsTrue, Result, Ok, Err, OnOk, OnErr, refl}
+use Rattle.std.specs.Prelude.{◌≡◌, ◌≢◌, ◌==◌, if◌then◌else◌, ℕ, ◌+◌, ◌-◌, ◌^◌, ◌<◌, ◌≤◌, List, [], ◌∷◌, ◌++◌, length, take, drop, Bool, true, false, IsTrue, Result, Ok, Err, OnOk, OnErr, refl}
 use Rattle.std.proofs.Common.{sym, ◌∙◌, ap, subst, arith, inl, inr}
 use Rattle.std.proofs.lemmas.Bool.{ne_eqb, eqb-false, eqb-true}
 use Rattle.std.proofs.lemmas.List.{append_assoc, append-nil, length-append, length-drop, length-take-le, take-append-drop, take_rest, nil_from_length}
 use Rattle.std.proofs.lemmas.Result.{on_ok_weaker, on_err_weaker, IfErr-weaker}
 use Rattle.std.specs.declared.io.Error.{Error as StdIoError}
-use Rattle.speedy_base.specs.declared.error.Error.{Error}
-use Rattle.speedy_base.specs.declared.error.ErrorKind.TheVariants as kinds
-use Rattle.speedy_base.specs.Error.{error_of, kind_of, IsIoErrorOf}
-use Rattle.speedy_base.specs.DeviceLemmas.{HasGrown-after}
-use Rattle.speedy_base.specs.Device.{SourceState, SinkState, Pulls, Pushes, Flushes}
-use Rattle.speedy_layout.specs.Format.{Each}
+use Rattle.speedy.specs.declared.device.Faults.{Faults}
+use Rattle.speedy.specs.declared.error.Error.{Error}
+use Rattle.speedy.specs.declared.error.ErrorKind.TheVariants as kinds
+use Rattle.speedy.specs.Error.{error_of, kind_of, IsIoErrorOf}
+use Rattle.speedy.specs.Device.{SourceState, SinkState, Pulls, Pushes, Flushes}
+use Rattle.speedy.specs.FailedCalls.{OneFailed, IsOfFailedCall}
+use Rattle.speedy.specs.Format.{Each}
+use Rattle.speedy_vectors.proofs.EachLemmas.{each_append}
 use Rattle.speedy_vectors.specs.Answer.{AnswersLine}
 use Rattle.speedy_vectors.specs.Split.{IsFreeOf, SplitsAt}
-use Rattle.speedy_vectors.specs.Run.{line_feed, with_first, lines_of, SourceKept, SinkKept, AnsweredAll, Answered, AnsweredPartly, IsFailedCall, IsSinkFailure, Answering, Pushing, IsTooLong, Runs}
+use Rattle.speedy_vectors.specs.Run.{line_feed, with_first, lines_of, SourceKept, SinkKept, AnsweredAll, Answered, AnsweredPartly, itself, IsSinkFailure, Answering, Pushing, IsRunFailure, Runs}
 
 -- lines
 
@@ -41,18 +43,6 @@ lines_split pending text line rest more h split =
     ap (λ (x : List ℕ). pending ++ (x ++ more)) split.text_is ∙ (ap (λ (x : List ℕ). pending ++ x) (append_assoc line (line_feed ∷ rest) more) ∙ sym (append_assoc pending line (line_feed ∷ (rest ++ more)))) in
     ap lines_of joined ∙ lines_feed (pending ++ line) (rest ++ more) (no_feed_append pending line h split.front_is)
 
--- answers
-
-pub each_append : (vs ws : List (List ℕ)) (s t : List ℕ) → Each AnswersLine vs s → Each AnswersLine ws t → Each AnswersLine (vs ++ ws) (s ++ t)
-each_append [] ws s t h k = subst (λ (x : List ℕ). Each AnswersLine ws (x ++ t)) (sym h) k
-each_append (v ∷ vs) ws s t h k = record {
-  front = h.front;
-  back = h.back ++ t;
-  whole_is = ap (λ (x : List ℕ). x ++ t) h.whole_is ∙ append_assoc h.front h.back t;
-  first_is = h.first_is;
-  second_is = each_append vs ws h.back t h.second_is k;
-}
-
 -- devices
 
 pub SinkKept-same : (s : SinkState) → SinkKept s s
@@ -67,12 +57,17 @@ SourceKept-same s = record { same_tells = refl; faults_kept = omega arith }
 pub SourceKept-after : (s t u : SourceState) → SourceKept s t → SourceKept t u → SourceKept s u
 SourceKept-after s t u h k = record { same_tells = k.same_tells ∙ h.same_tells; faults_kept = let a = h.faults_kept in let b = k.faults_kept in omega arith }
 
-failed_after : (e : Error) (a b d : ℕ) → a ≤ b → IsFailedCall e b d → IsFailedCall e a d
-failed_after e a b d h k = (k.0, HasGrown-after h k.1)
+-- what a failed call answered
+failed_call : (e : Error) (x : StdIoError) (a b : Faults) → IsIoErrorOf x (kind_of e) → OneFailed x a b → IsOfFailedCall itself e a b
+failed_call e x a b is one = (x, one, (kind_of e, is, refl))
 
-failure_after : (e : Error) (s t u : SinkState) → SinkKept s t → IsSinkFailure e t u → IsSinkFailure e s u
-failure_after e s t u h (inl k) = inl k
-failure_after e s t u h (inr k) = inr (failed_after e s.faults t.faults u.faults h.faults_kept k)
+-- the failed call of a later part is the one of the whole, where none failed before
+failed_after : (e : Error) (a b d : Faults) → b ≡ a → IsOfFailedCall itself e b d → IsOfFailedCall itself e a d
+failed_after e a b d same k = subst (λ (f : Faults). IsOfFailedCall itself e f d) same k
+
+failure_after : (e : Error) (s t u : SinkState) → t.faults ≡ s.faults → IsSinkFailure e t u → IsSinkFailure e s u
+failure_after e s t u same (inl k) = inl (failed_after e s.faults t.faults u.faults same k)
+failure_after e s t u same (inr k) = inr (k.0 ∙ same, k.1)
 
 taken_after : (s t u : SinkState) (x y : List ℕ) → SinkKept s t → (IsTrue s.tells → t.taken ≡ s.taken ++ x) → (IsTrue t.tells → u.taken ≡ t.taken ++ y) → IsTrue s.tells → u.taken ≡ s.taken ++ (x ++ y)
 taken_after s t u x y kept h k tells = k (subst IsTrue (sym kept.same_tells) tells) ∙ (ap (λ (z : List ℕ). z ++ y) (h tells) ∙ append_assoc s.taken x y)
@@ -90,7 +85,7 @@ pub record PushedSoFar (bytes rest : List ℕ) (old new : SinkState) : Type 0 wh
 pub none_pushed : (bytes : List ℕ) (s : SinkState) → PushedSoFar bytes bytes s s
 none_pushed bytes s = record { kept = SinkKept-same s; no_fault = refl; front = []; bytes_are = refl; taken = λ _. sym (append-nil s.taken) }
 
-pub more_pushed : {E : Type 0} (bytes rest : List ℕ) (n : ℕ) (s t u : SinkState) → PushedSoFar bytes rest s t → Pushes {E = E} (Ok n) t u rest → PushedSoFar bytes (take (length rest - n) (drop n rest)) s u
+pub more_pushed : (bytes rest : List ℕ) (n : ℕ) (s t u : SinkState) → PushedSoFar bytes rest s t → Pushes (Ok n) t u rest → PushedSoFar bytes (take (length rest - n) (drop n rest)) s u
 more_pushed bytes rest n s t u so_far p = subst (λ (x : List ℕ). PushedSoFar bytes x s u) (sym (take_rest rest n)) (record {
   kept = SinkKept-after s t u so_far.kept (record { same_tells = p.same_tells; faults_kept = p.faults_kept });
   no_fault = p.no_fault ∙ so_far.no_fault;
@@ -99,7 +94,7 @@ more_pushed bytes rest n s t u so_far p = subst (λ (x : List ℕ). PushedSoFar 
   taken = taken_after s t u so_far.front (take n rest) so_far.kept so_far.taken p.moved;
 })
 
-pub fewer_to_push : {E : Type 0} (rest : List ℕ) (n : ℕ) (t u : SinkState) → Pushes {E = E} (Ok n) t u rest → 0 < length rest → length (take (length rest - n) (drop n rest)) < length rest
+pub fewer_to_push : (rest : List ℕ) (n : ℕ) (t u : SinkState) → Pushes (Ok n) t u rest → 0 < length rest → length (take (length rest - n) (drop n rest)) < length rest
 fewer_to_push rest n t u p some =
     let a = p.takes_some some in
     let e = ap length (take_rest rest n) ∙ length-drop n rest in
@@ -126,7 +121,7 @@ push_failed e x bytes rest s t u so_far is p = record {
   no_fault = tt;
   all = tt;
   partly = (so_far.front, rest, so_far.bytes_are, λ tells. p.unmoved (subst IsTrue (sym so_far.kept.same_tells) tells) ∙ so_far.taken tells);
-  why = ((x, is), HasGrown-after so_far.kept.faults_kept p.fault);
+  why = failed_after e s.faults t.faults u.faults so_far.no_fault (failed_call e x t.faults u.faults is p.fault);
 }
 
 -- a line is answered
@@ -140,7 +135,7 @@ pushed_answer r line answer s t h p = record {
   no_fault = p.no_fault;
   all = on_ok_weaker r (λ taken. record { done = line ∷ []; lines_are = refl; answered = record { answers = answer; answers_are = one_answer line answer h; taken = taken } }) p.all;
   partly = on_err_weaker r (λ q. record { done = line ∷ []; left = []; front = q.0; rest = q.1; lines_are = refl; answers_are = subst (λ (x : List ℕ). Each AnswersLine (line ∷ []) x) q.2 (one_answer line answer h); taken = q.3 }) p.partly;
-  why = IfErr-weaker r _ _ (λ e grown. inr grown) p.why;
+  why = IfErr-weaker r _ _ (λ e failed. inl failed) p.why;
 }
 
 none_answered : (lines : List (List ℕ)) (s : SinkState) → Answered lines lines s s
@@ -159,11 +154,11 @@ partly_answered lines left s t h = record {
 }
 
 -- want of memory for more
-pub no_memory : {T : Type 0} (e : Error) (lines mid left : List (List ℕ)) (s t : SinkState) → SinkKept s t → Answered lines mid s t → e ≡ error_of kinds.OutOfMemory → Answering {T = T} (Err e) lines left s t
-no_memory e lines mid left s t kept h is = record { kept = kept; no_fault = tt; all = tt; partly = partly_answered lines mid s t h; why = inl is }
+pub no_memory : {T : Type 0} (e : Error) (lines mid left : List (List ℕ)) (s t : SinkState) → SinkKept s t → t.faults ≡ s.faults → Answered lines mid s t → e ≡ error_of kinds.OutOfMemory → Answering {T = T} (Err e) lines left s t
+no_memory e lines mid left s t kept same h is = record { kept = kept; no_fault = tt; all = tt; partly = partly_answered lines mid s t h; why = inr (same, is) }
 
 pub no_memory_at_first : {T : Type 0} (e : Error) (lines left : List (List ℕ)) (s : SinkState) → e ≡ error_of kinds.OutOfMemory → Answering {T = T} (Err e) lines left s s
-no_memory_at_first e lines left s is = no_memory e lines lines left s s (SinkKept-same s) (none_answered lines s) is
+no_memory_at_first e lines left s is = no_memory e lines lines left s s (SinkKept-same s) refl (none_answered lines s) is
 
 -- one step after another
 
@@ -173,7 +168,7 @@ Answered-after a b d s t u kept h k = record {
   lines_are = h.lines_are ∙ (ap (λ (x : List (List ℕ)). h.done ++ x) k.lines_are ∙ sym (append_assoc h.done k.done d));
   answered = record {
     answers = h.answered.answers ++ k.answered.answers;
-    answers_are = each_append h.done k.done h.answered.answers k.answered.answers h.answered.answers_are k.answered.answers_are;
+    answers_are = each_append AnswersLine h.done k.done h.answered.answers k.answered.answers h.answered.answers_are k.answered.answers_are;
     taken = taken_after s t u h.answered.answers k.answered.answers kept h.answered.taken k.answered.taken;
   };
 }
@@ -185,7 +180,7 @@ AnsweredPartly-after a b s t u kept h k = record {
   front = h.answered.answers ++ k.front;
   rest = k.rest;
   lines_are = h.lines_are ∙ (ap (λ (x : List (List ℕ)). h.done ++ x) k.lines_are ∙ sym (append_assoc h.done k.done k.left));
-  answers_are = subst (λ (x : List ℕ). Each AnswersLine (h.done ++ k.done) x) (sym (append_assoc h.answered.answers k.front k.rest)) (each_append h.done k.done h.answered.answers (k.front ++ k.rest) h.answered.answers_are k.answers_are);
+  answers_are = subst (λ (x : List ℕ). Each AnswersLine (h.done ++ k.done) x) (sym (append_assoc h.answered.answers k.front k.rest)) (each_append AnswersLine h.done k.done h.answered.answers (k.front ++ k.rest) h.answered.answers_are k.answers_are);
   taken = taken_after s t u h.answered.answers k.front kept h.answered.taken k.taken;
 }
 
@@ -195,7 +190,7 @@ Answering-after r a b d s t u kept same h k = record {
   no_fault = on_ok_weaker r (λ x. x ∙ same) k.no_fault;
   all = on_ok_weaker r (λ x. Answered-after a b d s t u kept h x) k.all;
   partly = on_err_weaker r (λ x. AnsweredPartly-after a b s t u kept h x) k.partly;
-  why = IfErr-weaker r _ _ (λ e x. failure_after e s t u kept x) k.why;
+  why = IfErr-weaker r _ _ (λ e x. failure_after e s t u same x) k.why;
 }
 
 -- with lines to come after these
@@ -223,7 +218,7 @@ Answering-with_left r a b left s t h = record {
 }
 
 -- the output is flushed
-pub flushed : {T : Type 0} {E : Type 0} (x : T) (y : Unit {0}) (s t : SinkState) → Flushes {E = E} (Ok y) s t → Answering (Ok x) [] [] s t
+pub flushed : {T : Type 0} (x : T) (y : Unit {0}) (s t : SinkState) → Flushes (Ok y) s t → Answering (Ok x) [] [] s t
 flushed x y s t f = record {
   kept = record { same_tells = f.same_tells; faults_kept = f.faults_kept };
   no_fault = f.no_fault;
@@ -238,7 +233,7 @@ flush_failed e x s t is f = record {
   no_fault = tt;
   all = tt;
   partly = record { done = []; left = []; front = []; rest = []; lines_are = refl; answers_are = refl; taken = λ _. f.same_taken ∙ sym (append-nil s.taken) };
-  why = inr ((x, is), f.fault);
+  why = inl (failed_call e x s.faults t.faults is f.fault);
 }
 
 -- the last line, if it has no line feed
@@ -315,7 +310,7 @@ all_of_piece x waited piece pending rest longer more s t so_far is = record {
 
 -- want of memory for what waits
 pub memory_failed : {T : Type 0} (e : Error) (waited piece pending rest : List ℕ) (left : List (List ℕ)) (more : List ℕ) (s t : SinkState) → PieceSoFar waited piece pending rest s t → e ≡ error_of kinds.OutOfMemory → Answering {T = T} (Err e) (lines_of (waited ++ (piece ++ more))) left s t
-memory_failed e waited piece pending rest left more s t so_far is = no_memory e (lines_of (waited ++ (piece ++ more))) (lines_of (pending ++ (rest ++ more))) left s t so_far.kept (so_far.answered more) is
+memory_failed e waited piece pending rest left more s t so_far is = no_memory e (lines_of (waited ++ (piece ++ more))) (lines_of (pending ++ (rest ++ more))) left s t so_far.kept so_far.no_fault (so_far.answered more) is
 
 pub waits_after_piece : (waited piece pending rest longer : List ℕ) (s t : SinkState) → PieceSoFar waited piece pending rest s t → IsFreeOf line_feed rest → longer ≡ pending ++ rest → IsFreeOf line_feed longer
 waits_after_piece waited piece pending rest longer s t so_far h is = subst (IsFreeOf line_feed) (sym is) (no_feed_append pending rest so_far.waits h)
@@ -354,15 +349,20 @@ none_run pending a s is = record {
   counted = λ _. omega arith;
 }
 
+-- why the sink took no more is why the run ended
+sink_failed : (e : Error) (a d : SourceState) (s u : SinkState) → d.faults ≡ a.faults → IsSinkFailure e s u → IsRunFailure e a d s u
+sink_failed e a d s u same (inl h) = inr (inl (h, same))
+sink_failed e a d s u same (inr h) = inr (inr (same, h.0, inl h.1))
+
 -- what was pulled
-pulled : {E : Type 0} (n : ℕ) (chunk piece : List ℕ) (a b d : SourceState) → SourceKept a b → Pulls {E = E} (Ok n) b d chunk → piece ≡ take n chunk → IsTrue a.tells → b.to_come ≡ piece ++ d.to_come
+pulled : (n : ℕ) (chunk piece : List ℕ) (a b d : SourceState) → SourceKept a b → Pulls (Ok n) b d chunk → piece ≡ take n chunk → IsTrue a.tells → b.to_come ≡ piece ++ d.to_come
 pulled n chunk piece a b d kept p is tells = p.moved (subst IsTrue (sym kept.same_tells) tells) ∙ ap (λ (z : List ℕ). z ++ d.to_come) (sym is)
 
 module _ (count : ℕ) (pending : List ℕ) (a b d : SourceState) (s t u : SinkState) (so_far : RunSoFar count pending a b s t) where
-  kept_by_pull : {E : Type 0} (r : Result ℕ E) (chunk : List ℕ) → Pulls r b d chunk → SourceKept a d
+  kept_by_pull : (r : Result ℕ StdIoError) (chunk : List ℕ) → Pulls r b d chunk → SourceKept a d
   kept_by_pull r chunk p = SourceKept-after a b d so_far.input_kept (record { same_tells = p.same_tells; faults_kept = p.faults_kept })
 
-  module _ {E : Type 0} (n : ℕ) (chunk piece : List ℕ) (pull : Pulls {E = E} (Ok n) b d chunk) (piece_is : piece ≡ take n chunk) where
+  module _ (n : ℕ) (chunk piece : List ℕ) (pull : Pulls (Ok n) b d chunk) (piece_is : piece ≡ take n chunk) where
     -- up to a piece
     before_piece : IsTrue a.tells → Answered (lines_of a.to_come) (lines_of (pending ++ (piece ++ d.to_come))) s t
     before_piece tells =
@@ -397,14 +397,11 @@ module _ (count : ℕ) (pending : List ℕ) (a b d : SourceState) (s t u : SinkS
           settled = tt;
           all = tt;
           partly = λ tells. AnsweredPartly-after (lines_of a.to_come) (lines_of (pending ++ (piece ++ d.to_come))) s t u so_far.output_kept (before_piece tells) (k d.to_come).partly;
-          why = why_of (failure_after e s t u so_far.output_kept (k []).why);
-        } where
-          why_of : IsSinkFailure e s u → (e ≡ error_of kinds.OutOfMemory) ⊎ (IsFailedCall e a.faults d.faults ⊎ (IsFailedCall e s.faults u.faults ⊎ IsTooLong e a))
-          why_of (inl h) = inl h
-          why_of (inr h) = inr (inr (inl h))
+          why = sink_failed e a d s u (pull.no_fault ∙ so_far.input_no_fault) (failure_after e s t u so_far.output_no_fault (k []).why);
+        }
 
   -- the input is at its end
-  pub input_ended : {T E : Type 0} (r : Result T Error) (n : ℕ) (chunk : List ℕ) → Pulls {E = E} (Ok n) b d chunk → n ≡ 0 → 0 < length chunk → Answering r (lines_of pending) [] t u → OnOk r (IsTrue u.settled) → Runs r a d s u
+  pub input_ended : {T : Type 0} (r : Result T Error) (n : ℕ) (chunk : List ℕ) → Pulls (Ok n) b d chunk → n ≡ 0 → 0 < length chunk → Answering r (lines_of pending) [] t u → OnOk r (IsTrue u.settled) → Runs r a d s u
   input_ended r n chunk pull none room k settled = record {
     input_kept = SourceKept-after a b d so_far.input_kept (record { same_tells = pull.same_tells; faults_kept = pull.faults_kept });
     output_kept = SinkKept-after s t u so_far.output_kept k.kept;
@@ -412,12 +409,8 @@ module _ (count : ℕ) (pending : List ℕ) (a b d : SourceState) (s t u : SinkS
     settled = settled;
     all = on_ok_under _ r (λ tells. on_ok_weaker r (λ x. all_answered (lines_of a.to_come) s u x) (whole tells).all);
     partly = on_err_under _ r (λ tells. (whole tells).partly);
-    why = IfErr-weaker r _ _ (λ e h. why_of e (failure_after e s t u so_far.output_kept h)) k.why;
+    why = IfErr-weaker r _ _ (λ e h. sink_failed e a d s u (pull.no_fault ∙ so_far.input_no_fault) (failure_after e s t u so_far.output_no_fault h)) k.why;
   } where
-    why_of : (e : Error) → IsSinkFailure e s u → (e ≡ error_of kinds.OutOfMemory) ⊎ (IsFailedCall e a.faults d.faults ⊎ (IsFailedCall e s.faults u.faults ⊎ IsTooLong e a))
-    why_of e (inl h) = inl h
-    why_of e (inr h) = inr (inr (inl h))
-
     none_to_come : IsTrue a.tells → pending ++ b.to_come ≡ pending
     none_to_come tells = ap (λ (z : List ℕ). pending ++ z) (pull.ends (subst IsTrue (sym so_far.input_kept.same_tells) tells) none room) ∙ append-nil pending
 
@@ -433,7 +426,7 @@ pull_failed e x chunk count pending a b d s t so_far is pull = record {
   settled = tt;
   all = tt;
   partly = λ tells. partly_answered (lines_of a.to_come) (lines_of (pending ++ b.to_come)) s t (so_far.answered tells);
-  why = inr (inl ((x, is), HasGrown-after so_far.input_kept.faults_kept pull.fault));
+  why = inl (failed_after e a.faults b.faults d.faults so_far.input_no_fault (failed_call e x b.faults d.faults is pull.fault), so_far.output_no_fault);
 }
 
 -- the input did not end
@@ -445,5 +438,5 @@ too_long e count pending a b s t so_far long is = record {
   settled = tt;
   all = tt;
   partly = λ tells. partly_answered (lines_of a.to_come) (lines_of (pending ++ b.to_come)) s t (so_far.answered tells);
-  why = inr (inr (inr (is, λ tells. let counted = so_far.counted tells in omega arith)));
+  why = inr (inr (so_far.input_no_fault, so_far.output_no_fault, inr (is, λ tells. let counted = so_far.counted tells in omega arith)));
 }

@@ -2,11 +2,11 @@
 use Rattle.std.specs.Prelude.{◌≡◌, ℕ, ◌<◌, ◌≤◌, List, [], ◌∷◌, ◌++◌, ◌⊎◌, length, false, IsTrue, codes}
 use Rattle.std.specs.Fmt.{decimal}
 use Rattle.hex.specs.Hex.{encode_lower}
-use Rattle.speedy_base.specs.declared.error.ErrorKind.{ErrorKind}
-use Rattle.speedy_base.specs.declared.error.ErrorKind.TheVariants as kinds
-use Rattle.speedy_base.specs.ErrorKind.{is_eof_kind, EndsInput}
-use Rattle.speedy_base.specs.Encoding.{Encoding}
-use Rattle.speedy_layout.specs.Format.{Format}
+use Rattle.speedy.specs.declared.error.ErrorKind.{ErrorKind}
+use Rattle.speedy.specs.declared.error.ErrorKind.TheVariants as kinds
+use Rattle.speedy.specs.ErrorKind.{is_eof_kind, EndsInput}
+use Rattle.speedy.specs.Encoding.{Encoding}
+use Rattle.speedy.specs.Format.{Format}
 use Rattle.speedy_vectors.specs.declared.line.LineOrder.{LineOrder}
 use Rattle.speedy_vectors.specs.declared.line.TypeName.{TypeName}
 use Rattle.speedy_vectors.specs.Names.{named}

@@ -1,8 +1,8 @@
 -- What a line of the program says.
 use Rattle.std.specs.Prelude.{◌≡◌, ◌≢◌, ℕ, List, [], ◌∷◌, ◌++◌, ◌⊎◌, Ok, codes}
 use Rattle.hex.specs.Hex.{decode_of}
-use Rattle.speedy_base.specs.declared.endianness.Endianness.TheVariants.{LittleEndian, BigEndian}
-use Rattle.speedy_base.specs.Encoding.{Encoding, plain_encoding, strict_encoding}
+use Rattle.speedy.specs.declared.endianness.Endianness.TheVariants.{LittleEndian, BigEndian}
+use Rattle.speedy.specs.Encoding.{Encoding, plain_encoding, strict_encoding}
 use Rattle.speedy_vectors.specs.declared.line.LineOrder.{LineOrder}
 use Rattle.speedy_vectors.specs.declared.line.LineOrder.TheVariants as orders
 use Rattle.speedy_vectors.specs.declared.line.TypeName.{TypeName}

@@ -4,21 +4,21 @@ use Rattle.std.specs.Ordering.{nat_cmp}
 use Rattle.std.specs.String.{string_bytes, string_cmp}
 use Rattle.std.specs.declared.alloc.Global.{Global}
 use Rattle.std.specs.Int.{w8, w16, w32, w64, w128}
-use Rattle.speedy_base.specs.Encoding.{Encoding}
-use Rattle.speedy_layout.specs.Format.{Format}
-use Rattle.speedy_layout.specs.Numbers.{unsigned_number, signed_number, usize_number}
-use Rattle.speedy_layout.specs.NonZero.{non_zero_number, signed_non_zero_number}
-use Rattle.speedy_layout.specs.Leaves.{character, byte_order, duration}
-use Rattle.speedy_layout.specs.Addresses.{address, ip_address}
-use Rattle.speedy_layout.specs.Flags.{flag, option, alternative}
-use Rattle.speedy_layout.specs.Tuples.{unit, pair}
-use Rattle.speedy_layout.specs.Lists.{list, vector}
-use Rattle.speedy_layout.specs.SeenKeys.{IsLess}
-use Rattle.speedy_layout.specs.Maps.{tree_map, index_map}
-use Rattle.speedy_layout.specs.Sets.{tree_set, index_set}
-use Rattle.speedy_layout.specs.Texts.{text, raw_bytes}
-use Rattle.speedy_layout.specs.Owned.{owned_content, borrowed_content}
-use Rattle.speedy_layout.specs.Varint.{varint}
+use Rattle.speedy.specs.Encoding.{Encoding}
+use Rattle.speedy.specs.Format.{Format}
+use Rattle.speedy.specs.Numbers.{unsigned_number, signed_number, usize_number}
+use Rattle.speedy.specs.NonZero.{non_zero_number, signed_non_zero_number}
+use Rattle.speedy.specs.Leaves.{character, byte_order, duration}
+use Rattle.speedy.specs.Addresses.{address, ip_address}
+use Rattle.speedy.specs.Flags.{flag, option, alternative}
+use Rattle.speedy.specs.Tuples.{unit, pair}
+use Rattle.speedy.specs.Lists.{list, vector}
+use Rattle.speedy.specs.SeenKeys.{IsLess}
+use Rattle.speedy.specs.Maps.{tree_map, index_map}
+use Rattle.speedy.specs.Sets.{tree_set, index_set}
+use Rattle.speedy.specs.Texts.{text, raw_bytes}
+use Rattle.speedy.specs.Owned.{owned_content, borrowed_content}
+use Rattle.speedy.specs.Varint.{varint}
 use Rattle.speedy_vectors.specs.declared.line.TypeName.{TypeName}
 use Rattle.speedy_vectors.specs.declared.line.TypeName.TheVariants as names
 

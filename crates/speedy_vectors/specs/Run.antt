@@ -1,11 +1,11 @@
 -- What the program does with a whole input.
 use Rattle.std.specs.Prelude.{◌≡◌, ◌==◌, if◌then◌else◌, ℕ, ◌-◌, ◌^◌, ◌≤◌, List, [], ◌∷◌, ◌++◌, ◌⊎◌, length, IsTrue, Result, OnOk, OnErr, IfErr}
-use Rattle.std.specs.declared.io.Error.{Error as StdIoError}
-use Rattle.speedy_base.specs.declared.error.Error.{Error}
-use Rattle.speedy_base.specs.declared.error.ErrorKind.TheVariants as kinds
-use Rattle.speedy_base.specs.Error.{error_of, kind_of, IsIoErrorOf}
-use Rattle.speedy_base.specs.Device.{SourceState, SinkState, HasGrown}
-use Rattle.speedy_layout.specs.Format.{Each}
+use Rattle.speedy.specs.declared.error.Error.{Error}
+use Rattle.speedy.specs.declared.error.ErrorKind.TheVariants as kinds
+use Rattle.speedy.specs.Error.{error_of}
+use Rattle.speedy.specs.Device.{SourceState, SinkState}
+use Rattle.speedy.specs.FailedCalls.{IsOfFailedCall}
+use Rattle.speedy.specs.Format.{Each}
 use Rattle.speedy_vectors.specs.Answer.{AnswersLine}
 
 -- the byte that ends a line
@@ -25,12 +25,12 @@ lines_of (b ∷ bytes) = if b == line_feed then [] ∷ lines_of bytes else with_
 -- a source that tells its bytes goes on doing so, and no failed call of it is forgotten
 pub record SourceKept (old new : SourceState) : Type 0 where
   pub same_tells : new.tells ≡ old.tells
-  pub faults_kept : old.faults ≤ new.faults
+  pub faults_kept : old.faults.count ≤ new.faults.count
 
 -- a sink that tells its bytes goes on doing so, and no failed call of it is forgotten
 pub record SinkKept (old new : SinkState) : Type 0 where
   pub same_tells : new.tells ≡ old.tells
-  pub faults_kept : old.faults ≤ new.faults
+  pub faults_kept : old.faults.count ≤ new.faults.count
 
 -- the sink took one answer for each of the lines, in order
 pub record AnsweredAll (lines : List (List ℕ)) (old new : SinkState) : Type 0 where
@@ -54,13 +54,13 @@ pub record AnsweredPartly (lines : List (List ℕ)) (old new : SinkState) : Type
   pub answers_are : Each AnswersLine done (front ++ rest)
   pub taken : IsTrue old.tells → new.taken ≡ old.taken ++ front
 
--- a call of a device failed, and this is its error
-abbrev pub IsFailedCall : Error → ℕ → ℕ → Type 0
-IsFailedCall e faults faults_after = ((x : StdIoError) × IsIoErrorOf x (kind_of e)) × HasGrown faults faults_after
+-- an error of the crate becomes no other one
+abbrev pub itself : Error → Error → Type 0
+itself error e = e ≡ error
 
--- there was no memory, or a call of the sink failed
+-- one call of the sink failed, and the error is what it answered; or none did, and there was no memory
 abbrev pub IsSinkFailure : Error → SinkState → SinkState → Type 0
-IsSinkFailure e old new = (e ≡ error_of kinds.OutOfMemory) ⊎ IsFailedCall e old.faults new.faults
+IsSinkFailure e old new = IsOfFailedCall itself e old.faults new.faults ⊎ ((new.faults ≡ old.faults) × (e ≡ error_of kinds.OutOfMemory))
 
 -- all but the lines that are left were answered, or some were and why not more
 pub record Answering {T : Type 0} (result : Result T Error) (lines left : List (List ℕ)) (old new : SinkState) : Type 0 where
@@ -76,11 +76,18 @@ pub record Pushing {T : Type 0} (result : Result T Error) (bytes : List ℕ) (ol
   pub no_fault : OnOk result (new.faults ≡ old.faults)
   pub all : OnOk result (IsTrue old.tells → new.taken ≡ old.taken ++ bytes)
   pub partly : OnErr result ((front : List ℕ) × (rest : List ℕ) × (bytes ≡ front ++ rest) × (IsTrue old.tells → new.taken ≡ old.taken ++ front))
-  pub why : IfErr result (λ e. IsFailedCall e old.faults new.faults)
+  pub why : IfErr result (λ e. IsOfFailedCall itself e old.faults new.faults)
 
 -- the input was longer than the program counts
 abbrev pub IsTooLong : Error → SourceState → Type 0
 IsTooLong e input = (e ≡ error_of kinds.OutOfRangeLength) × (IsTrue input.tells → 2 ^ 64 - 1 ≤ length input.to_come)
+
+-- Why a whole input is not answered: one call of the input or of the output failed, and the error is what it answered; or no call failed, and there was no memory, or the input is too long.
+abbrev pub IsRunFailure : Error → SourceState → SourceState → SinkState → SinkState → Type 0
+IsRunFailure e input input_after output output_after =
+    (IsOfFailedCall itself e input.faults input_after.faults × (output_after.faults ≡ output.faults))
+    ⊎ ((IsOfFailedCall itself e output.faults output_after.faults × (input_after.faults ≡ input.faults))
+    ⊎ ((input_after.faults ≡ input.faults) × (output_after.faults ≡ output.faults) × ((e ≡ error_of kinds.OutOfMemory) ⊎ IsTooLong e input)))
 
 -- a whole input, from the states of the devices before to those after
 pub record Runs {T : Type 0} (result : Result T Error) (input input_after : SourceState) (output output_after : SinkState) : Type 0 where
@@ -95,4 +102,4 @@ pub record Runs {T : Type 0} (result : Result T Error) (input input_after : Sour
   -- what was written before a failure is right as far as it goes
   pub partly : OnErr result (IsTrue input.tells → AnsweredPartly (lines_of input.to_come) output output_after)
   -- no failure without a cause
-  pub why : IfErr result (λ e. (e ≡ error_of kinds.OutOfMemory) ⊎ (IsFailedCall e input.faults input_after.faults ⊎ (IsFailedCall e output.faults output_after.faults ⊎ IsTooLong e input)))
+  pub why : IfErr result (λ e. IsRunFailure e input input_after output output_after)

@@ -1,13 +1,12 @@
 //! Answers of the program: what bytes spell, written again.
 ghost use Rattle.std.specs.Prelude.{◌≡◌, ◌++◌, IfOk, MatchResult, Some};
 ghost use Rattle.std.specs.String.{string_bytes};
-ghost use Rattle.speedy_base.specs.Error.{error_of};
+ghost use Rattle.speedy.specs.Error.{error_of};
 ghost use Rattle.speedy_vectors.specs.Answer.{hex_of, kind_name, ok_text, refused_text, AnswersAs, AnswersBytes, AnswersLine};
 ghost use Rattle.speedy_vectors.specs.Line.{encoding_of};
 
 use crate::line::{Line, LineOrder, TypeName, for_each_name, parse_line};
-use indexmap::{IndexMap, IndexSet};
-use smallvec::SmallVec;
+use speedy::ext::{IndexMap, IndexSet, SmallVec, Uuid};
 use speedy::private::{ErrorKind, get_error_kind};
 use speedy::varint::VarInt64;
 use speedy::views::{ArrayView, SliceView};
@@ -24,7 +23,6 @@ use std::net::{IpAddr, Ipv4Addr, Ipv6Addr};
 use std::num::{NonZeroI32, NonZeroU8, NonZeroU16};
 use std::ops::{Range, RangeInclusive};
 use std::time::Duration;
-use uuid::Uuid;
 
 /// The answer to a line, with its line feed. The line comes without one.
 ///

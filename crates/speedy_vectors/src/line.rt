@@ -1,13 +1,14 @@
 //! Lines of the program: an order, the name of a type, and bytes in hexadecimal digits.
 ghost use Rattle.std.specs.Prelude.{◌≡◌, ◌≢◌, ◌∷◌, ◌++◌, ◌⊎◌, ◌↔◌, IsTrue, MatchOption, MatchResult, List, ℕ};
-ghost use Rattle.speedy_base.specs.Error.{error_of};
+ghost use Rattle.speedy.specs.Error.{error_of};
 ghost use Rattle.speedy_vectors.specs.declared.line.LineOrder.{LineOrder};
 ghost use Rattle.speedy_vectors.specs.declared.line.TypeName.{TypeName};
 ghost use Rattle.speedy_vectors.specs.Line.{space, order_text, name_text, IsHex, IsLine, IsBad};
 ghost use Rattle.speedy_vectors.specs.Split.{IsFreeOf, SplitsAt};
 
 use hex::FromHexError;
-use speedy_base::error::{Error, ErrorKind, error_out_of_memory};
+use speedy::Error;
+use speedy::private::{ErrorKind, error_out_of_memory};
 use std::alloc::Global;
 
 /// The orders that the program knows: how numbers lie, and whether values are read from their

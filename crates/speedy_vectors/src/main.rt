@@ -8,6 +8,7 @@
 #![tactic(auto)]
 
 pub mod answer;
+pub mod callers;
 pub mod line;
 pub mod run;
 #[cfg(test)]

@@ -9,8 +9,8 @@ use std::process::Abort;
 /// An input that gives at most so many bytes a call, so many at the first, and of which one call fails, counted
 /// from 1.
 #[derive(Drop)]
-struct Input {
-    bytes: &'static [u8],
+struct Input<'a> {
+    bytes: &'a [u8],
     first: usize,
     most: usize,
     fails_at: u8,
@@ -37,7 +37,7 @@ enum End {
     Other,
 }
 
-impl Read for Input {
+impl Read for Input<'_> {
     fn read(&mut self, buf: &mut [u8]) -> io::Result<usize> {
         self.calls = self.calls.saturating_add(1);
         if self.calls == self.fails_at {
@@ -78,7 +78,7 @@ impl Write for Output {
 }
 
 /// All of an input, of which no call fails.
-fn input_of(bytes: &'static [u8]) -> Input {
+fn input_of(bytes: &[u8]) -> Input<'_> {
     Input {
         bytes,
         first: 8192,
@@ -89,7 +89,7 @@ fn input_of(bytes: &'static [u8]) -> Input {
 }
 
 /// How a run over an input ends, and the output by then, which takes at most so many bytes a call.
-fn run_over(alloc: Global, input: Input, most: usize, fails_at: u8) -> (End, Output) {
+fn run_over(alloc: Global, input: Input<'_>, most: usize, fails_at: u8) -> (End, Output) {
     let mut input = Counted::new(input);
     let mut output = Counted::new(Output {
         taken: Vec::new(alloc),
@@ -111,7 +111,7 @@ fn run_over(alloc: Global, input: Input, most: usize, fails_at: u8) -> (End, Out
 
 /// Asserts that a run over the input ends well and answers this, in pushes of at most so many bytes, and that the
 /// output is flushed once, after all of them.
-fn assert_answered(rt: &impl Abort, alloc: Global, input: Input, most: usize, answers: &[u8]) {
+fn assert_answered(rt: &impl Abort, alloc: Global, input: Input<'_>, most: usize, answers: &[u8]) {
     let (end, output) = run_over(alloc, input, most, 0);
     assert_eq!(rt; end, End::Good);
     assert_eq!(rt; output.taken.as_slice(), answers);
@@ -124,7 +124,7 @@ fn assert_answered(rt: &impl Abort, alloc: Global, input: Input, most: usize, an
 fn assert_cut_off(
     rt: &impl Abort,
     alloc: Global,
-    input: Input,
+    input: Input<'_>,
     most: usize,
     fails_at: u8,
     answers: &[u8],
@@ -161,6 +161,24 @@ fn lines_are_answered_wherever_they_are_cut(rt: HostRuntime) {
         };
         assert_answered(&rt, rt.alloc(), input, 8192, answers);
     }
+}
+
+#[test]
+fn a_line_may_be_longer_than_a_pull(rt: HostRuntime) {
+    let alloc = rt.alloc();
+    let mut digits = String::from_str(alloc, "88130000").expect(&rt, "a text");
+    for _ in 0..5_000 {
+        digits.push_str("07").expect(&rt, "room");
+    }
+    let line = format!(in alloc; "le vec_u8 {digits}\nx").expect(&rt, "a line");
+    let answers = format!(in alloc; "ok 5004 {digits}\nbad line\n").expect(&rt, "answers");
+    assert_answered(
+        &rt,
+        alloc,
+        input_of(line.as_bytes()),
+        1_000,
+        answers.as_bytes(),
+    );
 }
 
 #[test]

@@ -155,7 +155,7 @@ const OWNED: [(&str, &str); 11] = [
 ];
 
 /// Maps and sets, in any order and with repeated keys, and what is written of them.
-const GATHERED: [(&str, &str); 6] = [
+const GATHERED: [(&str, &str); 7] = [
     ("le map_u8_u8 0200000007010702", "ok 8 010000000702\n"),
     ("le map_u8_u8 0200000007010601", "ok 8 0200000006010701\n"),
     (
@@ -169,6 +169,10 @@ const GATHERED: [(&str, &str); 6] = [
     (
         "le index_map_u8_u8 03000000090107020903",
         "ok 10 0200000009030702\n",
+    ),
+    (
+        "le map_string_vec_u16 0200000001000000ff",
+        "refused InvalidUtf8\n",
     ),
     (
         "le map_string_vec_u16 020000000100000062000000000100000061010000000100",
@@ -238,6 +242,35 @@ const STRICT: [(&str, &str); 10] = [
     ("sle u16 01", "refused InputBufferIsTooSmall 1 2\n"),
     ("SLE u16 0100", "bad line\n"),
 ];
+
+/// Asserts that so many items of these digits, which lie after these of their count, are answered as they lie, in so
+/// many bytes.
+fn assert_long(
+    rt: &impl Abort,
+    alloc: Global,
+    start: &str,
+    count: &str,
+    item: &str,
+    items: usize,
+    size: usize,
+) {
+    let mut digits = String::from_str(alloc, count).expect(rt, "a text");
+    for _ in 0..items {
+        digits.push_str(item).expect(rt, "room");
+    }
+    let line = format!(in alloc; "{start} {digits}").expect(rt, "a line");
+    let answer = format!(in alloc; "ok {size} {digits}\n").expect(rt, "an answer");
+    assert_answers(rt, alloc, &[(&line, &answer)]);
+}
+
+#[test]
+fn long_values_are_answered_whole(rt: HostRuntime) {
+    let alloc = rt.alloc();
+    assert_long(&rt, alloc, "le string", "b80b0000", "61", 3_000, 3_004);
+    assert_long(&rt, alloc, "be cow_str", "00000bb8", "61", 3_000, 3_004);
+    assert_long(&rt, alloc, "le vec_u8", "88130000", "07", 5_000, 5_004);
+    assert_long(&rt, alloc, "be vec_u16", "00000bb8", "0a0b", 3_000, 6_004);
+}
 
 #[test]
 fn unsigned_numbers_are_answered(rt: HostRuntime) {

@@ -1,9 +1,11 @@
 -- What the ways of writing answer follows from what a write into a collector does.
 use Rattle.std.specs.Prelude.{◌≡◌, ℕ, ◌-◌, ◌≤◌, List, length, Result, Ok, Err, IsOk, refl}
 use Rattle.std.specs.Borrow.{GName}
-use Rattle.std.proofs.Common.{◌∙◌, subst, arith, inl, inr}
+use Rattle.std.proofs.Common.{◌∙◌, ap, subst, arith, inl, inr}
 use Rattle.speedy_base.specs.declared.error.Error.{Error}
-use Rattle.speedy_base.specs.Device.{HasGrown}
+use Rattle.speedy_base.specs.declared.device.Faults.{Faults}
+use Rattle.speedy_base.specs.Devices.{no_faults}
+use Rattle.speedy_base.specs.FailedCalls.{HasGrown}
 use Rattle.speedy_base.specs.Encoding.{Encoding}
 use Rattle.speedy_layout.specs.Format.{Format}
 use Rattle.speedy_layout.specs.Laws.{Laws}
@@ -13,16 +15,17 @@ use Rattle.speedy_write.specs.WaysOfWriting.{Stands}
 use Rattle.speedy_write.specs.CollectorLemmas.{put_in_front}
 
 -- no call failed where none is counted
-none_grown : (n : ℕ) → n ≡ 0 → HasGrown 0 n → ⊥
-none_grown n e (inl h) = omega arith
-none_grown n e (inr h) = omega arith
+none_grown : (faults : Faults) → faults ≡ no_faults → HasGrown no_faults faults → ⊥
+none_grown faults same grown =
+    let none : faults.count ≡ 0 = ap (λ (f : Faults). f.count) same in
+    elim grown [ inl h ↦ omega (arith, h, none) | inr h ↦ omega (arith, h, none) ]
 
 module _ {E : Type 0} {gives : Error → E → Type 0} {V : Type 0} {F : Encoding → Format V} {v : V} where
   -- a write into a buffer that has the room is never refused
-  never_refused : {encoding : Encoding} {targets : List GName} {room : ℕ} {e : E} {after : WriterState} {appended : List ℕ → Type 0} (bytes : List ℕ) → (F encoding).writes v bytes → length bytes ≤ room → after.faults ≡ 0 → Writes gives F v (Err e) (buffer_state encoding targets room) after appended → ⊥
+  never_refused : {encoding : Encoding} {targets : List GName} {room : ℕ} {e : E} {after : WriterState} {appended : List ℕ → Type 0} (bytes : List ℕ) → (F encoding).writes v bytes → length bytes ≤ room → after.faults ≡ no_faults → Writes gives F v (Err e) (buffer_state encoding targets room) after appended → ⊥
   never_refused {after = after} bytes writes fit none w =
       elim w.answer.because [
-        | inl h ↦ none_grown after.faults none h
+        | inl h ↦ none_grown after.faults none h.0
         | inr h ↦ h.no_fit bytes writes fit
       ]
 
@@ -36,7 +39,7 @@ module _ {E : Type 0} {gives : Error → E → Type 0} {V : Type 0} {F : Encodin
         subst (λ (room : ℕ). Writes gives F v result (buffer_state encoding targets room) after (λ b. BufferAppends 0 old b q B)) (let e : length old - 0 ≡ length old = omega arith in e) z
 
     -- it succeeds where a written form fits
-    pub fill_succeeds : (bytes : List ℕ) (result : Result (Unit {0}) E) → (F encoding).writes v bytes → length bytes ≤ length old → after.faults ≡ 0 → Writes gives F v result (buffer_state at targets (length A - p)) after (λ b. BufferAppends p A b q B) → IsOk result
+    pub fill_succeeds : (bytes : List ℕ) (result : Result (Unit {0}) E) → (F encoding).writes v bytes → length bytes ≤ length old → after.faults ≡ no_faults → Writes gives F v result (buffer_state at targets (length A - p)) after (λ b. BufferAppends p A b q B) → IsOk result
     fill_succeeds bytes (Ok u) writes fit none w = refl
     fill_succeeds bytes (Err e) writes fit none w = absurd (never_refused bytes writes fit none (restated w))
 

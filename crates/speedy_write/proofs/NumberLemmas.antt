@@ -41,6 +41,6 @@ too_long_refused {n = n} {old = old} long given =
       kept = Kept-same old;
       answer = record {
         beginning = λ b h. absurd (unspelled b h);
-        because = inr (record { no_fit = λ b h _. unspelled b h; no_spelling = λ _ b h. unspelled b h; kind = inr (inl given) });
+        because = inr (record { no_fault = refl; no_fit = λ b h _. unspelled b h; no_spelling = λ _ b h. unspelled b h; kind = inr (inl given) });
       };
     }

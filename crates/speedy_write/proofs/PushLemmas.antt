@@ -1,5 +1,5 @@
 -- Bytes that are pushed in pieces are pushed as a whole.
-use Rattle.std.specs.Prelude.{◌≡◌, ◌==◌, ℕ, ◌-◌, List, [], ◌++◌, length, take, drop, false, Ok}
+use Rattle.std.specs.Prelude.{◌≡◌, ◌==◌, ℕ, ◌-◌, List, [], ◌++◌, length, take, drop, false, IsTrue, Ok}
 use Rattle.std.proofs.Common.{sym, ◌∙◌, ap, subst, arith}
 use Rattle.std.proofs.lemmas.Bool.{eqb-false}
 use Rattle.std.proofs.lemmas.List.{append_assoc, length-append, take-append-drop, take_rest}
@@ -10,6 +10,7 @@ use Rattle.speedy_write.specs.CollectorLemmas.{sink_additive}
 -- the bytes but the rest were pushed so far
 pub record PushedSoFar (bytes rest : List ℕ) (old new : SinkState) : Type 0 where
   pub no_fault : new.faults ≡ old.faults
+  pub waits : IsTrue new.settled → IsTrue old.settled
   pub front : List ℕ
   pub bytes_are : bytes ≡ front ++ rest
   pub taken : Takes old front new
@@ -18,9 +19,10 @@ pub record PushedSoFar (bytes rest : List ℕ) (old new : SinkState) : Type 0 wh
 abbrev pub past : ℕ → List ℕ → List ℕ
 past n rest = take (length rest - n) (drop n rest)
 
-pub more_pushed : {E : Type 0} {bytes rest : List ℕ} {n : ℕ} {s t u : SinkState} → PushedSoFar bytes rest s t → Pushes {E = E} (Ok n) t u rest → PushedSoFar bytes (past n rest) s u
+pub more_pushed : {bytes rest : List ℕ} {n : ℕ} {s t u : SinkState} → PushedSoFar bytes rest s t → Pushes (Ok n) t u rest → PushedSoFar bytes (past n rest) s u
 more_pushed {bytes = bytes} {rest = rest} {n = n} {s = s} {t = t} {u = u} so_far p = subst (λ (x : List ℕ). PushedSoFar bytes x s u) (sym (take_rest rest n)) (record {
   no_fault = p.no_fault ∙ so_far.no_fault;
+  waits = λ settled. so_far.waits (p.waits settled);
   front = so_far.front ++ take n rest;
   bytes_are = so_far.bytes_are ∙ (ap (λ (x : List ℕ). so_far.front ++ x) (sym (take-append-drop n rest)) ∙ sym (append_assoc so_far.front (take n rest) (drop n rest)));
   taken = sink_additive so_far.taken (record { same_tells = p.same_tells; taken_is = p.moved });

@@ -1,20 +1,27 @@
 -- What the ways of writing to a sink do follows from what a write into a collector does.
-use Rattle.std.specs.Prelude.{◌≡◌, ℕ, List, ◌⊎◌, None, Result, Ok, Err, refl}
+use Rattle.std.specs.Prelude.{◌≡◌, ℕ, ◌⊎◌, None, Result, Ok, Err, refl}
 use Rattle.std.specs.Borrow.{GName}
 use Rattle.std.proofs.Common.{subst, inl, inr}
 use Rattle.speedy_base.specs.declared.error.Error.{Error}
-use Rattle.speedy_base.specs.Device.{SinkState, HasGrown}
+use Rattle.speedy_base.specs.Device.{SinkState}
+use Rattle.speedy_base.specs.DeviceLemmas.{grown}
 use Rattle.speedy_base.specs.Encoding.{Encoding}
+use Rattle.speedy_base.specs.FailedCalls.{IsOfFailedCall}
 use Rattle.speedy_layout.specs.Format.{Format}
 use Rattle.speedy_layout.specs.Laws.{Laws}
-use Rattle.speedy_write.specs.Writing.{WriterState, IsOutOfRange, Unwritten, Writes}
+use Rattle.speedy_write.specs.Writing.{WriterState, Unwritten, Writes}
 use Rattle.speedy_write.specs.Collectors.{sink_state, Takes}
-use Rattle.speedy_write.specs.WaysOfWriting.{WritesToStream}
+use Rattle.speedy_write.specs.WaysOfWriting.{RefusesUnspelled, WritesToStream, WritesAndFlushes, WritesToFile}
 
 module _ {E : Type 0} {gives : Error → E → Type 0} {V : Type 0} {v : V} where
+  -- what is written to a file is written to a sink and flushed
+  pub file_written : {L : Format V} (s t : SinkState) (result : Result (Unit {0}) E) → WritesAndFlushes gives L v result s t → WritesToFile gives L v result
+  file_written s t (Ok _) w = record { written = (s, t, w); refused = tt }
+  file_written s t (Err e) w = record { written = tt; refused = elim w.0.refused [ inl h ↦ inl (h.0, h.2) | inr h ↦ inr (inr h.1) ] }
+
   -- where space has no bound, what is not written has no spelling
-  no_spelling : {L : Format V} {e : E} {old : WriterState} → old.space ≡ None → Unwritten gives L v e old → ((bytes : List ℕ) → L.spells v bytes → ⊥) × IsOutOfRange gives L.refuses_writing e
-  no_spelling none h = (h.no_spelling none, elim h.kind [ inl k ↦ absurd (k.0 none) | inr k ↦ k ])
+  no_spelling : {L : Format V} {e : E} {old new : WriterState} → old.space ≡ None → Unwritten gives L v e old new → RefusesUnspelled gives L v e
+  no_spelling none h = record { no_spelling = h.no_spelling none; kind = elim h.kind [ inl k ↦ absurd (k.0 none) | inr k ↦ k ] }
 
   module _ {F : Encoding → Format V} {encoding : Encoding} {least : ℕ} (laws : Laws encoding.strict least (F encoding)) where
     to_stream : {other : Encoding} {name other_name : GName} (s t : SinkState) (result : Result (Unit {0}) E) → Writes gives F v result (sink_state encoding name s) (sink_state other other_name t) (λ b. Takes s b t) → WritesToStream gives (F encoding) v result s t
@@ -23,6 +30,7 @@ module _ {E : Type 0} {gives : Error → E → Type 0} {V : Type 0} {v : V} wher
         record {
           same_tells = w.kept.tells;
           faults_kept = w.kept.faults;
+          no_flush = w.kept.waits;
           no_fault = put.no_fault;
           written = (put.bytes, record { is_written = put.is_written; shortest = λ others k. laws.shortest v put.bytes others put.is_written k }, put.is_appended);
           succeeds = λ _ _ _. refl;
@@ -30,13 +38,14 @@ module _ {E : Type 0} {gives : Error → E → Type 0} {V : Type 0} {v : V} wher
           begun = tt;
         }
     to_stream s t (Err e) w =
-        let why : HasGrown s.faults t.faults ⊎ (((bytes : List ℕ) → (F encoding).spells v bytes → ⊥) × IsOutOfRange gives (F encoding).refuses_writing e) = elim w.answer.because [ inl h ↦ inl h | inr h ↦ inr (no_spelling refl h) ] in
+        let why : IsOfFailedCall gives e s.faults t.faults ⊎ ((t.faults ≡ s.faults) × RefusesUnspelled gives (F encoding) v e) = elim w.answer.because [ inl h ↦ inl (h.1 refl) | inr h ↦ inr (h.no_fault, no_spelling refl h) ] in
         record {
           same_tells = w.kept.tells;
           faults_kept = w.kept.faults;
+          no_flush = w.kept.waits;
           no_fault = tt;
           written = tt;
-          succeeds = λ bytes k clean. absurd (elim why [ inl h ↦ clean h | inr h ↦ h.0 bytes k ]);
+          succeeds = λ bytes k clean. absurd (elim why [ inl h ↦ clean (grown h.0 s.faults t.faults h.1) | inr h ↦ h.1.no_spelling bytes k ]);
           refused = why;
           begun = w.answer.beginning;
         }

@@ -3,20 +3,21 @@ use Rattle.std.specs.Prelude.{◌≡◌, ℕ, ◌+◌, ◌-◌, ◌^◌, ◌≤�
 use Rattle.std.specs.Borrow.{GName}
 use Rattle.speedy_base.specs.declared.error.ErrorKind.TheVariants as kinds
 use Rattle.speedy_base.specs.Device.{SinkState}
+use Rattle.speedy_base.specs.Devices.{no_faults}
 use Rattle.speedy_base.specs.Encoding.{Encoding}
 use Rattle.speedy_write.specs.Writing.{WriterState}
 
 -- a collector over a buffer, with so many bytes left
 abbrev pub buffer_state : Encoding → List GName → ℕ → WriterState
-buffer_state encoding targets left = record { encoding = encoding; faults = 0; space = Some left; full = kinds.UnexpectedEndOfOutputBuffer; targets = targets; tells = true }
+buffer_state encoding targets left = record { encoding = encoding; faults = no_faults; tells_faults = true; space = Some left; full = kinds.UnexpectedEndOfOutputBuffer; targets = targets; tells = true; settled = true }
 
 -- the collector of sizes, with this sum
 abbrev pub size_state : Encoding → List GName → ℕ → WriterState
-size_state encoding targets size = record { encoding = encoding; faults = 0; space = Some (2 ^ 64 - 1 - size); full = kinds.OutOfRangeLength; targets = targets; tells = false }
+size_state encoding targets size = record { encoding = encoding; faults = no_faults; tells_faults = true; space = Some (2 ^ 64 - 1 - size); full = kinds.OutOfRangeLength; targets = targets; tells = false; settled = true }
 
 -- a collector over a sink of this name, which has no bound
 abbrev pub sink_state : Encoding → GName → SinkState → WriterState
-sink_state encoding name sink = record { encoding = encoding; faults = sink.faults; space = None; full = kinds.OutOfRangeLength; targets = name ∷ []; tells = sink.tells }
+sink_state encoding name sink = record { encoding = encoding; faults = sink.faults; tells_faults = true; space = None; full = kinds.OutOfRangeLength; targets = name ∷ []; tells = sink.tells; settled = sink.settled }
 
 -- these bytes were put into the buffer from the one position to the other
 pub record BufferAppends (position : ℕ) (buffer bytes : List ℕ) (end : ℕ) (after : List ℕ) : Type 0 where

@@ -5,9 +5,10 @@ use Rattle.std.proofs.lemmas.List.{append_assoc, length-append}
 use Rattle.std.proofs.lemmas.Result.{err_from_is_err_and}
 use Rattle.speedy_base.specs.declared.error.ErrorKind.{ErrorKind}
 use Rattle.speedy_base.specs.declared.error.Error.{Error}
-use Rattle.speedy_base.specs.DeviceLemmas.{HasGrown-after}
+use Rattle.speedy_base.specs.DeviceLemmas.{fault_after}
 use Rattle.speedy_base.specs.Encoding.{Encoding}
 use Rattle.speedy_base.specs.Error.{error_of, IsNamed-more}
+use Rattle.speedy_base.specs.FailedCalls.{IsOfFault}
 use Rattle.speedy_layout.specs.Format.{Format, Parts}
 use Rattle.speedy_layout.specs.Laws.{Laws}
 use Rattle.speedy_layout.specs.Sequences.{Asks, sequence}
@@ -53,12 +54,14 @@ Kept-after h k = record {
   full = k.full ∙ h.full;
   targets = k.targets ∙ h.targets;
   faults = let x = h.faults in let y = k.faults in omega arith;
+  tells_faults = k.tells_faults ∙ h.tells_faults;
   tells = k.tells ∙ h.tells;
+  waits = λ settled. h.waits (k.waits settled);
 }
 
 -- a writer that stays as it is
 pub Kept-same : (a : WriterState) → Kept a a
-Kept-same a = record { encoding = refl; full = refl; targets = refl; faults = omega arith; tells = refl }
+Kept-same a = record { encoding = refl; full = refl; targets = refl; faults = omega arith; tells_faults = refl; tells = refl; waits = λ settled. settled }
 
 -- what was put is said in other words
 pub Put-as : {writes other appended : List ℕ → Type 0} {old new : WriterState} → ((b : List ℕ) → writes b → other b) → Put writes old new appended → Put other old new appended
@@ -107,6 +110,7 @@ module _ {E : Type 0} {gives : Error → E → Type 0} {U V : Type 0} {F : Encod
       because = elim w.answer.because [
         | inl x ↦ inl x
         | inr x ↦ inr (record {
+          no_fault = x.no_fault;
           no_fit = λ b k fit. let d = g b k in x.no_fit d.0 d.1 (subst (λ (n : ℕ). Fits n old.space) (sym d.2) fit);
           no_spelling = λ s b k. let d = h b k in x.no_spelling s d.0 d.1;
           kind = elim x.kind [ inl y ↦ inl y | inr y ↦ inr (IsOutOfRange-more gives e n y) ];
@@ -168,6 +172,7 @@ module _ {E : Type 0} {gives : Error → E → Type 0} {U V : Type 0} {W : U →
       because = elim w.answer.because [
         | inl x ↦ inl x
         | inr x ↦ inr (record {
+          no_fault = x.no_fault;
           no_fit = λ b k fit. x.no_fit k.front k.first_is (fits_first old.space (length k.front) (length k.back) (subst (λ n. Fits n old.space) (ap length k.whole_is ∙ length-append k.front k.back) fit));
           no_spelling = λ s b k. x.no_spelling s k.front k.first_is;
           kind = elim x.kind [ inl y ↦ inl y | inr y ↦ inr (IsOutOfRange-more gives e (λ _ k. inl k) y) ];
@@ -192,8 +197,9 @@ module _ {E : Type 0} {gives : Error → E → Type 0} {U V : Type 0} {W : U →
               is_appended = join p.bytes x.front p.is_appended x.is_appended;
             };
         because = elim w.answer.because [
-          | inl x ↦ inl (HasGrown-after k.faults x)
+          | inl x ↦ inl (fault_after gives old.tells_faults e old.faults mid.faults new.faults p.no_fault (subst (λ (tells : Bool). IsOfFault gives tells e mid.faults new.faults) k.tells_faults x))
           | inr x ↦ inr (record {
+            no_fault = x.no_fault ∙ p.no_fault;
             no_fit = λ b h fit.
                 let l : length b ≡ length p.bytes + length h.back = let m = one h.front p.bytes h.first_is p.is_written in let q = ap length h.whole_is ∙ length-append h.front h.back in omega arith in
                 x.no_fit h.back h.second_is (subst (Fits (length h.back)) (sym p.space) (fits_second old.space (length p.bytes) (length h.back) (subst (λ n. Fits n old.space) l fit)));

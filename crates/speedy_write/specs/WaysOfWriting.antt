@@ -1,12 +1,13 @@
 -- What the ways of writing answer.
 use Rattle.std.specs.Prelude.{◌≡◌, ℕ, ◌-◌, ◌^◌, ◌<◌, ◌≤◌, List, ◌++◌, length, drop, ◌⊎◌, Result, IsOk, IfOk, OnOk, OnErr, IfErr, IsOkAnd, IsErrAnd, IsTrue}
+use Rattle.std.specs.declared.io.Error.{Error as StdIoError}
 use Rattle.speedy_base.specs.declared.error.ErrorKind.TheVariants as kinds
 use Rattle.speedy_base.specs.declared.error.Error.{Error}
 use Rattle.speedy_base.specs.Error.{error_of}
-use Rattle.speedy_base.specs.Device.{SinkState, HasGrown}
+use Rattle.speedy_base.specs.Device.{SinkState}
+use Rattle.speedy_base.specs.FailedCalls.{HasGrown, IsErrorOf, IsOfFailedCall}
 use Rattle.speedy_layout.specs.Format.{Format}
 use Rattle.speedy_write.specs.Collectors.{Takes}
-use Rattle.speedy_write.specs.Pushing.{IsOfFailedCall}
 use Rattle.speedy_write.specs.Writing.{IsOutOfRange, Begun}
 
 -- the bytes are a written form of the value, and no spelling of it is shorter
@@ -51,23 +52,37 @@ module _ {E : Type 0} (gives : Error → E → Type 0) where
     -- a refusal means want of memory, or that the value has no spelling that can be counted
     pub refused : IfErr result (λ e. gives (error_of kinds.OutOfMemory) e ⊎ (((bytes : List ℕ) → L.spells v bytes → length bytes < 2 ^ 64 - 1 → ⊥) × IsOutOfRange gives L.refuses_writing e))
 
+  -- the refusal of a value that has no spelling
+  pub record RefusesUnspelled {V : Type 0} (L : Format V) (v : V) (e : E) : Type 0 where
+    pub no_spelling : (bytes : List ℕ) → L.spells v bytes → ⊥
+    pub kind : IsOutOfRange gives L.refuses_writing e
+
   -- what the ways of writing to a sink do
   pub record WritesToStream {V : Type 0} (L : Format V) (v : V) (result : Result (Unit {0}) E) (old new : SinkState) : Type 0 where
     -- a sink that tells its bytes goes on doing so
     pub same_tells : new.tells ≡ old.tells
     -- no failed call is forgotten
-    pub faults_kept : old.faults ≤ new.faults
+    pub faults_kept : old.faults.count ≤ new.faults.count
+    -- what waited in the sink goes on waiting: no flush is made
+    pub no_flush : IsTrue new.settled → IsTrue old.settled
     -- what succeeds had no failed push
     pub no_fault : OnOk result (new.faults ≡ old.faults)
     -- and the sink took a shortest written form
     pub written : OnOk result ((bytes : List ℕ) × IsShortest L v bytes × Takes old bytes new)
     -- a value that has a spelling is never refused where no push fails
     pub succeeds : (bytes : List ℕ) → L.spells v bytes → (HasGrown old.faults new.faults → ⊥) → IsOk result
-    -- a refusal means that a push failed, or that the value has no spelling
-    pub refused : IfErr result (λ e. HasGrown old.faults new.faults ⊎ (((bytes : List ℕ) → L.spells v bytes → ⊥) × IsOutOfRange gives L.refuses_writing e))
+    -- a refusal is the error of the one push that failed; or none failed, and the value has no spelling
+    pub refused : IfErr result (λ e. IsOfFailedCall gives e old.faults new.faults ⊎ ((new.faults ≡ old.faults) × RefusesUnspelled L v e))
     -- what is refused leaves a beginning of a written form in the sink, where there is one
     pub begun : OnErr result ((bytes : List ℕ) → L.writes v bytes → Begun (L.writes v) (λ front. Takes old front new))
 
-  -- What the ways of writing to a file answer: the file was not made, or there is no memory for the buffer before it; or they answer as a write to some sink, which was flushed where it succeeds. Which bytes a file took no contract can say.
-  abbrev pub WritesToFile : {V : Type 0} → Format V → V → Result (Unit {0}) E → Type 0
-  WritesToFile L v result = IsErrAnd result (λ e. IsOfFailedCall gives e ⊎ gives (error_of kinds.OutOfMemory) e) ⊎ ((old new : SinkState) × WritesToStream L v result old new × OnOk result (IsTrue new.settled))
+  -- what a write to a sink and a flush behind it do: the write with what waits left out of sight, and where both succeed nothing waits
+  abbrev pub WritesAndFlushes : {V : Type 0} → Format V → V → Result (Unit {0}) E → SinkState → SinkState → Type 0
+  WritesAndFlushes L v result old new = WritesToStream L v result old (record new { settled = old.settled }) × OnOk result (IsTrue new.settled)
+
+  -- What the ways of writing to a file answer. Which bytes a file took no contract can say.
+  pub record WritesToFile {V : Type 0} (L : Format V) (v : V) (result : Result (Unit {0}) E) : Type 0 where
+    -- what succeeds had some sink take a shortest written form, and pass all of it on
+    pub written : OnOk result ((old new : SinkState) × WritesAndFlushes L v result old new)
+    -- a refusal is what the error of a failed call became, or want of memory, or the value has no spelling
+    pub refused : IfErr result (λ e. ((error : StdIoError) × IsErrorOf gives error e) ⊎ (gives (error_of kinds.OutOfMemory) e ⊎ RefusesUnspelled L v e))

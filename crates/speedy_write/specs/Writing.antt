@@ -4,9 +4,10 @@ use Rattle.std.specs.Borrow.{GName}
 use Rattle.std.specs.Int.{Width}
 use Rattle.speedy_base.specs.declared.error.ErrorKind.{ErrorKind}
 use Rattle.speedy_base.specs.declared.error.ErrorKind.TheVariants as kinds
+use Rattle.speedy_base.specs.declared.device.Faults.{Faults}
 use Rattle.speedy_base.specs.declared.error.Error.{Error}
 use Rattle.speedy_base.specs.Error.{error_of, IsNamed}
-use Rattle.speedy_base.specs.Device.{HasGrown}
+use Rattle.speedy_base.specs.FailedCalls.{IsOfFault}
 use Rattle.speedy_base.specs.Encoding.{Encoding}
 use Rattle.speedy_layout.specs.Format.{Format, plain_format}
 use Rattle.speedy_layout.specs.Lists.{repeat}
@@ -16,8 +17,10 @@ use Rattle.speedy_layout.specs.Numbers.{unsigned_number, signed_number}
 pub record WriterState : Type 0 where
   -- what its context asks of the bytes
   pub encoding : Encoding
-  -- its device's number of failed calls
-  pub faults : ℕ
+  -- its device's failed calls
+  pub faults : Faults
+  -- whether a refusal that a failed call caused says what it answered
+  pub tells_faults : Bool
   -- how many more bytes fit, where there is a bound
   pub space : Option ℕ
   -- the kind that a write past the space is refused with
@@ -26,6 +29,8 @@ pub record WriterState : Type 0 where
   pub targets : List GName
   -- whether it tells which bytes were written
   pub tells : Bool
+  -- whether all that its device took was passed on
+  pub settled : Bool
 
 -- so many bytes fit
 abbrev pub Fits : ℕ → Option ℕ → Type 0
@@ -42,8 +47,11 @@ pub record Kept (old new : WriterState) : Type 0 where
   pub encoding : new.encoding ≡ old.encoding
   pub full : new.full ≡ old.full
   pub targets : new.targets ≡ old.targets
-  pub faults : old.faults ≤ new.faults
+  pub faults : old.faults.count ≤ new.faults.count
+  pub tells_faults : new.tells_faults ≡ old.tells_faults
   pub tells : new.tells ≡ old.tells
+  -- what waited goes on waiting: a write makes no flush
+  pub waits : IsTrue new.settled → IsTrue old.settled
 
 -- a written form was put, just it was appended, and no call of the device failed
 pub record Put (writes : List ℕ → Type 0) (old new : WriterState) (appended : List ℕ → Type 0) : Type 0 where
@@ -71,7 +79,8 @@ module _ {E : Type 0} (gives : Error → E → Type 0) where
   IsOutOfRange names e = gives (error_of kinds.OutOfRangeLength) e ⊎ IsNamed gives names e
 
   -- why a write was refused though no call of the device failed: no written form fits
-  pub record Unwritten {V : Type 0} (F : Format V) (v : V) (e : E) (old : WriterState) : Type 0 where
+  pub record Unwritten {V : Type 0} (F : Format V) (v : V) (e : E) (old new : WriterState) : Type 0 where
+    pub no_fault : new.faults ≡ old.faults
     pub no_fit : (b : List ℕ) → F.writes v b → Fits (length b) old.space → ⊥
     -- without a bound there is no spelling at all
     pub no_spelling : old.space ≡ None → (b : List ℕ) → F.spells v b → ⊥
@@ -80,9 +89,10 @@ module _ {E : Type 0} (gives : Error → E → Type 0) where
   -- a refusal
   pub record Refused {V : Type 0} (F : Format V) (v : V) (e : E) (old new : WriterState) (appended : List ℕ → Type 0) : Type 0 where
     pub beginning : (b : List ℕ) → F.writes v b → Begun (F.writes v) appended
-    pub because : HasGrown old.faults new.faults ⊎ Unwritten F v e old
+    -- a call of the device failed, and where the writer tells which, one alone did, and the refusal is its error; or no call failed
+    pub because : IsOfFault gives old.tells_faults e old.faults new.faults ⊎ Unwritten F v e old new
 
-  -- The write of a value, in the format of the writer's encoding. What succeeds appends a written form that fits, and no call of the device failed. What is refused appends a beginning of one, where there is one; and either a call of the device failed, or no written form fits.
+  -- The write of a value, in the format of the writer's encoding. What succeeds appends a written form that fits, and no call of the device failed. What is refused appends a beginning of one, where there is one; and either a call of the device failed, and this is its error where the writer tells it, or none failed and no written form fits.
   pub record Writes {V : Type 0} (F : Encoding → Format V) (v : V) (result : Result (Unit {0}) E) (old new : WriterState) (appended : List ℕ → Type 0) : Type 0 where
     pub kept : Kept old new
     pub answer : MatchResult result (λ _. Put ((F old.encoding).writes v) old new appended) (λ e. Refused (F old.encoding) v e old new appended)
@@ -105,7 +115,7 @@ module _ {E : Type 0} (gives : Error → E → Type 0) where
 
   -- a write of bytes that is refused though no call of the device failed has passed the space
   abbrev pub RefusesFull : Result (Unit {0}) E → WriterState → WriterState → Type 0
-  RefusesFull result old new = IfErr result (λ e. HasGrown old.faults new.faults ⊎ gives (error_of old.full) e)
+  RefusesFull result old new = IfErr result (λ e. IsOfFault gives old.tells_faults e old.faults new.faults ⊎ ((new.faults ≡ old.faults) × gives (error_of old.full) e))
 
 -- what a writer says of its space is right
 abbrev pub IsRight : Option Bool → ℕ → Option ℕ → Type 0

@@ -1,7 +1,8 @@
 //! The writers that the ways of writing need: one into a buffer, one into a sink, and one that only counts.
 ghost use Rattle.std.specs.Prelude.{◌≡◌, ◌-◌, ◌^◌, ◌≤◌, [], ◌∷◌, length, Some, None, IsOk, IfErr, OnErr, nat_le, refl};
+ghost use Rattle.speedy_base.specs.FailedCalls.{IsErrorOf, IsOfFailedCall};
 ghost use Rattle.speedy_write.specs.Writing.{WritesBytes, RefusesFull};
-ghost use Rattle.speedy_write.specs.Pushing.{PushesAll, IsErrorOf, IsOfFailedCall};
+ghost use Rattle.speedy_write.specs.Pushing.{PushesAll};
 ghost use Rattle.speedy_write.specs.Collectors.{buffer_state, BufferAppends, size_state, SizeAppends, sink_state, Takes};
 ghost use Rattle.speedy_write.specs.CollectorLemmas.{buffer_nothing, buffer_additive, size_nothing, size_additive, sink_nothing, sink_additive};
 
@@ -177,7 +178,9 @@ impl<'s, S: Sink, C: Context> Writer<C> for WritingCollector<'s, S, C> {
         ensures full { let writer = ⟦<WritingCollector<'s, S, C> as Writer<C>>⟧ in
             RefusesFull C.Error.from_gives result (writer.state self.old) (writer.state self.new) }
         ensures nothing { slice.now ≡ [] → IsOk result × (self.new ≡ self.old) }
-        ensures error { IfErr result (IsOfFailedCall C.Error.from_gives) }
+        ensures error { let writer = ⟦<WritingCollector<'s, S, C> as Writer<C>>⟧ in
+            IfErr result (λ e. IsOfFailedCall C.Error.from_gives e
+            (writer.state self.old).faults (writer.state self.new).faults) }
     {
         push_all(self.alloc, slice, &mut *self.sink)
     }

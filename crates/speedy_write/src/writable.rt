@@ -1,10 +1,11 @@
 //! What can be written, and the ways of writing it.
 ghost use Rattle.std.specs.Prelude.{◌≡◌, ◌≤◌, ◌⊎◌, ℕ, List, length, vec_len, IsTrue, MatchResult, IsOk, IfErr, OnOk};
+ghost use Rattle.std.specs.declared.io.Error.{Error as StdIoError};
 ghost use Rattle.speedy_base.specs.Error.{error_of};
 ghost use Rattle.speedy_base.specs.Encoding.{plain_encoding};
-ghost use Rattle.speedy_write.specs.Pushing.{IsOfFailedCall};
+ghost use Rattle.speedy_base.specs.FailedCalls.{IsErrorOf};
 ghost use Rattle.speedy_write.specs.Writing.{Writes, WritesEach};
-ghost use Rattle.speedy_write.specs.WaysOfWriting.{Needs, Stands, WritesToBuffer, WritesToVec, WritesToStream, WritesToFile};
+ghost use Rattle.speedy_write.specs.WaysOfWriting.{Needs, Stands, WritesToBuffer, WritesToVec, WritesToStream, WritesAndFlushes, WritesToFile};
 
 use crate::collectors::error_of_failed_call;
 pub use crate::collectors::{BufferCollector, SizeCalculatorCollector, WritingCollector};
@@ -218,7 +219,7 @@ fn create_buffered<R: Files, P: AsPath, E: From<Error>>(
     alloc: Global,
     path: P,
 ) -> Result<BufWriter<R::File>, E>
-    ensures { IfErr result (λ e. IsOfFailedCall E.from_gives e
+    ensures { IfErr result (λ e. ((error : StdIoError) × IsErrorOf E.from_gives error e)
         ⊎ E.from_gives (error_of ErrorKind.OutOfMemory) e) }
 {
     let file = match fs::create(rt, path) {
@@ -238,10 +239,9 @@ fn write_and_flush<C: Context, T: Writable<C>, S: Sink>(
     context: C,
     sink: &mut S,
 ) -> Result<(), C::Error>
-    ensures writes { let format = T.format (C.encoding context) in
-        WritesToStream C.Error.from_gives format (T.seen value.now) result
+    ensures { let format = T.format (C.encoding context) in
+        WritesAndFlushes C.Error.from_gives format (T.seen value.now) result
         (S.sink sink.old) (S.sink sink.new) }
-    ensures settled { OnOk result (IsTrue (S.sink sink.new).settled) }
 {
     value.write_to_stream_with_ctx(alloc, context, sink)?;
     match sink.flush() {

@@ -1,5 +1,5 @@
 use Rattle.std.specs.Prelude.{◌≡◌}
-use Rattle.std.proofs.Common.{sym, arith}
+use Rattle.std.proofs.Common.{sym, ◌∙◌, arith}
 use Rattle.speedy_read.specs.Exits.{exit_is}
 use Rattle.speedy_read.specs.ReadingLemmas.{Kept-after}
 use Rattle.speedy_read.proofs.CollectionLemmas.{none_gathered, one_gathered, item_not_written, next_refused, room_refused, all_gathered, on_success}
@@ -15,7 +15,7 @@ returns-in_err-item g c =
     (next_refused {new = g.R.LendingReader.state c.read_from.new.reader} so_far (g.met.T.Layout.layout_laws _) (let t = c.loop-i-test.true in omega arith) (rw so_far.kept.encoding at c.in_err-item.ensures))
 
 pub returns-then-is_err : goal.returns-then-is_err
-returns-then-is_err g c = room_refused _ (Kept-after c.loop-i.invariant.kept c.in_ok-item.ensures.kept) c.error_out_of_memory.ensures
+returns-then-is_err g c = room_refused _ (Kept-after c.loop-i.invariant.kept c.in_ok-item.ensures.kept) (c.in_ok-item.ensures.answer.no_fault ∙ c.loop-i.invariant.so_far.got.no_fault) c.error_out_of_memory.ensures
 
 pub loop-i-preserved : goal.loop-i-preserved
 loop-i-preserved g c =

@@ -28,7 +28,7 @@ returns g c =
     all_bytes _ (rw (sym same) at c.loop-left.invariant.3) (ap length same ∙ omega (arith, c.loop-left.invariant.2)) c.in_range.ensures.range
 
 pub returns-in_err-bytes : goal.returns-in_err-bytes
-returns-in_err-bytes g c = rw (exit_is c.from_residual.result c.from_residual.ensures.1) (refused_room _ _ Kept-same c.in_err-bytes.ensures)
+returns-in_err-bytes g c = rw (exit_is c.from_residual.result c.from_residual.ensures.1) (refused_room _ _ Kept-same refl c.in_err-bytes.ensures)
 
 pub returns-in_err-read_bytes : goal.returns-in_err-read_bytes
 returns-in_err-read_bytes g c =
@@ -37,4 +37,4 @@ returns-in_err-read_bytes g c =
     (bytes_refused {new = g.R.LendingReader.state c.read_bytes.new.self} _ _ _ _ c.loop-left.invariant.2 (omega (arith, size)) c.loop-left.invariant.3 c.in_err-read_bytes.ensures)
 
 pub returns-then-is_err : goal.returns-then-is_err
-returns-then-is_err g c = refused_room _ _ (Kept-after c.loop-left.invariant.3.kept c.in_ok-read_bytes.ensures.kept) c.error_out_of_memory.ensures
+returns-then-is_err g c = refused_room _ _ (Kept-after c.loop-left.invariant.3.kept c.in_ok-read_bytes.ensures.kept) (c.in_ok-read_bytes.ensures.answer.no_fault ∙ c.loop-left.invariant.3.got.no_fault) c.error_out_of_memory.ensures

@@ -27,7 +27,7 @@ returns-in_err-item g c shown =
     (refused_item (g.met.T.Layout.layout_laws _) _ _ {new = g.R.LendingReader.state c.read_from.new.reader} fewer so_far (rw so_far.kept.encoding at c.in_err-item.ensures))
 
 pub returns-in_err-items : goal.returns-in_err-items
-returns-in_err-items g c shown = rw (exit_is c.from_residual.result c.from_residual.ensures.1) (refused_room _ _ Kept-same c.in_err-items.ensures)
+returns-in_err-items g c shown = rw (exit_is c.from_residual.result c.from_residual.ensures.1) (refused_room _ _ Kept-same refl c.in_err-items.ensures)
 
 pub returns-then-is_err : goal.returns-then-is_err
-returns-then-is_err g c shown = refused_room _ _ (Kept-after c.loop-i.invariant.1.kept c.in_ok-item.ensures.kept) c.error_out_of_memory.ensures
+returns-then-is_err g c shown = refused_room _ _ (Kept-after c.loop-i.invariant.1.kept c.in_ok-item.ensures.kept) (c.in_ok-item.ensures.answer.no_fault ∙ c.loop-i.invariant.1.got.no_fault) c.error_out_of_memory.ensures

@@ -1,6 +1,6 @@
 use Rattle.std.proofs.Common.{◌≡◌, ◌++◌, rules}
 use Rattle.std.proofs.lemmas.Result.{err_from_is_err_and}
-use Rattle.speedy_read.specs.Exits.{exit_is}
+use Rattle.speedy.specs.Exits.{exit_is}
 use Rattle.speedy_vectors.proofs.RunLemmas.{none_of_piece, more_of_piece, fewer_of_piece, all_of_piece, waits_after_piece, line_failed, memory_failed}
 use Rattle.speedy_vectors.proofs.run.answer_piece.Goals as goal
 

@@ -2,7 +2,7 @@ use Rattle.std.proofs.Common.{◌≡◌, ◌++◌, ◌∙◌, [], List, ℕ, ap,
 use Rattle.std.proofs.lemmas.Bool.{eqb-true}
 use Rattle.std.proofs.lemmas.List.{nil_from_length}
 use Rattle.std.proofs.lemmas.Result.{err_from_is_err_and}
-use Rattle.speedy_read.specs.Exits.{exit_is}
+use Rattle.speedy.specs.Exits.{exit_is}
 use Rattle.speedy_vectors.proofs.RunLemmas.{whole_line, nothing_waits, no_memory_at_first}
 use Rattle.speedy_vectors.proofs.run.answer_waiting.Goals as goal
 

@@ -1,4 +1,4 @@
-use Rattle.speedy_read.specs.Exits.{exit_is}
+use Rattle.speedy.specs.Exits.{exit_is}
 use Rattle.speedy_vectors.proofs.RunLemmas.{not_empty, is_empty, last_failed, last_answered, nothing_left}
 use Rattle.speedy_vectors.proofs.run.finish.Goals as goal
 

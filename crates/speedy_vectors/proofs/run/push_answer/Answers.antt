@@ -1,5 +1,5 @@
 use Rattle.std.proofs.Common.{◌≡◌, rules}
-use Rattle.speedy_read.specs.Exits.{exit_is}
+use Rattle.speedy.specs.Exits.{exit_is}
 use Rattle.speedy_vectors.proofs.RunLemmas.{pushed_answer, no_memory_at_first}
 use Rattle.speedy_vectors.proofs.run.push_answer.Goals as goal
 

@@ -1,5 +1,5 @@
 use Rattle.std.proofs.Common.{◌<◌, length, refl, arith}
-use Rattle.speedy_read.specs.Exits.{exit_is}
+use Rattle.speedy.specs.Exits.{exit_is}
 use Rattle.speedy_vectors.proofs.RunLemmas.{none_run, more_run, piece_failed, input_ended, pull_failed, too_long}
 use Rattle.speedy_vectors.proofs.run.run.Goals as goal
 

@@ -10,7 +10,7 @@ pub returns-in-Some : goal.returns-in-Some
 returns-in-Some g c = cow_lent _ _ (map-id _ ∙ c.in-Some.ensures) c.lent_in_range.ensures (rw c.in-Some-Ok.field-0-is at c.in-Some-Ok.ensures.1)
 
 pub returns-in-None-from_lent : goal.returns-in-None-from_lent
-returns-in-None-from_lent g c = refused_room _ _ (rw c.in-Some-Ok.field-0-is at c.in-Some-Ok.ensures.1).kept c.error_out_of_memory.ensures
+returns-in-None-from_lent g c = refused_room _ _ (rw c.in-Some-Ok.field-0-is at c.in-Some-Ok.ensures.1).kept (rw c.in-Some-Ok.field-0-is at c.in-Some-Ok.ensures.1).answer.no_fault c.error_out_of_memory.ensures
 
 pub returns-in-Some-Err : goal.returns-in-Some-Err
 returns-in-Some-Err g c = cow_not_lent _ _ (rw c.in-Some-Err.field-0-is at c.in-Some-Err.ensures.1)

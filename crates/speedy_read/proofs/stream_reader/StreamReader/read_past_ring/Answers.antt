@@ -51,7 +51,7 @@ returns-in-Ok-true g c =
     let left = ring_left ring c.consume_into.new.self _ c.consume_into.ensures.rest (nothing_left output ring.bytes _ all c.requires) in
     past_read ring c.consume_into.new.self left.0 left.1 c.in-Ok-true.field-0-test c.in-Ok-true.ensures
     (output_is output ring.bytes _ all c.requires _ _ c.consume_into.ensures.output c.fill_list.auto.output)
-    (whole output ring.bytes _ all c.requires _ _ c.consume_into.ensures.output c.fill_list.auto.output)
+    (whole output ring.bytes _ all c.requires _ _ c.consume_into.ensures.output c.fill_list.auto.output) c.requires
 
 pub returns-in-Ok-false : goal.returns-in-Ok-false
 returns-in-Ok-false g c =
@@ -67,4 +67,4 @@ pub returns-in-Err : goal.returns-in-Err
 returns-in-Err g c =
     let ring = c.args.self.now.ring in
     let left = ring_left ring c.consume_into.new.self _ c.consume_into.ensures.rest (nothing_left c.args.output.now ring.bytes _ c.len-held.ensures.value c.requires) in
-    past_failed ring c.consume_into.new.self left.0 left.1 _ c.in-Err.ensures
+    past_failed ring c.consume_into.new.self left.0 left.1 _ c.in-Err.ensures (c.from_io_error.result.kind, c.from_io_error.ensures, c.into.ensures)

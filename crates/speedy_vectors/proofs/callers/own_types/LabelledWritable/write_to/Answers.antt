@@ -1,0 +1,10 @@
+use Rattle.std.proofs.Common.{refl}
+use Rattle.speedy.specs.Numbers.{unsigned_number_laws}
+use Rattle.speedy.specs.WriteSequences.{is_sequence, first_refused, second_written}
+use Rattle.speedy_vectors.proofs.callers.own_types.LabelledWritable.write_to.Goals as goal
+
+pub returns-in_err-write_value : goal.returns-in_err-write_value
+returns-in_err-write_value g c = first_refused is_sequence refl c.from_residual.ensures.1 c.in_err-write_value.ensures
+
+pub returns : goal.returns
+returns g c = second_written is_sequence refl (unsigned_number_laws 4) (g.met.W.Writer.additive _ _ _) c.in_ok-write_value.ensures c.write_value-2.ensures
