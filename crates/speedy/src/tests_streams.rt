@@ -93,34 +93,6 @@ fn assert_fault<T: Drop>(rt: &impl Abort, outcome: Result<T, Error>, code: i32) 
     assert_same(rt, error.is_eof(), false);
 }
 
-/// The next message: a number and a text. The source has lost just its bytes.
-pub fn next_message<S: Source>(alloc: Global, source: &mut S) -> Result<(u16, String), Error> {
-    <(u16, String) as Readable<LittleEndian>>::read_from_stream_unbuffered(alloc, source)
-}
-
-/// Asserts that the next message of the source is of this number and text, and that so many bytes are left.
-fn assert_next(
-    rt: &impl Abort,
-    alloc: Global,
-    source: &mut &[u8],
-    number: u16,
-    text: &str,
-    left: usize,
-) {
-    let message = next_message(alloc, source).expect(rt, "a message");
-    assert_same(rt, message.0, number);
-    assert_same(rt, message.1.as_str(), text);
-    assert_same(rt, source.len(), left);
-}
-
-#[test]
-fn messages_come_one_after_another(rt: HostRuntime) {
-    let mut source: &[u8] = &[1, 0, 2, 0, 0, 0, 72, 105, 2, 0, 0, 0, 0, 0, 9];
-    assert_next(&rt, rt.alloc(), &mut source, 1, "Hi", 7);
-    assert_next(&rt, rt.alloc(), &mut source, 2, "", 1);
-    assert!(rt; next_message(rt.alloc(), &mut source).is_err());
-}
-
 #[test]
 fn an_unbuffered_form_takes_just_its_value(rt: HostRuntime) {
     let alloc = rt.alloc();

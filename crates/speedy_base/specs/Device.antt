@@ -17,12 +17,23 @@ pub record SinkState : Type 0 where
   pub faults : Faults
   pub settled : Bool
 
+-- what each call of a device keeps: what tells its bytes goes on doing so, and no failed call is
+-- forgotten
+pub record DeviceKept (old_tells new_tells : Bool) (old_faults new_faults : Faults) : Type 0 where
+  pub tells : new_tells ≡ old_tells
+  pub faults : old_faults.count ≤ new_faults.count
+
+-- the same of a source
+abbrev pub SourceKept : SourceState → SourceState → Type 0
+SourceKept old new = DeviceKept old.tells new.tells old.faults new.faults
+
+-- and of a sink
+abbrev pub SinkKept : SinkState → SinkState → Type 0
+SinkKept old new = DeviceKept old.tells new.tells old.faults new.faults
+
 -- one call of `pull`, which left this output
 pub record Pulls (result : Result ℕ StdIoError) (old new : SourceState) (output : List ℕ) : Type 0 where
-  -- what tells its bytes goes on doing so
-  pub same_tells : new.tells ≡ old.tells
-  -- no failed call is forgotten
-  pub faults_kept : old.faults.count ≤ new.faults.count
+  pub kept : SourceKept old new
   -- `Ok(n)` is a count of bytes of the output
   pub within : IfOk result (λ n. n ≤ length output)
   -- what succeeds is no failed call
@@ -38,10 +49,7 @@ pub record Pulls (result : Result ℕ StdIoError) (old new : SourceState) (outpu
 
 -- one call of `push` with these bytes
 pub record Pushes (result : Result ℕ StdIoError) (old new : SinkState) (bytes : List ℕ) : Type 0 where
-  -- what tells its bytes goes on doing so
-  pub same_tells : new.tells ≡ old.tells
-  -- no failed call is forgotten
-  pub faults_kept : old.faults.count ≤ new.faults.count
+  pub kept : SinkKept old new
   -- `Ok(n)` is a count of these bytes
   pub within : IfOk result (λ n. n ≤ length bytes)
   -- to take none of some bytes is a failure
@@ -59,12 +67,9 @@ pub record Pushes (result : Result ℕ StdIoError) (old new : SinkState) (bytes 
 
 -- one call of `flush`
 pub record Flushes {T : Type 0} (result : Result T StdIoError) (old new : SinkState) : Type 0 where
-  -- what tells its bytes goes on doing so
-  pub same_tells : new.tells ≡ old.tells
+  pub kept : SinkKept old new
   -- a flush takes no byte
   pub same_taken : new.taken ≡ old.taken
-  -- no failed call is forgotten
-  pub faults_kept : old.faults.count ≤ new.faults.count
   -- what succeeds is no failed call
   pub no_fault : OnOk result (new.faults ≡ old.faults)
   -- what fails is counted, and its error is kept as the last

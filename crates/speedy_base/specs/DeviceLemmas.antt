@@ -1,11 +1,24 @@
--- What holds of failed calls.
-use Rattle.std.specs.Prelude.{◌≡◌, ℕ, ◌-◌, ◌^◌, ◌<◌, ◌≤◌, ◌⊎◌, Bool}
+-- What holds of what calls keep, and of failed calls.
+use Rattle.std.specs.Prelude.{◌≡◌, ℕ, ◌-◌, ◌^◌, ◌<◌, ◌≤◌, ◌⊎◌, Bool, IsTrue, refl}
 use Rattle.std.specs.declared.io.Error.{Error as StdIoError}
-use Rattle.std.proofs.Common.{subst, arith, inl, inr}
+use Rattle.std.proofs.Common.{sym, ◌∙◌, subst, arith, inl, inr}
 use Rattle.std.proofs.lemmas.Bool.{cases_lt}
 use Rattle.speedy_base.specs.declared.error.Error.{Error}
 use Rattle.speedy_base.specs.declared.device.Faults.{Faults}
+use Rattle.speedy_base.specs.Device.{DeviceKept}
 use Rattle.speedy_base.specs.FailedCalls.{one_fault_more, HasGrown, OneFailed, IsErrorOf, IsOfFault}
+
+-- a device that stays as it is
+pub DeviceKept-same : {tells : Bool} {faults : Faults} → DeviceKept tells tells faults faults
+DeviceKept-same = record { tells = refl; faults = omega arith }
+
+-- one call after another keeps what each keeps
+pub DeviceKept-after : {a b c : Bool} {x y z : Faults} → DeviceKept a b x y → DeviceKept b c y z → DeviceKept a c x z
+DeviceKept-after h k = record { tells = k.tells ∙ h.tells; faults = let i = h.faults in let j = k.faults in omega arith }
+
+-- a device that tells its bytes goes on doing so
+pub DeviceKept-told : {a b : Bool} {x y : Faults} → DeviceKept a b x y → IsTrue a → IsTrue b
+DeviceKept-told h told = subst IsTrue (sym h.tells) told
 
 one_more_grew : (a b : ℕ) → b ≡ one_fault_more a → (a < b) ⊎ (2 ^ 64 - 1 ≤ b)
 one_more_grew a b h =

@@ -13,37 +13,11 @@ use Rattle.speedy_read.specs.Buffers.{memory_state}
 
 -- a front was taken
 Kept-drop : (n : ℕ) {lends : Bool} {targets : List GName} {bytes : List ℕ} {encoding : Encoding} → Kept (memory_state lends targets bytes encoding) (memory_state lends targets (drop n bytes) encoding)
-Kept-drop n {bytes = bytes} = record {
-  tells = refl;
-  lends = refl;
-  tidy = λ t. t;
-  buffers = refl;
-  takes_memory = refl;
-  peeks_take_memory = refl;
-  ends_by_device = refl;
-  encoding = refl;
-  tells_faults = refl;
-  faults = omega arith;
-  targets = refl;
-  tail = λ _. (take n bytes, sym (take-append-drop n bytes));
-}
+Kept-drop n {bytes = bytes} = record { fixed = refl; encoding = refl; tidy = λ t. t; faults = omega arith; tail = λ _. (take n bytes, sym (take-append-drop n bytes)) }
 
 -- all bytes were taken
 pub Kept-all : {lends : Bool} {targets : List GName} {bytes : List ℕ} {encoding : Encoding} → Kept (memory_state lends targets bytes encoding) (memory_state lends targets [] encoding)
-Kept-all {bytes = bytes} = record {
-  tells = refl;
-  lends = refl;
-  tidy = λ t. t;
-  buffers = refl;
-  takes_memory = refl;
-  peeks_take_memory = refl;
-  ends_by_device = refl;
-  encoding = refl;
-  tells_faults = refl;
-  faults = omega arith;
-  targets = refl;
-  tail = λ _. (bytes, sym (append-nil bytes));
-}
+Kept-all {bytes = bytes} = record { fixed = refl; encoding = refl; tidy = λ t. t; faults = omega arith; tail = λ _. (bytes, sym (append-nil bytes)) }
 
 -- where no byte is taken, all are left
 none_taken : (n : ℕ) {lends : Bool} {targets : List GName} {bytes : List ℕ} {encoding : Encoding} → n ≤ length bytes → take n bytes ≡ [] → memory_state lends targets (drop n bytes) encoding ≡ memory_state lends targets bytes encoding

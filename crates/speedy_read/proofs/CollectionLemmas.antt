@@ -144,7 +144,7 @@ module _ {T F V S : Type 0} {g : Gatherer T F V} {c : Code (List V) S} {view : F
       let begins = each_begins laws (map g.seen h.items) vs h.ahead.front front (h.ahead.rest ++ more) rest fewer h.ahead.front_is spelled joined in
       h.not_written (is.first_chosen h.items begins.0 s (subst (λ (vs : List V). c.chosen vs s) begins.1 chosen))
 
-  not_written_unspelled : {E : Type 0} {gives : Error → E → Type 0} {eof : E → Bool} {least : ℕ} {e : E} → Laws old.encoding.strict least L → gives (error_of kinds.NotWrittenForm) e → IsTrue old.tells → Unspelled gives eof (coding old.encoding c (vector n L)) e old.to_come
+  not_written_unspelled : {E : Type 0} {gives : Error → E → Type 0} {eof : E → Bool} {least : ℕ} {e : E} → Laws old.encoding.strict least L → gives (error_of kinds.NotWrittenForm) e → IsTrue old.fixed.tells → Unspelled gives eof (coding old.encoding c (vector n L)) e old.to_come
   unfolding coding vector owned_content repeat
   not_written_unspelled laws given tells = record {
     no_front = λ v front rest whole k.

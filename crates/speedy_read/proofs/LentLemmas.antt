@@ -64,7 +64,7 @@ module _ {E : Type 0} {gives : Error → E → Type 0} {eof : E → Bool} {old n
   borrowed_read L {result = Err e} none r = refused_covered (content_covers none) r
 
   -- what is borrowed is refused as `Unsized` where nothing is lent
-  pub not_lent : {V : Type 0} (L : Format V) {A : Type 0} {view : A → V} {e : E} → (IsTrue old.lends → ⊥) → new ≡ old → gives (error_of kinds.Unsized) e → Reads gives eof view (borrowed_content L) (Err e) old new
+  pub not_lent : {V : Type 0} (L : Format V) {A : Type 0} {view : A → V} {e : E} → (IsTrue old.fixed.lends → ⊥) → new ≡ old → gives (error_of kinds.Unsized) e → Reads gives eof view (borrowed_content L) (Err e) old new
   unfolding borrowed_content
   not_lent L nothing same g = record {
     kept = subst (λ (s : ReaderState). Kept old s) (sym same) Kept-same;

@@ -52,7 +52,7 @@ module _ {V : Type 0} {strict : Bool} {least : ℕ} {L : Format V} (laws : Laws 
 
   module _ {E : Type 0} {gives : Error → E → Type 0} {eof : E → Bool} {B : Type 0} {view : B → List V} (n : ℕ) {old : ReaderState} where
     -- fewer bytes are to come than so many items have at least
-    pub refused_early : {e : E} → IsEnd gives eof old.ends_by_device e → (IsTrue old.tells → length old.to_come < 2 ^ 64 - 1 → length old.to_come < n * least) → Reads gives eof view (vector n L) (Err e) old old
+    pub refused_early : {e : E} → IsEnd gives eof old.fixed.ends_by_device e → (IsTrue old.fixed.tells → length old.to_come < 2 ^ 64 - 1 → length old.to_come < n * least) → Reads gives eof view (vector n L) (Err e) old old
     unfolding vector owned_content repeat
     refused_early ended fewer = record { kept = Kept-same; answer = inr (ends_early refl (n * least) (vector_laws laws n).least_size (λ _ fault. fault) ended fewer) }
 
@@ -63,7 +63,7 @@ module _ {V : Type 0} {strict : Bool} {least : ℕ} {L : Format V} (laws : Laws 
         let got = so_far.got in
         record {
           kept = Kept-after so_far.kept r.kept;
-          answer = part_refused new so_far.kept.ends_by_device so_far.kept.takes_memory so_far.kept.tells_faults so_far.got.no_fault (λ _. refl) (λ kind h. h)
+          answer = part_refused new so_far.kept.fixed so_far.got.no_fault (λ _. refl) (λ kind h. h)
               (λ told because.
               let un = because (IsTold-after so_far.kept (λ need. need) told) in
               record {

@@ -1,43 +1,18 @@
 -- Reads of a reader that is held by a `&mut`.
-use Rattle.std.specs.Prelude.{ℕ, List, ◌∷◌, Bool, Option, Some, None, Result, Ok, Err}
+use Rattle.std.specs.Prelude.{ℕ, List, Bool, Option, Some, None, Result, Ok, Err}
 use Rattle.std.specs.Borrow.{GName}
 use Rattle.std.proofs.Common.{ap, inl, inr}
 use Rattle.speedy_base.specs.declared.error.Error.{Error}
 use Rattle.speedy_layout.specs.Format.{Format}
-use Rattle.speedy_read.specs.Reading.{ReaderState, Kept, KeptByPeek, Got, Reads, Peeks, LendsUntilUsed}
-use Rattle.speedy_read.specs.Buffers.{held_state}
+use Rattle.speedy_read.specs.Reading.{ReaderKind, ReaderState, Kept, KeptByPeek, Got, Reads, Peeks, LendsUntilUsed}
+use Rattle.speedy_read.specs.Buffers.{held_kind, held_state}
 
 module _ (name : GName) {old new : ReaderState} where
   held_kept : Kept old new → Kept (held_state name old) (held_state name new)
-  held_kept k = record {
-    tells = k.tells;
-    lends = k.lends;
-    tidy = k.tidy;
-    buffers = k.buffers;
-    takes_memory = k.takes_memory;
-    peeks_take_memory = k.peeks_take_memory;
-    ends_by_device = k.ends_by_device;
-    encoding = k.encoding;
-    tells_faults = k.tells_faults;
-    faults = k.faults;
-    targets = ap (λ (names : List GName). name ∷ names) k.targets;
-    tail = k.tail;
-  }
+  held_kept k = record { fixed = ap (λ (kind : ReaderKind). held_kind name kind) k.fixed; encoding = k.encoding; tidy = k.tidy; faults = k.faults; tail = k.tail }
 
   held_kept_by_peek : KeptByPeek old new → KeptByPeek (held_state name old) (held_state name new)
-  held_kept_by_peek k = record {
-    tells = k.tells;
-    lends = k.lends;
-    buffers = k.buffers;
-    takes_memory = k.takes_memory;
-    peeks_take_memory = k.peeks_take_memory;
-    ends_by_device = k.ends_by_device;
-    encoding = k.encoding;
-    tells_faults = k.tells_faults;
-    faults = k.faults;
-    targets = ap (λ (names : List GName). name ∷ names) k.targets;
-    to_come = k.to_come;
-  }
+  held_kept_by_peek k = record { fixed = ap (λ (kind : ReaderKind). held_kind name kind) k.fixed; encoding = k.encoding; faults = k.faults; to_come = k.to_come }
 
   held_got : {spelled : List ℕ → Type 0} → Got spelled old new → Got spelled (held_state name old) (held_state name new)
   held_got g = record { front = g.front; front_is = g.front_is; taken = g.taken; no_fault = g.no_fault; untouched = λ none. ap (λ (s : ReaderState). held_state name s) (g.untouched none) }

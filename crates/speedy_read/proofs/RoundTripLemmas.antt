@@ -39,7 +39,7 @@ module _ {E A V : Type 0} (gives : Error → E → Type 0) (eof : E → Bool) (s
           refusal (inl m) = m
           refusal (inr r) = absurd (r.because.no_front v bytes rest e (laws.written_spells v bytes written))
 
-    read_back : (result : Result A E) (old new : ReaderState) → IsTrue old.tells → old.to_come ≡ bytes ++ rest → Reads gives eof seen L result old new → ReadsWritten gives eof seen L v rest result old new
+    read_back : (result : Result A E) (old new : ReaderState) → IsTrue old.fixed.tells → old.to_come ≡ bytes ++ rest → Reads gives eof seen L result old new → ReadsWritten gives eof seen L v rest result old new
     read_back (Ok x) old new told e a =
         let k = a.answer in
         let one : (seen x ≡ v) × (k.front ≡ bytes) × (new.to_come ≡ rest) = laws.decodes (seen x) v k.front bytes new.to_come rest k.front_is (laws.written_spells v bytes written) (sym (k.taken told) ∙ e) in
@@ -104,12 +104,12 @@ module _ {E A V : Type 0} (gives : Error → E → Type 0) (eof : E → Bool) (s
     -- and so do those of reads
     pub written_is_read : WrittenIsRead gives eof seen format
     written_is_read =
-        let reads : (encoding : Encoding) (v : V) (bytes rest : List ℕ) (result : Result A E) (old new : ReaderState) → (format encoding).writes v bytes → IsTrue old.tells → old.encoding ≡ encoding → old.to_come ≡ bytes ++ rest → Reads gives eof seen (format old.encoding) result old new → ReadsWritten gives eof seen (format encoding) v rest result old new =
+        let reads : (encoding : Encoding) (v : V) (bytes rest : List ℕ) (result : Result A E) (old new : ReaderState) → (format encoding).writes v bytes → IsTrue old.fixed.tells → old.encoding ≡ encoding → old.to_come ≡ bytes ++ rest → Reads gives eof seen (format old.encoding) result old new → ReadsWritten gives eof seen (format encoding) v rest result old new =
         λ encoding v bytes rest result old new h told f e a. read_back (format encoding) (laws encoding) v bytes rest h result old new told e (subst (λ (f : Encoding). Reads gives eof seen (format f) result old new) f a) in
         record {
           told = λ {encoding} {v} {bytes} {rest} {result} {old} {new} h t f e a. reads encoding v bytes rest result old new h t f e a;
           made = λ {encoding} {at} {after} {v} {bytes} {rest} {buffer} {left} {result} {old} h e s f a.
-              let read = reads encoding v bytes rest result old (bytes_state left after) h (ap (λ x. x.tells) s) (ap (λ x. x.encoding) s ∙ f) (ap (λ x. x.to_come) s ∙ e) a in
+              let read = reads encoding v bytes rest result old (bytes_state left after) h (ap (λ x. x.fixed.tells) s) (ap (λ x. x.encoding) s ∙ f) (ap (λ x. x.to_come) s ∙ e) a in
               first_read (format encoding) (laws encoding) v bytes rest h result old buffer left at after s read;
         }
 

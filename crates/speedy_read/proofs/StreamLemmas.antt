@@ -18,10 +18,10 @@ use Rattle.speedy_base.specs.Encoding.{Encoding}
 use Rattle.speedy_base.specs.Ring.{Ring}
 use Rattle.speedy_layout.specs.Format.{Format}
 use Rattle.speedy_layout.specs.Texts.{raw_bytes}
-use Rattle.speedy_read.specs.Reading.{ReaderState, Kept, KeptByPeek, IsEnd, Unspelled, Refused, Reads, Peeks}
-use Rattle.speedy_read.specs.ReadingLemmas.{KeptByPeek-after, ends_early}
+use Rattle.speedy_read.specs.Reading.{ReaderKind, ReaderState, Kept, KeptByPeek, IsEnd, Unspelled, Refused, Reads, Peeks}
+use Rattle.speedy_read.specs.ReadingLemmas.{tells_still, KeptByPeek-after, ends_early}
 use Rattle.speedy_read.specs.declared.stream_reader.StreamReader.{StreamReader}
-use Rattle.speedy_read.specs.StreamView.{StreamView, stream_view, first_capacity, most_held, is_tidy, ring_state, stream_state}
+use Rattle.speedy_read.specs.StreamView.{StreamView, stream_view, first_capacity, most_held, is_tidy, stream_kind, ring_state, stream_state}
 use Rattle.speedy_read.specs.Streams.{WantsMemory, FillsList, FillsRing, Fills, TookFront, RefusesStream, AnswersStream, AnswersFile}
 
 -- ---- tidiness
@@ -47,7 +47,7 @@ pub device_ended : {E : Type 0} (gives : Error → E → Type 0) (eof : E → Bo
 device_ended gives eof e keeps n = (n, keeps (error_of n.0) e n.2 ∙ ends_eof true n.0 n.1)
 
 -- fewer bytes are to come
-stream_ended : {E : Type 0} {gives : Error → E → Type 0} {eof : E → Bool} {n : ℕ} {e : E} {old new : ReaderState} → new.faults ≡ old.faults → IsEnd gives eof old.ends_by_device e → (IsTrue old.tells → length old.to_come < n) → Refused gives eof (raw_bytes n) e old new
+stream_ended : {E : Type 0} {gives : Error → E → Type 0} {eof : E → Bool} {n : ℕ} {e : E} {old new : ReaderState} → new.faults ≡ old.faults → IsEnd gives eof old.fixed.ends_by_device e → (IsTrue old.fixed.tells → length old.to_come < n) → Refused gives eof (raw_bytes n) e old new
 unfolding raw_bytes
 stream_ended {n = n} clean ended fewer = ends_early clean n (λ v s h. let k = h.1 in omega arith) (λ _ fault. fault) ended (λ told _. fewer told)
 
@@ -55,19 +55,12 @@ stream_ended {n = n} clean ended fewer = ends_early clean n (λ v s h. let k = h
 
 kept_after_peek : {old mid new : ReaderState} → KeptByPeek old mid → (IsTrue old.tidy → IsTrue new.tidy) → Kept mid new → Kept old new
 kept_after_peek h tidy k = record {
-  tells = k.tells ∙ h.tells;
-  lends = k.lends ∙ h.lends;
-  tidy = tidy;
-  buffers = k.buffers ∙ h.buffers;
-  takes_memory = k.takes_memory ∙ h.takes_memory;
-  peeks_take_memory = k.peeks_take_memory ∙ h.peeks_take_memory;
-  ends_by_device = k.ends_by_device ∙ h.ends_by_device;
+  fixed = k.fixed ∙ h.fixed;
   encoding = k.encoding ∙ h.encoding;
-  tells_faults = k.tells_faults ∙ h.tells_faults;
+  tidy = tidy;
   faults = let x = h.faults in let y = k.faults in omega arith;
-  targets = k.targets ∙ h.targets;
   tail = λ told.
-      let second = k.tail (subst IsTrue (sym h.tells) told) in
+      let second = k.tail (tells_still h.fixed told) in
       (second.0, sym (h.to_come told) ∙ second.1);
 }
 
@@ -78,7 +71,7 @@ module _ {E : Type 0} {gives : Error → E → Type 0} {eof : E → Bool} {A V :
     answer = record {
       front = r.answer.front;
       front_is = r.answer.front_is;
-      taken = λ told. sym (h.to_come told) ∙ r.answer.taken (subst IsTrue (sym h.tells) told);
+      taken = λ told. sym (h.to_come told) ∙ r.answer.taken (tells_still h.fixed told);
       no_fault = r.answer.no_fault ∙ clean;
       untouched = λ none. absurd (some none);
     };
@@ -98,17 +91,10 @@ module _ {E : Type 0} {gives : Error → E → Type 0} {eof : E → Bool} {A : T
       let whole = front_and_rest n ring.bytes source.to_come in
       record {
         kept = record {
-          tells = refl;
-          lends = refl;
-          tidy = λ t. let p = tidy_parts ring b t in tidy_whole rest b p.0 (let m = p.1 in omega (arith, length-drop n ring.bytes));
-          buffers = refl;
-          takes_memory = refl;
-          peeks_take_memory = refl;
-          ends_by_device = refl;
+          fixed = refl;
           encoding = refl;
-          tells_faults = refl;
+          tidy = λ t. let p = tidy_parts ring b t in tidy_whole rest b p.0 (let m = p.1 in omega (arith, length-drop n ring.bytes));
           faults = omega arith;
-          targets = refl;
           tail = λ _. (take n ring.bytes, whole);
         };
         answer = record {
@@ -132,7 +118,7 @@ module _ {E : Type 0} {gives : Error → E → Type 0} {eof : E → Bool} {A : T
   -- the source ended before the ring held enough
   pub fill_ended : {enough : Bool} {e : E} → enough ≡ false → FillsRing n b (Ok enough) held keeps old new → IsEnd gives eof true e → Fills gives eof {A = A} n (Err e) held keeps (ring_state name old held b encoding) (ring_state name new keeps b encoding)
   fill_ended less f ended = record {
-    kept = record { tells = f.tells; lends = refl; buffers = refl; takes_memory = refl; peeks_take_memory = refl; ends_by_device = refl; encoding = refl; tells_faults = refl; faults = f.faults; targets = refl; to_come = f.moved };
+    kept = record { fixed = ap (λ (tells : Bool). stream_kind name tells b) f.kept.tells; encoding = refl; faults = f.kept.faults; to_come = f.moved };
     capacity = f.capacity;
     untouched = λ enough. absurd (let short = f.short less in let same = (f.untouched enough).1 in omega (arith, ap (λ (r : Ring). length r.bytes) same));
     exact = f.exact;
@@ -154,7 +140,7 @@ module _ {E : Type 0} {gives : Error → E → Type 0} {eof : E → Bool} {A B :
       let served = ring_served new keeps f.enough.0 same is in
       read_after_peek f.kept f.no_fault
       (λ t.
-      let first : keeps.capacity ≡ first_capacity c = f.capacity ∙ ((tidy_parts held b t).0 ∙ ap (λ (b : Bool). first_capacity b) (sym f.kept.buffers)) in
+      let first : keeps.capacity ≡ first_capacity c = f.capacity ∙ ((tidy_parts held b t).0 ∙ ap (λ (kind : ReaderKind). first_capacity kind.buffers) (sym f.kept.fixed)) in
       let most : length keeps.bytes ≤ keeps.capacity = f.enough.1 in
       let size : length rest.bytes ≡ length keeps.bytes - n = ap (λ (r : Ring). length r.bytes) is ∙ length-drop n keeps.bytes in
       tidy_whole rest c (ap (λ (r : Ring). r.capacity) is ∙ first) (omega (arith, first, size)))
@@ -164,19 +150,7 @@ module _ {E : Type 0} {gives : Error → E → Type 0} {eof : E → Bool} {A B :
 
 -- a ring with other room has the same bytes
 same_bytes : (source : SourceState) (ring held : Ring) {name : GName} {b : Bool} {encoding : Encoding} → held.bytes ≡ ring.bytes → KeptByPeek (ring_state name source ring b encoding) (ring_state name source held b encoding)
-same_bytes source ring held same = record {
-  tells = refl;
-  lends = refl;
-  buffers = refl;
-  takes_memory = refl;
-  peeks_take_memory = refl;
-  ends_by_device = refl;
-  encoding = refl;
-  tells_faults = refl;
-  faults = omega arith;
-  targets = refl;
-  to_come = λ _. ap (λ (l : List ℕ). l ++ source.to_come) same;
-}
+same_bytes source ring held same = record { fixed = refl; encoding = refl; faults = omega arith; to_come = λ _. ap (λ (l : List ℕ). l ++ source.to_come) same }
 
 module _ {E : Type 0} {gives : Error → E → Type 0} {eof : E → Bool} {A B : Type 0} {seen : A → List ℕ} {n : ℕ} {held keeps : Ring} {name after : GName} {b c : Bool} {encoding encoding' : Encoding} (old new : SourceState) (ring : Ring) (same : held.bytes ≡ ring.bytes) where
   -- a peek of a ring that was filled
@@ -218,17 +192,10 @@ module _ {E : Type 0} {gives : Error → E → Type 0} {eof : E → Bool} {A B :
 module _ {filled : List ℕ} (held rest : Ring) {name : GName} {b : Bool} {encoding : Encoding} {old new : SourceState} (same_capacity : rest.capacity ≡ held.capacity) (emptied : rest.bytes ≡ []) where
   past_kept : {result : Result Bool StdIoError} → FillsList filled result old new → Kept (ring_state name old held b encoding) (ring_state name new rest b encoding)
   past_kept f = record {
-    tells = f.tells;
-    lends = refl;
-    tidy = λ t. tidy_whole rest b (same_capacity ∙ (tidy_parts held b t).0) (omega (arith, ap length emptied));
-    buffers = refl;
-    takes_memory = refl;
-    peeks_take_memory = refl;
-    ends_by_device = refl;
+    fixed = ap (λ (tells : Bool). stream_kind name tells b) f.kept.tells;
     encoding = refl;
-    tells_faults = refl;
-    faults = f.faults;
-    targets = refl;
+    tidy = λ t. tidy_whole rest b (same_capacity ∙ (tidy_parts held b t).0) (omega (arith, ap length emptied));
+    faults = f.kept.faults;
     tail = λ told.
         let t = f.tail told in
         (held.bytes ++ t.0, ap (λ (l : List ℕ). held.bytes ++ l) t.1 ∙ (sym (append_assoc held.bytes t.0 new.to_come) ∙ ap (λ (l : List ℕ). (held.bytes ++ t.0) ++ (l ++ new.to_come)) (sym emptied)));
@@ -275,12 +242,12 @@ module _ {E : Type 0} (gives : Error → E → Type 0) (eof : E → Bool) {A V :
         front = r.answer.front;
         ahead = left.bytes;
         front_is = r.answer.front_is;
-        at_most = subst (λ (b : Bool). length left.bytes ≤ most_held b) r.kept.buffers tidy.1;
+        at_most = subst (λ (kind : ReaderKind). length left.bytes ≤ most_held kind.buffers) r.kept.fixed tidy.1;
         taken = λ told. ap (λ (l : List ℕ). l ++ old.to_come) (sym empty) ∙ r.answer.taken told;
         no_fault = r.answer.no_fault;
         untouched = λ none nothing_ahead.
             let same = r.answer.untouched none in
-            source_same new old (ap (λ (s : ReaderState). s.tells) same)
+            source_same new old (ap (λ (s : ReaderState). s.fixed.tells) same)
             (ap (λ (l : List ℕ). l ++ new.to_come) (sym nothing_ahead) ∙ (ap (λ (s : ReaderState). s.to_come) same ∙ ap (λ (l : List ℕ). l ++ old.to_come) empty))
             r.answer.no_fault;
       }
@@ -309,8 +276,7 @@ module _ {E : Type 0} (gives : Error → E → Type 0) (eof : E → Bool) {A V :
   -- what a new reader of a source answers, and leaves of it
   reader_answered : (result : Result A E) → Reads gives eof seen L result (ring_state name old ring b encoding) (ring_state after new left c encoding') → AnswersStream gives eof seen L b result old new
   reader_answered result r = record {
-    tells = r.kept.tells;
-    faults = r.kept.faults;
+    kept = record { tells = ap (λ (kind : ReaderKind). kind.tells) r.kept.fixed; faults = r.kept.faults };
     tail = λ told.
         let t = r.kept.tail told in
         (t.0 ++ left.bytes, ap (λ (l : List ℕ). l ++ old.to_come) (sym empty) ∙ (t.1 ∙ sym (append_assoc t.0 left.bytes new.to_come)));

@@ -12,8 +12,8 @@ use Rattle.speedy_layout.specs.Sequences.{sequence}
 use Rattle.speedy_layout.specs.Numbers.{unsigned_number}
 use Rattle.speedy_layout.specs.Texts.{raw_bytes}
 use Rattle.speedy_layout.specs.Varint.{varint, IsFirstByte, StartsVarint, StartsVarint-same, varint-starts, IsFewest, VarintParts, varint_code, first_byte, first_byte_code, low_first, prefixed_digits, prefixed_suffices, first_byte_laws, prefixed_digits_laws, varint_is_code, varint-chosen, prefixed-is, prefixed-spelled}
-use Rattle.speedy_read.specs.Reading.{ReaderState, IsTold, Unspelled, Reads, Peeks}
-use Rattle.speedy_read.specs.ReadingLemmas.{KeptByPeek-after, part_refused}
+use Rattle.speedy_read.specs.Reading.{ReaderKind, ReaderState, IsTold, Unspelled, Reads, Peeks}
+use Rattle.speedy_read.specs.ReadingLemmas.{tells_still, KeptByPeek-after, part_refused}
 use Rattle.speedy_read.specs.Sequences.{Composes, sequence_composes, refused_first, refused_second, got_both, peek_refused_first}
 use Rattle.speedy_read.specs.Codes.{got_covered, code_refused, code_read, code_not_written, exact_code_read, refused_covered, unaccepted, peek_refused_covered, codes_cover}
 use Rattle.speedy_base.specs.Error.{error_of}
@@ -139,15 +139,15 @@ module _ {E : Type 0} {gives : Error → E → Type 0} {eof : E → Bool} (encod
   }
 
   -- what is to come begins with the byte that was peeked
-  first_to_come : {old mid : ReaderState} (one : Peeks gives eof (λ n. n) (unsigned_number 1 encoding) (Ok first) old mid) → IsTrue old.tells → old.to_come ≡ first ∷ one.answer.rest
+  first_to_come : {old mid : ReaderState} (one : Peeks gives eof (λ n. n) (unsigned_number 1 encoding) (Ok first) old mid) → IsTrue old.fixed.tells → old.to_come ≡ first ∷ one.answer.rest
   unfolding unsigned_number
   first_to_come one told = one.answer.stands told ∙ ap (λ x. x ++ one.answer.rest) (SpellsNumber-is_one_byte encoding.order first one.answer.front one.answer.front_is)
 
   -- what is to come is a first byte, those after it and the rest
-  whole_to_come : {A : Type 0} {seen : A → List ℕ} (count : ℕ) {old mid new : ReaderState} {x : A} (more : ℕ) (one : Peeks gives eof (λ n. n) (unsigned_number 1 encoding) (Ok first) old mid) → count ≡ more + 1 → (r : Peeks gives eof seen (raw_bytes count) (Ok x) mid new) → IsTrue old.tells → old.to_come ≡ (first ∷ take (length (seen x) - 1) (drop 1 (seen x))) ++ r.answer.rest
+  whole_to_come : {A : Type 0} {seen : A → List ℕ} (count : ℕ) {old mid new : ReaderState} {x : A} (more : ℕ) (one : Peeks gives eof (λ n. n) (unsigned_number 1 encoding) (Ok first) old mid) → count ≡ more + 1 → (r : Peeks gives eof seen (raw_bytes count) (Ok x) mid new) → IsTrue old.fixed.tells → old.to_come ≡ (first ∷ take (length (seen x) - 1) (drop 1 (seen x))) ++ r.answer.rest
   unfolding raw_bytes
   whole_to_come {seen = seen} count {old = old} {x = x} more one sized r told =
-      let all = r.answer.stands (subst IsTrue (sym one.kept.tells) told) in
+      let all = r.answer.stands (tells_still one.kept.fixed told) in
       let bytes = sym r.answer.front_is.0 in
       let whole : old.to_come ≡ seen x ++ r.answer.rest = sym (one.kept.to_come told) ∙ (all ∙ ap (λ x. x ++ r.answer.rest) bytes) in
       whole ∙ begins (seen x) r.answer.rest one.answer.rest first (let l = r.answer.front_is.1 in let m = ap length bytes in omega arith) (sym whole ∙ first_to_come one told)
@@ -160,12 +160,12 @@ module _ {E : Type 0} {gives : Error → E → Type 0} {eof : E → Bool} (encod
       kept = KeptByPeek-after one.kept r.kept;
       answer =
           elim r.answer [
-            | inl h ↦ inl (h.0, subst IsTrue one.kept.peeks_take_memory h.1, h.2 ∙ one.answer.no_fault)
-            | inr h ↦ inr (part_refused new one.kept.ends_by_device one.kept.takes_memory one.kept.tells_faults one.answer.no_fault (λ t. t) (λ kind h. absurd h)
+            | inl h ↦ inl (h.0, subst (λ (kind : ReaderKind). IsTrue kind.peeks_take_memory) one.kept.fixed h.1, h.2 ∙ one.answer.no_fault)
+            | inr h ↦ inr (part_refused new one.kept.fixed one.answer.no_fault (λ t. t) (λ kind h. absurd h)
                 (λ told because.
                 let same = one.kept.to_come told.tells in
                 let there : IsTold (raw_bytes count) mid = record {
-                  tells = subst IsTrue (sym one.kept.tells) told.tells;
+                  tells = tells_still one.kept.fixed told.tells;
                   are_bytes = subst AreBytes (sym same) told.are_bytes;
                   fit = let l = ap length same in let f = told.fit in omega arith;
                   lends = λ t. absurd (cc);

@@ -46,7 +46,7 @@ module _ {V : Type 0} (size : ℕ) (F : Format V) (one : (v : V) (bytes : List �
 
   -- no input has more bytes than can be counted
   module _ {E : Type 0} {gives : Error → E → Type 0} {eof : E → Bool} {old new : ReaderState} {X Y : Type 0} {shows : X → List ℕ} {view : Y → List V} (many : 2 ^ 64 ≤ n * size) where
-    pub more_than_all : (k : ℕ) {x : X} {e : E} → IsEnd gives eof old.ends_by_device e → Reads gives eof shows (raw_bytes k) (Ok x) old new → Reads gives eof view (borrowed_content (vector n F)) (Err e) old new
+    pub more_than_all : (k : ℕ) {x : X} {e : E} → IsEnd gives eof old.fixed.ends_by_device e → Reads gives eof shows (raw_bytes k) (Ok x) old new → Reads gives eof view (borrowed_content (vector n F)) (Err e) old new
     unfolding borrowed_content vector owned_content repeat
     more_than_all k ended r = record {
       kept = r.kept;
@@ -58,7 +58,7 @@ module _ {V : Type 0} (size : ℕ) (F : Format V) (one : (v : V) (bytes : List �
     unfolding raw_bytes borrowed_content vector owned_content repeat
     all_refused r = record {
       kept = r.kept;
-      answer = part_refused new refl refl refl refl (λ t. absurd (cc)) (λ kind h. absurd h)
+      answer = part_refused new refl refl (λ t. absurd (cc)) (λ kind h. absurd h)
           (λ told because.
           let un = because (record { tells = told.tells; are_bytes = told.are_bytes; fit = told.fit; lends = λ t. absurd (cc) }) in
           let missing = replicate (2 ^ 64 - 1 - length old.to_come) 0 in

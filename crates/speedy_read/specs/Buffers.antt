@@ -3,23 +3,30 @@ use Rattle.std.specs.Prelude.{ℕ, List, [], ◌∷◌, Bool, true, false}
 use Rattle.std.specs.Borrow.{GName}
 use Rattle.speedy_base.specs.Devices.{no_faults}
 use Rattle.speedy_base.specs.Encoding.{Encoding}
-use Rattle.speedy_read.specs.Reading.{ReaderState}
+use Rattle.speedy_read.specs.Reading.{ReaderKind, ReaderState}
 
--- a reader of bytes that lie in memory, which lends parts of them or does not: it never fails, asks for no memory, and ends as `UnexpectedEndOfInput` alone
-abbrev pub memory_state : Bool → List GName → List ℕ → Encoding → ReaderState
-memory_state lends targets bytes encoding = record {
-  to_come = bytes;
+-- a reader of bytes that lie in memory, which lends parts of them or does not: it asks for no memory, and
+-- ends as `UnexpectedEndOfInput` alone
+abbrev pub memory_kind : Bool → List GName → ReaderKind
+memory_kind lends targets = record {
   tells = true;
   lends = lends;
-  tidy = true;
   buffers = false;
   takes_memory = false;
   peeks_take_memory = false;
   ends_by_device = false;
-  encoding = encoding;
-  faults = no_faults;
   tells_faults = true;
   targets = targets;
+}
+
+-- it never fails
+abbrev pub memory_state : Bool → List GName → List ℕ → Encoding → ReaderState
+memory_state lends targets bytes encoding = record {
+  fixed = memory_kind lends targets;
+  to_come = bytes;
+  tidy = true;
+  encoding = encoding;
+  faults = no_faults;
 }
 
 -- one that lends, or from which nothing is borrowed
@@ -31,5 +38,8 @@ abbrev pub copied_state : GName → List ℕ → Encoding → ReaderState
 copied_state context = memory_state false (context ∷ [])
 
 -- a reader that is held by a `&mut`
+abbrev pub held_kind : GName → ReaderKind → ReaderKind
+held_kind name kind = record kind { targets = name ∷ kind.targets }
+
 abbrev pub held_state : GName → ReaderState → ReaderState
-held_state name s = record s { targets = name ∷ s.targets }
+held_state name s = record s { fixed = held_kind name s.fixed }

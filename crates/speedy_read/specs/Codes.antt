@@ -40,12 +40,12 @@ module _ {U V : Type 0} {L : Format U} {N : Format V} (c : Covers L N) {E : Type
   module _ {A B : Type 0} {seen : A → U} {view : B → V} {old new : ReaderState} where
     -- where L is refused, N is
     pub refused_covered : {e : E} → Reads gives eof seen L (Err e) old new → Reads gives eof view N (Err e) old new
-    refused_covered r = record { kept = r.kept; answer = part_refused new refl refl refl refl c.takes c.names unspelled_covered r.answer }
+    refused_covered r = record { kept = r.kept; answer = part_refused new refl refl c.takes c.names unspelled_covered r.answer }
 
     pub peek_refused_covered : {e : E} → Peeks gives eof seen L (Err e) old new → Peeks gives eof view N (Err e) old new
     peek_refused_covered r = record {
       kept = r.kept;
-      answer = elim r.answer [ inl h ↦ inl h | inr h ↦ inr (part_refused new refl refl refl refl c.takes c.names unspelled_covered h) ];
+      answer = elim r.answer [ inl h ↦ inl h | inr h ↦ inr (part_refused new refl refl c.takes c.names unspelled_covered h) ];
     }
 
 -- what is read under L stands under N, if its spellings do

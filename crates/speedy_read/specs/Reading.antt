@@ -14,66 +14,59 @@ use Rattle.speedy_layout.specs.Format.{Format}
 use Rattle.speedy_layout.specs.Numbers.{unsigned_number, signed_number}
 use Rattle.speedy_layout.specs.Texts.{raw_bytes}
 
--- A reader, as reads see it.
-pub record ReaderState : Type 0 where
-  -- the bytes still to come, where the device tells them
-  pub to_come : List ℕ
+-- What the kind of a reader fixes.
+pub record ReaderKind : Type 0 where
+  -- its device tells the bytes still to come
   pub tells : Bool
   -- it lends parts of its bytes
   pub lends : Bool
-  -- it holds no more of a source's bytes than its way of reading allows
-  pub tidy : Bool
   -- it reads ahead of what is asked
   pub buffers : Bool
   -- its reads may ask for memory
   pub takes_memory : Bool
   -- its peeks may ask for memory
   pub peeks_take_memory : Bool
-  -- an end of its bytes may be answered as the device's own, an `IoError`, and not only as `UnexpectedEndOfInput`
+  -- an end of its bytes may be answered as the device's own, an `IoError`, and not only as
+  -- `UnexpectedEndOfInput`
   pub ends_by_device : Bool
-  -- what its context asks of the bytes
-  pub encoding : Encoding
-  -- its device's failed calls, and whether a refusal that one of them caused says what it answered
-  pub faults : Faults
+  -- a refusal that a failed call of its device caused says what that call answered
   pub tells_faults : Bool
   -- the `&mut`s that it holds
   pub targets : List GName
 
+-- A reader, as reads see it.
+pub record ReaderState : Type 0 where
+  pub fixed : ReaderKind
+  -- the bytes still to come, where the device tells them
+  pub to_come : List ℕ
+  -- it holds no more of a source's bytes than its way of reading allows
+  pub tidy : Bool
+  -- what its context asks of the bytes
+  pub encoding : Encoding
+  -- its device's failed calls
+  pub faults : Faults
+
 -- what every read keeps, a refused one too
 pub record Kept (old new : ReaderState) : Type 0 where
-  pub tells : new.tells ≡ old.tells
-  pub lends : new.lends ≡ old.lends
-  pub tidy : IsTrue old.tidy → IsTrue new.tidy
-  pub buffers : new.buffers ≡ old.buffers
-  pub takes_memory : new.takes_memory ≡ old.takes_memory
-  pub peeks_take_memory : new.peeks_take_memory ≡ old.peeks_take_memory
-  pub ends_by_device : new.ends_by_device ≡ old.ends_by_device
+  pub fixed : new.fixed ≡ old.fixed
   pub encoding : new.encoding ≡ old.encoding
-  pub tells_faults : new.tells_faults ≡ old.tells_faults
+  pub tidy : IsTrue old.tidy → IsTrue new.tidy
   pub faults : old.faults.count ≤ new.faults.count
-  pub targets : new.targets ≡ old.targets
   -- what is to come is a tail of what was to come
-  pub tail : IsTrue old.tells → (front : List ℕ) × (old.to_come ≡ front ++ new.to_come)
+  pub tail : IsTrue old.fixed.tells → (front : List ℕ) × (old.to_come ≡ front ++ new.to_come)
 
 -- what every peek keeps: the bytes to come too, but not that the reader is tidy
 pub record KeptByPeek (old new : ReaderState) : Type 0 where
-  pub tells : new.tells ≡ old.tells
-  pub lends : new.lends ≡ old.lends
-  pub buffers : new.buffers ≡ old.buffers
-  pub takes_memory : new.takes_memory ≡ old.takes_memory
-  pub peeks_take_memory : new.peeks_take_memory ≡ old.peeks_take_memory
-  pub ends_by_device : new.ends_by_device ≡ old.ends_by_device
+  pub fixed : new.fixed ≡ old.fixed
   pub encoding : new.encoding ≡ old.encoding
-  pub tells_faults : new.tells_faults ≡ old.tells_faults
   pub faults : old.faults.count ≤ new.faults.count
-  pub targets : new.targets ≡ old.targets
-  pub to_come : IsTrue old.tells → new.to_come ≡ old.to_come
+  pub to_come : IsTrue old.fixed.tells → new.to_come ≡ old.to_come
 
 -- a front of the bytes to come that is spelled so, and just it was taken, by calls of the device that did not fail
 pub record Got (spelled : List ℕ → Type 0) (old new : ReaderState) : Type 0 where
   pub front : List ℕ
   pub front_is : spelled front
-  pub taken : IsTrue old.tells → old.to_come ≡ front ++ new.to_come
+  pub taken : IsTrue old.fixed.tells → old.to_come ≡ front ++ new.to_come
   pub no_fault : new.faults ≡ old.faults
   -- to take no byte is to do nothing
   pub untouched : front ≡ [] → new ≡ old
@@ -83,15 +76,15 @@ pub record Ahead (spelled : List ℕ → Type 0) (old new : ReaderState) : Type 
   pub front : List ℕ
   pub rest : List ℕ
   pub front_is : spelled front
-  pub stands : IsTrue old.tells → old.to_come ≡ front ++ rest
+  pub stands : IsTrue old.fixed.tells → old.to_come ≡ front ++ rest
   pub no_fault : new.faults ≡ old.faults
 
 -- the bytes are told, fewer than `usize::MAX` of them, and lent where the type needs it
 pub record IsTold {V : Type 0} (L : Format V) (old : ReaderState) : Type 0 where
-  pub tells : IsTrue old.tells
+  pub tells : IsTrue old.fixed.tells
   pub are_bytes : AreBytes old.to_come
   pub fit : length old.to_come < 2 ^ 64 - 1
-  pub lends : IsTrue L.needs_lending → IsTrue old.lends
+  pub lends : IsTrue L.needs_lending → IsTrue old.fixed.lends
 
 -- so many bytes at the front are spelled so
 pub record Counts (spelled : List ℕ → Type 0) (count : ℕ) (bytes : List ℕ) : Type 0 where
@@ -103,11 +96,16 @@ pub record Counts (spelled : List ℕ → Type 0) (count : ℕ) (bytes : List �
 
 -- want of memory, where memory may be asked for and no call of the device failed, or a failed call of the device
 abbrev pub Excused : {E : Type 0} → (Error → E → Type 0) → Bool → E → ReaderState → ReaderState → Type 0
-Excused gives takes e old new = (gives (error_of kinds.OutOfMemory) e × (IsTrue takes ⊎ IsTrue old.takes_memory) × (new.faults ≡ old.faults)) ⊎ IsOfFault gives old.tells_faults e old.faults new.faults
+Excused gives takes e old new =
+    (gives (error_of kinds.OutOfMemory) e
+    × (IsTrue takes ⊎ IsTrue old.fixed.takes_memory)
+    × (new.faults ≡ old.faults))
+    ⊎ IsOfFault gives old.fixed.tells_faults e old.faults new.faults
 
 -- want of memory, where a peek may ask for it and no call of the device failed
 abbrev pub PeekWants : {E : Type 0} → (Error → E → Type 0) → E → ReaderState → ReaderState → Type 0
-PeekWants gives e old new = gives (error_of kinds.OutOfMemory) e × IsTrue old.peeks_take_memory × (new.faults ≡ old.faults)
+PeekWants gives e old new =
+    gives (error_of kinds.OutOfMemory) e × IsTrue old.fixed.peeks_take_memory × (new.faults ≡ old.faults)
 
 -- no value shows a byte
 abbrev pub ShowsNothing : {A : Type 0} → (A → List ℕ) → Type 0
@@ -127,7 +125,7 @@ module _ {E : Type 0} (gives : Error → E → Type 0) (eof : E → Bool) where
   -- a clean refusal
   pub record Refused {V : Type 0} (L : Format V) (e : E) (old new : ReaderState) : Type 0 where
     pub no_fault : new.faults ≡ old.faults
-    pub kind : IsEnd old.ends_by_device e ⊎ IsNamed gives L.names e
+    pub kind : IsEnd old.fixed.ends_by_device e ⊎ IsNamed gives L.names e
     pub because : IsTold L old → Unspelled L e old.to_come
 
   -- bytes that spell no value at their front are refused: as `UnexpectedEndOfInput` where they may begin a spelling, and else so or with a kind that the type names
@@ -154,11 +152,17 @@ module _ {E : Type 0} (gives : Error → E → Type 0) (eof : E → Bool) where
 
   -- What a read answers that lends its bytes. Where the reader lends, it answers, refuses and takes as a read of so many bytes does, and what is lent shows the bytes that were taken. A reader that lends nothing answers nothing and takes nothing; so does one whose loans show nothing.
   abbrev pub LendsBytes : {A : Type 0} → (A → List ℕ) → ℕ → Option (Result A E) → ReaderState → ReaderState → Type 0
-  LendsBytes shows n lent old new = MatchOption lent ((IsTrue old.lends → ShowsNothing shows) × (new ≡ old)) (λ result. IsTrue old.lends × Reads shows (raw_bytes n) result old new)
+  LendsBytes shows n lent old new =
+      MatchOption lent
+      ((IsTrue old.fixed.lends → ShowsNothing shows) × (new ≡ old))
+      (λ result. IsTrue old.fixed.lends × Reads shows (raw_bytes n) result old new)
 
   -- A read of a value that is borrowed, from a reader that lends nothing: where the bytes are there that are read before it, it is refused as `Unsized`.
   abbrev pub RefusesUnsized : {A U : Type 0} → Format U → Result A E → ReaderState → ReaderState → Type 0
-  RefusesUnsized {U = U} before result old new = old.lends ≡ false → IsTold before old → (u : U) (front rest : List ℕ) → before.spells u front → old.to_come ≡ front ++ rest → IsErrAnd result (λ e. Excused gives before.takes_memory e old new ⊎ gives (error_of kinds.Unsized) e)
+  RefusesUnsized {U = U} before result old new =
+      old.fixed.lends ≡ false → IsTold before old
+      → (u : U) (front rest : List ℕ) → before.spells u front → old.to_come ≡ front ++ rest
+      → IsErrAnd result (λ e. Excused gives before.takes_memory e old new ⊎ gives (error_of kinds.Unsized) e)
 
   -- What a function that reads from a buffer answers: a buffer that is shorter than the least size is refused with both sizes; else a value is answered exactly when a front of the bytes spells it, and the count is the length of that front.
   pub record AnswersBuffer {A V : Type 0} (seen : A → V) (least : ℕ) (L : Format V) (result : Result A E) (count : ℕ) (bytes : List ℕ) : Type 0 where
@@ -179,11 +183,14 @@ module _ {E : Type 0} (gives : Error → E → Type 0) (eof : E → Bool) where
 
 -- what a reader says of the number of bytes to come is right
 abbrev pub IsRight : Option Bool → ReaderState → ℕ → Type 0
-IsRight answer old n = (b : Bool) → answer ≡ Some b → IsTrue old.tells → IsTrue b ↔ (n ≤ length old.to_come)
+IsRight answer old n =
+    (b : Bool) → answer ≡ Some b → IsTrue old.fixed.tells → IsTrue b ↔ (n ≤ length old.to_come)
 
 -- what is lent shows all bytes to come, and all are taken; or nothing is lent, and none is taken
 abbrev pub LendsAll : {A : Type 0} → (A → List ℕ) → Option A → ReaderState → ReaderState → Type 0
-LendsAll shows lent old new = Kept old new × MatchOption lent (new ≡ old) (λ x. IsTrue old.tells → (shows x ≡ old.to_come) × (new.to_come ≡ []))
+LendsAll shows lent old new =
+    Kept old new
+    × MatchOption lent (new ≡ old) (λ x. IsTrue old.fixed.tells → (shows x ≡ old.to_come) × (new.to_come ≡ []))
 
 -- an error of one value, which stands for the end of the bytes
 abbrev pub ends_alone : {E : Type 0} → Error → E → Type 0

@@ -11,73 +11,50 @@ use Rattle.speedy_base.specs.DigitsLemmas.{AreBytes-append_parts}
 use Rattle.speedy_base.specs.DeviceLemmas.{fault_after}
 use Rattle.speedy_base.specs.FailedCalls.{IsOfFault}
 use Rattle.speedy_layout.specs.Format.{Format}
-use Rattle.speedy_read.specs.Reading.{ReaderState, Kept, KeptByPeek, Got, Ahead, IsTold, Excused, IsEnd, Unspelled, Refused, Reads}
+use Rattle.speedy_read.specs.Reading.{ReaderKind, ReaderState, Kept, KeptByPeek, Got, Ahead, IsTold, Excused, IsEnd, Unspelled, Refused, Reads}
 
 -- ---- states
 
+-- a reader that tells its bytes goes on doing so
+pub tells_still : {before after : ReaderKind} → after ≡ before → IsTrue before.tells → IsTrue after.tells
+tells_still same told = subst (λ (kind : ReaderKind). IsTrue kind.tells) (sym same) told
+
 -- a reader that stays as it is
 pub Kept-same : {a : ReaderState} → Kept a a
-Kept-same = record {
-  tells = refl;
-  lends = refl;
-  tidy = λ t. t;
-  buffers = refl;
-  takes_memory = refl;
-  peeks_take_memory = refl;
-  ends_by_device = refl;
-  encoding = refl;
-  tells_faults = refl;
-  faults = omega arith;
-  targets = refl;
-  tail = λ _. ([], refl);
-}
+Kept-same = record { fixed = refl; encoding = refl; tidy = λ t. t; faults = omega arith; tail = λ _. ([], refl) }
 
 -- one read after another keeps what each keeps
 pub Kept-after : {a b c : ReaderState} → Kept a b → Kept b c → Kept a c
 Kept-after {c = c} h k = record {
-  tells = k.tells ∙ h.tells;
-  lends = k.lends ∙ h.lends;
-  tidy = λ t. k.tidy (h.tidy t);
-  buffers = k.buffers ∙ h.buffers;
-  takes_memory = k.takes_memory ∙ h.takes_memory;
-  peeks_take_memory = k.peeks_take_memory ∙ h.peeks_take_memory;
-  ends_by_device = k.ends_by_device ∙ h.ends_by_device;
+  fixed = k.fixed ∙ h.fixed;
   encoding = k.encoding ∙ h.encoding;
-  tells_faults = k.tells_faults ∙ h.tells_faults;
+  tidy = λ t. k.tidy (h.tidy t);
   faults = let x = h.faults in let y = k.faults in omega arith;
-  targets = k.targets ∙ h.targets;
   tail = λ told.
       let first = h.tail told in
-      let second = k.tail (subst IsTrue (sym h.tells) told) in
+      let second = k.tail (tells_still h.fixed told) in
       (first.0 ++ second.0, first.1 ∙ (ap (λ x. first.0 ++ x) second.1 ∙ sym (append_assoc first.0 second.0 c.to_come)));
 }
 
 -- the same of peeks
 pub KeptByPeek-same : {a : ReaderState} → KeptByPeek a a
-KeptByPeek-same = record { tells = refl; lends = refl; buffers = refl; takes_memory = refl; peeks_take_memory = refl; ends_by_device = refl; encoding = refl; tells_faults = refl; faults = omega arith; targets = refl; to_come = λ _. refl }
+KeptByPeek-same = record { fixed = refl; encoding = refl; faults = omega arith; to_come = λ _. refl }
 
 pub KeptByPeek-after : {a b c : ReaderState} → KeptByPeek a b → KeptByPeek b c → KeptByPeek a c
 KeptByPeek-after h k = record {
-  tells = k.tells ∙ h.tells;
-  lends = k.lends ∙ h.lends;
-  buffers = k.buffers ∙ h.buffers;
-  takes_memory = k.takes_memory ∙ h.takes_memory;
-  peeks_take_memory = k.peeks_take_memory ∙ h.peeks_take_memory;
-  ends_by_device = k.ends_by_device ∙ h.ends_by_device;
+  fixed = k.fixed ∙ h.fixed;
   encoding = k.encoding ∙ h.encoding;
-  tells_faults = k.tells_faults ∙ h.tells_faults;
   faults = let x = h.faults in let y = k.faults in omega arith;
-  targets = k.targets ∙ h.targets;
-  to_come = λ told. k.to_come (subst IsTrue (sym h.tells) told) ∙ h.to_come told;
+  to_come = λ told. k.to_come (tells_still h.fixed told) ∙ h.to_come told;
 }
 
 -- bytes that are told to a whole are told to its part, also after a read
 pub IsTold-after : {U V : Type 0} {N : Format V} {M : Format U} {old mid : ReaderState} → Kept old mid → (IsTrue M.needs_lending → IsTrue N.needs_lending) → IsTold N old → IsTold M mid
 IsTold-after {mid = mid} k needs told = record {
-  tells = subst IsTrue (sym k.tells) told.tells;
+  tells = tells_still k.fixed told.tells;
   are_bytes = let t = k.tail told.tells in (AreBytes-append_parts t.0 mid.to_come (subst AreBytes t.1 told.are_bytes)).1;
   fit = let t = k.tail told.tells in let l = ap length t.1 ∙ length-append t.0 mid.to_come in let f = told.fit in omega arith;
-  lends = λ need. subst IsTrue (sym k.lends) (told.lends (needs need));
+  lends = λ need. subst (λ (kind : ReaderKind). IsTrue kind.lends) (sym k.fixed) (told.lends (needs need));
 }
 
 pub IsTold-part : {U V : Type 0} {N : Format V} {M : Format U} {old : ReaderState} → (IsTrue M.needs_lending → IsTrue N.needs_lending) → IsTold N old → IsTold M old
@@ -102,26 +79,26 @@ pub input_ended : {E : Type 0} (gives : Error → E → Type 0) (eof : E → Boo
 input_ended gives eof by_device e g h = ((kinds.UnexpectedEndOfInput, tt, g), h)
 
 -- what excuses a part that is read from `mid` on, before which no call failed, excuses the whole
-excused_after : {E : Type 0} (gives : Error → E → Type 0) (takes more : Bool) (e : E) (old mid new : ReaderState) → mid.takes_memory ≡ old.takes_memory → mid.tells_faults ≡ old.tells_faults → mid.faults ≡ old.faults → (IsTrue takes → IsTrue more) → Excused gives takes e mid new → Excused gives more e old new
-excused_after gives takes more e old mid new same tells clean f (inl (g, inl t, none)) = inl (g, inl (f t), none ∙ clean)
-excused_after gives takes more e old mid new same tells clean f (inl (g, inr t, none)) = inl (g, inr (subst IsTrue same t), none ∙ clean)
-excused_after gives takes more e old mid new same tells clean f (inr h) = inr (fault_after gives old.tells_faults e old.faults mid.faults new.faults clean (subst (λ (b : Bool). IsOfFault gives b e mid.faults new.faults) tells h))
+excused_after : {E : Type 0} (gives : Error → E → Type 0) (takes more : Bool) (e : E) (old mid new : ReaderState) → mid.fixed ≡ old.fixed → mid.faults ≡ old.faults → (IsTrue takes → IsTrue more) → Excused gives takes e mid new → Excused gives more e old new
+excused_after gives takes more e old mid new same clean f (inl (g, inl t, none)) = inl (g, inl (f t), none ∙ clean)
+excused_after gives takes more e old mid new same clean f (inl (g, inr t, none)) = inl (g, inr (subst (λ (kind : ReaderKind). IsTrue kind.takes_memory) same t), none ∙ clean)
+excused_after gives takes more e old mid new same clean f (inr h) = inr (fault_after gives old.fixed.tells_faults e old.faults mid.faults new.faults clean (subst (λ (kind : ReaderKind). IsOfFault gives kind.tells_faults e mid.faults new.faults) same h))
 
 -- a part L that is refused from `mid` on refuses the whole N, where what L says of the bytes says it of N
-pub part_refused : {E : Type 0} {gives : Error → E → Type 0} {eof : E → Bool} {U V : Type 0} {L : Format U} {N : Format V} {e : E} {old mid : ReaderState} (new : ReaderState) → mid.ends_by_device ≡ old.ends_by_device → mid.takes_memory ≡ old.takes_memory → mid.tells_faults ≡ old.tells_faults → mid.faults ≡ old.faults
+pub part_refused : {E : Type 0} {gives : Error → E → Type 0} {eof : E → Bool} {U V : Type 0} {L : Format U} {N : Format V} {e : E} {old mid : ReaderState} (new : ReaderState) → mid.fixed ≡ old.fixed → mid.faults ≡ old.faults
     → (IsTrue L.takes_memory → IsTrue N.takes_memory) → ((kind : ErrorKind) → L.names kind → N.names kind)
     → (IsTold N old → (IsTold L mid → Unspelled gives eof L e mid.to_come) → Unspelled gives eof N e old.to_come)
     → Excused gives L.takes_memory e mid new ⊎ Refused gives eof L e mid new → Excused gives N.takes_memory e old new ⊎ Refused gives eof N e old new
-part_refused {gives = gives} {L = L} {N = N} {e = e} {old = old} {mid = mid} new ends memory tells clean takes names un (inl x) = inl (excused_after gives L.takes_memory N.takes_memory e old mid new memory tells clean takes x)
-part_refused {gives = gives} {eof = eof} {L = L} {N = N} {e = e} new ends memory tells clean takes names un (inr x) = inr (record {
+part_refused {gives = gives} {L = L} {N = N} {e = e} {old = old} {mid = mid} new same clean takes names un (inl x) = inl (excused_after gives L.takes_memory N.takes_memory e old mid new same clean takes x)
+part_refused {gives = gives} {eof = eof} {L = L} {N = N} {e = e} new same clean takes names un (inr x) = inr (record {
   no_fault = x.no_fault ∙ clean;
-  kind = elim x.kind [ inl h ↦ inl (subst (λ (by_device : Bool). IsEnd gives eof by_device e) ends h) | inr h ↦ inr (IsNamed-more gives e names h) ];
+  kind = elim x.kind [ inl h ↦ inl (subst (λ (kind : ReaderKind). IsEnd gives eof kind.ends_by_device e) same h) | inr h ↦ inr (IsNamed-more gives e names h) ];
   because = λ told. un told x.because;
 })
 
 -- an input that ended before the least size of a format without faults, and no call of the device failed
-pub ends_early : {E : Type 0} {gives : Error → E → Type 0} {eof : E → Bool} {V : Type 0} {L : Format V} {e : E} {old new : ReaderState} → new.faults ≡ old.faults → (least : ℕ) → ((v : V) (s : List ℕ) → L.spells v s → least ≤ length s) → ((bytes : List ℕ) → L.at_fault bytes → ⊥) → IsEnd gives eof old.ends_by_device e
-    → (IsTrue old.tells → length old.to_come < 2 ^ 64 - 1 → length old.to_come < least) → Refused gives eof L e old new
+pub ends_early : {E : Type 0} {gives : Error → E → Type 0} {eof : E → Bool} {V : Type 0} {L : Format V} {e : E} {old new : ReaderState} → new.faults ≡ old.faults → (least : ℕ) → ((v : V) (s : List ℕ) → L.spells v s → least ≤ length s) → ((bytes : List ℕ) → L.at_fault bytes → ⊥) → IsEnd gives eof old.fixed.ends_by_device e
+    → (IsTrue old.fixed.tells → length old.to_come < 2 ^ 64 - 1 → length old.to_come < least) → Refused gives eof L e old new
 ends_early clean least size no_fault ended fewer = record {
   no_fault = clean;
   kind = inl ended;
@@ -152,7 +129,7 @@ pub Got-after : {spelled next more : List ℕ → Type 0} {old mid new : ReaderS
 Got-after {new = new} kept f g k = record {
   front = g.front ++ k.front;
   front_is = f g.front k.front g.front_is k.front_is;
-  taken = λ told. g.taken told ∙ (ap (λ s. g.front ++ s) (k.taken (subst IsTrue (sym kept.tells) told)) ∙ sym (append_assoc g.front k.front new.to_come));
+  taken = λ told. g.taken told ∙ (ap (λ s. g.front ++ s) (k.taken (tells_still kept.fixed told)) ∙ sym (append_assoc g.front k.front new.to_come));
   no_fault = k.no_fault ∙ g.no_fault;
   untouched = λ none. let parts = no_parts g.front k.front none in k.untouched parts.1 ∙ g.untouched parts.0;
 }

@@ -54,7 +54,7 @@ module _ {E A : Type 0} (gives : Error → E → Type 0) (eof : E → Bool) wher
   -- the law of reads
   pub record WrittenIsRead {V : Type 0} (seen : A → V) (format : Encoding → Format V) : Type 0 where
     -- from any reader that tells its bytes
-    pub told : {encoding : Encoding} {v : V} {bytes rest : List ℕ} {result : Result A E} {old new : ReaderState} → (format encoding).writes v bytes → IsTrue old.tells → old.encoding ≡ encoding → old.to_come ≡ bytes ++ rest → Reads gives eof seen (format old.encoding) result old new → ReadsWritten gives eof seen (format encoding) v rest result old new
+    pub told : {encoding : Encoding} {v : V} {bytes rest : List ℕ} {result : Result A E} {old new : ReaderState} → (format encoding).writes v bytes → IsTrue old.fixed.tells → old.encoding ≡ encoding → old.to_come ≡ bytes ++ rest → Reads gives eof seen (format old.encoding) result old new → ReadsWritten gives eof seen (format encoding) v rest result old new
     -- from a reader of bytes in memory that has just been made
     pub made : {encoding at after : Encoding} {v : V} {bytes rest buffer left : List ℕ} {result : Result A E} {old : ReaderState} → (format encoding).writes v bytes → buffer ≡ bytes ++ rest → old ≡ bytes_state buffer at → at ≡ encoding → Reads gives eof seen (format old.encoding) result old (bytes_state left after) → ReadsWrittenFirst gives seen v rest buffer result left
 
@@ -65,7 +65,7 @@ module _ {E A : Type 0} (gives : Error → E → Type 0) (eof : E → Bool) wher
   -- the law of reads of items by their number
   pub record WrittenItemsAreRead {V : Type 0} (seen : A → List V) (format : Encoding → Format V) : Type 0 where
     -- from any reader that tells its bytes
-    pub told : {encoding : Encoding} {vs : List V} (bytes : List ℕ) {rest : List ℕ} {n : ℕ} {result : Result A E} {old new : ReaderState} → Each (format encoding).writes vs bytes → n ≡ length vs → IsTrue old.tells → old.encoding ≡ encoding → old.to_come ≡ bytes ++ rest → Reads gives eof seen (vector n (format old.encoding)) result old new → ReadsWritten gives eof seen (vector n (format encoding)) vs rest result old new
+    pub told : {encoding : Encoding} {vs : List V} (bytes : List ℕ) {rest : List ℕ} {n : ℕ} {result : Result A E} {old new : ReaderState} → Each (format encoding).writes vs bytes → n ≡ length vs → IsTrue old.fixed.tells → old.encoding ≡ encoding → old.to_come ≡ bytes ++ rest → Reads gives eof seen (vector n (format old.encoding)) result old new → ReadsWritten gives eof seen (vector n (format encoding)) vs rest result old new
     -- from a reader of bytes in memory that has just been made
     pub made : {encoding at after : Encoding} {vs : List V} (bytes : List ℕ) {rest buffer left : List ℕ} {n : ℕ} {result : Result A E} {old : ReaderState} → Each (format encoding).writes vs bytes → n ≡ length vs → buffer ≡ bytes ++ rest → old ≡ bytes_state buffer at → at ≡ encoding → Reads gives eof seen (vector n (format old.encoding)) result old (bytes_state left after) → ReadsWrittenFirst gives seen vs rest buffer result left
 

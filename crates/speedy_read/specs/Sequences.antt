@@ -70,13 +70,13 @@ module _ {U V : Type 0} {W : U → Type 0} {L : Format U} {M : (u : U) → Forma
   pub refused_first : {A B : Type 0} {seen : A → U} {view : B → V} {e : E} {old new : ReaderState} → Reads gives eof seen L (Err e) old new → Reads gives eof view N (Err e) old new
   refused_first {new = new} r = record {
     kept = r.kept;
-    answer = part_refused new refl refl refl refl c.takes_first c.names_first (λ told un. unspelled_first (un (IsTold-part c.lends_first told))) r.answer;
+    answer = part_refused new refl refl c.takes_first c.names_first (λ told un. unspelled_first (un (IsTold-part c.lends_first told))) r.answer;
   }
 
   pub peek_refused_first : {A B : Type 0} {seen : A → U} {view : B → V} {e : E} {old new : ReaderState} → Peeks gives eof seen L (Err e) old new → Peeks gives eof view N (Err e) old new
   peek_refused_first {new = new} r = record {
     kept = r.kept;
-    answer = elim r.answer [ inl h ↦ inl h | inr h ↦ inr (part_refused new refl refl refl refl c.takes_first c.names_first (λ told un. unspelled_first (un (IsTold-part c.lends_first told))) h) ];
+    answer = elim r.answer [ inl h ↦ inl h | inr h ↦ inr (part_refused new refl refl c.takes_first c.names_first (λ told un. unspelled_first (un (IsTold-part c.lends_first told))) h) ];
   }
 
   unspelled_second : {strict : Bool} {least : ℕ} → Laws strict least L → (u : U) {e : E} (front rest : List ℕ) → L.spells u front → Unspelled gives eof (M u) e rest → Unspelled gives eof N e (front ++ rest)
@@ -104,7 +104,7 @@ module _ {U V : Type 0} {W : U → Type 0} {L : Format U} {M : (u : U) → Forma
   pub refused_second : {strict : Bool} {least : ℕ} → Laws strict least L → {A B D : Type 0} {first : D → U} {x : D} {seen : A → W (first x)} {view : B → V} {e : E} {old mid new : ReaderState} → Reads gives eof first L (Ok x) old mid → Reads gives eof seen (M (first x)) (Err e) mid new → Reads gives eof view N (Err e) old new
   refused_second laws {first = first} {x = x} {e = e} {mid = mid} {new = new} h k = record {
     kept = Kept-after h.kept k.kept;
-    answer = part_refused new h.kept.ends_by_device h.kept.takes_memory h.kept.tells_faults h.answer.no_fault (c.takes_second (first x)) (c.names_second (first x))
+    answer = part_refused new h.kept.fixed h.answer.no_fault (c.takes_second (first x)) (c.names_second (first x))
         (λ told un.
         subst (λ (bytes : List ℕ). Unspelled gives eof N e bytes) (sym (h.answer.taken told.tells))
         (unspelled_second laws (first x) h.answer.front mid.to_come h.answer.front_is (un (IsTold-after h.kept (c.lends_second (first x)) told))))

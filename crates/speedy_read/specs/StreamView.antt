@@ -4,7 +4,7 @@ use Rattle.std.specs.Borrow.{GName}
 use Rattle.speedy_base.specs.Device.{SourceState}
 use Rattle.speedy_base.specs.Encoding.{Encoding}
 use Rattle.speedy_base.specs.Ring.{Ring}
-use Rattle.speedy_read.specs.Reading.{ReaderState}
+use Rattle.speedy_read.specs.Reading.{ReaderKind, ReaderState}
 use Rattle.speedy_read.specs.declared.stream_reader.StreamReader.{StreamReader}
 
 -- the context that a reader holds, the source that it borrows, the bytes that it keeps of it, and whether it reads ahead
@@ -30,21 +30,28 @@ most_held is_buffering = first_capacity is_buffering - 1
 abbrev pub is_tidy : Ring → Bool → Bool
 is_tidy ring is_buffering = nat_eq ring.capacity (first_capacity is_buffering) && nat_le (length ring.bytes) (most_held is_buffering)
 
--- a reader of a source, whose bytes come from the ring first: its reads ask for no memory, but its peeks may, and it may end as its source does
-abbrev pub ring_state : GName → SourceState → Ring → Bool → Encoding → ReaderState
-ring_state name source ring is_buffering encoding = record {
-  to_come = ring.bytes ++ source.to_come;
-  tells = source.tells;
+-- a reader of a source, which it holds under this name: it lends nothing, its reads ask for no memory, but
+-- its peeks may, and it may end as its source does
+abbrev pub stream_kind : GName → Bool → Bool → ReaderKind
+stream_kind name tells is_buffering = record {
+  tells = tells;
   lends = false;
-  tidy = is_tidy ring is_buffering;
   buffers = is_buffering;
   takes_memory = false;
   peeks_take_memory = true;
   ends_by_device = true;
-  encoding = encoding;
-  faults = source.faults;
   tells_faults = true;
   targets = name ∷ [];
+}
+
+-- its bytes come from the ring first
+abbrev pub ring_state : GName → SourceState → Ring → Bool → Encoding → ReaderState
+ring_state name source ring is_buffering encoding = record {
+  fixed = stream_kind name source.tells is_buffering;
+  to_come = ring.bytes ++ source.to_come;
+  tidy = is_tidy ring is_buffering;
+  encoding = encoding;
+  faults = source.faults;
 }
 
 abbrev pub stream_state : {S C : Type 0} → (S → SourceState) → (C → Encoding) → StreamReader S C → ReaderState

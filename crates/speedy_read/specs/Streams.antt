@@ -1,7 +1,7 @@
 -- What is done with a source of bytes.
 use Rattle.std.specs.Prelude.{◌≡◌, ℕ, ◌≤◌, ◌<◌, ◌-◌, ◌^◌, max, List, [], ◌++◌, length, Bool, true, false, IsTrue, ◌⊎◌, Result, IsOk, IfOk, OnOk, IfErr, OnErr, MatchResult}
 use Rattle.std.specs.declared.io.Error.{Error as StdIoError}
-use Rattle.speedy_base.specs.Device.{SourceState}
+use Rattle.speedy_base.specs.Device.{SourceState, SourceKept}
 use Rattle.speedy_base.specs.FailedCalls.{OneFailed, IsErrorOf, IsOfFailedCall}
 use Rattle.speedy_base.specs.Digits.{AreBytes}
 use Rattle.speedy_base.specs.Ring.{Ring}
@@ -19,8 +19,7 @@ LeavesTail old new = IsTrue old.tells → (front : List ℕ) × (old.to_come ≡
 
 -- Pulling until a list is full of what a source gives, and whether it is.
 pub record FillsList (output : List ℕ) (result : Result Bool StdIoError) (old new : SourceState) : Type 0 where
-  pub tells : new.tells ≡ old.tells
-  pub faults : old.faults.count ≤ new.faults.count
+  pub kept : SourceKept old new
   pub no_fault : OnOk result (new.faults ≡ old.faults)
   pub tail : LeavesTail old new
   pub full : IfOk result (λ full. IsTrue full → IsTrue old.tells → old.to_come ≡ output ++ new.to_come)
@@ -31,8 +30,7 @@ pub record FillsList (output : List ℕ) (result : Result Bool StdIoError) (old 
 
 -- Pulling until a ring holds so many bytes, and whether it does. What was pulled lies behind what the ring held.
 pub record FillsRing (count : ℕ) (ahead : Bool) (result : Result Bool StdIoError) (held keeps : Ring) (old new : SourceState) : Type 0 where
-  pub tells : new.tells ≡ old.tells
-  pub faults : old.faults.count ≤ new.faults.count
+  pub kept : SourceKept old new
   pub no_fault : OnOk result (new.faults ≡ old.faults)
   pub capacity : keeps.capacity ≡ held.capacity
   pub moved : IsTrue old.tells → keeps.bytes ++ new.to_come ≡ held.bytes ++ old.to_come
@@ -70,7 +68,7 @@ module _ {E : Type 0} (gives : Error → E → Type 0) (eof : E → Bool) where
     pub kept : KeptByPeek old new
     pub capacity : keeps.capacity ≡ held.capacity
     pub untouched : count ≤ length held.bytes → IsOk result × (new ≡ old)
-    pub exact : old.buffers ≡ false → length keeps.bytes ≤ max (length held.bytes) count
+    pub exact : old.fixed.buffers ≡ false → length keeps.bytes ≤ max (length held.bytes) count
     pub enough : OnOk result ((count ≤ length keeps.bytes) × (length keeps.bytes ≤ keeps.capacity))
     pub no_fault : OnOk result (new.faults ≡ old.faults)
     pub short : OnErr result (length keeps.bytes < count)
@@ -84,8 +82,7 @@ module _ {E : Type 0} (gives : Error → E → Type 0) (eof : E → Bool) where
 
   -- What a function that reads from a source answers. A value that is answered is spelled by a front of what the source had, and the source lost that front, and as many bytes more as may be read ahead. A refusal is what a failed call answered, which was the only one; or no call failed, and it is want of memory, or what the bytes are refused with.
   pub record AnswersStream {A V : Type 0} (seen : A → V) (L : Format V) (buffers : Bool) (result : Result A E) (old new : SourceState) : Type 0 where
-    pub tells : new.tells ≡ old.tells
-    pub faults : old.faults.count ≤ new.faults.count
+    pub kept : SourceKept old new
     pub tail : LeavesTail old new
     pub value : IfOk result (λ x. TookFront (L.spells (seen x)) (most_held buffers) old new)
     pub refused : IfErr result (λ e. WantsMemory gives L.takes_memory buffers e old new ⊎ (IsOfFailedCall gives e old.faults new.faults ⊎ RefusesStream L e old new))

@@ -132,7 +132,7 @@ impl<'a, C: Context, const N: usize> ReadFrom<&'a [u8], C> for &'a [u8; N] {
             Reads C.Error.from_gives C.Error.eof bytes.seen
             (bytes.format (R.state reader.old).encoding) result
             (R.state reader.old) (R.state reader.new) }
-        ensures not_lent { (R.state reader.old).lends ≡ false
+        ensures not_lent { (R.state reader.old).fixed.lends ≡ false
             → IsErrAnd result (λ e. C.Error.from_gives (error_of ErrorKind.Unsized) e)
             × (R.state reader.new ≡ R.state reader.old) }
     {

@@ -418,7 +418,7 @@ fn ends_before<L: AsSlice<u8> + Drop, C: Context, R: LendingReader<L, C>>(
 ) -> bool
     ensures test { IsTrue result
         ↔ ((2 ^ 64 ≤ least * length) ⊎ (R.can_read reader.now (least * length) ≡ Some false)) }
-    ensures fewer { IsTrue result → IsTrue (R.state reader.now).tells
+    ensures fewer { IsTrue result → IsTrue (R.state reader.now).fixed.tells
         → count (R.state reader.now).to_come < 2 ^ 64 - 1
         → count (R.state reader.now).to_come < length * least }
 {

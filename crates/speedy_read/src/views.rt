@@ -61,7 +61,7 @@ impl<'a, C: Context, T: ZeroCopyable<C>, const N: usize> ReadFrom<&'a [u8], C>
             Reads C.Error.from_gives C.Error.eof view.seen
             (view.format (R.state reader.old).encoding) result
             (R.state reader.old) (R.state reader.new) }
-        ensures not_lent { (R.state reader.old).lends ≡ false
+        ensures not_lent { (R.state reader.old).fixed.lends ≡ false
             → IsErrAnd result (λ e. C.Error.from_gives (error_of ErrorKind.Unsized) e)
             × (R.state reader.new ≡ R.state reader.old) }
     {

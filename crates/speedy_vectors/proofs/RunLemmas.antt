@@ -9,13 +9,14 @@ use Rattle.speedy.specs.declared.device.Faults.{Faults}
 use Rattle.speedy.specs.declared.error.Error.{Error}
 use Rattle.speedy.specs.declared.error.ErrorKind.TheVariants as kinds
 use Rattle.speedy.specs.Error.{error_of, kind_of, IsIoErrorOf}
-use Rattle.speedy.specs.Device.{SourceState, SinkState, Pulls, Pushes, Flushes}
+use Rattle.speedy.specs.Device.{SourceState, SourceKept, SinkState, SinkKept, Pulls, Pushes, Flushes}
+use Rattle.speedy.specs.DeviceLemmas.{DeviceKept-same, DeviceKept-after, DeviceKept-told}
 use Rattle.speedy.specs.FailedCalls.{OneFailed, IsOfFailedCall}
 use Rattle.speedy.specs.Format.{Each}
 use Rattle.speedy_vectors.proofs.EachLemmas.{each_append}
 use Rattle.speedy_vectors.specs.Answer.{AnswersLine}
 use Rattle.speedy_vectors.specs.Split.{IsFreeOf, SplitsAt}
-use Rattle.speedy_vectors.specs.Run.{line_feed, with_first, lines_of, SourceKept, SinkKept, AnsweredAll, Answered, AnsweredPartly, itself, IsSinkFailure, Answering, Pushing, IsRunFailure, Runs}
+use Rattle.speedy_vectors.specs.Run.{line_feed, with_first, lines_of, AnsweredAll, Answered, AnsweredPartly, itself, IsSinkFailure, Answering, Pushing, IsRunFailure, Runs}
 
 -- lines
 
@@ -45,18 +46,6 @@ lines_split pending text line rest more h split =
 
 -- devices
 
-pub SinkKept-same : (s : SinkState) → SinkKept s s
-SinkKept-same s = record { same_tells = refl; faults_kept = omega arith }
-
-pub SinkKept-after : (s t u : SinkState) → SinkKept s t → SinkKept t u → SinkKept s u
-SinkKept-after s t u h k = record { same_tells = k.same_tells ∙ h.same_tells; faults_kept = let a = h.faults_kept in let b = k.faults_kept in omega arith }
-
-pub SourceKept-same : (s : SourceState) → SourceKept s s
-SourceKept-same s = record { same_tells = refl; faults_kept = omega arith }
-
-pub SourceKept-after : (s t u : SourceState) → SourceKept s t → SourceKept t u → SourceKept s u
-SourceKept-after s t u h k = record { same_tells = k.same_tells ∙ h.same_tells; faults_kept = let a = h.faults_kept in let b = k.faults_kept in omega arith }
-
 -- what a failed call answered
 failed_call : (e : Error) (x : StdIoError) (a b : Faults) → IsIoErrorOf x (kind_of e) → OneFailed x a b → IsOfFailedCall itself e a b
 failed_call e x a b is one = (x, one, (kind_of e, is, refl))
@@ -70,7 +59,7 @@ failure_after e s t u same (inl k) = inl (failed_after e s.faults t.faults u.fau
 failure_after e s t u same (inr k) = inr (k.0 ∙ same, k.1)
 
 taken_after : (s t u : SinkState) (x y : List ℕ) → SinkKept s t → (IsTrue s.tells → t.taken ≡ s.taken ++ x) → (IsTrue t.tells → u.taken ≡ t.taken ++ y) → IsTrue s.tells → u.taken ≡ s.taken ++ (x ++ y)
-taken_after s t u x y kept h k tells = k (subst IsTrue (sym kept.same_tells) tells) ∙ (ap (λ (z : List ℕ). z ++ y) (h tells) ∙ append_assoc s.taken x y)
+taken_after s t u x y kept h k tells = k (DeviceKept-told kept tells) ∙ (ap (λ (z : List ℕ). z ++ y) (h tells) ∙ append_assoc s.taken x y)
 
 -- pushes
 
@@ -83,11 +72,11 @@ pub record PushedSoFar (bytes rest : List ℕ) (old new : SinkState) : Type 0 wh
   pub taken : IsTrue old.tells → new.taken ≡ old.taken ++ front
 
 pub none_pushed : (bytes : List ℕ) (s : SinkState) → PushedSoFar bytes bytes s s
-none_pushed bytes s = record { kept = SinkKept-same s; no_fault = refl; front = []; bytes_are = refl; taken = λ _. sym (append-nil s.taken) }
+none_pushed bytes s = record { kept = DeviceKept-same; no_fault = refl; front = []; bytes_are = refl; taken = λ _. sym (append-nil s.taken) }
 
 pub more_pushed : (bytes rest : List ℕ) (n : ℕ) (s t u : SinkState) → PushedSoFar bytes rest s t → Pushes (Ok n) t u rest → PushedSoFar bytes (take (length rest - n) (drop n rest)) s u
 more_pushed bytes rest n s t u so_far p = subst (λ (x : List ℕ). PushedSoFar bytes x s u) (sym (take_rest rest n)) (record {
-  kept = SinkKept-after s t u so_far.kept (record { same_tells = p.same_tells; faults_kept = p.faults_kept });
+  kept = DeviceKept-after so_far.kept p.kept;
   no_fault = p.no_fault ∙ so_far.no_fault;
   front = so_far.front ++ take n rest;
   bytes_are = so_far.bytes_are ∙ (ap (λ (x : List ℕ). so_far.front ++ x) (sym (take-append-drop n rest)) ∙ sym (append_assoc so_far.front (take n rest) (drop n rest)));
@@ -117,10 +106,10 @@ all_pushed x bytes rest s t so_far none = record {
 
 pub push_failed : {T : Type 0} (e : Error) (x : StdIoError) (bytes rest : List ℕ) (s t u : SinkState) → PushedSoFar bytes rest s t → IsIoErrorOf x (kind_of e) → Pushes (Err x) t u rest → Pushing {T = T} (Err e) bytes s u
 push_failed e x bytes rest s t u so_far is p = record {
-  kept = SinkKept-after s t u so_far.kept (record { same_tells = p.same_tells; faults_kept = p.faults_kept });
+  kept = DeviceKept-after so_far.kept p.kept;
   no_fault = tt;
   all = tt;
-  partly = (so_far.front, rest, so_far.bytes_are, λ tells. p.unmoved (subst IsTrue (sym so_far.kept.same_tells) tells) ∙ so_far.taken tells);
+  partly = (so_far.front, rest, so_far.bytes_are, λ tells. p.unmoved (DeviceKept-told so_far.kept tells) ∙ so_far.taken tells);
   why = failed_after e s.faults t.faults u.faults so_far.no_fault (failed_call e x t.faults u.faults is p.fault);
 }
 
@@ -158,7 +147,7 @@ pub no_memory : {T : Type 0} (e : Error) (lines mid left : List (List ℕ)) (s t
 no_memory e lines mid left s t kept same h is = record { kept = kept; no_fault = tt; all = tt; partly = partly_answered lines mid s t h; why = inr (same, is) }
 
 pub no_memory_at_first : {T : Type 0} (e : Error) (lines left : List (List ℕ)) (s : SinkState) → e ≡ error_of kinds.OutOfMemory → Answering {T = T} (Err e) lines left s s
-no_memory_at_first e lines left s is = no_memory e lines lines left s s (SinkKept-same s) refl (none_answered lines s) is
+no_memory_at_first e lines left s is = no_memory e lines lines left s s DeviceKept-same refl (none_answered lines s) is
 
 -- one step after another
 
@@ -186,7 +175,7 @@ AnsweredPartly-after a b s t u kept h k = record {
 
 pub Answering-after : {T : Type 0} (r : Result T Error) (a b d : List (List ℕ)) (s t u : SinkState) → SinkKept s t → t.faults ≡ s.faults → Answered a b s t → Answering r b d t u → Answering r a d s u
 Answering-after r a b d s t u kept same h k = record {
-  kept = SinkKept-after s t u kept k.kept;
+  kept = DeviceKept-after kept k.kept;
   no_fault = on_ok_weaker r (λ x. x ∙ same) k.no_fault;
   all = on_ok_weaker r (λ x. Answered-after a b d s t u kept h x) k.all;
   partly = on_err_weaker r (λ x. AnsweredPartly-after a b s t u kept h x) k.partly;
@@ -220,7 +209,7 @@ Answering-with_left r a b left s t h = record {
 -- the output is flushed
 pub flushed : {T : Type 0} (x : T) (y : Unit {0}) (s t : SinkState) → Flushes (Ok y) s t → Answering (Ok x) [] [] s t
 flushed x y s t f = record {
-  kept = record { same_tells = f.same_tells; faults_kept = f.faults_kept };
+  kept = f.kept;
   no_fault = f.no_fault;
   all = record { done = []; lines_are = refl; answered = record { answers = []; answers_are = refl; taken = λ _. f.same_taken ∙ sym (append-nil s.taken) } };
   partly = tt;
@@ -229,7 +218,7 @@ flushed x y s t f = record {
 
 pub flush_failed : {T : Type 0} (e : Error) (x : StdIoError) (s t : SinkState) → IsIoErrorOf x (kind_of e) → Flushes {T = Unit {0}} (Err x) s t → Answering {T = T} (Err e) [] [] s t
 flush_failed e x s t is f = record {
-  kept = record { same_tells = f.same_tells; faults_kept = f.faults_kept };
+  kept = f.kept;
   no_fault = tt;
   all = tt;
   partly = record { done = []; left = []; front = []; rest = []; lines_are = refl; answers_are = refl; taken = λ _. f.same_taken ∙ sym (append-nil s.taken) };
@@ -270,7 +259,7 @@ pub record PieceSoFar (waited piece pending rest : List ℕ) (old new : SinkStat
   pub answered : (more : List ℕ) → Answered (lines_of (waited ++ (piece ++ more))) (lines_of (pending ++ (rest ++ more))) old new
 
 pub none_of_piece : (waited piece : List ℕ) (s : SinkState) → IsFreeOf line_feed waited → PieceSoFar waited piece waited piece s s
-none_of_piece waited piece s h = record { kept = SinkKept-same s; no_fault = refl; waits = h; answered = λ more. none_answered (lines_of (waited ++ (piece ++ more))) s }
+none_of_piece waited piece s h = record { kept = DeviceKept-same; no_fault = refl; waits = h; answered = λ more. none_answered (lines_of (waited ++ (piece ++ more))) s }
 
 module _ (waited piece pending rest line after : List ℕ) (s t u : SinkState) (so_far : PieceSoFar waited piece pending rest s t) (split : SplitsAt line_feed rest line after) where
   -- up to a line that ends
@@ -282,7 +271,7 @@ module _ (waited piece pending rest line after : List ℕ) (s t u : SinkState) (
 
   pub more_of_piece : (cleared : List ℕ) → cleared ≡ [] → SinkKept t u → u.faults ≡ t.faults → Answered ((pending ++ line) ∷ []) [] t u → PieceSoFar waited piece cleared after s u
   more_of_piece cleared cleared_is kept same k = record {
-    kept = SinkKept-after s t u so_far.kept kept;
+    kept = DeviceKept-after so_far.kept kept;
     no_fault = same ∙ so_far.no_fault;
     waits = subst (IsFreeOf line_feed) (sym cleared_is) tt;
     answered = λ more.
@@ -330,8 +319,7 @@ all_answered lines s t h = subst (λ (ls : List (List ℕ)). AnsweredAll ls s t)
 
 -- so much of the input was answered so far, in so many pieces
 pub record RunSoFar (count : ℕ) (pending : List ℕ) (input input_after : SourceState) (output output_after : SinkState) : Type 0 where
-  pub input_kept : SourceKept input input_after
-  pub output_kept : SinkKept output output_after
+  pub kept : SourceKept input input_after × SinkKept output output_after
   pub input_no_fault : input_after.faults ≡ input.faults
   pub output_no_fault : output_after.faults ≡ output.faults
   pub waits : IsFreeOf line_feed pending
@@ -340,8 +328,7 @@ pub record RunSoFar (count : ℕ) (pending : List ℕ) (input input_after : Sour
 
 pub none_run : (pending : List ℕ) (a : SourceState) (s : SinkState) → pending ≡ [] → RunSoFar 0 pending a a s s
 none_run pending a s is = record {
-  input_kept = SourceKept-same a;
-  output_kept = SinkKept-same s;
+  kept = (DeviceKept-same, DeviceKept-same);
   input_no_fault = refl;
   output_no_fault = refl;
   waits = subst (IsFreeOf line_feed) (sym is) tt;
@@ -356,31 +343,30 @@ sink_failed e a d s u same (inr h) = inr (inr (same, h.0, inl h.1))
 
 -- what was pulled
 pulled : (n : ℕ) (chunk piece : List ℕ) (a b d : SourceState) → SourceKept a b → Pulls (Ok n) b d chunk → piece ≡ take n chunk → IsTrue a.tells → b.to_come ≡ piece ++ d.to_come
-pulled n chunk piece a b d kept p is tells = p.moved (subst IsTrue (sym kept.same_tells) tells) ∙ ap (λ (z : List ℕ). z ++ d.to_come) (sym is)
+pulled n chunk piece a b d kept p is tells = p.moved (DeviceKept-told kept tells) ∙ ap (λ (z : List ℕ). z ++ d.to_come) (sym is)
 
 module _ (count : ℕ) (pending : List ℕ) (a b d : SourceState) (s t u : SinkState) (so_far : RunSoFar count pending a b s t) where
   kept_by_pull : (r : Result ℕ StdIoError) (chunk : List ℕ) → Pulls r b d chunk → SourceKept a d
-  kept_by_pull r chunk p = SourceKept-after a b d so_far.input_kept (record { same_tells = p.same_tells; faults_kept = p.faults_kept })
+  kept_by_pull r chunk p = DeviceKept-after so_far.kept.0 p.kept
 
   module _ (n : ℕ) (chunk piece : List ℕ) (pull : Pulls (Ok n) b d chunk) (piece_is : piece ≡ take n chunk) where
     -- up to a piece
     before_piece : IsTrue a.tells → Answered (lines_of a.to_come) (lines_of (pending ++ (piece ++ d.to_come))) s t
     before_piece tells =
         subst (λ (z : List ℕ). Answered (lines_of a.to_come) (lines_of (pending ++ z)) s t)
-        (pulled n chunk piece a b d so_far.input_kept pull piece_is tells)
+        (pulled n chunk piece a b d so_far.kept.0 pull piece_is tells)
         (so_far.answered tells)
 
     -- a piece more was answered
     pub more_run : {T : Type 0} (x : T) (waiting : List ℕ) → (n ≡ 0 → ⊥) → IsFreeOf line_feed waiting → ((more : List ℕ) → Answering (Ok x) (lines_of (pending ++ (piece ++ more))) (lines_of (waiting ++ more)) t u) → RunSoFar (count + 1) waiting a d s u
     more_run x waiting some waits k = record {
-      input_kept = kept_by_pull (Ok n) chunk pull;
-      output_kept = SinkKept-after s t u so_far.output_kept (k []).kept;
+      kept = (kept_by_pull (Ok n) chunk pull, DeviceKept-after so_far.kept.1 (k []).kept);
       input_no_fault = pull.no_fault ∙ so_far.input_no_fault;
       output_no_fault = (k []).no_fault ∙ so_far.output_no_fault;
       waits = waits;
-      answered = λ tells. Answered-after (lines_of a.to_come) (lines_of (pending ++ (piece ++ d.to_come))) (lines_of (waiting ++ d.to_come)) s t u so_far.output_kept (before_piece tells) (k d.to_come).all;
+      answered = λ tells. Answered-after (lines_of a.to_come) (lines_of (pending ++ (piece ++ d.to_come))) (lines_of (waiting ++ d.to_come)) s t u so_far.kept.1 (before_piece tells) (k d.to_come).all;
       counted = λ tells.
-          let size = ap length (pulled n chunk piece a b d so_far.input_kept pull piece_is tells) ∙ length-append piece d.to_come in
+          let size = ap length (pulled n chunk piece a b d so_far.kept.0 pull piece_is tells) ∙ length-append piece d.to_come in
           let front = ap length piece_is ∙ length-take-le n chunk pull.within in
           let counted = so_far.counted tells in
           omega arith;
@@ -391,20 +377,18 @@ module _ (count : ℕ) (pending : List ℕ) (a b d : SourceState) (s t u : SinkS
     piece_failed {T} e left k =
         let r : Result T Error = Err e in
         record {
-          input_kept = kept_by_pull (Ok n) chunk pull;
-          output_kept = SinkKept-after s t u so_far.output_kept (k []).kept;
+          kept = (kept_by_pull (Ok n) chunk pull, DeviceKept-after so_far.kept.1 (k []).kept);
           no_fault = tt;
           settled = tt;
           all = tt;
-          partly = λ tells. AnsweredPartly-after (lines_of a.to_come) (lines_of (pending ++ (piece ++ d.to_come))) s t u so_far.output_kept (before_piece tells) (k d.to_come).partly;
+          partly = λ tells. AnsweredPartly-after (lines_of a.to_come) (lines_of (pending ++ (piece ++ d.to_come))) s t u so_far.kept.1 (before_piece tells) (k d.to_come).partly;
           why = sink_failed e a d s u (pull.no_fault ∙ so_far.input_no_fault) (failure_after e s t u so_far.output_no_fault (k []).why);
         }
 
   -- the input is at its end
   pub input_ended : {T : Type 0} (r : Result T Error) (n : ℕ) (chunk : List ℕ) → Pulls (Ok n) b d chunk → n ≡ 0 → 0 < length chunk → Answering r (lines_of pending) [] t u → OnOk r (IsTrue u.settled) → Runs r a d s u
   input_ended r n chunk pull none room k settled = record {
-    input_kept = SourceKept-after a b d so_far.input_kept (record { same_tells = pull.same_tells; faults_kept = pull.faults_kept });
-    output_kept = SinkKept-after s t u so_far.output_kept k.kept;
+    kept = (DeviceKept-after so_far.kept.0 pull.kept, DeviceKept-after so_far.kept.1 k.kept);
     no_fault = on_ok_weaker r (λ x. (pull.no_fault ∙ so_far.input_no_fault, x ∙ so_far.output_no_fault)) k.no_fault;
     settled = settled;
     all = on_ok_under _ r (λ tells. on_ok_weaker r (λ x. all_answered (lines_of a.to_come) s u x) (whole tells).all);
@@ -412,16 +396,15 @@ module _ (count : ℕ) (pending : List ℕ) (a b d : SourceState) (s t u : SinkS
     why = IfErr-weaker r _ _ (λ e h. sink_failed e a d s u (pull.no_fault ∙ so_far.input_no_fault) (failure_after e s t u so_far.output_no_fault h)) k.why;
   } where
     none_to_come : IsTrue a.tells → pending ++ b.to_come ≡ pending
-    none_to_come tells = ap (λ (z : List ℕ). pending ++ z) (pull.ends (subst IsTrue (sym so_far.input_kept.same_tells) tells) none room) ∙ append-nil pending
+    none_to_come tells = ap (λ (z : List ℕ). pending ++ z) (pull.ends (DeviceKept-told so_far.kept.0 tells) none room) ∙ append-nil pending
 
     whole : IsTrue a.tells → Answering r (lines_of a.to_come) [] s u
-    whole tells = Answering-after r (lines_of a.to_come) (lines_of pending) [] s t u so_far.output_kept so_far.output_no_fault (subst (λ (z : List ℕ). Answered (lines_of a.to_come) (lines_of z) s t) (none_to_come tells) (so_far.answered tells)) k
+    whole tells = Answering-after r (lines_of a.to_come) (lines_of pending) [] s t u so_far.kept.1 so_far.output_no_fault (subst (λ (z : List ℕ). Answered (lines_of a.to_come) (lines_of z) s t) (none_to_come tells) (so_far.answered tells)) k
 
 -- a call of the input failed
 pub pull_failed : {T : Type 0} (e : Error) (x : StdIoError) (chunk : List ℕ) (count : ℕ) (pending : List ℕ) (a b d : SourceState) (s t : SinkState) → RunSoFar count pending a b s t → IsIoErrorOf x (kind_of e) → Pulls (Err x) b d chunk → Runs {T = T} (Err e) a d s t
 pull_failed e x chunk count pending a b d s t so_far is pull = record {
-  input_kept = SourceKept-after a b d so_far.input_kept (record { same_tells = pull.same_tells; faults_kept = pull.faults_kept });
-  output_kept = so_far.output_kept;
+  kept = (DeviceKept-after so_far.kept.0 pull.kept, so_far.kept.1);
   no_fault = tt;
   settled = tt;
   all = tt;
@@ -432,8 +415,7 @@ pull_failed e x chunk count pending a b d s t so_far is pull = record {
 -- the input did not end
 pub too_long : {T : Type 0} (e : Error) (count : ℕ) (pending : List ℕ) (a b : SourceState) (s t : SinkState) → RunSoFar count pending a b s t → 2 ^ 64 - 1 ≤ count → e ≡ error_of kinds.OutOfRangeLength → Runs {T = T} (Err e) a b s t
 too_long e count pending a b s t so_far long is = record {
-  input_kept = so_far.input_kept;
-  output_kept = so_far.output_kept;
+  kept = so_far.kept;
   no_fault = tt;
   settled = tt;
   all = tt;

@@ -15,7 +15,7 @@ use Rattle.speedy.specs.Error.{error_of, kind_of, is_eof_error, IsIoErrorOf}
 use Rattle.speedy.specs.FailedCalls.{IsOfFailedCall}
 use Rattle.speedy.specs.Format.{Each, Format}
 use Rattle.speedy.specs.Numbers.{unsigned_number}
-use Rattle.speedy.specs.Reading.{ReaderState, Excused, IsTold, PeekWants, Peeks, Refused}
+use Rattle.speedy.specs.Reading.{ReaderKind, ReaderState, Excused, IsTold, PeekWants, Peeks, Refused}
 use Rattle.speedy.specs.Texts.{text}
 use Rattle.speedy.specs.Tuples.{pair}
 use Rattle.speedy_vectors.specs.Run.{itself}
@@ -32,10 +32,10 @@ message = let encoding = plain_encoding LittleEndian in pair (unsigned_number 2 
 pub record ReadSoFar {V : Type 0} (spells : V → List ℕ → Type 0) (values : List V) (before : SourceState) (now : ReaderState) : Type 0 where
   pub bytes : List ℕ
   pub read : Each spells values bytes
-  pub same_tells : now.tells ≡ before.tells
+  pub same_tells : now.fixed.tells ≡ before.tells
   pub left : IsTrue before.tells → before.to_come ≡ bytes ++ now.to_come
 
-pub none_read : {V : Type 0} {spells : V → List ℕ → Type 0} {values : List V} {before : SourceState} {now : ReaderState} → values ≡ [] → now.tells ≡ before.tells → now.to_come ≡ before.to_come → ReadSoFar spells values before now
+pub none_read : {V : Type 0} {spells : V → List ℕ → Type 0} {values : List V} {before : SourceState} {now : ReaderState} → values ≡ [] → now.fixed.tells ≡ before.tells → now.to_come ≡ before.to_come → ReadSoFar spells values before now
 none_read {spells = spells} none tells to_come = record {
   bytes = [];
   read = subst (λ vs. Each spells vs []) (sym none) refl;
@@ -43,13 +43,13 @@ none_read {spells = spells} none tells to_come = record {
   left = λ _. sym to_come;
 }
 
-pub one_more_read : {V : Type 0} {spells : V → List ℕ → Type 0} {values more : List V} {before : SourceState} {now after : ReaderState} (value : V) → ReadSoFar spells values before now → more ≡ values ++ (value ∷ []) → after.tells ≡ now.tells → (front : List ℕ) × spells value front × (IsTrue now.tells → now.to_come ≡ front ++ after.to_come) → ReadSoFar spells more before after
-one_more_read {spells = spells} {values = values} {before = before} {after = after} value so_far more_is tells (front, front_is, taken) = record {
+pub one_more_read : {V : Type 0} {spells : V → List ℕ → Type 0} {values more : List V} {before : SourceState} {now after : ReaderState} (value : V) → ReadSoFar spells values before now → more ≡ values ++ (value ∷ []) → after.fixed ≡ now.fixed → (front : List ℕ) × spells value front × (IsTrue now.fixed.tells → now.to_come ≡ front ++ after.to_come) → ReadSoFar spells more before after
+one_more_read {spells = spells} {values = values} {before = before} {after = after} value so_far more_is fixed (front, front_is, taken) = record {
   bytes = so_far.bytes ++ front;
   read =
       subst (λ vs. Each spells vs (so_far.bytes ++ front)) (sym more_is)
       (each_append spells values (value ∷ []) so_far.bytes front so_far.read (record { front = front; back = []; whole_is = sym (append-nil front); first_is = front_is; second_is = refl }));
-  same_tells = tells ∙ so_far.same_tells;
+  same_tells = ap (λ (kind : ReaderKind). kind.tells) fixed ∙ so_far.same_tells;
   left = λ told.
       so_far.left told
       ∙ (ap (λ rest. so_far.bytes ++ rest) (taken (subst IsTrue (sym so_far.same_tells) told))
@@ -57,7 +57,7 @@ one_more_read {spells = spells} {values = values} {before = before} {after = aft
 }
 
 -- where the source is at its end, all that it had was read
-pub all_read : {V : Type 0} {spells : V → List ℕ → Type 0} {values : List V} {before : SourceState} {now : ReaderState} → ReadSoFar spells values before now → (IsTrue now.tells → AreBytes now.to_come → length now.to_come < 2 ^ 64 - 1 → now.to_come ≡ []) → (bytes : List ℕ) × Each spells values bytes × (IsTrue before.tells → AreBytes before.to_come → length before.to_come < 2 ^ 64 - 1 → before.to_come ≡ bytes)
+pub all_read : {V : Type 0} {spells : V → List ℕ → Type 0} {values : List V} {before : SourceState} {now : ReaderState} → ReadSoFar spells values before now → (IsTrue now.fixed.tells → AreBytes now.to_come → length now.to_come < 2 ^ 64 - 1 → now.to_come ≡ []) → (bytes : List ℕ) × Each spells values bytes × (IsTrue before.tells → AreBytes before.to_come → length before.to_come < 2 ^ 64 - 1 → before.to_come ≡ bytes)
 all_read {before = before} {now = now} so_far ended = (
   so_far.bytes,
   so_far.read,
@@ -85,7 +85,7 @@ no_byte {old = old} refused told = go old.to_come refl where
   go (b ∷ rest) is = absurd ((refused.because told).no_front _ (b ∷ []) rest is (byte_spelled old.encoding b (subst AreBytes is told.are_bytes).0))
 
 -- where a peek of a byte says that the input ended, none is left: no failed call says so
-pub peeked_end : {e : Error} {old new : ReaderState} → Peeks itself is_eof_error (λ (n : ℕ). n) (unsigned_number 1 old.encoding) (Err e) old new → kind_of e ≡ kinds.UnexpectedEndOfInput → IsTrue old.tells → IsTrue old.tells_faults → AreBytes old.to_come → length old.to_come < 2 ^ 64 - 1 → old.to_come ≡ []
+pub peeked_end : {e : Error} {old new : ReaderState} → Peeks itself is_eof_error (λ (n : ℕ). n) (unsigned_number 1 old.encoding) (Err e) old new → kind_of e ≡ kinds.UnexpectedEndOfInput → IsTrue old.fixed.tells → IsTrue old.fixed.tells_faults → AreBytes old.to_come → length old.to_come < 2 ^ 64 - 1 → old.to_come ≡ []
 peeked_end {e = e} {old = old} {new = new} peeks is tells tells_faults are_bytes fit = of peeks.answer where
   not_memory : e ≡ error_of kinds.OutOfMemory → ⊥
   not_memory memory = let other = sym is ∙ ap kind_of memory in absurd (cc)

@@ -3,7 +3,7 @@ use Rattle.std.specs.Prelude.{◌≡◌, ◌==◌, if◌then◌else◌, ℕ, ◌
 use Rattle.speedy.specs.declared.error.Error.{Error}
 use Rattle.speedy.specs.declared.error.ErrorKind.TheVariants as kinds
 use Rattle.speedy.specs.Error.{error_of}
-use Rattle.speedy.specs.Device.{SourceState, SinkState}
+use Rattle.speedy.specs.Device.{SourceState, SourceKept, SinkState, SinkKept}
 use Rattle.speedy.specs.FailedCalls.{IsOfFailedCall}
 use Rattle.speedy.specs.Format.{Each}
 use Rattle.speedy_vectors.specs.Answer.{AnswersLine}
@@ -21,16 +21,6 @@ with_first b (line ∷ lines) = (b ∷ line) ∷ lines
 abbrev pub lines_of : List ℕ → List (List ℕ)
 lines_of [] = []
 lines_of (b ∷ bytes) = if b == line_feed then [] ∷ lines_of bytes else with_first b (lines_of bytes)
-
--- a source that tells its bytes goes on doing so, and no failed call of it is forgotten
-pub record SourceKept (old new : SourceState) : Type 0 where
-  pub same_tells : new.tells ≡ old.tells
-  pub faults_kept : old.faults.count ≤ new.faults.count
-
--- a sink that tells its bytes goes on doing so, and no failed call of it is forgotten
-pub record SinkKept (old new : SinkState) : Type 0 where
-  pub same_tells : new.tells ≡ old.tells
-  pub faults_kept : old.faults.count ≤ new.faults.count
 
 -- the sink took one answer for each of the lines, in order
 pub record AnsweredAll (lines : List (List ℕ)) (old new : SinkState) : Type 0 where
@@ -91,8 +81,7 @@ IsRunFailure e input input_after output output_after =
 
 -- a whole input, from the states of the devices before to those after
 pub record Runs {T : Type 0} (result : Result T Error) (input input_after : SourceState) (output output_after : SinkState) : Type 0 where
-  pub input_kept : SourceKept input input_after
-  pub output_kept : SinkKept output output_after
+  pub kept : SourceKept input input_after × SinkKept output output_after
   -- no failed call is passed over
   pub no_fault : OnOk result ((input_after.faults ≡ input.faults) × (output_after.faults ≡ output.faults))
   -- and no answer waits in the output

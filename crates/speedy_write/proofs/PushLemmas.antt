@@ -25,7 +25,7 @@ more_pushed {bytes = bytes} {rest = rest} {n = n} {s = s} {t = t} {u = u} so_far
   waits = λ settled. so_far.waits (p.waits settled);
   front = so_far.front ++ take n rest;
   bytes_are = so_far.bytes_are ∙ (ap (λ (x : List ℕ). so_far.front ++ x) (sym (take-append-drop n rest)) ∙ sym (append_assoc so_far.front (take n rest) (drop n rest)));
-  taken = sink_additive so_far.taken (record { same_tells = p.same_tells; taken_is = p.moved });
+  taken = sink_additive so_far.taken (record { kept = p.kept; taken_is = p.moved });
 })
 
 -- where some are left, some were to be pushed

@@ -1,7 +1,7 @@
 -- What the ways of writing to a sink do follows from what a write into a collector does.
 use Rattle.std.specs.Prelude.{◌≡◌, ℕ, ◌⊎◌, None, Result, Ok, Err, refl}
 use Rattle.std.specs.Borrow.{GName}
-use Rattle.std.proofs.Common.{subst, inl, inr}
+use Rattle.std.proofs.Common.{ap, subst, inl, inr}
 use Rattle.speedy_base.specs.declared.error.Error.{Error}
 use Rattle.speedy_base.specs.Device.{SinkState}
 use Rattle.speedy_base.specs.DeviceLemmas.{grown}
@@ -9,7 +9,7 @@ use Rattle.speedy_base.specs.Encoding.{Encoding}
 use Rattle.speedy_base.specs.FailedCalls.{IsOfFailedCall}
 use Rattle.speedy_layout.specs.Format.{Format}
 use Rattle.speedy_layout.specs.Laws.{Laws}
-use Rattle.speedy_write.specs.Writing.{WriterState, Unwritten, Writes}
+use Rattle.speedy_write.specs.Writing.{WriterKind, WriterState, Unwritten, Writes}
 use Rattle.speedy_write.specs.Collectors.{sink_state, Takes}
 use Rattle.speedy_write.specs.WaysOfWriting.{RefusesUnspelled, WritesToStream, WritesAndFlushes, WritesToFile}
 
@@ -28,8 +28,7 @@ module _ {E : Type 0} {gives : Error → E → Type 0} {V : Type 0} {v : V} wher
     to_stream s t (Ok _) w =
         let put = w.answer in
         record {
-          same_tells = w.kept.tells;
-          faults_kept = w.kept.faults;
+          kept = record { tells = ap (λ (kind : WriterKind). kind.tells) w.kept.fixed; faults = w.kept.faults };
           no_flush = w.kept.waits;
           no_fault = put.no_fault;
           written = (put.bytes, record { is_written = put.is_written; shortest = λ others k. laws.shortest v put.bytes others put.is_written k }, put.is_appended);
@@ -40,8 +39,7 @@ module _ {E : Type 0} {gives : Error → E → Type 0} {V : Type 0} {v : V} wher
     to_stream s t (Err e) w =
         let why : IsOfFailedCall gives e s.faults t.faults ⊎ ((t.faults ≡ s.faults) × RefusesUnspelled gives (F encoding) v e) = elim w.answer.because [ inl h ↦ inl (h.1 refl) | inr h ↦ inr (h.no_fault, no_spelling refl h) ] in
         record {
-          same_tells = w.kept.tells;
-          faults_kept = w.kept.faults;
+          kept = record { tells = ap (λ (kind : WriterKind). kind.tells) w.kept.fixed; faults = w.kept.faults };
           no_flush = w.kept.waits;
           no_fault = tt;
           written = tt;

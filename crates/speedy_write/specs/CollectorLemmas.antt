@@ -1,9 +1,10 @@
 -- What lies between two states of a collector: nothing, or two writes joined.
-use Rattle.std.specs.Prelude.{◌≡◌, ℕ, ◌+◌, ◌≤◌, List, [], ◌++◌, length, take, drop, IsTrue, refl}
-use Rattle.std.proofs.Common.{sym, ◌∙◌, ap, subst, arith, length-take, length-drop}
+use Rattle.std.specs.Prelude.{◌≡◌, ℕ, ◌+◌, ◌≤◌, List, [], ◌++◌, length, take, drop}
+use Rattle.std.proofs.Common.{sym, ◌∙◌, ap, arith, length-take, length-drop}
 use Rattle.std.proofs.Math.Seq.{drop-append-add, drop-drop}
 use Rattle.std.proofs.lemmas.List.{append_assoc, append-nil, length-append, take_at, take-append-drop}
 use Rattle.speedy_base.specs.Device.{SinkState}
+use Rattle.speedy_base.specs.DeviceLemmas.{DeviceKept-same, DeviceKept-after, DeviceKept-told}
 use Rattle.speedy_write.specs.Collectors.{BufferAppends, SizeAppends, Takes}
 
 pub buffer_nothing : (p : ℕ) (A : List ℕ) → p ≤ length A → BufferAppends p A [] p A
@@ -62,10 +63,10 @@ pub size_additive : (a b c : ℕ) (s t : List ℕ) → SizeAppends a s b → Siz
 size_additive a b c s t h k = let l = length-append s t in omega arith
 
 pub sink_nothing : (a : SinkState) → Takes a [] a
-sink_nothing a = record { same_tells = refl; taken_is = λ _. sym (append-nil a.taken) }
+sink_nothing a = record { kept = DeviceKept-same; taken_is = λ _. sym (append-nil a.taken) }
 
 pub sink_additive : {a b c : SinkState} {s t : List ℕ} → Takes a s b → Takes b t c → Takes a (s ++ t) c
 sink_additive {a = a} {s = s} {t = t} h k = record {
-  same_tells = k.same_tells ∙ h.same_tells;
-  taken_is = λ tells. k.taken_is (subst IsTrue (sym h.same_tells) tells) ∙ (ap (λ (x : List ℕ). x ++ t) (h.taken_is tells) ∙ append_assoc a.taken s t);
+  kept = DeviceKept-after h.kept k.kept;
+  taken_is = λ told. k.taken_is (DeviceKept-told h.kept told) ∙ (ap (λ (x : List ℕ). x ++ t) (h.taken_is told) ∙ append_assoc a.taken s t);
 }

@@ -2,22 +2,40 @@
 use Rattle.std.specs.Prelude.{◌≡◌, ℕ, ◌+◌, ◌-◌, ◌^◌, ◌≤◌, List, [], ◌∷◌, ◌++◌, length, take, drop, Some, None, true, false, IsTrue}
 use Rattle.std.specs.Borrow.{GName}
 use Rattle.speedy_base.specs.declared.error.ErrorKind.TheVariants as kinds
-use Rattle.speedy_base.specs.Device.{SinkState}
+use Rattle.speedy_base.specs.Device.{SinkState, SinkKept}
 use Rattle.speedy_base.specs.Devices.{no_faults}
 use Rattle.speedy_base.specs.Encoding.{Encoding}
 use Rattle.speedy_write.specs.Writing.{WriterState}
 
 -- a collector over a buffer, with so many bytes left
 abbrev pub buffer_state : Encoding → List GName → ℕ → WriterState
-buffer_state encoding targets left = record { encoding = encoding; faults = no_faults; tells_faults = true; space = Some left; full = kinds.UnexpectedEndOfOutputBuffer; targets = targets; tells = true; settled = true }
+buffer_state encoding targets left = record {
+  fixed = record { tells = true; tells_faults = true; full = kinds.UnexpectedEndOfOutputBuffer; targets = targets };
+  encoding = encoding;
+  faults = no_faults;
+  space = Some left;
+  settled = true;
+}
 
 -- the collector of sizes, with this sum
 abbrev pub size_state : Encoding → List GName → ℕ → WriterState
-size_state encoding targets size = record { encoding = encoding; faults = no_faults; tells_faults = true; space = Some (2 ^ 64 - 1 - size); full = kinds.OutOfRangeLength; targets = targets; tells = false; settled = true }
+size_state encoding targets size = record {
+  fixed = record { tells = false; tells_faults = true; full = kinds.OutOfRangeLength; targets = targets };
+  encoding = encoding;
+  faults = no_faults;
+  space = Some (2 ^ 64 - 1 - size);
+  settled = true;
+}
 
 -- a collector over a sink of this name, which has no bound
 abbrev pub sink_state : Encoding → GName → SinkState → WriterState
-sink_state encoding name sink = record { encoding = encoding; faults = sink.faults; tells_faults = true; space = None; full = kinds.OutOfRangeLength; targets = name ∷ []; tells = sink.tells; settled = sink.settled }
+sink_state encoding name sink = record {
+  fixed = record { tells = sink.tells; tells_faults = true; full = kinds.OutOfRangeLength; targets = name ∷ [] };
+  encoding = encoding;
+  faults = sink.faults;
+  space = None;
+  settled = sink.settled;
+}
 
 -- these bytes were put into the buffer from the one position to the other
 pub record BufferAppends (position : ℕ) (buffer bytes : List ℕ) (end : ℕ) (after : List ℕ) : Type 0 where
@@ -31,5 +49,5 @@ SizeAppends size bytes after = after ≡ size + length bytes
 
 -- the sink took these bytes, after those that it had taken, where it tells them
 pub record Takes (old : SinkState) (bytes : List ℕ) (new : SinkState) : Type 0 where
-  pub same_tells : new.tells ≡ old.tells
+  pub kept : SinkKept old new
   pub taken_is : IsTrue old.tells → new.taken ≡ old.taken ++ bytes

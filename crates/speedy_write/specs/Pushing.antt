@@ -1,14 +1,13 @@
 -- What the push of all of some bytes does.
-use Rattle.std.specs.Prelude.{◌≡◌, ℕ, ◌≤◌, List, ◌++◌, Result, OnOk, OnErr, IfErr, IsTrue}
+use Rattle.std.specs.Prelude.{◌≡◌, ℕ, List, ◌++◌, Result, OnOk, OnErr, IfErr, IsTrue}
 use Rattle.speedy_base.specs.declared.error.Error.{Error}
-use Rattle.speedy_base.specs.Device.{SinkState}
+use Rattle.speedy_base.specs.Device.{SinkState, SinkKept}
 use Rattle.speedy_base.specs.FailedCalls.{IsOfFailedCall}
 use Rattle.speedy_write.specs.Collectors.{Takes}
 
 -- all of the bytes were pushed, or a beginning of them and then a push failed
 pub record PushesAll {E : Type 0} (gives : Error → E → Type 0) (bytes : List ℕ) (result : Result (Unit {0}) E) (old new : SinkState) : Type 0 where
-  pub same_tells : new.tells ≡ old.tells
-  pub faults_kept : old.faults.count ≤ new.faults.count
+  pub kept : SinkKept old new
   -- what succeeds had no failed push
   pub no_fault : OnOk result (new.faults ≡ old.faults)
   pub all : OnOk result (Takes old bytes new)

@@ -13,7 +13,7 @@ use Rattle.speedy_layout.specs.Format.{Format, Parts}
 use Rattle.speedy_layout.specs.Laws.{Laws}
 use Rattle.speedy_layout.specs.Sequences.{Asks, sequence}
 use Rattle.speedy_layout.specs.Tuples.{unit}
-use Rattle.speedy_write.specs.Writing.{WriterState, IsOutOfRange, Fits, less, Kept, Put, Writes, WritesBytes}
+use Rattle.speedy_write.specs.Writing.{WriterKind, WriterState, IsOutOfRange, Fits, less, Kept, Put, Writes, WritesBytes}
 
 -- ---- spaces
 
@@ -50,18 +50,15 @@ less_nothing (Some s) = ap Some (omega arith)
 -- one write after another keeps what each keeps
 pub Kept-after : {a b c : WriterState} → Kept a b → Kept b c → Kept a c
 Kept-after h k = record {
+  fixed = k.fixed ∙ h.fixed;
   encoding = k.encoding ∙ h.encoding;
-  full = k.full ∙ h.full;
-  targets = k.targets ∙ h.targets;
   faults = let x = h.faults in let y = k.faults in omega arith;
-  tells_faults = k.tells_faults ∙ h.tells_faults;
-  tells = k.tells ∙ h.tells;
   waits = λ settled. h.waits (k.waits settled);
 }
 
 -- a writer that stays as it is
 pub Kept-same : (a : WriterState) → Kept a a
-Kept-same a = record { encoding = refl; full = refl; targets = refl; faults = omega arith; tells_faults = refl; tells = refl; waits = λ settled. settled }
+Kept-same a = record { fixed = refl; encoding = refl; faults = omega arith; waits = λ settled. settled }
 
 -- what was put is said in other words
 pub Put-as : {writes other appended : List ℕ → Type 0} {old new : WriterState} → ((b : List ℕ) → writes b → other b) → Put writes old new appended → Put other old new appended
@@ -197,7 +194,7 @@ module _ {E : Type 0} {gives : Error → E → Type 0} {U V : Type 0} {W : U →
               is_appended = join p.bytes x.front p.is_appended x.is_appended;
             };
         because = elim w.answer.because [
-          | inl x ↦ inl (fault_after gives old.tells_faults e old.faults mid.faults new.faults p.no_fault (subst (λ (tells : Bool). IsOfFault gives tells e mid.faults new.faults) k.tells_faults x))
+          | inl x ↦ inl (fault_after gives old.fixed.tells_faults e old.faults mid.faults new.faults p.no_fault (subst (λ (kind : WriterKind). IsOfFault gives kind.tells_faults e mid.faults new.faults) k.fixed x))
           | inr x ↦ inr (record {
             no_fault = x.no_fault ∙ p.no_fault;
             no_fit = λ b h fit.
@@ -205,7 +202,7 @@ module _ {E : Type 0} {gives : Error → E → Type 0} {U V : Type 0} {W : U →
                 x.no_fit h.back h.second_is (subst (Fits (length h.back)) (sym p.space) (fits_second old.space (length p.bytes) (length h.back) (subst (λ n. Fits n old.space) l fit)));
             no_spelling = λ s b h. x.no_spelling (p.space ∙ less_none old.space (length p.bytes) s) h.back h.second_is;
             kind = elim x.kind [
-              | inl y ↦ inl ((λ s. y.0 (p.space ∙ less_none old.space (length p.bytes) s)), subst (λ (x : ErrorKind). gives (error_of x) e) k.full y.1)
+              | inl y ↦ inl ((λ s. y.0 (p.space ∙ less_none old.space (length p.bytes) s)), subst (λ (kind : WriterKind). gives (error_of kind.full) e) k.fixed y.1)
               | inr y ↦ inr (IsOutOfRange-more gives e (λ _ k. inr ((split v).0, k)) y)
             ];
           })

@@ -4,7 +4,7 @@ use Rattle.std.specs.declared.io.Error.{Error as StdIoError}
 use Rattle.speedy_base.specs.declared.error.ErrorKind.TheVariants as kinds
 use Rattle.speedy_base.specs.declared.error.Error.{Error}
 use Rattle.speedy_base.specs.Error.{error_of}
-use Rattle.speedy_base.specs.Device.{SinkState}
+use Rattle.speedy_base.specs.Device.{SinkState, SinkKept}
 use Rattle.speedy_base.specs.FailedCalls.{HasGrown, IsErrorOf, IsOfFailedCall}
 use Rattle.speedy_layout.specs.Format.{Format}
 use Rattle.speedy_write.specs.Collectors.{Takes}
@@ -59,10 +59,7 @@ module _ {E : Type 0} (gives : Error → E → Type 0) where
 
   -- what the ways of writing to a sink do
   pub record WritesToStream {V : Type 0} (L : Format V) (v : V) (result : Result (Unit {0}) E) (old new : SinkState) : Type 0 where
-    -- a sink that tells its bytes goes on doing so
-    pub same_tells : new.tells ≡ old.tells
-    -- no failed call is forgotten
-    pub faults_kept : old.faults.count ≤ new.faults.count
+    pub kept : SinkKept old new
     -- what waited in the sink goes on waiting: no flush is made
     pub no_flush : IsTrue new.settled → IsTrue old.settled
     -- what succeeds had no failed push

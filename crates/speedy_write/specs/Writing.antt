@@ -13,22 +13,26 @@ use Rattle.speedy_layout.specs.Format.{Format, plain_format}
 use Rattle.speedy_layout.specs.Lists.{repeat}
 use Rattle.speedy_layout.specs.Numbers.{unsigned_number, signed_number}
 
--- A writer, as writes see it.
-pub record WriterState : Type 0 where
-  -- what its context asks of the bytes
-  pub encoding : Encoding
-  -- its device's failed calls
-  pub faults : Faults
-  -- whether a refusal that a failed call caused says what it answered
+-- What the kind of a writer fixes.
+pub record WriterKind : Type 0 where
+  -- its device tells which bytes were written
+  pub tells : Bool
+  -- a refusal that a failed call of its device caused says what that call answered
   pub tells_faults : Bool
-  -- how many more bytes fit, where there is a bound
-  pub space : Option ℕ
   -- the kind that a write past the space is refused with
   pub full : ErrorKind
   -- the `&mut`s that it holds
   pub targets : List GName
-  -- whether it tells which bytes were written
-  pub tells : Bool
+
+-- A writer, as writes see it.
+pub record WriterState : Type 0 where
+  pub fixed : WriterKind
+  -- what its context asks of the bytes
+  pub encoding : Encoding
+  -- its device's failed calls
+  pub faults : Faults
+  -- how many more bytes fit, where there is a bound
+  pub space : Option ℕ
   -- whether all that its device took was passed on
   pub settled : Bool
 
@@ -44,12 +48,9 @@ less (Some space) n = Some (space - n)
 
 -- what every write keeps, a refused one too
 pub record Kept (old new : WriterState) : Type 0 where
+  pub fixed : new.fixed ≡ old.fixed
   pub encoding : new.encoding ≡ old.encoding
-  pub full : new.full ≡ old.full
-  pub targets : new.targets ≡ old.targets
   pub faults : old.faults.count ≤ new.faults.count
-  pub tells_faults : new.tells_faults ≡ old.tells_faults
-  pub tells : new.tells ≡ old.tells
   -- what waited goes on waiting: a write makes no flush
   pub waits : IsTrue new.settled → IsTrue old.settled
 
@@ -84,13 +85,13 @@ module _ {E : Type 0} (gives : Error → E → Type 0) where
     pub no_fit : (b : List ℕ) → F.writes v b → Fits (length b) old.space → ⊥
     -- without a bound there is no spelling at all
     pub no_spelling : old.space ≡ None → (b : List ℕ) → F.spells v b → ⊥
-    pub kind : ((old.space ≢ None) × gives (error_of old.full) e) ⊎ IsOutOfRange F.refuses_writing e
+    pub kind : ((old.space ≢ None) × gives (error_of old.fixed.full) e) ⊎ IsOutOfRange F.refuses_writing e
 
   -- a refusal
   pub record Refused {V : Type 0} (F : Format V) (v : V) (e : E) (old new : WriterState) (appended : List ℕ → Type 0) : Type 0 where
     pub beginning : (b : List ℕ) → F.writes v b → Begun (F.writes v) appended
     -- a call of the device failed, and where the writer tells which, one alone did, and the refusal is its error; or no call failed
-    pub because : IsOfFault gives old.tells_faults e old.faults new.faults ⊎ Unwritten F v e old new
+    pub because : IsOfFault gives old.fixed.tells_faults e old.faults new.faults ⊎ Unwritten F v e old new
 
   -- The write of a value, in the format of the writer's encoding. What succeeds appends a written form that fits, and no call of the device failed. What is refused appends a beginning of one, where there is one; and either a call of the device failed, and this is its error where the writer tells it, or none failed and no written form fits.
   pub record Writes {V : Type 0} (F : Encoding → Format V) (v : V) (result : Result (Unit {0}) E) (old new : WriterState) (appended : List ℕ → Type 0) : Type 0 where
@@ -115,7 +116,9 @@ module _ {E : Type 0} (gives : Error → E → Type 0) where
 
   -- a write of bytes that is refused though no call of the device failed has passed the space
   abbrev pub RefusesFull : Result (Unit {0}) E → WriterState → WriterState → Type 0
-  RefusesFull result old new = IfErr result (λ e. IsOfFault gives old.tells_faults e old.faults new.faults ⊎ ((new.faults ≡ old.faults) × gives (error_of old.full) e))
+  RefusesFull result old new =
+      IfErr result (λ e. IsOfFault gives old.fixed.tells_faults e old.faults new.faults
+      ⊎ ((new.faults ≡ old.faults) × gives (error_of old.fixed.full) e))
 
 -- what a writer says of its space is right
 abbrev pub IsRight : Option Bool → ℕ → Option ℕ → Type 0

@@ -73,7 +73,7 @@ pub fn read_slice<L: AsSlice<u8> + Drop, C: Context, R: LendingReader<L, C>, T: 
     ensures { let state = R.state reader.old in
         (items : List T.Seen) (bytes rest : List ℕ) →
         Each (T.format state.encoding).writes items bytes → length ≡ count items
-        → IsTrue state.tells → state.to_come ≡ bytes ++ rest
+        → IsTrue state.fixed.tells → state.to_come ≡ bytes ++ rest
         → IfOk result (λ v. map T.seen v.items ≡ items)
         × OnOk result ((R.state reader.new).to_come ≡ rest) }
 {

@@ -66,16 +66,16 @@ pub fn next_or_end<L: AsSlice<u8> + Drop, R: LendingReader<L, LittleEndian>>(
 ) -> Result<Option<(u16, String)>, Error>
     ensures kept { let before = R.state reader.old in
         let after = R.state reader.new in
-        (after.tells ≡ before.tells) × (after.encoding ≡ before.encoding) }
+        (after.fixed ≡ before.fixed) × (after.encoding ≡ before.encoding) }
     ensures next { let layout = ⟦<(u16, String) as Layout>⟧ in
         let before = R.state reader.old in
         let after = R.state reader.new in
         IfOk result (λ next. MatchOption next
-        (IsTrue before.tells → IsTrue before.tells_faults → AreBytes before.to_come
+        (IsTrue before.fixed.tells → IsTrue before.fixed.tells_faults → AreBytes before.to_come
         → count before.to_come < 2 ^ 64 - 1 → before.to_come ≡ [])
         (λ message. (front : List ℕ)
         × (layout.format before.encoding).spells (layout.seen message) front
-        × (IsTrue before.tells → before.to_come ≡ front ++ after.to_come))) }
+        × (IsTrue before.fixed.tells → before.to_come ≡ front ++ after.to_come))) }
 {
     match reader.peek_u8() {
         Ok(_) => Ok(Some(reader.read_value()?)),

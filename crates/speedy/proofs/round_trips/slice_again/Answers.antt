@@ -10,7 +10,7 @@ unfolding repeat
 returns g c =
     let put = c.in_ok-outcome.ensures.answer in
     let made = c.new-collector.ensures in
-    let targets = c.in_ok-outcome.ensures.kept.targets in
+    let fixed = c.in_ok-outcome.ensures.kept.fixed in
     let same_name = made.same_buffer in
     let finished = c.finish.ensures.buffer in
     let front = put_in_front made.position made.buffer put.is_appended in

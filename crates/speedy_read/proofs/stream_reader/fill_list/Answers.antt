@@ -27,7 +27,7 @@ loop-filled-preserved g c =
     let size : length pulled ≡ length output - i = omega (arith, c.pull.auto.output, length-take-le (length output - i) (drop i output) (omega (arith, length-drop i output))) in
     let long_is = long output pulled i inv.2 size in
     let within : n ≤ length pulled = pulls.within in (
-      pulls.same_tells ∙ inv.0,
+      pulls.kept.tells ∙ inv.0,
       pulls.no_fault ∙ inv.1,
       omega arith,
       λ t. inv.3 t ∙ filled_on output pulled _ _ i n inv.2 within (pulls.moved (subst IsTrue (sym inv.0) t)),

@@ -5,7 +5,7 @@ use Rattle.speedy_read.proofs.stream_reader.read_stream.Goals as goal
 pub returns : goal.returns
 returns g c =
     let made = c.over-reader.ensures in
-    let targets = c.read_from-value.ensures.kept.targets in
+    let fixed = c.read_from-value.ensures.kept.fixed in
     let same_name = view_name c.over-reader.result made in
     let given_name = c.into_source.ensures.same_source in
     let given = c.into_source.ensures.source in

@@ -13,7 +13,7 @@ pub returns-clause-stands : goal.returns-clause-stands
 returns-clause-stands g c =
     let made = c.new-collector.ensures in
     let view = buffer_view c.new-collector.result in
-    let targets = c.write_to-outcome.ensures.kept.targets in
+    let fixed = c.write_to-outcome.ensures.kept.fixed in
     let same_name = made.same_buffer in
     let finished = c.finish.ensures.buffer in
     fill_stands {targets = view.context_name ∷ view.buffer_name ∷ []} (ap g.C.Context.encoding made.context) made.buffer made.position c.write_to-outcome.result g.met.T.Layout.layout_laws (returns-clause-succeeds g c) (grind arith) c.write_to-outcome.ensures

@@ -10,7 +10,7 @@ pub returns-in-Some-Ok-clause-reads : goal.returns-in-Some-Ok-clause-reads
 returns-in-Some-Ok-clause-reads g c =
     let old = g.R.LendingReader.state c.args.reader.now in
     more_than_all g.T.FixedSize.SIZE _ (g.met.T.ViewItem.one_size _) g.row.N c.in_default.ensures _
-    (input_ended g.C.Error.From.from_gives g.C.Error.IsEof.eof old.ends_by_device _ c.error_end_of_input.ensures (g.met.C.Context.keeps_eof _ _ c.error_end_of_input.ensures))
+    (input_ended g.C.Error.From.from_gives g.C.Error.IsEof.eof old.fixed.ends_by_device _ c.error_end_of_input.ensures (g.met.C.Context.keeps_eof _ _ c.error_end_of_input.ensures))
     (rw c.in-Some-Ok.field-0-is at c.in-Some-Ok.ensures.1)
 
 pub returns-in-Some-Err-clause-reads : goal.returns-in-Some-Err-clause-reads

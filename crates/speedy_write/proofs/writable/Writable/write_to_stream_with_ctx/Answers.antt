@@ -5,7 +5,7 @@ use Rattle.speedy_write.proofs.writable.Writable.write_to_stream_with_ctx.Goals 
 pub returns : goal.returns
 returns g c =
     let made = c.new-collector.ensures in
-    let targets = c.write_to-outcome.ensures.kept.targets in
+    let fixed = c.write_to-outcome.ensures.kept.fixed in
     let same_name = made.same_sink in
     let given_name = c.into_sink.ensures.same_sink in
     let given = c.into_sink.ensures.sink in
