@@ -10,8 +10,6 @@
 mod asserting;
 pub mod ext;
 pub mod laws;
-#[cfg(test)]
-mod own_types;
 pub mod private;
 #[cfg(test)]
 mod round_trips;

@@ -101,7 +101,6 @@ fn the_first_fault_of_items_is_answered_before_their_end(rt: HostRuntime) {
     let alloc = rt.alloc();
     assert_first_fault::<Vec<char>>(&rt, alloc);
     assert_first_fault::<BTreeSet<char>>(&rt, alloc);
-    assert_first_fault_of_keys::<Vec<(char, u8)>>(&rt, alloc);
     assert_first_fault_of_keys::<BTreeMap<char, u8>>(&rt, alloc);
 }
 
@@ -118,11 +117,7 @@ fn assert_list_faulty<'a, T: Readable<'a, LittleEndian>>(
 fn sets_and_maps_make_no_test_of_their_items_least_size(rt: HostRuntime) {
     let alloc = rt.alloc();
     assert_list_faulty::<BTreeSet<char>>(&rt, alloc, &NO_CHARACTER);
-    assert_list_faulty::<HashSet<char>>(&rt, alloc, &NO_CHARACTER);
-    assert_list_faulty::<IndexSet<char>>(&rt, alloc, &NO_CHARACTER);
-    assert_list_faulty::<BTreeMap<char, u8>>(&rt, alloc, &NO_KEY);
     assert_list_faulty::<HashMap<char, u8>>(&rt, alloc, &NO_KEY);
-    assert_list_faulty::<IndexMap<char, u8>>(&rt, alloc, &NO_KEY);
     let outcome = <Vec<char> as Readable<LittleEndian>>::read_from_buffer(alloc, &NO_CHARACTER);
     assert_refused(&rt, alloc, outcome, "UnexpectedEndOfInput");
 }

@@ -6,7 +6,7 @@ use crate::readable::Readable;
 use crate::writable::Writable;
 use std::alloc::Global;
 use std::borrow::Cow;
-use std::collections::{BTreeMap, BTreeSet, HashMap, HashSet};
+use std::collections::{BTreeMap, HashSet};
 use std::process::Abort;
 
 /// Asserts that what was read is owned.
@@ -39,15 +39,11 @@ fn cows_of_maps_lie_as_the_maps(rt: HostRuntime) {
     let alloc = rt.alloc();
     let map: BTreeMap<u16, u8> = gather(&rt, alloc, &[(258, 7)]);
     assert_cows(&rt, alloc, map, LITTLE, BIG);
-    let map: HashMap<u16, u8> = gather(&rt, alloc, &[(258, 7)]);
-    assert_cows(&rt, alloc, map, LITTLE, BIG);
 }
 
 #[test]
 fn cows_of_sets_lie_as_the_sets(rt: HostRuntime) {
     let alloc = rt.alloc();
-    let set: BTreeSet<(u16, u8)> = gather(&rt, alloc, &[(258, 7)]);
-    assert_cows(&rt, alloc, set, LITTLE, BIG);
     let set: HashSet<(u16, u8)> = gather(&rt, alloc, &[(258, 7)]);
     assert_cows(&rt, alloc, set, LITTLE, BIG);
 }

@@ -3,7 +3,7 @@ use crate::asserting::{assert_encoding, assert_spelled, followed, row};
 use crate::endianness::Endianness;
 
 #[test]
-fn flags_and_nothing(rt: HostRuntime) {
+fn flags_are_one_byte(rt: HostRuntime) {
     let alloc = rt.alloc();
     let order = Endianness::LittleEndian;
     assert_encoding(
@@ -13,7 +13,6 @@ fn flags_and_nothing(rt: HostRuntime) {
         &[row!(false, [0], [0]), row!(true, [1], [1])],
     );
     assert_spelled(&rt, alloc, order, &true, followed![255]);
-    assert_encoding(&rt, alloc, 0, &[row!((), [], [])]);
 }
 
 #[test]
@@ -31,13 +30,4 @@ fn options_begin_with_a_flag(rt: HostRuntime) {
         ],
     );
     assert_spelled(&rt, alloc, order, &Some(5_u16), followed![7, 5, 0]);
-}
-
-#[test]
-fn results_begin_with_a_flag(rt: HostRuntime) {
-    let rows: [(Result<u16, u8>, &[u8], &[u8]); 2] = [
-        row!(Ok(10), [1, 10, 0], [1, 0, 10]),
-        row!(Err(9), [0, 9], [0, 9]),
-    ];
-    assert_encoding(&rt, rt.alloc(), 1, &rows);
 }

@@ -1,22 +1,12 @@
 //! What is lent: borrowed values and cows, and readers that copy.
-ghost use Rattle.std.specs.Prelude.{◌≡◌};
-ghost use Rattle.speedy_layout.specs.Lists.{list_laws};
-ghost use Rattle.speedy_layout.specs.Numbers.{unsigned_number_laws};
-ghost use Rattle.speedy_layout.specs.Owned.{borrowed_content_laws};
-ghost use Rattle.speedy_layout.specs.Texts.{text_laws};
-ghost use Rattle.speedy_layout.specs.Tuples.{pair_laws};
-
 use crate::asserting::{
     assert_bytes, assert_kind, assert_ok, assert_ok_items, assert_refused, assert_same,
 };
-use crate::context::{Context, LittleEndian};
+use crate::context::LittleEndian;
 use crate::endianness::Endianness;
 use crate::error::Error;
-use crate::layout::Layout;
 use crate::private::{cow_bytes_to_cow_str, get_error_kind};
-use crate::readable::{
-    BufferReader, CopyingBufferReader, ReadFrom, ReadMany, Readable, ReadableOwned,
-};
+use crate::readable::{BufferReader, CopyingBufferReader, ReadMany, Readable, ReadableOwned};
 use crate::reader::{LendingReader, Reader};
 use crate::tests_streams::assert_read_of_streams;
 use std::alloc::Global;
@@ -27,75 +17,6 @@ use std::process::Abort;
 
 /// The text "Hi" with its count.
 const HI: [u8; 6] = [2, 0, 0, 0, 72, 105];
-
-/// A message's number and text. The text is that of the bytes, where it lies.
-pub fn parse_message<'a>(alloc: Global, bytes: &'a [u8]) -> Result<(u16, &'a str), Error> {
-    <(u16, &'a str) as Readable<LittleEndian>>::read_from_buffer(alloc, bytes)
-}
-
-#[test]
-fn a_message_is_parsed_where_it_lies(rt: HostRuntime) {
-    let alloc = rt.alloc();
-    let bytes = [2, 1, 2, 0, 0, 0, 72, 105, 9];
-    let (number, text) = parse_message(alloc, &bytes).expect(&rt, "a message");
-    assert_same(&rt, number, 258);
-    assert_same(&rt, text, "Hi");
-    let outcome = parse_message(alloc, &bytes[..7]);
-    assert_refused(&rt, alloc, outcome, "UnexpectedEndOfInput");
-}
-
-/// A name and what it stands for, which point into what they are read from.
-#[derive(Drop)]
-struct Entry<'a> {
-    name: &'a str,
-    content: CowSlice<'a, u8>,
-}
-
-impl<'a> Layout for Entry<'a> {
-    ghost Seen = { ⟦<(&'a str, CowSlice<'a, u8>) as Layout>⟧.Seen };
-
-    ghost seen = { λ entry. ⟦<(&'a str, CowSlice<'a, u8>) as Layout>⟧.seen (entry.name, entry.content) };
-
-    ghost format = { ⟦<(&'a str, CowSlice<'a, u8>) as Layout>⟧.format };
-
-    ghost least = { 8 };
-
-    ghost layout_laws = { λ f.
-        pair_laws (borrowed_content_laws (text_laws f)) (list_laws f (unsigned_number_laws 1 f)) };
-}
-
-impl<'a, C: Context> ReadFrom<&'a [u8], C> for Entry<'a> {
-    fn read_from<R: LendingReader<&'a [u8], C>>(reader: &mut R) -> Result<Entry<'a>, C::Error> {
-        let name = reader.read_value()?;
-        let content = reader.read_value()?;
-        Ok(Entry { name, content })
-    }
-
-    fn minimum_bytes_needed() -> usize
-        ensures { result ≡ 8 }
-    {
-        8
-    }
-}
-
-impl<'a, C: Context> ReadMany<&'a [u8], C> for Entry<'a> {}
-
-#[test]
-fn a_record_points_into_what_it_is_read_from(rt: HostRuntime) {
-    let alloc = rt.alloc();
-    let bytes = [2, 0, 0, 0, 72, 105, 3, 0, 0, 0, 7, 8, 9, 1];
-    let (outcome, count) = <Entry as Readable<LittleEndian>>::read_with_length_from_buffer(
-        alloc, &bytes,
-    );
-    let entry = outcome.expect(&rt, "an entry");
-    assert_same(&rt, entry.name, "Hi");
-    assert_borrows(&rt, entry.content, &[7, 8, 9], true);
-    assert_same(&rt, count, 13);
-    let outcome = <Entry as Readable<LittleEndian>>::read_from_buffer(alloc, &bytes[..12]);
-    assert_refused(&rt, alloc, outcome, "UnexpectedEndOfInput");
-    let outcome = <Entry as Readable<LittleEndian>>::read_from_buffer_copying_data(alloc, &bytes);
-    assert_refused(&rt, alloc, outcome, "Unsized");
-}
 
 #[test]
 fn a_text_is_borrowed_where_it_is_lent(rt: HostRuntime) {

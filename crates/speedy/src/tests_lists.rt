@@ -71,36 +71,6 @@ fn vectors_of_short_numbers_lie_after_their_counts(rt: HostRuntime) {
 }
 
 #[test]
-fn vectors_of_numbers_lie_after_their_counts(rt: HostRuntime) {
-    let alloc = rt.alloc();
-    assert_encoding(
-        &rt,
-        alloc,
-        4,
-        &[row!(
-            make_vec(&rt, alloc, &[10_u32, 11]),
-            [2, 0, 0, 0, 10, 0, 0, 0, 11, 0, 0, 0],
-            [0, 0, 0, 2, 0, 0, 0, 10, 0, 0, 0, 11]
-        )],
-    );
-}
-
-#[test]
-fn vectors_of_wide_numbers_lie_after_their_counts(rt: HostRuntime) {
-    let numbers = make_vec(&rt, rt.alloc(), &[10_u64, 11]);
-    assert_encoding(
-        &rt,
-        rt.alloc(),
-        4,
-        &[row!(
-            numbers,
-            [2, 0, 0, 0, 10, 0, 0, 0, 0, 0, 0, 0, 11, 0, 0, 0, 0, 0, 0, 0],
-            [0, 0, 0, 2, 0, 0, 0, 0, 0, 0, 0, 10, 0, 0, 0, 0, 0, 0, 0, 11]
-        )],
-    );
-}
-
-#[test]
 fn vectors_of_vectors_lie_within_each_other(rt: HostRuntime) {
     let alloc = rt.alloc();
     let texts = vec![in alloc; make_text(&rt, alloc, "a"), String::new(alloc)];
@@ -173,12 +143,6 @@ fn small_vectors_of_texts_lie_within_each_other(rt: HostRuntime) {
 
 #[test]
 fn arrays_of_numbers_lie_item_after_item(rt: HostRuntime) {
-    assert_encoding(
-        &rt,
-        rt.alloc(),
-        4,
-        &[row!([1_u16, 1024], [1, 0, 0, 4], [0, 1, 4, 0])],
-    );
     let bytes: [u8; 32] = [
         10, 11, 12, 13, 14, 15, 16, 17, 18, 19, 20, 21, 22, 23, 24, 25, 26, 27, 28, 29, 30, 31, 32,
         33, 34, 35, 36, 37, 38, 39, 40, 41,
@@ -199,23 +163,6 @@ fn slices_and_borrowed_texts_are_written_after_their_counts(rt: HostRuntime) {
     let little = followed![5, 0, 0, 0, 72, 101, 108, 108, 111];
     let big = followed![0, 0, 0, 5, 72, 101, 108, 108, 111];
     assert_written(&rt, rt.alloc(), &"Hello", little, big);
-}
-
-#[test]
-fn options_of_texts_lie_within_a_vector(rt: HostRuntime) {
-    let alloc = rt.alloc();
-    let text = String::from_str(alloc, "Hi").expect(&rt, "a text");
-    let texts = vec![in alloc; Some(text), None].expect(&rt, "a vector");
-    assert_encoding(
-        &rt,
-        alloc,
-        4,
-        &[row!(
-            texts,
-            [2, 0, 0, 0, 1, 2, 0, 0, 0, 72, 105, 0],
-            [0, 0, 0, 2, 1, 0, 0, 0, 2, 72, 105, 0]
-        )],
-    );
 }
 
 /// So many bytes that count up from 0, again and again.

@@ -80,45 +80,6 @@ fn indexed_maps_lie_in_their_own_order(rt: HostRuntime) {
     );
 }
 
-/// A map from texts to maps, some of them of no pairs.
-type Nested = BTreeMap<String, BTreeMap<u8, Option<u16>>>;
-
-/// A map of these texts and pairs.
-fn make_nested(rt: &impl Abort, alloc: Global, rows: &[(&str, &[(u8, Option<u16>)])]) -> Nested {
-    let mut map = BTreeMap::new(alloc);
-    for (key, pairs) in rows {
-        let inner = gather(rt, alloc, pairs);
-        assert!(rt;
-            map.insert(make_text(rt, alloc, key), inner).is_ok(),
-            "no room for a map"
-        );
-    }
-    map
-}
-
-#[test]
-fn maps_lie_within_each_other(rt: HostRuntime) {
-    let alloc = rt.alloc();
-    let pairs = [(2, None), (1, Some(258))];
-    let nested = make_nested(&rt, alloc, &[("b", &[]), ("a", &pairs)]);
-    assert_encoding(
-        &rt,
-        alloc,
-        4,
-        &[row!(
-            nested,
-            [
-                2, 0, 0, 0, 1, 0, 0, 0, 97, 2, 0, 0, 0, 1, 1, 2, 1, 2, 0, 1, 0, 0, 0, 98, 0, 0, 0,
-                0
-            ],
-            [
-                0, 0, 0, 2, 0, 0, 0, 1, 97, 0, 0, 0, 2, 1, 1, 1, 2, 2, 0, 0, 0, 0, 1, 98, 0, 0, 0,
-                0
-            ]
-        )],
-    );
-}
-
 /// Pairs of one key alone, and the one that stands.
 const ONE_KEY: &[u8] = followed![3, 0, 0, 0, 7, 1, 7, 3, 7, 2];
 

@@ -1,14 +1,11 @@
-//! Numbers that are not 0, in both orders. The values and bytes come from outside.
+//! Numbers that are not 0, in both orders. The values and bytes come from outside. Those
+//! of the other sizes are lines of the program's tests.
 use crate::asserting::{assert_encoding, assert_unreadable, row};
-use std::num::{
-    NonZeroI8, NonZeroI16, NonZeroI32, NonZeroI64, NonZeroU8, NonZeroU16, NonZeroU32, NonZeroU64,
-};
+use std::num::{NonZeroI8, NonZeroI16, NonZeroI64, NonZeroU16, NonZeroU32, NonZeroU64};
 
 #[test]
 fn short_numbers_that_are_not_0_lie_as_numbers(rt: HostRuntime) {
-    let alloc = rt.alloc();
-    assert_encoding(&rt, alloc, 1, &[row!(NonZeroU8::MAX, [255], [255])]);
-    assert_encoding(&rt, alloc, 2, &[row!(NonZeroU16::MIN, [1, 0], [0, 1])]);
+    assert_encoding(&rt, rt.alloc(), 2, &[row!(NonZeroU16::MIN, [1, 0], [0, 1])]);
 }
 
 #[test]
@@ -26,17 +23,6 @@ fn numbers_of_four_bytes_that_are_not_0_lie_as_numbers(rt: HostRuntime) {
         rt.alloc(),
         4,
         &[row!(number, [33, 0, 0, 0], [0, 0, 0, 33])],
-    );
-}
-
-#[test]
-fn signed_numbers_of_four_bytes_that_are_not_0_lie_as_numbers(rt: HostRuntime) {
-    let number = NonZeroI32::new(-2).expect(&rt, "-2 is not 0");
-    assert_encoding(
-        &rt,
-        rt.alloc(),
-        4,
-        &[row!(number, [254, 255, 255, 255], [255, 255, 255, 254])],
     );
 }
 
@@ -66,8 +52,6 @@ fn long_numbers_that_are_not_0_lie_as_numbers(rt: HostRuntime) {
 
 #[test]
 fn zero_is_refused_where_it_must_not_be(rt: HostRuntime) {
-    let alloc = rt.alloc();
-    assert_unreadable::<NonZeroU16>(&rt, alloc, &[0, 0], &[0, 0], "ZeroNonZero");
-    let zero = [0, 0, 0, 0, 1];
-    assert_unreadable::<NonZeroI32>(&rt, alloc, &zero, &zero, "ZeroNonZero");
+    let zero = [0, 0, 1];
+    assert_unreadable::<NonZeroI16>(&rt, rt.alloc(), &zero, &zero, "ZeroNonZero");
 }

@@ -79,30 +79,14 @@ where
 fn ranges_of_a_buffer_are_whole(rt: HostRuntime) {
     let alloc = rt.alloc();
     assert_read_of_buffer(&rt, alloc, LittleEndian {}, &LITTLE);
-    assert_read_of_buffer(&rt, alloc, BigEndian {}, &BIG);
-    assert_read_of_buffer(&rt, alloc, Endianness::LittleEndian, &LITTLE);
     assert_read_of_buffer(&rt, alloc, Endianness::BigEndian, &BIG);
 }
 
 #[test]
 fn ranges_of_a_reader_are_whole(rt: HostRuntime) {
     let alloc = rt.alloc();
-    assert_read_by_reader(&rt, alloc, LittleEndian {}, &LITTLE);
     assert_read_by_reader(&rt, alloc, BigEndian {}, &BIG);
     assert_read_by_reader(&rt, alloc, Endianness::LittleEndian, &LITTLE);
-    assert_read_by_reader(&rt, alloc, Endianness::BigEndian, &BIG);
-}
-
-#[test]
-fn ranges_that_are_read_with_no_context_are_whole(rt: HostRuntime) {
-    let outcome = <Numbers as Readable<LittleEndian>>::read_from_buffer(rt.alloc(), &LITTLE);
-    assert_whole(&rt, rt.alloc(), outcome);
-    let (outcome, count) = <Numbers as Readable<LittleEndian>>::read_with_length_from_buffer(
-        rt.alloc(),
-        &LITTLE,
-    );
-    assert_whole(&rt, rt.alloc(), outcome);
-    assert_same(&rt, count, 4);
 }
 
 #[test]

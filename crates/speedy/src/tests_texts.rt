@@ -1,7 +1,6 @@
 //! Texts of each kind. The bytes come from outside.
 use crate::asserting::{assert_encoding, make_text, make_vec, row};
 use std::alloc::Global;
-use std::boxed::BoxedStr;
 use std::process::Abort;
 
 /// A text of 5,000 bytes.
@@ -40,21 +39,6 @@ fn texts_lie_after_their_counts(rt: HostRuntime) {
             row!(make_text(&rt, alloc, ""), [0, 0, 0, 0], [0, 0, 0, 0]),
             (long, &little, &big),
         ],
-    );
-}
-
-#[test]
-fn boxed_texts_lie_as_texts(rt: HostRuntime) {
-    let text = BoxedStr::from_str(rt.alloc(), "Hello").expect(&rt, "a text");
-    assert_encoding(
-        &rt,
-        rt.alloc(),
-        4,
-        &[row!(
-            text,
-            [5, 0, 0, 0, 72, 101, 108, 108, 111],
-            [0, 0, 0, 5, 72, 101, 108, 108, 111]
-        )],
     );
 }
 

@@ -14,6 +14,8 @@ pub mod run;
 #[cfg(test)]
 mod tests;
 #[cfg(test)]
+mod tests_callers;
+#[cfg(test)]
 mod tests_rows;
 
 pub use answer::answer_line;

@@ -44,7 +44,7 @@ fn assert_strict_answers(rt: &impl Abort, alloc: Global, rows: &[(&str, &str)]) 
 }
 
 /// Unsigned numbers.
-const UNSIGNED: [(&str, &str); 6] = [
+const UNSIGNED: [(&str, &str); 9] = [
     ("be u8 21", "ok 1 21\n"),
     ("be u32 00000021", "ok 4 00000021\n"),
     ("le u64 2100000000000000ff", "ok 8 2100000000000000\n"),
@@ -54,10 +54,13 @@ const UNSIGNED: [(&str, &str); 6] = [
     ),
     ("be usize 0000000000000021", "ok 8 0000000000000021\n"),
     ("le varint 8000", "ok 2 00\n"),
+    ("le u32 21000000", "ok 4 21000000\n"),
+    ("be u64 0000000000000021", "ok 8 0000000000000021\n"),
+    ("le usize 2100000000000000", "ok 8 2100000000000000\n"),
 ];
 
-/// Signed numbers, and those that are not 0.
-const SIGNED: [(&str, &str); 8] = [
+/// Signed numbers.
+const SIGNED: [(&str, &str); 9] = [
     ("le i8 DF", "ok 1 df\n"),
     ("be i16 ffdf", "ok 2 ffdf\n"),
     ("le i32 dfffffff", "ok 4 dfffffff\n"),
@@ -66,13 +69,27 @@ const SIGNED: [(&str, &str); 8] = [
         "le i128 dfffffffffffffffffffffffffffffff",
         "ok 16 dfffffffffffffffffffffffffffffff\n",
     ),
+    ("be i8 df", "ok 1 df\n"),
+    ("le i16 0080", "ok 2 0080\n"),
+    ("be i32 ffffffdf", "ok 4 ffffffdf\n"),
+    (
+        "be i128 ffffffffffffffffffffffffffffffdf",
+        "ok 16 ffffffffffffffffffffffffffffffdf\n",
+    ),
+];
+
+/// Numbers that are not 0.
+const NON_ZERO: [(&str, &str); 6] = [
     ("le nonzero_u8 ff", "ok 1 ff\n"),
     ("le nonzero_u16 0000", "refused ZeroNonZero\n"),
     ("be nonzero_i32 fffffffe", "ok 4 fffffffe\n"),
+    ("le nonzero_u8 00", "refused ZeroNonZero\n"),
+    ("le nonzero_i32 21000000", "ok 4 21000000\n"),
+    ("be nonzero_i32 00000000", "refused ZeroNonZero\n"),
 ];
 
 /// Flags, characters, nothing, byte orders, durations and UUIDs.
-const LEAVES: [(&str, &str); 9] = [
+const LEAVES: [(&str, &str); 10] = [
     ("le bool 07", "ok 1 01\n"),
     ("le char 00d80000", "refused InvalidChar\n"),
     ("be char 000059b9", "ok 4 000059b9\n"),
@@ -91,10 +108,14 @@ const LEAVES: [(&str, &str); 9] = [
         "le duration ffffffffffffffff00ca9a3b",
         "refused InvalidSystemTime\n",
     ),
+    (
+        "le uuid 00112233445566778899aabbccddeeff",
+        "ok 16 00112233445566778899aabbccddeeff\n",
+    ),
 ];
 
 /// Addresses.
-const ADDRESSES: [(&str, &str); 6] = [
+const ADDRESSES: [(&str, &str); 7] = [
     ("le ipv4 0100007f", "ok 4 0100007f\n"),
     (
         "be ipv6 2001072015000001000000000000a100",
@@ -104,10 +125,11 @@ const ADDRESSES: [(&str, &str); 6] = [
     ("le ip 0101000000", "refused UnexpectedEndOfInput\n"),
     ("le ip 02", "refused InputBufferIsTooSmall 1 5\n"),
     ("le ip 0200000000", "refused InvalidEnumVariant\n"),
+    ("be ipv4 7f000001", "ok 4 7f000001\n"),
 ];
 
 /// Values that are one part after another.
-const COMPOSED: [(&str, &str); 8] = [
+const COMPOSED: [(&str, &str); 10] = [
     ("le opt_u16 070500ff", "ok 3 010500\n"),
     ("le res_u16_u8 0009", "ok 2 0009\n"),
     ("le range_u16 0a000b00", "ok 4 0a000b00\n"),
@@ -124,6 +146,11 @@ const COMPOSED: [(&str, &str); 8] = [
     (
         "le array_u16_4 01000200030004",
         "refused InputBufferIsTooSmall 7 8\n",
+    ),
+    ("be res_u16_u8 01000a", "ok 3 01000a\n"),
+    (
+        "le tuple_u8_u16_u32 01020003000000",
+        "ok 7 01020003000000\n",
     ),
 ];
 
@@ -280,6 +307,7 @@ fn unsigned_numbers_are_answered(rt: HostRuntime) {
 #[test]
 fn signed_numbers_are_answered(rt: HostRuntime) {
     assert_answers(&rt, rt.alloc(), &SIGNED);
+    assert_answers(&rt, rt.alloc(), &NON_ZERO);
 }
 
 #[test]
@@ -322,6 +350,7 @@ fn strict_orders_are_answered(rt: HostRuntime) {
 fn strict_orders_answer_written_forms_alone(rt: HostRuntime) {
     assert_strict_answers(&rt, rt.alloc(), &UNSIGNED);
     assert_strict_answers(&rt, rt.alloc(), &SIGNED);
+    assert_strict_answers(&rt, rt.alloc(), &NON_ZERO);
     assert_strict_answers(&rt, rt.alloc(), &LEAVES);
     assert_strict_answers(&rt, rt.alloc(), &ADDRESSES);
     assert_strict_answers(&rt, rt.alloc(), &COMPOSED);
