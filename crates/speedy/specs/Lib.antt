@@ -1,7 +1,7 @@
 -- The definitions that the contracts of the calls cite, and the lemmas that proofs about types of one's own cite.
 pub use Rattle.speedy_base.specs.Device
 pub use Rattle.speedy_base.specs.DeviceLemmas
-pub use Rattle.speedy_base.specs.Devices
+pub use Rattle.speedy_base.specs.MemoryDevices
 pub use Rattle.speedy_base.specs.Digits
 pub use Rattle.speedy_base.specs.DigitsLemmas
 pub use Rattle.speedy_base.specs.Encoding
@@ -14,14 +14,14 @@ pub use Rattle.speedy_base.specs.SignedLemmas
 pub use Rattle.speedy_layout.specs.Adding
 pub use Rattle.speedy_layout.specs.Addresses
 pub use Rattle.speedy_layout.specs.Codes
-pub use Rattle.speedy_layout.specs.CollectedIndexes
-pub use Rattle.speedy_layout.specs.CollectedMaps
-pub use Rattle.speedy_layout.specs.CollectedSets
+pub use Rattle.speedy_layout.specs.IndexMaps
+pub use Rattle.speedy_layout.specs.StdMaps
+pub use Rattle.speedy_layout.specs.StdSets
 pub use Rattle.speedy_layout.specs.Flags
 pub use Rattle.speedy_layout.specs.Format
-pub use Rattle.speedy_layout.specs.Gathered
+pub use Rattle.speedy_layout.specs.GatheredLemmas
 pub use Rattle.speedy_layout.specs.Gathering
-pub use Rattle.speedy_layout.specs.Keys
+pub use Rattle.speedy_layout.specs.Equality
 pub use Rattle.speedy_layout.specs.Laws
 pub use Rattle.speedy_layout.specs.Leaves
 pub use Rattle.speedy_layout.specs.Lists
@@ -31,8 +31,8 @@ pub use Rattle.speedy_layout.specs.NonZero
 pub use Rattle.speedy_layout.specs.Numbers
 pub use Rattle.speedy_layout.specs.Orders
 pub use Rattle.speedy_layout.specs.Owned
-pub use Rattle.speedy_layout.specs.SameKeys
-pub use Rattle.speedy_layout.specs.SeenKeys
+pub use Rattle.speedy_layout.specs.EqualityOfMaps
+pub use Rattle.speedy_layout.specs.SeenItems
 pub use Rattle.speedy_layout.specs.Sequences
 pub use Rattle.speedy_layout.specs.Sets
 pub use Rattle.speedy_layout.specs.Texts
@@ -45,21 +45,21 @@ pub use Rattle.speedy_layout.specs.Zigzag
 pub use Rattle.speedy_read.specs.Buffers
 pub use Rattle.speedy_read.specs.Codes as ReadCodes
 pub use Rattle.speedy_read.specs.Collections as ReadCollections
-pub use Rattle.speedy_read.specs.CopyingView
-pub use Rattle.speedy_read.specs.Exits
+pub use Rattle.speedy_read.specs.CopyingModel
 pub use Rattle.speedy_read.specs.Flags as ReadFlags
 pub use Rattle.speedy_read.specs.Lending
-pub use Rattle.speedy_read.specs.OwnedView
+pub use Rattle.speedy_read.specs.OwnedModel
 pub use Rattle.speedy_read.specs.Reading
 pub use Rattle.speedy_read.specs.ReadingLemmas
 pub use Rattle.speedy_read.specs.RoundTrip
 pub use Rattle.speedy_read.specs.Sequences as ReadSequences
-pub use Rattle.speedy_read.specs.StreamView
+pub use Rattle.speedy_read.specs.StreamModel
 pub use Rattle.speedy_read.specs.Streams
+pub use Rattle.speedy_read.specs.WaysOfReading
 pub use Rattle.speedy_write.specs.Codes as WriteCodes
 pub use Rattle.speedy_write.specs.Collections as WriteCollections
 pub use Rattle.speedy_write.specs.CollectorLemmas
-pub use Rattle.speedy_write.specs.CollectorViews
+pub use Rattle.speedy_write.specs.CollectorModels
 pub use Rattle.speedy_write.specs.Collectors
 pub use Rattle.speedy_write.specs.Pushing
 pub use Rattle.speedy_write.specs.Sequences as WriteSequences

@@ -81,7 +81,7 @@ pub use reader::{LendingReader, Reader};
 pub use same_key::SameKey;
 pub use speedy_base::{circular_buffer, context, device, endianness, error};
 pub use speedy_layout::{layout, same_key, varint, view_items, views};
-pub use speedy_read::{buffer, collections, lent, readable, reader};
+pub use speedy_read::{buffer, collections, lent, many, readable, reader};
 pub use speedy_write::{writable, writer};
 pub use writable::Writable;
 pub use writer::Writer;

@@ -76,9 +76,9 @@ fn items_are_gathered_by_their_type(rt: HostRuntime) {
     assert_same(&rt, items.as_slice(), &[2, 1, 2]);
 }
 
-/// Asserts that where the first of two items is no character, and the second one is missing, the first fault is
+/// Asserts that where the first of two items is no character, and the second one is missing, the first refusal is
 /// answered.
-fn assert_first_fault<F: FromItems<char>>(rt: &impl Abort, alloc: Global) {
+fn assert_first_refusal<F: FromItems<char>>(rt: &impl Abort, alloc: Global) {
     let mut reader = BufferReader::new(alloc, LittleEndian {}, &NO_CHARACTER[4..]);
     let outcome = reader.read_collection::<F, char>(2);
     assert_refused(rt, alloc, outcome, "InvalidChar");
@@ -99,8 +99,8 @@ const NO_KEY: [u8; 9] = [2, 0, 0, 0, 0, 0xd8, 0, 0, 7];
 #[test]
 fn the_first_fault_of_items_is_answered_before_their_end(rt: HostRuntime) {
     let alloc = rt.alloc();
-    assert_first_fault::<Vec<char>>(&rt, alloc);
-    assert_first_fault::<BTreeSet<char>>(&rt, alloc);
+    assert_first_refusal::<Vec<char>>(&rt, alloc);
+    assert_first_refusal::<BTreeSet<char>>(&rt, alloc);
     assert_first_fault_of_keys::<BTreeMap<char, u8>>(&rt, alloc);
 }
 

@@ -75,7 +75,7 @@ fn longer_integers_are_read_where_no_form_is_demanded(rt: HostRuntime) {
     assert_longer(&rt, alloc, Endianness::LittleEndian, &LONGER);
 }
 
-/// Parts that begin with a flag. The last one has a fault of its own.
+/// Parts that begin with a flag. The last one may be malformed itself.
 type Flagged = (bool, Option<u16>, Result<u16, Endianness>);
 
 /// Asserts that each of the spellings is read as the context demands.

@@ -32,9 +32,11 @@ pub grown : (error : StdIoError) (old new : Faults) → OneFailed error old new 
 grown error old new h = one_more_grew old.count new.count h.0
 
 -- so what became of its error is that of a fault, whether it is told which one or not
-pub failed_call : {E : Type 0} (gives : Error → E → Type 0) (tells : Bool) (error : StdIoError) (e : E) (old new : Faults) → OneFailed error old new → IsErrorOf gives error e → IsOfFault gives tells e old new
+pub failed_call : {E : Type 0} (gives : Error → E → Type 0) (tells : Bool) (error : StdIoError) (e : E) (old new : Faults)
+    → OneFailed error old new → IsErrorOf gives error e → IsOfFault gives tells e old new
 failed_call gives tells error e old new h is = (grown error old new h, λ _. (error, h, is))
 
 -- the fault of a later part is one of the whole, where no call failed before
-pub fault_after : {E : Type 0} (gives : Error → E → Type 0) (tells : Bool) (e : E) (old mid new : Faults) → mid ≡ old → IsOfFault gives tells e mid new → IsOfFault gives tells e old new
+pub fault_after : {E : Type 0} (gives : Error → E → Type 0) (tells : Bool) (e : E) (old mid new : Faults) → mid ≡ old
+    → IsOfFault gives tells e mid new → IsOfFault gives tells e old new
 fault_after gives tells e old mid new same h = subst (λ (f : Faults). IsOfFault gives tells e f new) same h

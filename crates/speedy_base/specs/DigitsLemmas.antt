@@ -60,7 +60,8 @@ from_low_first (suc k) (b ∷ bs) e =
     ∙ sum_times (λ i. byte_worth i (slice_index bs i)) 256 k
     ∙ ap (λ (n : ℕ). 256 * n) (from_low_first k bs (omega arith)))
 
-from_high_first : (k : ℕ) (bytes : List ℕ) → length bytes ≡ suc k → sum_through (λ i. byte_worth (k - i) (slice_index bytes i)) k ≡ little_number (reverse bytes)
+from_high_first : (k : ℕ) (bytes : List ℕ) → length bytes ≡ suc k
+    → sum_through (λ i. byte_worth (k - i) (slice_index bytes i)) k ≡ little_number (reverse bytes)
 from_high_first zero [] e = absurd (omega arith)
 from_high_first zero (b ∷ []) e = omega arith
 from_high_first zero (b ∷ c ∷ bs) e = absurd (omega arith)
@@ -129,11 +130,6 @@ AreBytes-each (b ∷ bs) h = (h 0, AreBytes-each bs (λ i. h (suc i)))
 -- from what the type of a slice of bytes says of its items
 pub AreBytes-slice : (bytes : List ℕ) → ((i : ℕ) → Fits w8 (get_or bytes i 0)) → AreBytes bytes
 AreBytes-slice bytes h = AreBytes-each bytes (λ i. omega (arith, h i))
-
-pub AreBytes-get_or : (bytes : List ℕ) → AreBytes bytes → (i : ℕ) → get_or bytes i 0 < 256
-AreBytes-get_or [] h i = omega arith
-AreBytes-get_or (b ∷ bs) h zero = h.0
-AreBytes-get_or (b ∷ bs) h (suc i) = AreBytes-get_or bs h.1 i
 
 pub AreBytes-append : (xs ys : List ℕ) → AreBytes xs → AreBytes ys → AreBytes (xs ++ ys)
 AreBytes-append [] ys g h = h
@@ -217,11 +213,13 @@ pub SpellsNumber-unique : (width : ℕ) (order : Endianness) (n : ℕ) (bytes : 
 SpellsNumber-unique width order n bytes s = sym (digits-number order bytes s.are_bytes) ∙ ap₂ (digits order) s.width_is s.value_is
 
 -- the same bytes spell one number
-pub SpellsNumber-same_value : (width : ℕ) (order : Endianness) (m n : ℕ) (bytes : List ℕ) → SpellsNumber width order m bytes → SpellsNumber width order n bytes → m ≡ n
+pub SpellsNumber-same_value : (width : ℕ) (order : Endianness) (m n : ℕ) (bytes : List ℕ) → SpellsNumber width order m bytes
+    → SpellsNumber width order n bytes → m ≡ n
 SpellsNumber-same_value width order m n bytes s t = sym s.value_is ∙ t.value_is
 
 -- the same number has one spelling
-pub SpellsNumber-same_bytes : (width : ℕ) (order : Endianness) (n : ℕ) (xs ys : List ℕ) → SpellsNumber width order n xs → SpellsNumber width order n ys → xs ≡ ys
+pub SpellsNumber-same_bytes : (width : ℕ) (order : Endianness) (n : ℕ) (xs ys : List ℕ) → SpellsNumber width order n xs
+    → SpellsNumber width order n ys → xs ≡ ys
 SpellsNumber-same_bytes width order n xs ys s t = SpellsNumber-unique width order n xs s ∙ sym (SpellsNumber-unique width order n ys t)
 
 pub SpellsNumber-below : (width : ℕ) (order : Endianness) (n : ℕ) (bytes : List ℕ) → SpellsNumber width order n bytes → n < 256 ^ width
@@ -253,7 +251,8 @@ pow-byte_len w64 = refl
 pow-byte_len w128 = refl
 
 -- a number that was read from a slice, byte by byte
-pub SpellsNumber-from_le_bytes : (w : Width) (order : Endianness) (n : ℕ) (bytes items : List ℕ) → order ≡ LittleEndian → items ≡ bytes → length bytes ≡ byte_len w → AreBytes bytes → n ≡ from_le_bytes w items → SpellsNumber (byte_len w) order n bytes
+pub SpellsNumber-from_le_bytes : (w : Width) (order : Endianness) (n : ℕ) (bytes items : List ℕ) → order ≡ LittleEndian → items ≡ bytes
+    → length bytes ≡ byte_len w → AreBytes bytes → n ≡ from_le_bytes w items → SpellsNumber (byte_len w) order n bytes
 unfolding number
 SpellsNumber-from_le_bytes w order n bytes items is same len are e = record {
   width_is = len;
@@ -261,7 +260,8 @@ SpellsNumber-from_le_bytes w order n bytes items is same len are e = record {
   value_is = ap (λ (o : Endianness). number o bytes) is ∙ sym (e ∙ ap (from_le_bytes w) same ∙ little_number-from_le_bytes w bytes len);
 }
 
-pub SpellsNumber-from_be_bytes : (w : Width) (order : Endianness) (n : ℕ) (bytes items : List ℕ) → order ≡ BigEndian → items ≡ bytes → length bytes ≡ byte_len w → AreBytes bytes → n ≡ from_be_bytes w items → SpellsNumber (byte_len w) order n bytes
+pub SpellsNumber-from_be_bytes : (w : Width) (order : Endianness) (n : ℕ) (bytes items : List ℕ) → order ≡ BigEndian → items ≡ bytes
+    → length bytes ≡ byte_len w → AreBytes bytes → n ≡ from_be_bytes w items → SpellsNumber (byte_len w) order n bytes
 unfolding number
 SpellsNumber-from_be_bytes w order n bytes items is same len are e = record {
   width_is = len;
@@ -270,12 +270,14 @@ SpellsNumber-from_be_bytes w order n bytes items is same len are e = record {
 }
 
 -- a number of the type, written
-pub SpellsNumber-to_le_bytes : (w : Width) (order : Endianness) (n : ℕ) (bytes : List ℕ) → order ≡ LittleEndian → n < 2 ^ bits w → bytes ≡ to_le_bytes w n → SpellsNumber (byte_len w) order n bytes
+pub SpellsNumber-to_le_bytes : (w : Width) (order : Endianness) (n : ℕ) (bytes : List ℕ) → order ≡ LittleEndian → n < 2 ^ bits w
+    → bytes ≡ to_le_bytes w n → SpellsNumber (byte_len w) order n bytes
 unfolding digits
 SpellsNumber-to_le_bytes w order n bytes is l e =
     subst₂ (λ (o : Endianness) (bs : List ℕ). SpellsNumber (byte_len w) o n bs) (sym is) (sym (e ∙ to_le_bytes-little_digits w n)) (SpellsNumber-digits (byte_len w) LittleEndian n (subst (λ (m : ℕ). n < m) (pow-byte_len w) l))
 
-pub SpellsNumber-to_be_bytes : (w : Width) (order : Endianness) (n : ℕ) (bytes : List ℕ) → order ≡ BigEndian → n < 2 ^ bits w → bytes ≡ to_be_bytes w n → SpellsNumber (byte_len w) order n bytes
+pub SpellsNumber-to_be_bytes : (w : Width) (order : Endianness) (n : ℕ) (bytes : List ℕ) → order ≡ BigEndian → n < 2 ^ bits w
+    → bytes ≡ to_be_bytes w n → SpellsNumber (byte_len w) order n bytes
 unfolding digits
 SpellsNumber-to_be_bytes w order n bytes is l e =
     subst₂ (λ (o : Endianness) (bs : List ℕ). SpellsNumber (byte_len w) o n bs) (sym is) (sym (e ∙ to_be_bytes-little_digits w n)) (SpellsNumber-digits (byte_len w) BigEndian n (subst (λ (m : ℕ). n < m) (pow-byte_len w) l))

@@ -1,5 +1,6 @@
 -- Refusals, seen by their kinds.
-use Rattle.std.specs.Prelude.{◌≡◌, ℕ, List, Bool}
+use Rattle.std.specs.Prelude.{◌≡◌, ℕ, List, Bool, Result, Ok, Err, IsErrAnd}
+use Rattle.std.proofs.Common.{sym, ap}
 use Rattle.std.specs.String.{string_bytes}
 use Rattle.std.specs.declared.io.Error.{Error as StdIoError}
 use Rattle.speedy_base.specs.declared.error.ErrorKind.{ErrorKind}
@@ -31,10 +32,16 @@ IsIoErrorOf error (kinds.IoError boxed) = boxed.value ≡ error
 IsIoErrorOf error kinds.OutOfMemory = Unit {0}
 IsIoErrorOf error _ = ⊥
 
+-- a refusal that `?` passes on as it is
+pub passed_on : {T E : Type 0} (result : Result T E) (e : E) → IsErrAnd result (λ x. x ≡ e) → Err e ≡ result
+passed_on (Ok t) e h = absurd h
+passed_on (Err x) e h = ap (λ y. Err y) (sym h)
+
 -- an error that a refusal of a named kind became
 abbrev pub IsNamed : {E : Type 0} → (Error → E → Type 0) → (ErrorKind → Type 0) → E → Type 0
 IsNamed gives names e = (kind : ErrorKind) × names kind × gives (error_of kind) e
 
 -- what is of a named kind is of one that more names have
-pub IsNamed-more : {E : Type 0} (gives : Error → E → Type 0) {names more : ErrorKind → Type 0} (e : E) → ((kind : ErrorKind) → names kind → more kind) → IsNamed gives names e → IsNamed gives more e
+pub IsNamed-more : {E : Type 0} (gives : Error → E → Type 0) {names more : ErrorKind → Type 0} (e : E)
+    → ((kind : ErrorKind) → names kind → more kind) → IsNamed gives names e → IsNamed gives more e
 IsNamed-more gives e f n = (n.0, f n.0 n.1, n.2)

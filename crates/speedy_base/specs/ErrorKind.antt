@@ -49,7 +49,7 @@ text_of (kinds.IoError e) = None
 text_of kinds.OutOfMemory = Some (codes "out of memory")
 text_of (kinds.Custom text) = Some (string_bytes text)
 
--- the kind of the `io::Error` that a refusal becomes: an end is `UnexpectedEof`, a fault of the bytes `InvalidData`
+-- the kind of the `io::Error` that a refusal becomes: an end is `UnexpectedEof`, bytes that are refused `InvalidData`
 abbrev pub io_kind_of : ErrorKind → IoKind
 io_kind_of kinds.UnexpectedEndOfInput = UnexpectedEof
 io_kind_of kinds.UnexpectedEndOfOutputBuffer = UnexpectedEof

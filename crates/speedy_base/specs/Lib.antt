@@ -1,6 +1,6 @@
 pub mod Device
 pub mod DeviceLemmas
-pub mod Devices
+pub mod MemoryDevices
 pub mod Digits
 pub mod FailedCalls
 pub mod DigitsLemmas

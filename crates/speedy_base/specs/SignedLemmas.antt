@@ -16,14 +16,16 @@ fits : (w : Width) (order : Endianness) (n : ℕ) (bytes : List ℕ) → SpellsN
 fits w order n bytes s = record { fits = subst (λ (m : ℕ). n < m) (sym (pow-byte_len w)) (SpellsNumber-below (byte_len w) order n bytes s) }
 
 -- the signed number of the same bits has the same spelling
-pub SpellsSigned-cast_signed : (w : Width) (order : Endianness) (n : ℕ) (bytes : List ℕ) → SpellsNumber (byte_len w) order n bytes → SpellsSigned w order (cast_signed w n) bytes
+pub SpellsSigned-cast_signed : (w : Width) (order : Endianness) (n : ℕ) (bytes : List ℕ) → SpellsNumber (byte_len w) order n bytes
+    → SpellsSigned w order (cast_signed w n) bytes
 SpellsSigned-cast_signed w order n bytes s = record {
   range = to_z-Fits w n (fits w order n bytes s);
   digits = subst (λ (m : ℕ). SpellsNumber (byte_len w) order m bytes) (sym (of_z-to_z w n (fits w order n bytes s))) s;
 }
 
 -- and so where a function answers it
-pub SpellsSigned-answered : (w : Width) (order : Endianness) (n : ℕ) (z : ℤ) (bytes : List ℕ) → z ≡ cast_signed w n → SpellsNumber (byte_len w) order n bytes → SpellsSigned w order (cast_signed w (cast_unsigned w z)) bytes
+pub SpellsSigned-answered : (w : Width) (order : Endianness) (n : ℕ) (z : ℤ) (bytes : List ℕ) → z ≡ cast_signed w n
+    → SpellsNumber (byte_len w) order n bytes → SpellsSigned w order (cast_signed w (cast_unsigned w z)) bytes
 SpellsSigned-answered w order n z bytes e s =
     let same : cast_unsigned w z ≡ n = ap (cast_unsigned w) e ∙ of_z-to_z w n (fits w order n bytes s) in
     subst (λ (m : ℕ). SpellsSigned w order (cast_signed w m) bytes) (sym same) (SpellsSigned-cast_signed w order n bytes s)
@@ -33,7 +35,8 @@ pub cast_unsigned-same : (w : Width) (y z : ℤ) → FitsSigned w y → FitsSign
 cast_unsigned-same w y z f g e = sym (to_z-of_z w y f) ∙ (ap (cast_signed w) e ∙ to_z-of_z w z g)
 
 -- the same bytes spell one number
-pub SpellsSigned-same_value : (w : Width) (order : Endianness) (y z : ℤ) (bytes : List ℕ) → SpellsSigned w order y bytes → SpellsSigned w order z bytes → y ≡ z
+pub SpellsSigned-same_value : (w : Width) (order : Endianness) (y z : ℤ) (bytes : List ℕ) → SpellsSigned w order y bytes
+    → SpellsSigned w order z bytes → y ≡ z
 SpellsSigned-same_value w order y z bytes s t = cast_unsigned-same w y z s.range t.range (SpellsNumber-same_value (byte_len w) order (cast_unsigned w y) (cast_unsigned w z) bytes s.digits t.digits)
 
 -- ---- std's reversal of a signed number's bytes
@@ -47,6 +50,8 @@ unfolding swapped_signed
 swapped_signed-swap_bytes w z = ap (cast_signed w) (swapped-swap_bytes w BigEndian (cast_unsigned w z) refl)
 
 -- and so where a function answers it
-pub swapped_signed-answered : (w : Width) (y z : ℤ) → FitsSigned w y → FitsSigned w z → y ≡ cast_signed w (swap_bytes w (cast_unsigned w (cast_signed w (cast_unsigned w z)))) → cast_signed w (cast_unsigned w y) ≡ swapped_signed BigEndian w z
+pub swapped_signed-answered : (w : Width) (y z : ℤ) → FitsSigned w y → FitsSigned w z
+    → y ≡ cast_signed w (swap_bytes w (cast_unsigned w (cast_signed w (cast_unsigned w z))))
+    → cast_signed w (cast_unsigned w y) ≡ swapped_signed BigEndian w z
 swapped_signed-answered w y z f g e =
     to_z-of_z w y f ∙ (e ∙ (ap (λ (x : ℤ). cast_signed w (swap_bytes w (cast_unsigned w x))) (to_z-of_z w z g) ∙ swapped_signed-swap_bytes w z))

@@ -4,7 +4,7 @@ ghost use Rattle.speedy_base.specs.FailedCalls.{OneFailed};
 ghost use Rattle.std.specs.IoError.{error_kind};
 ghost use Rattle.std.specs.Io.KnownBytes.{ReadConsumes, WriteAppends, Keeps};
 ghost use Rattle.speedy_base.specs.Device.{SourceState, SinkState, Pulls, Pushes, Flushes};
-ghost use Rattle.speedy_base.specs.Devices.{bytes_source, vec_sink_bytes, vec_sink_faults, vec_sink_state, counted_inner, counted_faults, counted_settled, counted_source, counted_sink, no_faults};
+ghost use Rattle.speedy_base.specs.MemoryDevices.{bytes_source, vec_sink_bytes, vec_sink_faults, vec_sink_state, counted_inner, counted_faults, counted_settled, counted_source, counted_sink, no_faults};
 
 use std::alloc::Global;
 use std::io::{self, ErrorKind, Read, Write};

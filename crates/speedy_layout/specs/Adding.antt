@@ -19,11 +19,11 @@ use Rattle.std.specs.HashMap.{HashMap}
 use Rattle.std.specs.BTreeSet.{BTreeSet}
 use Rattle.std.specs.HashSet.{HashSet}
 use Rattle.speedy_layout.specs.Members.{IsIn, AreDistinct, Ascends, IsIn-left, IsIn-right, IsIn-either, IsIn-key, IsIn-pair}
-use Rattle.speedy_layout.specs.Keys.{TellsApart}
-use Rattle.speedy_layout.specs.SeenKeys.{IsLess, less_is_seen, lt_is_less}
+use Rattle.speedy_layout.specs.Equality.{TellsApart}
+use Rattle.speedy_layout.specs.SeenItems.{IsLess, less_is_seen, lt_is_less, item_seen}
 use Rattle.speedy_layout.specs.Maps.{seen_pair, by_key, HasDistinctKeys}
-use Rattle.speedy_layout.specs.CollectedMaps.{seen_pairs, keys_seen, pair_seen}
-use Rattle.speedy_layout.specs.CollectedSets.{member_seen, item_seen}
+use Rattle.speedy_layout.specs.StdMaps.{seen_pairs, keys_seen}
+use Rattle.speedy_layout.specs.StdSets.{member_seen}
 
 -- ---- lists that are written
 
@@ -50,7 +50,8 @@ module _ {X : Type 0} where
   Ascends-first less (x ∷ xs) ys h = (λ y s. h.0 y (IsIn-left y xs ys s), Ascends-first less xs ys h.1)
 
   -- items that ascend do so still with one after them that they are less than
-  pub Ascends-one_more : (less : X → X → Type 0) (xs : List X) (x : X) → Ascends less xs → ((y : X) → IsIn y xs → less y x) ↔ Ascends less (xs ++ x ∷ [])
+  pub Ascends-one_more : (less : X → X → Type 0) (xs : List X) (x : X) → Ascends less xs
+      → ((y : X) → IsIn y xs → less y x) ↔ Ascends less (xs ++ x ∷ [])
   Ascends-one_more less [] x a = (λ h. (λ y n. absurd n, tt), λ h y n. absurd n)
   Ascends-one_more less (y ∷ xs) x a =
       let rest = Ascends-one_more less xs x a.1 in (
@@ -112,7 +113,8 @@ module _ {T A B : Type 0} (seen : T → A × B) where
 -- ---- `HashMap` and `IndexMap`
 
 module _ {K V A B : Type 0} {seen : K → A} {eq : K → K → Bool} (value : V → B) (same_key : TellsApart eq seen) where
-  one_more_key : (items : List (K × V)) (e : K × V) → HasDistinctKeys (seen_pairs seen value items) → (IsIn (seen e.0) (keys_of (seen_pairs seen value items)) → ⊥) ↔ HasDistinctKeys (seen_pairs seen value (items ++ e ∷ []))
+  one_more_key : (items : List (K × V)) (e : K × V) → HasDistinctKeys (seen_pairs seen value items)
+      → (IsIn (seen e.0) (keys_of (seen_pairs seen value items)) → ⊥) ↔ HasDistinctKeys (seen_pairs seen value (items ++ e ∷ []))
   one_more_key items e d =
       let last : seen_pairs seen value (e ∷ []) ≡ (seen e.0, value e.1) ∷ [] = refl in
       let keys : keys_of (seen_pairs seen value (items ++ e ∷ [])) ≡ keys_of (seen_pairs seen value items) ++ seen e.0 ∷ []
@@ -121,7 +123,8 @@ module _ {K V A B : Type 0} {seen : K → A} {eq : K → K → Bool} (value : V 
       (λ h. subst AreDistinct (sym keys) (more.0 h), λ h. more.1 (subst AreDistinct keys h))
 
   -- a key that a map has not is the one that may come next
-  pub hash_map_accepts : {H : Type 0} (items : List (K × V)) (m : HashMap K V H) (e : K × V) {found : Bool} → found ≡ is_some (hash_map.get eq m e.0) → hash_map.IsFromIterResult eq items m → HasDistinctKeys (seen_pairs seen value items)
+  pub hash_map_accepts : {H : Type 0} (items : List (K × V)) (m : HashMap K V H) (e : K × V) {found : Bool}
+      → found ≡ is_some (hash_map.get eq m e.0) → hash_map.IsFromIterResult eq items m → HasDistinctKeys (seen_pairs seen value items)
       → IsTrue (not found) ↔ HasDistinctKeys (seen_pairs seen value (items ++ e ∷ []))
   hash_map_accepts items m e {found = found} is h d =
       let key = inserted_key same_key value items e.0 in
@@ -133,7 +136,9 @@ module _ {K V A B : Type 0} {seen : K → A} {eq : K → K → Bool} (value : V 
 -- ---- `HashSet` and `IndexSet`
 
 -- an item that a set has not is the one that may come next
-pub hash_set_accepts : {T A H : Type 0} {seen : T → A} {eq : T → T → Bool} → TellsApart eq seen → (items : List T) (s : HashSet T H) (x : T) {found : Bool} → found ≡ hash_set.contains eq s x → hash_set.IsFromIterResult eq items s → AreDistinct (map seen items)
+pub hash_set_accepts : {T A H : Type 0} {seen : T → A} {eq : T → T → Bool} → TellsApart eq seen
+    → (items : List T) (s : HashSet T H) (x : T) {found : Bool} → found ≡ hash_set.contains eq s x → hash_set.IsFromIterResult eq items s
+    → AreDistinct (map seen items)
     → IsTrue (not found) ↔ AreDistinct (map seen (items ++ x ∷ []))
 hash_set_accepts {seen = seen} {eq = eq} same_key items s x {found = found} is h d =
     let member = member_seen seen same_key x items in
@@ -165,7 +170,8 @@ module _ {K A : Type 0} {seen : K → A} {cmp : K → K → Ordering} (same_key 
 -- ---- `BTreeMap`
 
 module _ {K V A B : Type 0} {seen : K → A} {cmp : K → K → Ordering} (value : V → B) (same_key : TellsApart (eq_by_cmp cmp) seen) (total : IsTotalOrder cmp) where
-  found_key : (items : List (K × V)) (m : BTreeMap K V) → tree_map.IsFromIterResult cmp items m → (q : K) → IsSome (tree_map.get cmp m q) ↔ IsIn (seen q) (keys_of (seen_pairs seen value items))
+  found_key : (items : List (K × V)) (m : BTreeMap K V) → tree_map.IsFromIterResult cmp items m → (q : K)
+      → IsSome (tree_map.get cmp m q) ↔ IsIn (seen q) (keys_of (seen_pairs seen value items))
   found_key items m h q =
       let key = inserted_key same_key value items q in
       (λ t. key.0 (ap is_some (sym (h.0 q)) ∙ t), λ s. ap is_some (h.0 q) ∙ key.1 s)
@@ -178,14 +184,16 @@ module _ {K V A B : Type 0} {seen : K → A} {cmp : K → K → Ordering} (value
       (λ h. subst (Ascends (by_key (IsLess seen cmp))) (sym last) (more.0 h), λ h. more.1 (subst (Ascends (by_key (IsLess seen cmp))) last h))
 
   -- a key that the last one of a map is less than is the one that may come next
-  pub tree_map_accepts : (items : List (K × V)) (m : BTreeMap K V) (e : K × V) (last : K) {w : V} {less : Bool} → less ≡ is_lt (cmp last e.0) → tree_map.get cmp m last ≡ Some w → tree_map.IsUpperBound cmp m last
-      → tree_map.IsFromIterResult cmp items m → Ascends (by_key (IsLess seen cmp)) (seen_pairs seen value items) → IsTrue less ↔ Ascends (by_key (IsLess seen cmp)) (seen_pairs seen value (items ++ e ∷ []))
+  pub tree_map_accepts : (items : List (K × V)) (m : BTreeMap K V) (e : K × V) (last : K) {w : V} {less : Bool}
+      → less ≡ is_lt (cmp last e.0) → tree_map.get cmp m last ≡ Some w → tree_map.IsUpperBound cmp m last
+      → tree_map.IsFromIterResult cmp items m → Ascends (by_key (IsLess seen cmp)) (seen_pairs seen value items)
+      → IsTrue less ↔ Ascends (by_key (IsLess seen cmp)) (seen_pairs seen value (items ++ e ∷ []))
   tree_map_accepts items m e last is there greatest h a =
       let more = one_more_pair items e a in (
         λ t.
             more.0
             (λ p s.
-            let x = pair_seen seen value p items s in
+            let x = item_seen (seen_pair seen value) p items s in
             let key : IsIn (seen x.0.0) (keys_of (seen_pairs seen value items)) = subst (λ k. IsIn k (keys_of (seen_pairs seen value items))) (ap (λ (q : A × B). q.0) x.1) (IsIn-key p (seen_pairs seen value items) s) in
             subst (λ k. IsLess seen cmp k (seen e.0)) (ap (λ (q : A × B). q.0) (sym x.1))
             (less_than_last same_key total x.0.0 last e.0 (greatest x.0.0 ((found_key items m h x.0.0).1 key)) (sym is ∙ t))),
@@ -195,11 +203,13 @@ module _ {K V A B : Type 0} {seen : K → A} {cmp : K → K → Ordering} (value
       )
 
   -- and any key where it has none
-  pub tree_map_accepts_first : (items : List (K × V)) (m : BTreeMap K V) (e : K × V) → (0 < tree_map.btree_map_len m → ⊥) → tree_map.IsFromIterResult cmp items m → Ascends (by_key (IsLess seen cmp)) (seen_pairs seen value items) → Ascends (by_key (IsLess seen cmp)) (seen_pairs seen value (items ++ e ∷ []))
+  pub tree_map_accepts_first : (items : List (K × V)) (m : BTreeMap K V) (e : K × V) → (0 < tree_map.btree_map_len m → ⊥)
+      → tree_map.IsFromIterResult cmp items m → Ascends (by_key (IsLess seen cmp)) (seen_pairs seen value items)
+      → Ascends (by_key (IsLess seen cmp)) (seen_pairs seen value (items ++ e ∷ []))
   tree_map_accepts_first items m e empty h a =
       (one_more_pair items e a).0
       (λ p s.
-      let x = pair_seen seen value p items s in
+      let x = item_seen (seen_pair seen value) p items s in
       let key : IsIn (seen x.0.0) (keys_of (seen_pairs seen value items)) = subst (λ k. IsIn k (keys_of (seen_pairs seen value items))) (ap (λ (q : A × B). q.0) x.1) (IsIn-key p (seen_pairs seen value items) s) in
       absurd (empty (found_some (eq_by_cmp cmp x.0.0) m.entries ((found_key items m h x.0.0).1 key))))
 
@@ -211,20 +221,24 @@ found_any test [] h = absurd (cc)
 found_any test (x ∷ xs) h = omega arith
 
 module _ {T A : Type 0} {seen : T → A} {cmp : T → T → Ordering} (same_key : TellsApart (eq_by_cmp cmp) seen) (total : IsTotalOrder cmp) where
-  found_item : (items : List T) (s : BTreeSet T) → tree_set.IsFromIterResult cmp items s → (q : T) → IsTrue (tree_set.contains cmp s q) ↔ IsIn (seen q) (map seen items)
+  found_item : (items : List T) (s : BTreeSet T) → tree_set.IsFromIterResult cmp items s → (q : T)
+      → IsTrue (tree_set.contains cmp s q) ↔ IsIn (seen q) (map seen items)
   found_item items s h q =
       let member = member_seen seen same_key q items in
       (λ t. member.0 (sym (h.0 q) ∙ t), λ i. h.0 q ∙ member.1 i)
 
-  one_more_item : (items : List T) (x : T) → Ascends (IsLess seen cmp) (map seen items) → ((a : A) → IsIn a (map seen items) → IsLess seen cmp a (seen x)) ↔ Ascends (IsLess seen cmp) (map seen (items ++ x ∷ []))
+  one_more_item : (items : List T) (x : T) → Ascends (IsLess seen cmp) (map seen items)
+      → ((a : A) → IsIn a (map seen items) → IsLess seen cmp a (seen x)) ↔ Ascends (IsLess seen cmp) (map seen (items ++ x ∷ []))
   one_more_item items x a =
       let more = Ascends-one_more (IsLess seen cmp) (map seen items) (seen x) a in
       let last = map-append seen items (x ∷ []) in
       (λ h. subst (Ascends (IsLess seen cmp)) (sym last) (more.0 h), λ h. more.1 (subst (Ascends (IsLess seen cmp)) last h))
 
   -- an item that the last one of a set is less than is the one that may come next
-  pub tree_set_accepts : (items : List T) (s : BTreeSet T) (x last : T) {less : Bool} → less ≡ is_lt (cmp last x) → IsTrue (tree_set.contains cmp s last) → tree_set.IsUpperBound cmp s last
-      → tree_set.IsFromIterResult cmp items s → Ascends (IsLess seen cmp) (map seen items) → IsTrue less ↔ Ascends (IsLess seen cmp) (map seen (items ++ x ∷ []))
+  pub tree_set_accepts : (items : List T) (s : BTreeSet T) (x last : T) {less : Bool} → less ≡ is_lt (cmp last x)
+      → IsTrue (tree_set.contains cmp s last) → tree_set.IsUpperBound cmp s last
+      → tree_set.IsFromIterResult cmp items s → Ascends (IsLess seen cmp) (map seen items)
+      → IsTrue less ↔ Ascends (IsLess seen cmp) (map seen (items ++ x ∷ []))
   tree_set_accepts items s x last is there greatest h a =
       let more = one_more_item items x a in (
         λ t.
@@ -237,7 +251,9 @@ module _ {T A : Type 0} {seen : T → A} {cmp : T → T → Ordering} (same_key 
       )
 
   -- and any item where it has none
-  pub tree_set_accepts_first : (items : List T) (s : BTreeSet T) (x : T) → (0 < tree_set.btree_set_len s → ⊥) → tree_set.IsFromIterResult cmp items s → Ascends (IsLess seen cmp) (map seen items) → Ascends (IsLess seen cmp) (map seen (items ++ x ∷ []))
+  pub tree_set_accepts_first : (items : List T) (s : BTreeSet T) (x : T) → (0 < tree_set.btree_set_len s → ⊥)
+      → tree_set.IsFromIterResult cmp items s → Ascends (IsLess seen cmp) (map seen items)
+      → Ascends (IsLess seen cmp) (map seen (items ++ x ∷ []))
   tree_set_accepts_first items s x empty h a =
       (one_more_item items x a).0
       (λ b i.

@@ -12,8 +12,9 @@ use Rattle.speedy_base.specs.Encoding.{Encoding}
 use Rattle.speedy_layout.specs.Format.{Format}
 use Rattle.speedy_layout.specs.Laws.{Laws, Laws-less}
 use Rattle.speedy_layout.specs.Codes.{Code, IsCode, coding, coding_laws, exact_code, exact_is_code, one_kind}
-use Rattle.speedy_layout.specs.Flags.{Branch, variant, variant_laws, told_apart}
+use Rattle.speedy_layout.specs.Flags.{Branch, variant, variant_laws}
 use Rattle.speedy_layout.specs.Numbers.{unsigned_number, unsigned_number_laws}
+use Rattle.speedy_layout.specs.Sequences.{told_apart}
 
 -- octets, whose number has them as its digits, greatest first
 abbrev pub octets_code : ℕ → Code ℕ (List ℕ)

@@ -14,7 +14,7 @@ pub record Code (U V : Type 0) : Type 1 where
   -- the value is written as the code
   pub chosen : U → V → Type 0
   -- the kinds that a code which means no value is refused with
-  pub fault : ErrorKind → Type 0
+  pub refusals : ErrorKind → Type 0
 
 -- the bytes are those of a code that stands for the value
 pub record Coded {U V : Type 0} (spelled : U → List ℕ → Type 0) (stands_for : U → V → Type 0) (v : V) (bytes : List ℕ) : Type 0 where
@@ -47,17 +47,16 @@ pub record ReadsWider {U V : Type 0} (c : Code U V) : Type 0 where
 abbrev pub IsDemand : {U V : Type 0} → Bool → Code U V → ErrorKind → Type 0
 IsDemand strict c kind = IsTrue strict × (kind ≡ kinds.NotWrittenForm) × ReadsWider c
 
--- Values that are spelled as their codes. This alone reads wider than it writes, and here alone a demand for the written form narrows what is read.
+-- Values that are spelled as their codes. This alone reads wider than it writes, and here alone a demand for the
+-- written form narrows what is read.
 unfoldable pub coding : {U V : Type 0} → Encoding → Code U V → Format U → Format V
 coding encoding c F = record {
   spells = Coded F.spells (Accepts encoding.strict c);
   writes = Coded F.writes c.chosen;
-  names = λ kind. F.names kind ⊎ (c.fault kind ⊎ IsDemand encoding.strict c kind);
+  names = λ kind. F.names kind ⊎ (c.refusals kind ⊎ IsDemand encoding.strict c kind);
   refuses_writing = F.refuses_writing;
-  at_fault = λ bytes. F.at_fault bytes ⊎ MeansNothing F.spells (Accepts encoding.strict c) bytes;
-  needs_lending = F.needs_lending;
-  hashed = F.hashed;
-  takes_memory = F.takes_memory;
+  malformed = λ bytes. F.malformed bytes ⊎ MeansNothing F.spells (Accepts encoding.strict c) bytes;
+  asks = F.asks;
 }
 
 -- What makes a code of values of a format lawful.
@@ -65,17 +64,18 @@ pub record IsCode {U V : Type 0} (c : Code U V) (F : Format U) : Type 0 where
   -- a code means at most one value
   pub one_meaning : (u : U) (v w : V) → c.means u v → c.means u w → v ≡ w
   -- at most one code is chosen for a value, where nothing is hashed
-  pub one_chosen : F.hashed ≡ false → (u w : U) (v : V) → c.chosen u v → c.chosen w v → u ≡ w
+  pub one_chosen : F.asks.hashed ≡ false → (u w : U) (v : V) → c.chosen u v → c.chosen w v → u ≡ w
   -- and it means the value
   pub chosen_means : (u : U) (v : V) → c.chosen u v → c.means u v
   -- one is chosen where the value has a spelling
   pub has_chosen : (v : V) (bytes : List ℕ) → Coded F.spells c.means v bytes → (b : List ℕ) × Coded F.spells c.chosen v b
   -- no spelling of the value is shorter than those of the chosen code that are written
   pub chosen_shortest : (v : V) (b d : List ℕ) → Coded F.writes c.chosen v b → Coded F.spells c.means v d → length b ≤ length d
-  pub fault_own : (kind : ErrorKind) → c.fault kind → IsOwnKind kind
+  pub refusals_own : (kind : ErrorKind) → c.refusals kind → IsOwnKind kind
 
 -- what is chosen is accepted
-pub Accepts-chosen : {U V : Type 0} (strict : Bool) (c : Code U V) (u : U) (v : V) → (c.chosen u v → c.means u v) → c.chosen u v → Accepts strict c u v
+pub Accepts-chosen : {U V : Type 0} (strict : Bool) (c : Code U V) (u : U) (v : V) → (c.chosen u v → c.means u v) → c.chosen u v
+    → Accepts strict c u v
 Accepts-chosen false c u v f h = f h
 Accepts-chosen true c u v f h = h
 
@@ -98,7 +98,8 @@ demand_own : {U V : Type 0} (strict : Bool) (c : Code U V) (kind : ErrorKind) �
 demand_own strict c kind h = subst IsOwnKind (sym h.1) tt
 
 -- the laws of values that are spelled as their codes
-pub coding_laws : {U V : Type 0} (encoding : Encoding) {c : Code U V} {least : ℕ} {F : Format U} → Laws encoding.strict least F → IsCode c F → Laws encoding.strict least (coding encoding c F)
+pub coding_laws : {U V : Type 0} (encoding : Encoding) {c : Code U V} {least : ℕ} {F : Format U} → Laws encoding.strict least F → IsCode c F
+    → Laws encoding.strict least (coding encoding c F)
 unfolding coding
 coding_laws {U = U} {V = V} encoding {c = c} {F = F} laws is = record {
   decodes = λ v w s t r q h k e.
@@ -115,14 +116,14 @@ coding_laws {U = U} {V = V} encoding {c = c} {F = F} laws is = record {
   one_written = λ u v b d h k.
       let same = is.one_chosen u h.code k.code v h.stands k.stands in
       laws.one_written u k.code b d (subst (λ (x : U). F.writes x b) same h.code_is) k.code_is;
-  fault_unspelled = λ v front rest f h.
+  malformed_unspelled = λ v front rest f h.
       elim f [
-        | inl x ↦ laws.fault_unspelled h.code front rest x h.code_is
+        | inl x ↦ laws.malformed_unspelled h.code front rest x h.code_is
         | inr x ↦
             let same = laws.decodes x.code h.code x.front front x.rest rest x.code_is h.code_is (sym x.whole_is) in
             x.nothing v (subst (λ (u : U). Accepts strict c u v) (sym same.0) h.stands)
       ];
-  names_own = λ kind n. elim n [ inl x ↦ laws.names_own kind x | inr x ↦ elim x [ inl y ↦ is.fault_own kind y | inr y ↦ demand_own strict c kind y ] ];
+  names_own = λ kind n. elim n [ inl x ↦ laws.names_own kind x | inr x ↦ elim x [ inl y ↦ is.refusals_own kind y | inr y ↦ demand_own strict c kind y ] ];
   refuses_own = laws.refuses_own;
 } where
   strict : Bool
@@ -138,47 +139,53 @@ coding_laws {U = U} {V = V} encoding {c = c} {F = F} laws is = record {
 
 -- each value is written as just what is read as it
 abbrev pub exact_code : {U V : Type 0} → (U → V → Type 0) → (ErrorKind → Type 0) → Code U V
-exact_code means fault = record { means = means; chosen = means; fault = fault }
+exact_code means refusals = record { means = means; chosen = means; refusals = refusals }
 
 -- a code that means a value is accepted as it under a demand too
-pub Accepts-exact : {U V : Type 0} (strict : Bool) (means : U → V → Type 0) (fault : ErrorKind → Type 0) (u : U) (v : V) → means u v → Accepts strict (exact_code means fault) u v
-Accepts-exact false means fault u v h = h
-Accepts-exact true means fault u v h = h
+pub Accepts-exact : {U V : Type 0} (strict : Bool) (means : U → V → Type 0) (refusals : ErrorKind → Type 0) (u : U) (v : V) → means u v
+    → Accepts strict (exact_code means refusals) u v
+Accepts-exact false means refusals u v h = h
+Accepts-exact true means refusals u v h = h
 
 -- and means it
-pub Accepts-exact_means : {U V : Type 0} (strict : Bool) (means : U → V → Type 0) (fault : ErrorKind → Type 0) (u : U) (v : V) → Accepts strict (exact_code means fault) u v → means u v
-Accepts-exact_means false means fault u v h = h
-Accepts-exact_means true means fault u v h = h
+pub Accepts-exact_means : {U V : Type 0} (strict : Bool) (means : U → V → Type 0) (refusals : ErrorKind → Type 0) (u : U) (v : V)
+    → Accepts strict (exact_code means refusals) u v → means u v
+Accepts-exact_means false means refusals u v h = h
+Accepts-exact_means true means refusals u v h = h
 
 -- that is lawful where a code means at most one value, and a value has at most one code
-pub exact_is_code : {U V : Type 0} {means : U → V → Type 0} {fault : ErrorKind → Type 0} → ((kind : ErrorKind) → fault kind → IsOwnKind kind) → ((u : U) (v w : V) → means u v → means u w → v ≡ w) → ((u w : U) (v : V) → means u v → means w v → u ≡ w)
-    → {strict : Bool} {least : ℕ} {F : Format U} → Laws strict least F → IsCode (exact_code means fault) F
+pub exact_is_code : {U V : Type 0} {means : U → V → Type 0} {refusals : ErrorKind → Type 0}
+    → ((kind : ErrorKind) → refusals kind → IsOwnKind kind) → ((u : U) (v w : V) → means u v → means u w → v ≡ w)
+    → ((u w : U) (v : V) → means u v → means w v → u ≡ w)
+    → {strict : Bool} {least : ℕ} {F : Format U} → Laws strict least F → IsCode (exact_code means refusals) F
 exact_is_code {U = U} own one_meaning one_code {F = F} laws = record {
   one_meaning = one_meaning;
   one_chosen = λ _. one_code;
   chosen_means = λ u v h. h;
   has_chosen = λ v b h. (b, h);
   chosen_shortest = λ v b d h k. laws.shortest h.code b d h.code_is (subst (λ (u : U). F.spells u d) (one_code k.code h.code v k.stands h.stands) k.code_is);
-  fault_own = own;
+  refusals_own = own;
 }
 
 -- what is said of one kind of a type's own
-pub one_kind : (fault : ErrorKind) → IsOwnKind fault → (kind : ErrorKind) → kind ≡ fault → IsOwnKind kind
-one_kind fault own kind e = subst IsOwnKind (sym e) own
+pub one_kind : (refusal : ErrorKind) → IsOwnKind refusal → (kind : ErrorKind) → kind ≡ refusal → IsOwnKind kind
+one_kind refusal own kind e = subst IsOwnKind (sym e) own
 
 -- ---- values that pass a test
 
 -- the values that pass the test, as they are
 abbrev pub subset_code : {V : Type 0} → (V → Type 0) → ErrorKind → Code V V
-subset_code pass fault = exact_code (λ u v. (u ≡ v) × pass v) (λ kind. kind ≡ fault)
+subset_code pass refusal = exact_code (λ u v. (u ≡ v) × pass v) (λ kind. kind ≡ refusal)
 
 -- the values of a format that pass the test; the others are refused with the one kind
 abbrev pub subset : {V : Type 0} → Encoding → (V → Type 0) → ErrorKind → Format V → Format V
-subset encoding pass fault F = coding encoding (subset_code pass fault) F
+subset encoding pass refusal F = coding encoding (subset_code pass refusal) F
 
-pub subset_is_code : {V : Type 0} (pass : V → Type 0) (fault : ErrorKind) → IsOwnKind fault → {strict : Bool} {least : ℕ} {F : Format V} → Laws strict least F → IsCode (subset_code pass fault) F
-subset_is_code pass fault own laws = exact_is_code (one_kind fault own) (λ u v w h k. sym h.0 ∙ k.0) (λ u v w h k. h.0 ∙ sym k.0) laws
+pub subset_is_code : {V : Type 0} (pass : V → Type 0) (refusal : ErrorKind) → IsOwnKind refusal → {strict : Bool} {least : ℕ} {F : Format V}
+    → Laws strict least F → IsCode (subset_code pass refusal) F
+subset_is_code pass refusal own laws = exact_is_code (one_kind refusal own) (λ u v w h k. sym h.0 ∙ k.0) (λ u v w h k. h.0 ∙ sym k.0) laws
 
 -- the laws of the values that pass a test
-pub subset_laws : {V : Type 0} (encoding : Encoding) (pass : V → Type 0) (fault : ErrorKind) → IsOwnKind fault → {least : ℕ} {F : Format V} → Laws encoding.strict least F → Laws encoding.strict least (subset encoding pass fault F)
-subset_laws encoding pass fault own laws = coding_laws encoding laws (subset_is_code pass fault own laws)
+pub subset_laws : {V : Type 0} (encoding : Encoding) (pass : V → Type 0) (refusal : ErrorKind) → IsOwnKind refusal
+    → {least : ℕ} {F : Format V} → Laws encoding.strict least F → Laws encoding.strict least (subset encoding pass refusal F)
+subset_laws encoding pass refusal own laws = coding_laws encoding laws (subset_is_code pass refusal own laws)

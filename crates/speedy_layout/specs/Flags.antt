@@ -1,14 +1,14 @@
 -- Flags, tags, and values of the format that one chooses.
-use Rattle.std.specs.Prelude.{◌≡◌, ℕ, ◌+◌, ◌^◌, ◌<◌, Bool, true, false, IsTrue, ◌||◌, Option, Some, None, Result, Ok, Err, refl}
-use Rattle.std.proofs.Common.{sym, ◌∙◌, ap, subst, arith}
+use Rattle.std.specs.Prelude.{◌≡◌, ℕ, ◌+◌, ◌^◌, ◌<◌, Bool, true, false, Option, Some, None, Result, Ok, Err, refl}
+use Rattle.std.proofs.Common.{sym, ◌∙◌, subst, arith}
 use Rattle.speedy_base.specs.Digits.{digits}
 use Rattle.speedy_base.specs.DigitsLemmas.{SpellsNumber-digits}
 use Rattle.speedy_base.specs.Encoding.{Encoding}
-use Rattle.speedy_layout.specs.Format.{Format}
+use Rattle.speedy_layout.specs.Format.{either_asks, Format}
 use Rattle.speedy_layout.specs.Laws.{Laws, Laws-less}
 use Rattle.speedy_layout.specs.Codes.{ReadsWider, Code, IsCode, coding, coding_laws}
 use Rattle.speedy_layout.specs.Numbers.{unsigned_number, unsigned_number_laws}
-use Rattle.speedy_layout.specs.Sequences.{asks_of, either_asks, Suffices, sequence, sequence_laws, or_left, or_right}
+use Rattle.speedy_layout.specs.Sequences.{AsksAtMost, sequence, sequence_laws, asks_left, asks_right, told_apart}
 use Rattle.speedy_layout.specs.Tuples.{unit, unit_laws}
 
 -- ---- flags
@@ -25,7 +25,7 @@ written_flag false = 0
 
 -- a byte stands for true unless it is 0, and true is written as 1
 abbrev pub flag_code : Code ℕ Bool
-flag_code = record { means = λ n b. IsFlag b n; chosen = λ n b. n ≡ written_flag b; fault = λ _. ⊥ }
+flag_code = record { means = λ n b. IsFlag b n; chosen = λ n b. n ≡ written_flag b; refusals = λ _. ⊥ }
 
 -- a flag above 1 is read as true, and not written
 pub flag_reads_wider : ReadsWider flag_code
@@ -57,7 +57,7 @@ flag_is_code encoding = record {
   chosen_means = λ n v h. subst (IsFlag v) (sym h) (written_flag_is v);
   has_chosen = λ v b h. (digits encoding.order 1 (written_flag v), record { code = written_flag v; code_is = SpellsNumber-digits 1 encoding.order (written_flag v) (written_flag-below v); stands = refl });
   chosen_shortest = λ v b d h k. let l = h.code_is.width_is in let m = k.code_is.width_is in omega arith;
-  fault_own = λ kind h. absurd h;
+  refusals_own = λ kind h. absurd h;
 }
 
 pub flag_laws : (encoding : Encoding) → Laws encoding.strict 1 (flag encoding)
@@ -76,29 +76,17 @@ branch L M false = M
 
 -- a flag or a tag, then a value of the format that it chooses
 abbrev pub variant : {U V W : Type 0} → (U → (b : Bool) × Branch V W b) → Format Bool → Format V → Format W → Format U
-variant split tags L M = sequence split tags (either_asks (asks_of L) (asks_of M)) (branch L M)
+variant split tags L M = sequence split tags (either_asks L.asks M.asks) (branch L M)
 
-pub branch_suffices : {V W : Type 0} (L : Format V) (M : Format W) → Suffices (either_asks (asks_of L) (asks_of M)) (branch L M)
-branch_suffices {V = V} {W = W} L M = record { lending = lending; hashed = hashed; memory = memory } where
-  lending : (b : Bool) → IsTrue (branch L M b).needs_lending → IsTrue (L.needs_lending || M.needs_lending)
-  lending true = or_left L.needs_lending M.needs_lending
-  lending false = or_right L.needs_lending M.needs_lending
-
-  hashed : (b : Bool) → IsTrue (branch L M b).hashed → IsTrue (L.hashed || M.hashed)
-  hashed true = or_left L.hashed M.hashed
-  hashed false = or_right L.hashed M.hashed
-
-  memory : (b : Bool) → IsTrue (branch L M b).takes_memory → IsTrue (L.takes_memory || M.takes_memory)
-  memory true = or_left L.takes_memory M.takes_memory
-  memory false = or_right L.takes_memory M.takes_memory
+pub branch_asks : {V W : Type 0} (L : Format V) (M : Format W) (b : Bool) → AsksAtMost (branch L M b).asks (either_asks L.asks M.asks)
+branch_asks L M true = asks_left L.asks M.asks
+branch_asks L M false = asks_right L.asks M.asks
 
 -- its least size is that of the tag and so many bytes more as each of the two has
-pub variant_laws : {U V W : Type 0} {strict : Bool} {least n : ℕ} {tags : Format Bool} {L : Format V} {M : Format W} (split : U → (b : Bool) × Branch V W b) → Laws strict least tags → Laws strict n L → Laws strict n M → ((v w : U) → split v ≡ split w → v ≡ w) → Laws strict (least + n) (variant split tags L M)
-variant_laws {L = L} {M = M} split laws first second injective = sequence_laws laws (elim [ true ↦ first | false ↦ second ]) (branch_suffices L M) injective
-
--- values that can be put together again from their parts differ in their parts
-pub told_apart : {U V : Type 0} {W : U → Type 0} (split : V → (u : U) × W u) (join : (u : U) → W u → V) → ((v : V) → join (split v).0 (split v).1 ≡ v) → (v w : V) → split v ≡ split w → v ≡ w
-told_apart {U = U} {W = W} split join back v w e = sym (back v) ∙ (ap (λ (p : (u : U) × W u). join p.0 p.1) e ∙ back w)
+pub variant_laws : {U V W : Type 0} {strict : Bool} {least n : ℕ} {tags : Format Bool} {L : Format V} {M : Format W} (split : U → (b : Bool) × Branch V W b)
+    → Laws strict least tags → Laws strict n L → Laws strict n M → ((v w : U) → split v ≡ split w → v ≡ w)
+    → Laws strict (least + n) (variant split tags L M)
+variant_laws {L = L} {M = M} split laws first second injective = sequence_laws laws (elim [ true ↦ first | false ↦ second ]) (branch_asks L M) injective
 
 -- ---- options and results
 
@@ -139,7 +127,8 @@ option_laws encoding laws =
     variant_laws {least = 1} {n = 0} option_parts (flag_laws encoding) (Laws-less (omega arith) laws) unit_laws
     (told_apart option_parts option_join option_back)
 
-pub alternative_laws : {V W : Type 0} {n m : ℕ} {L : Format V} {M : Format W} (encoding : Encoding) → Laws encoding.strict n L → Laws encoding.strict m M → Laws encoding.strict 1 (alternative encoding L M)
+pub alternative_laws : {V W : Type 0} {n m : ℕ} {L : Format V} {M : Format W} (encoding : Encoding) → Laws encoding.strict n L
+    → Laws encoding.strict m M → Laws encoding.strict 1 (alternative encoding L M)
 alternative_laws encoding laws more =
     variant_laws {least = 1} {n = 0} alternative_parts (flag_laws encoding) (Laws-less (omega arith) laws) (Laws-less (omega arith) more)
     (told_apart alternative_parts alternative_join alternative_back)

@@ -1,7 +1,23 @@
 -- Which bytes stand for which values.
-use Rattle.std.specs.Prelude.{◌≡◌, ℕ, List, [], ◌∷◌, ◌++◌, Bool, false}
+use Rattle.std.specs.Prelude.{◌≡◌, ℕ, List, [], ◌∷◌, ◌++◌, Bool, false, ◌||◌}
 use Rattle.speedy_base.specs.declared.error.ErrorKind.{ErrorKind}
 use Rattle.speedy_base.specs.declared.error.ErrorKind.TheVariants as kinds
+
+-- What a format asks beside its bytes.
+pub record Asks : Type 0 where
+  -- values that borrow, and so can be read only from a reader that lends
+  pub lending : Bool
+  -- a part has no order of its own, so that several spellings may be written
+  pub hashed : Bool
+  -- reading a value asks for memory
+  pub memory : Bool
+
+abbrev pub asks_nothing : Asks
+asks_nothing = record { lending = false; hashed = false; memory = false }
+
+-- what either of two asks
+abbrev pub either_asks : Asks → Asks → Asks
+either_asks a b = record { lending = a.lending || b.lending; hashed = a.hashed || b.hashed; memory = a.memory || b.memory }
 
 -- The format of a type: a whole value is spelled by a whole list of bytes.
 pub record Format (V : Type 0) : Type 1 where
@@ -13,26 +29,19 @@ pub record Format (V : Type 0) : Type 1 where
   pub names : ErrorKind → Type 0
   -- the kinds of refusals that the type adds itself in writing, and those of its parts; of the listed types none
   pub refuses_writing : ErrorKind → Type 0
-  -- bytes at whose front a fault of the type stands
-  pub at_fault : List ℕ → Type 0
-  -- values that borrow, and so can be read only from a reader that lends
-  pub needs_lending : Bool
-  -- a part has no order of its own, so that several spellings may be written
-  pub hashed : Bool
-  -- reading a value asks for memory
-  pub takes_memory : Bool
+  -- bytes at whose front stands what the type itself refuses
+  pub malformed : List ℕ → Type 0
+  pub asks : Asks
 
--- a format whose spellings are all written, and which has no faults and asks for nothing
+-- a format whose spellings are all written, and which refuses nothing itself and asks for nothing
 abbrev pub plain_format : {V : Type 0} → (V → List ℕ → Type 0) → Format V
 plain_format spells = record {
   spells = spells;
   writes = spells;
   names = λ _. ⊥;
   refuses_writing = λ _. ⊥;
-  at_fault = λ _. ⊥;
-  needs_lending = false;
-  hashed = false;
-  takes_memory = false;
+  malformed = λ _. ⊥;
+  asks = asks_nothing;
 }
 
 -- the bytes are two parts, one after the other
@@ -48,7 +57,7 @@ abbrev pub Each : {V : Type 0} → (V → List ℕ → Type 0) → List V → Li
 Each spells [] bytes = bytes ≡ []
 Each spells (v ∷ vs) bytes = Parts (spells v) (Each spells vs) bytes
 
--- a kind that a type may name: an end of input, a buffer that is too small, want of memory and a device's fault are no type's
+-- a kind that a type may name: an end of input, a buffer that is too small, want of memory and a device's failure are no type's
 abbrev pub IsOwnKind : ErrorKind → Type 0
 IsOwnKind kinds.UnexpectedEndOfInput = ⊥
 IsOwnKind kinds.UnexpectedEndOfOutputBuffer = ⊥

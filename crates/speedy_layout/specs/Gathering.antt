@@ -6,7 +6,7 @@ use Rattle.speedy_base.specs.Digits.{digits}
 use Rattle.speedy_base.specs.DigitsLemmas.{SpellsNumber-digits, SpellsNumber-below}
 use Rattle.speedy_base.specs.Encoding.{Encoding}
 use Rattle.speedy_layout.specs.Format.{Format, Each}
-use Rattle.speedy_layout.specs.Laws.{Laws}
+use Rattle.speedy_layout.specs.Laws.{Laws, Laws-asking}
 use Rattle.speedy_layout.specs.Codes.{Code, Coded, IsCode, coding, coding_laws}
 use Rattle.speedy_layout.specs.Numbers.{unsigned_number}
 use Rattle.speedy_layout.specs.Owned.{owned_content}
@@ -14,7 +14,8 @@ use Rattle.speedy_layout.specs.Sequences.{sequence}
 use Rattle.speedy_layout.specs.Lists.{list, list_laws, repeat, vector, each_shortest}
 use Rattle.speedy_layout.specs.Members.{IsIn, AreDistinct, IsIn-left, IsIn-right, IsIn-either, IsIn-around}
 
--- What makes it lawful that lists stand for things, and that some lists are written. A list that stands for a thing and is written is a form of it.
+-- What makes it lawful that lists stand for things, and that some lists are written. A list that stands for a thing and
+-- is written is a form of it.
 pub record IsGathering {E S : Type 0} (hashed : Bool) (stands : List E → S → Type 0) (written : List E → Type 0) : Type 0 where
   -- a list stands for at most one thing
   pub one_thing : (xs : List E) (s t : S) → stands xs s → stands xs t → s ≡ t
@@ -29,11 +30,11 @@ pub record IsGathering {E S : Type 0} (hashed : Bool) (stands : List E → S →
 
 -- a list is read as the thing that it stands for, and one that is a form is written
 abbrev pub gathering : {E S : Type 0} → (List E → S → Type 0) → (List E → Type 0) → Code (List E) S
-gathering stands written = record { means = stands; chosen = λ xs s. stands xs s × written xs; fault = λ _. ⊥ }
+gathering stands written = record { means = stands; chosen = λ xs s. stands xs s × written xs; refusals = λ _. ⊥ }
 
 -- the items of a thing that has no order of its own
 unfoldable pub hashed_items : {V : Type 0} → Format V → Format V
-hashed_items F = record F { hashed = true }
+hashed_items F = record F { asks = record F.asks { hashed = true } }
 
 -- the counted list of the items
 abbrev pub items_of : {E : Type 0} → Bool → Encoding → Format E → Format (List E)
@@ -46,18 +47,7 @@ gathered hashed encoding stands written L = coding encoding (gathering stands wr
 
 pub hashed_items_laws : {V : Type 0} {strict : Bool} {least : ℕ} {F : Format V} → Laws strict least F → Laws strict least (hashed_items F)
 unfolding hashed_items
-hashed_items_laws laws = record {
-  decodes = laws.decodes;
-  written_spells = laws.written_spells;
-  written_alone = laws.written_alone;
-  shortest = laws.shortest;
-  least_size = laws.least_size;
-  has_written = laws.has_written;
-  one_written = λ e. absurd (cc);
-  fault_unspelled = laws.fault_unspelled;
-  names_own = laws.names_own;
-  refuses_own = laws.refuses_own;
-}
+hashed_items_laws {F = F} laws = Laws-asking F.names (record F.asks { hashed = true }) laws.names_own (λ e. absurd (cc)) laws
 
 -- ---- the spelling of what lies inside a list
 
@@ -101,7 +91,8 @@ module _ {V : Type 0} (spells : V → List ℕ → Type 0) where
       ]
 
   -- distinct items that lie inside a list are spelled in no more bytes than the list, and are no more
-  spelled_within : (xs ys : List V) (bytes : List ℕ) → AreDistinct xs → ((v : V) → IsIn v xs → IsIn v ys) → Each spells ys bytes → Within spells xs ys bytes
+  spelled_within : (xs ys : List V) (bytes : List ℕ) → AreDistinct xs → ((v : V) → IsIn v xs → IsIn v ys) → Each spells ys bytes
+      → Within spells xs ys bytes
   spelled_within [] ys bytes d inside h = record { shorter = []; spelled = refl; size = omega arith; count = omega arith }
   spelled_within (x ∷ xs) ys bytes d inside h =
       let a = IsIn-around x ys (inside x (inl refl)) in
@@ -127,7 +118,8 @@ module _ {V : Type 0} (spells : V → List ℕ → Type 0) where
 
 module _ {E S : Type 0} {hashed : Bool} {stands : List E → S → Type 0} {written : List E → Type 0} {least : ℕ} {L : Format E} (encoding : Encoding) (laws : Laws encoding.strict least L) (is : IsGathering hashed stands written) where
   -- each form of a thing that is spelled is spelled
-  pub form_spelled : (s : S) (bytes : List ℕ) → Coded (list encoding L).spells stands s bytes → (xs : List E) → stands xs s → written xs → (b : List ℕ) × (list encoding L).spells xs b
+  pub form_spelled : (s : S) (bytes : List ℕ) → Coded (list encoding L).spells stands s bytes → (xs : List E) → stands xs s → written xs
+      → (b : List ℕ) × (list encoding L).spells xs b
   unfolding list sequence unsigned_number vector owned_content repeat
   form_spelled s bytes h xs stands_for is_written =
       let w = spelled_within L.spells xs h.code h.code_is.back (is.form_distinct xs is_written) (is.form_inside xs h.code s is_written stands_for h.stands) h.code_is.second_is.1 in
@@ -145,14 +137,16 @@ module _ {E S : Type 0} {hashed : Bool} {stands : List E → S → Type 0} {writ
       )
 
   -- and there is one
-  some_form_spelled : (s : S) (bytes : List ℕ) → Coded (list encoding L).spells stands s bytes → (b : List ℕ) × Coded (list encoding L).spells (gathering stands written).chosen s b
+  some_form_spelled : (s : S) (bytes : List ℕ) → Coded (list encoding L).spells stands s bytes
+      → (b : List ℕ) × Coded (list encoding L).spells (gathering stands written).chosen s b
   some_form_spelled s bytes h =
       let f = is.has_form h.code s h.stands in
       let b = form_spelled s bytes h f.0 f.1 f.2 in
       (b.0, record { code = f.0; code_is = b.1; stands = (f.1, f.2) })
 
   -- and no list that stands for the thing is spelled in fewer bytes than a form is written in
-  form_shortest : (s : S) (b d : List ℕ) → Coded (list encoding L).writes (gathering stands written).chosen s b → Coded (list encoding L).spells stands s d → length b ≤ length d
+  form_shortest : (s : S) (b d : List ℕ) → Coded (list encoding L).writes (gathering stands written).chosen s b
+      → Coded (list encoding L).spells stands s d → length b ≤ length d
   unfolding list sequence unsigned_number vector owned_content repeat
   form_shortest s b d h k =
       let w = spelled_within L.spells h.code k.code k.code_is.back (is.form_distinct h.code h.stands.1) (is.form_inside h.code k.code s h.stands.1 h.stands.0 k.stands) k.code_is.second_is.1 in
@@ -165,7 +159,8 @@ module _ {E S : Type 0} {hashed : Bool} {stands : List E → S → Type 0} {writ
       omega arith
 
 -- what lists gather to is coded by them
-pub gathering_is_code : {E S : Type 0} {hashed : Bool} {stands : List E → S → Type 0} {written : List E → Type 0} {least : ℕ} {L : Format E} (encoding : Encoding) → Laws encoding.strict least L → IsGathering hashed stands written → IsCode (gathering stands written) (items_of hashed encoding L)
+pub gathering_is_code : {E S : Type 0} {hashed : Bool} {stands : List E → S → Type 0} {written : List E → Type 0} {least : ℕ} {L : Format E} (encoding : Encoding)
+    → Laws encoding.strict least L → IsGathering hashed stands written → IsCode (gathering stands written) (items_of hashed encoding L)
 unfolding hashed_items
 gathering_is_code {hashed = false} encoding laws is = record {
   one_meaning = is.one_thing;
@@ -173,7 +168,7 @@ gathering_is_code {hashed = false} encoding laws is = record {
   chosen_means = λ xs s h. h.0;
   has_chosen = some_form_spelled encoding laws is;
   chosen_shortest = form_shortest encoding laws is;
-  fault_own = λ kind h. absurd h;
+  refusals_own = λ kind h. absurd h;
 }
 gathering_is_code {hashed = true} encoding laws is = record {
   one_meaning = is.one_thing;
@@ -181,13 +176,15 @@ gathering_is_code {hashed = true} encoding laws is = record {
   chosen_means = λ xs s h. h.0;
   has_chosen = some_form_spelled encoding laws is;
   chosen_shortest = form_shortest encoding laws is;
-  fault_own = λ kind h. absurd h;
+  refusals_own = λ kind h. absurd h;
 }
 
-items_of_laws : {E : Type 0} (hashed : Bool) {least : ℕ} {L : Format E} (encoding : Encoding) → Laws encoding.strict least L → Laws encoding.strict 4 (items_of hashed encoding L)
+items_of_laws : {E : Type 0} (hashed : Bool) {least : ℕ} {L : Format E} (encoding : Encoding) → Laws encoding.strict least L
+    → Laws encoding.strict 4 (items_of hashed encoding L)
 items_of_laws false encoding laws = list_laws encoding laws
 items_of_laws true encoding laws = hashed_items_laws (list_laws encoding laws)
 
 -- the laws of what lists gather to
-pub gathered_laws : {E S : Type 0} {hashed : Bool} {stands : List E → S → Type 0} {written : List E → Type 0} {least : ℕ} {L : Format E} (encoding : Encoding) → Laws encoding.strict least L → IsGathering hashed stands written → Laws encoding.strict 4 (gathered hashed encoding stands written L)
+pub gathered_laws : {E S : Type 0} {hashed : Bool} {stands : List E → S → Type 0} {written : List E → Type 0} {least : ℕ} {L : Format E} (encoding : Encoding)
+    → Laws encoding.strict least L → IsGathering hashed stands written → Laws encoding.strict 4 (gathered hashed encoding stands written L)
 gathered_laws {hashed = hashed} encoding laws is = coding_laws encoding (items_of_laws hashed encoding laws) (gathering_is_code encoding laws is)

@@ -3,7 +3,7 @@ use Rattle.std.specs.Prelude.{◌≡◌, ℕ, ◌-◌, ◌^◌, ◌≤◌, List,
 use Rattle.std.proofs.Common.{ap, arith}
 use Rattle.std.proofs.Math.Nat.{min-le_left}
 use Rattle.speedy_base.specs.declared.error.ErrorKind.{ErrorKind}
-use Rattle.speedy_layout.specs.Format.{Format, plain_format, IsOwnKind}
+use Rattle.speedy_layout.specs.Format.{Asks, Format, plain_format, IsOwnKind}
 
 -- The laws of a format whose spellings have at least so many bytes, under a demand for the written form or none.
 pub record Laws {V : Type 0} (strict : Bool) (least : ℕ) (F : Format V) : Type 0 where
@@ -20,17 +20,19 @@ pub record Laws {V : Type 0} (strict : Bool) (least : ℕ) (F : Format V) : Type
   -- a value that has a spelling has a written one
   pub has_written : (v : V) (b : List ℕ) → F.spells v b → (w : List ℕ) × F.writes v w
   -- just one, where no part is hashed
-  pub one_written : F.hashed ≡ false → (v : V) (b c : List ℕ) → F.writes v b → F.writes v c → b ≡ c
-  -- bytes at fault begin with no spelling
-  pub fault_unspelled : (v : V) (front rest : List ℕ) → F.at_fault (front ++ rest) → F.spells v front → ⊥
+  pub one_written : F.asks.hashed ≡ false → (v : V) (b c : List ℕ) → F.writes v b → F.writes v c → b ≡ c
+  -- malformed bytes begin with no spelling
+  pub malformed_unspelled : (v : V) (front rest : List ℕ) → F.malformed (front ++ rest) → F.spells v front → ⊥
   -- the kinds that a type names are its own
   pub names_own : (kind : ErrorKind) → F.names kind → IsOwnKind kind
   -- and so are those that its writing is refused with
   pub refuses_own : (kind : ErrorKind) → F.refuses_writing kind → IsOwnKind kind
 
 -- the laws of a plain format whose values have one spelling each
-pub plain_laws : {V : Type 0} {strict : Bool} {least : ℕ} {spells : V → List ℕ → Type 0} → ((v w : V) (s t r q : List ℕ) → spells v s → spells w t → s ++ r ≡ t ++ q → (v ≡ w) × (s ≡ t) × (r ≡ q))
-    → ((v : V) (b : List ℕ) → spells v b → least ≤ length b) → ((v : V) (b c : List ℕ) → spells v b → spells v c → b ≡ c) → Laws strict least (plain_format spells)
+pub plain_laws : {V : Type 0} {strict : Bool} {least : ℕ} {spells : V → List ℕ → Type 0}
+    → ((v w : V) (s t r q : List ℕ) → spells v s → spells w t → s ++ r ≡ t ++ q → (v ≡ w) × (s ≡ t) × (r ≡ q))
+    → ((v : V) (b : List ℕ) → spells v b → least ≤ length b) → ((v : V) (b c : List ℕ) → spells v b → spells v c → b ≡ c)
+    → Laws strict least (plain_format spells)
 plain_laws decodes least_size one = record {
   decodes = decodes;
   written_spells = λ _ _ h. h;
@@ -39,9 +41,26 @@ plain_laws decodes least_size one = record {
   least_size = least_size;
   has_written = λ _ b h. (b, h);
   one_written = λ _ v b c h k. one v b c h k;
-  fault_unspelled = λ _ _ _ h _. h;
+  malformed_unspelled = λ _ _ _ h _. h;
   names_own = λ kind h. absurd h;
   refuses_own = λ kind h. absurd h;
+}
+
+-- a format of the same bytes that names other kinds and asks otherwise, but is hashed where the first is
+pub Laws-asking : {V : Type 0} {strict : Bool} {least : ℕ} {F : Format V} (names : ErrorKind → Type 0) (asks : Asks)
+    → ((kind : ErrorKind) → names kind → IsOwnKind kind) → (asks.hashed ≡ false → F.asks.hashed ≡ false)
+    → Laws strict least F → Laws strict least (record F { names = names; asks = asks })
+Laws-asking names asks own hashed laws = record {
+  decodes = laws.decodes;
+  written_spells = laws.written_spells;
+  written_alone = laws.written_alone;
+  shortest = laws.shortest;
+  least_size = laws.least_size;
+  has_written = laws.has_written;
+  one_written = λ h. laws.one_written (hashed h);
+  malformed_unspelled = laws.malformed_unspelled;
+  names_own = own;
+  refuses_own = laws.refuses_own;
 }
 
 -- a smaller least size
@@ -54,7 +73,7 @@ Laws-less less laws = record {
   least_size = λ v b h. let l = laws.least_size v b h in omega arith;
   has_written = laws.has_written;
   one_written = laws.one_written;
-  fault_unspelled = laws.fault_unspelled;
+  malformed_unspelled = laws.malformed_unspelled;
   names_own = laws.names_own;
   refuses_own = laws.refuses_own;
 }

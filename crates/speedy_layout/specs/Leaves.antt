@@ -62,7 +62,7 @@ abbrev pub duration_code : Code (ℕ × ℕ) ℕ
 duration_code = record {
   means = λ p n. (n ≡ together p) × FitsDuration n;
   chosen = λ p n. (n ≡ together p) × FitsDuration n × (p.1 < 1_000_000_000);
-  fault = λ kind. kind ≡ kinds.InvalidSystemTime;
+  refusals = λ kind. kind ≡ kinds.InvalidSystemTime;
 }
 
 -- a second of nanoseconds is read, and not written
@@ -115,7 +115,7 @@ duration_is_code encoding = record {
         },
       );
   chosen_shortest = λ n b d h k. let l = twelve encoding h.code b h.code_is in let m = twelve encoding k.code d k.code_is in omega arith;
-  fault_own = one_kind kinds.InvalidSystemTime tt;
+  refusals_own = one_kind kinds.InvalidSystemTime tt;
 }
 
 pub duration_laws : (encoding : Encoding) → Laws encoding.strict 12 (duration encoding)

@@ -7,7 +7,7 @@ use Rattle.speedy_layout.specs.Format.{Format, Each}
 use Rattle.speedy_layout.specs.Laws.{Laws, Laws-less}
 use Rattle.speedy_layout.specs.Numbers.{unsigned_number, unsigned_number_laws}
 use Rattle.speedy_layout.specs.Owned.{owned_content, owned_content_laws}
-use Rattle.speedy_layout.specs.Sequences.{Asks, Suffices, sequence, sequence_laws, across}
+use Rattle.speedy_layout.specs.Sequences.{AsksAtMost, asks_same, sequence, sequence_laws, across}
 
 -- so many items, one after the other
 unfoldable pub repeat : {V : Type 0} → ℕ → Format V → Format (List V)
@@ -16,10 +16,8 @@ repeat n F = record {
   writes = λ vs bytes. (length vs ≡ n) × Each F.writes vs bytes;
   names = F.names;
   refuses_writing = F.refuses_writing;
-  at_fault = λ _. ⊥;
-  needs_lending = F.needs_lending;
-  hashed = F.hashed;
-  takes_memory = F.takes_memory;
+  malformed = λ _. ⊥;
+  asks = F.asks;
 }
 
 -- so many items that are read into a vector
@@ -30,17 +28,14 @@ vector n F = owned_content (repeat n F)
 abbrev pub list_parts : {V : Type 0} → List V → ℕ × List V
 list_parts vs = (length vs, vs)
 
--- what the items ask, and memory for their vector
-abbrev pub list_asks : {V : Type 0} → Format V → Asks
-list_asks F = record { lending = F.needs_lending; hashed = F.hashed; memory = true }
-
 -- README, `{length: u32, values: [T]}`: the number of items in four digits, then the items
 unfoldable pub list : {V : Type 0} → Encoding → Format V → Format (List V)
-list encoding F = sequence list_parts (unsigned_number 4 encoding) (list_asks F) (λ n. vector n F)
+list encoding F = sequence list_parts (unsigned_number 4 encoding) (record F.asks { memory = true }) (λ n. vector n F)
 
 module _ {V : Type 0} {strict : Bool} {least : ℕ} {F : Format V} (laws : Laws strict least F) where
   -- lists of one length decode item by item
-  pub each_decodes : (vs ws : List V) (s t r q : List ℕ) → length vs ≡ length ws → Each F.spells vs s → Each F.spells ws t → s ++ r ≡ t ++ q → (vs ≡ ws) × (s ≡ t) × (r ≡ q)
+  pub each_decodes : (vs ws : List V) (s t r q : List ℕ) → length vs ≡ length ws → Each F.spells vs s → Each F.spells ws t → s ++ r ≡ t ++ q
+      → (vs ≡ ws) × (s ≡ t) × (r ≡ q)
   each_decodes [] [] s t r q l h k e = (refl, h ∙ sym k, ap (λ x. x ++ r) (sym h) ∙ (e ∙ ap (λ x. x ++ q) k))
   each_decodes [] (w ∷ ws) s t r q l h k e = absurd (let z : zero ≡ suc (length ws) = l in (cc))
   each_decodes (v ∷ vs) [] s t r q l h k e = absurd (let z : suc (length vs) ≡ zero = l in (cc))
@@ -104,7 +99,7 @@ module _ {V : Type 0} {strict : Bool} {least : ℕ} {F : Format V} (laws : Laws 
       (first.0 ++ more.0, record { front = first.0; back = more.0; whole_is = refl; first_is = first.1; second_is = more.1 })
 
   -- just one, where no item is hashed
-  pub each_one_written : F.hashed ≡ false → (vs : List V) (b c : List ℕ) → Each F.writes vs b → Each F.writes vs c → b ≡ c
+  pub each_one_written : F.asks.hashed ≡ false → (vs : List V) (b c : List ℕ) → Each F.writes vs b → Each F.writes vs c → b ≡ c
   each_one_written u [] b c h k = h ∙ sym k
   each_one_written u (v ∷ vs) b c h k =
       let first = laws.one_written u v h.front k.front h.first_is k.first_is in
@@ -121,7 +116,7 @@ module _ {V : Type 0} {strict : Bool} {least : ℕ} {F : Format V} (laws : Laws 
     least_size = λ v b h. subst (λ m. m * least ≤ length b) h.0 (each_size v b h.1);
     has_written = λ v b h. let w = each_has_written v b h.1 in (w.0, (h.0, w.1));
     one_written = λ u v b c h k. each_one_written u v b c h.1 k.1;
-    fault_unspelled = λ _ _ _ h _. h;
+    malformed_unspelled = λ _ _ _ h _. h;
     names_own = laws.names_own;
     refuses_own = laws.refuses_own;
   }
@@ -130,14 +125,15 @@ module _ {V : Type 0} {strict : Bool} {least : ℕ} {F : Format V} (laws : Laws 
   unfolding vector
   vector_laws n = owned_content_laws (repeat_laws n)
 
-pub list_suffices : {V : Type 0} (F : Format V) → Suffices (list_asks F) (λ n. vector n F)
+pub vector_asks : {V : Type 0} (F : Format V) (n : ℕ) → AsksAtMost (vector n F).asks (record F.asks { memory = true })
 unfolding vector owned_content repeat
-list_suffices F = record { lending = λ _ t. t; hashed = λ _ t. t; memory = λ _ t. t }
+vector_asks F n = asks_same
 
-pub list_laws : {V : Type 0} {least : ℕ} {F : Format V} (encoding : Encoding) → Laws encoding.strict least F → Laws encoding.strict 4 (list encoding F)
+pub list_laws : {V : Type 0} {least : ℕ} {F : Format V} (encoding : Encoding) → Laws encoding.strict least F
+    → Laws encoding.strict 4 (list encoding F)
 unfolding list
 list_laws {V = V} {F = F} encoding laws =
-    sequence_laws {n = 4} {m = 0} (unsigned_number_laws 4 encoding) (λ n. Laws-less (omega arith) (vector_laws laws n)) (list_suffices F)
+    sequence_laws {n = 4} {m = 0} (unsigned_number_laws 4 encoding) (λ n. Laws-less (omega arith) (vector_laws laws n)) (vector_asks F)
     (λ v w e. ap (λ (p : ℕ × List V). p.1) e)
 
 -- so many items are spelled

@@ -8,8 +8,8 @@ use Rattle.speedy_layout.specs.Laws.{Laws}
 use Rattle.speedy_layout.specs.Tuples.{pair, pair_laws}
 use Rattle.speedy_layout.specs.Members.{IsIn, AreDistinct, Ascends, IsLast, InFirstOrder, IsIn-key, IsIn-pair, IsLast-in, IsIn-last, AreDistinct-keys, same_by_keys}
 use Rattle.speedy_layout.specs.Orders.{IsStrictOrder, same_ascending, own_first_order, same_first_order}
-use Rattle.speedy_layout.specs.Keys.{TellsApart}
-use Rattle.speedy_layout.specs.SeenKeys.{AreSeen, find_seen}
+use Rattle.speedy_layout.specs.Equality.{TellsApart}
+use Rattle.speedy_layout.specs.SeenItems.{AreSeen, find_seen}
 use Rattle.speedy_layout.specs.Gathering.{IsGathering, gathered, gathered_laws}
 
 -- what is seen of a pair
@@ -34,7 +34,9 @@ HasDistinctKeys es = AreDistinct (keys_of es)
 abbrev pub GathersToTreeMap : {K V : Type 0} → (K → K → Type 0) → List (K × V) → List (K × V) → Type 0
 GathersToTreeMap less items es = Ascends (by_key less) es × HasLasts items es
 
--- A map that finds the value of a key: at k it finds v exactly if the last pair with k in the list is (k, v). What is seen of it has no order, so that the same map in another order is the same. Keys in the list that no key is seen as would be lost.
+-- A map that finds the value of a key: at k it finds v exactly if the last pair with k in the list is (k, v). What is
+-- seen of it has no order, so that the same map in another order is the same. Keys in the list that no key is seen as
+-- would be lost.
 abbrev pub GathersToHashMap : {K A V : Type 0} → (K → A) → List (A × V) → (K → Option V) → Type 0
 GathersToHashMap {K = K} {A = A} {V = V} seen items find = AreSeen seen (keys_of items) × ((k : K) (v : V) → (find k ≡ Some v) ↔ IsLast {K = A} {V = V} (seen k, v) items)
 
@@ -65,6 +67,11 @@ module _ {K V : Type 0} where
   pub by_key_order : {less : K → K → Type 0} → IsStrictOrder less → IsStrictOrder {X = K × V} (by_key less)
   by_key_order order = record { irreflexive = λ e. order.irreflexive e.0; transitive = λ e f g. order.transitive e.0 f.0 g.0 }
 
+  -- and ascend where these do
+  pub Ascends-by_key : (less : K → K → Type 0) (es : List (K × V)) → Ascends less (keys_of es) → Ascends (by_key less) es
+  Ascends-by_key less [] h = tt
+  Ascends-by_key less (e ∷ es) h = (λ f s. h.0 f.0 (IsIn-key f es s), Ascends-by_key less es h.1)
+
   -- where they ascend, each key stands once
   pub Ascends-distinct_keys : {less : K → K → Type 0} → IsStrictOrder less → (es : List (K × V)) → Ascends (by_key less) es → HasDistinctKeys es
   Ascends-distinct_keys order [] h = tt
@@ -88,7 +95,8 @@ module _ {K V : Type 0} where
   own_tree_map order es h = (h, own_lasts es (Ascends-distinct_keys order es h))
 
   -- pairs with distinct keys that a list has are the last ones of each list of the same map
-  inside_lasts : (items others es : List (K × V)) → HasDistinctKeys items → HasLasts items es → HasLasts others es → (e : K × V) → IsIn e items → IsIn e others
+  inside_lasts : (items others es : List (K × V)) → HasDistinctKeys items → HasLasts items es → HasLasts others es → (e : K × V)
+      → IsIn e items → IsIn e others
   inside_lasts items others es d h k e s = IsLast-in e others ((k e).0 ((h e).1 (IsIn-last e items d s)))
 
   pub tree_map_is : {less : K → K → Type 0} → IsStrictOrder less → IsGathering false (GathersToTreeMap {V = V} less) (Ascends (by_key less))

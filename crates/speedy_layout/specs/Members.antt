@@ -88,14 +88,6 @@ module _ {K V : Type 0} where
   IsLast-in e (f ∷ es) (inl h) = inr (IsLast-in e es h)
   IsLast-in e (f ∷ es) (inr h) = inl h.0
 
-  -- a key has one last pair
-  pub IsLast-one : (e f : K × V) (es : List (K × V)) → e.0 ≡ f.0 → IsLast e es → IsLast f es → e ≡ f
-  IsLast-one e f [] same h k = absurd h
-  IsLast-one e f (g ∷ es) same (inl h) (inl k) = IsLast-one e f es same h k
-  IsLast-one e f (g ∷ es) same (inl h) (inr k) = absurd (k.1 (subst (λ x. IsIn x (keys_of es)) same (IsIn-key e es (IsLast-in e es h))))
-  IsLast-one e f (g ∷ es) same (inr h) (inl k) = absurd (h.1 (subst (λ x. IsIn x (keys_of es)) (sym same) (IsIn-key f es (IsLast-in f es k))))
-  IsLast-one e f (g ∷ es) same (inr h) (inr k) = h.0 ∙ sym k.0
-
   -- where each key stands once, each pair is the last
   pub IsIn-last : (e : K × V) (es : List (K × V)) → AreDistinct (keys_of es) → IsIn e es → IsLast e es
   IsIn-last e [] d h = absurd h

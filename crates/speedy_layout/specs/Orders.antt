@@ -18,7 +18,8 @@ module _ {X : Type 0} {less : X → X → Type 0} (order : IsStrictOrder less) w
   Ascends-distinct (x ∷ xs) h = (λ k. order.irreflexive x (h.0 x k), Ascends-distinct xs h.1)
 
   -- ascending lists of the same items are the same
-  pub same_ascending : (xs ys : List X) → Ascends less xs → Ascends less ys → ((x : X) → IsIn x xs → IsIn x ys) → ((x : X) → IsIn x ys → IsIn x xs) → xs ≡ ys
+  pub same_ascending : (xs ys : List X) → Ascends less xs → Ascends less ys → ((x : X) → IsIn x xs → IsIn x ys)
+      → ((x : X) → IsIn x ys → IsIn x xs) → xs ≡ ys
   same_ascending [] [] h k there back = refl
   same_ascending [] (y ∷ ys) h k there back = absurd (back y (inl refl))
   same_ascending (x ∷ xs) [] h k there back = absurd (there x (inl refl))
@@ -61,7 +62,8 @@ module _ {X : Type 0} where
         | inr h ↦ elim h [ inl k ↦ inr (inl (inr k)) | inr k ↦ inr (inr (inr k)) ]
       ]
 
-  same_next : (x y : X) (earlier items : List X) → (IsIn x earlier → ⊥) → (IsIn y earlier → ⊥) → ComesFirst x earlier items → ComesFirst y earlier items → x ≡ y
+  same_next : (x y : X) (earlier items : List X) → (IsIn x earlier → ⊥) → (IsIn y earlier → ⊥) → ComesFirst x earlier items
+      → ComesFirst y earlier items → x ≡ y
   same_next x y earlier items p q h k =
       elim (which_first x y h.at.before h.at.after k.at.before k.at.after (sym h.at.whole_is ∙ k.at.whole_is)) [
         | inl e ↦ e
@@ -69,7 +71,8 @@ module _ {X : Type 0} where
       ]
 
   -- the same after the same beginning
-  same_later : (items earlier xs ys : List X) → AreDistinct (earlier ++ xs) → AreDistinct (earlier ++ ys) → ((x : X) → IsIn x (earlier ++ xs) → IsIn x (earlier ++ ys)) → ((x : X) → IsIn x (earlier ++ ys) → IsIn x (earlier ++ xs))
+  same_later : (items earlier xs ys : List X) → AreDistinct (earlier ++ xs) → AreDistinct (earlier ++ ys)
+      → ((x : X) → IsIn x (earlier ++ xs) → IsIn x (earlier ++ ys)) → ((x : X) → IsIn x (earlier ++ ys) → IsIn x (earlier ++ xs))
       → InFirstOrder items (earlier ++ xs) → InFirstOrder items (earlier ++ ys) → xs ≡ ys
   same_later items earlier [] [] d e there back h k = refl
   same_later items earlier [] (y ∷ ys) d e there back h k =
@@ -94,5 +97,6 @@ module _ {X : Type 0} where
       cc
 
   -- lists of the same distinct items in the order of their first occurrences are the same
-  pub same_first_order : (items xs ys : List X) → AreDistinct xs → AreDistinct ys → ((x : X) → IsIn x xs → IsIn x ys) → ((x : X) → IsIn x ys → IsIn x xs) → InFirstOrder items xs → InFirstOrder items ys → xs ≡ ys
+  pub same_first_order : (items xs ys : List X) → AreDistinct xs → AreDistinct ys → ((x : X) → IsIn x xs → IsIn x ys)
+      → ((x : X) → IsIn x ys → IsIn x xs) → InFirstOrder items xs → InFirstOrder items ys → xs ≡ ys
   same_first_order items xs ys = same_later items [] xs ys

@@ -4,31 +4,20 @@ use Rattle.std.proofs.Common.{subst, sym, inl, inr}
 use Rattle.speedy_base.specs.declared.error.ErrorKind.{ErrorKind}
 use Rattle.speedy_base.specs.declared.error.ErrorKind.TheVariants as kinds
 use Rattle.speedy_layout.specs.Format.{Format, IsOwnKind}
-use Rattle.speedy_layout.specs.Laws.{Laws}
+use Rattle.speedy_layout.specs.Laws.{Laws, Laws-asking}
 
 -- a value that is read into memory of its own
 unfoldable pub owned_content : {V : Type 0} → Format V → Format V
-owned_content F = record F { takes_memory = true }
+owned_content F = record F { asks = record F.asks { memory = true } }
 
 -- a value that is borrowed: it can be read only from a reader that lends, without a request for memory
 unfoldable pub borrowed_content : {V : Type 0} → Format V → Format V
-borrowed_content F = record F { names = λ kind. F.names kind ⊎ (kind ≡ kinds.Unsized); needs_lending = true; takes_memory = false }
+borrowed_content F = record F { names = λ kind. F.names kind ⊎ (kind ≡ kinds.Unsized); asks = record F.asks { lending = true; memory = false } }
 
 module _ {V : Type 0} {strict : Bool} {least : ℕ} {F : Format V} (laws : Laws strict least F) where
   pub owned_content_laws : Laws strict least (owned_content F)
   unfolding owned_content
-  owned_content_laws = record {
-    decodes = laws.decodes;
-    written_spells = laws.written_spells;
-    written_alone = laws.written_alone;
-    shortest = laws.shortest;
-    least_size = laws.least_size;
-    has_written = laws.has_written;
-    one_written = laws.one_written;
-    fault_unspelled = laws.fault_unspelled;
-    names_own = laws.names_own;
-    refuses_own = laws.refuses_own;
-  }
+  owned_content_laws = Laws-asking F.names (record F.asks { memory = true }) laws.names_own (λ h. h) laws
 
   names_own_borrowed : (kind : ErrorKind) → F.names kind ⊎ (kind ≡ kinds.Unsized) → IsOwnKind kind
   names_own_borrowed kind (inl h) = laws.names_own kind h
@@ -36,15 +25,4 @@ module _ {V : Type 0} {strict : Bool} {least : ℕ} {F : Format V} (laws : Laws 
 
   pub borrowed_content_laws : Laws strict least (borrowed_content F)
   unfolding borrowed_content
-  borrowed_content_laws = record {
-    decodes = laws.decodes;
-    written_spells = laws.written_spells;
-    written_alone = laws.written_alone;
-    shortest = laws.shortest;
-    least_size = laws.least_size;
-    has_written = laws.has_written;
-    one_written = laws.one_written;
-    fault_unspelled = laws.fault_unspelled;
-    names_own = names_own_borrowed;
-    refuses_own = laws.refuses_own;
-  }
+  borrowed_content_laws = Laws-asking (λ kind. F.names kind ⊎ (kind ≡ kinds.Unsized)) (record F.asks { lending = true; memory = false }) names_own_borrowed (λ h. h) laws

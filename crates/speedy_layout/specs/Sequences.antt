@@ -2,27 +2,14 @@
 use Rattle.std.specs.Prelude.{◌≡◌, ℕ, ◌+◌, List, ◌++◌, length, Bool, true, false, IsTrue, ◌||◌, ◌⊎◌, refl}
 use Rattle.std.proofs.Common.{sym, ◌∙◌, ap, subst, arith, inl, inr}
 use Rattle.std.proofs.lemmas.List.{append_assoc, length-append}
-use Rattle.speedy_layout.specs.Format.{Format, Parts}
+use Rattle.speedy_layout.specs.Format.{Asks, asks_nothing, either_asks, Format, Parts}
 use Rattle.speedy_layout.specs.Laws.{Laws}
 
--- what a format asks beside its bytes
-pub record Asks : Type 0 where
-  pub lending : Bool
-  pub hashed : Bool
-  pub memory : Bool
-
-abbrev pub asks_of : {V : Type 0} → Format V → Asks
-asks_of L = record { lending = L.needs_lending; hashed = L.hashed; memory = L.takes_memory }
-
--- what either of two asks
-abbrev pub either_asks : Asks → Asks → Asks
-either_asks a b = record { lending = a.lending || b.lending; hashed = a.hashed || b.hashed; memory = a.memory || b.memory }
-
--- no format of these asks more
-pub record Suffices {U : Type 0} {W : U → Type 0} (asks : Asks) (M : (u : U) → Format (W u)) : Type 0 where
-  pub lending : (u : U) → IsTrue (M u).needs_lending → IsTrue asks.lending
-  pub hashed : (u : U) → IsTrue (M u).hashed → IsTrue asks.hashed
-  pub memory : (u : U) → IsTrue (M u).takes_memory → IsTrue asks.memory
+-- what is asked no more than that
+pub record AsksAtMost (few many : Asks) : Type 0 where
+  pub lending : IsTrue few.lending → IsTrue many.lending
+  pub hashed : IsTrue few.hashed → IsTrue many.hashed
+  pub memory : IsTrue few.memory → IsTrue many.memory
 
 -- a value that is split into two parts: a spelling of the first, then one of the second in the format that the first chooses
 unfoldable pub sequence : {U V : Type 0} {W : U → Type 0} → (V → (u : U) × W u) → Format U → Asks → ((u : U) → Format (W u)) → Format V
@@ -31,19 +18,38 @@ sequence {U = U} split L asks M = record {
   writes = λ v. Parts (L.writes (split v).0) ((M (split v).0).writes (split v).1);
   names = λ kind. L.names kind ⊎ ((u : U) × (M u).names kind);
   refuses_writing = λ kind. L.refuses_writing kind ⊎ ((u : U) × (M u).refuses_writing kind);
-  at_fault = λ bytes. L.at_fault bytes ⊎ ((u : U) × Parts (L.spells u) (M u).at_fault bytes);
-  needs_lending = L.needs_lending || asks.lending;
-  hashed = L.hashed || asks.hashed;
-  takes_memory = L.takes_memory || asks.memory;
+  malformed = λ bytes. L.malformed bytes ⊎ ((u : U) × Parts (L.spells u) (M u).malformed bytes);
+  asks = either_asks L.asks asks;
 }
 
-pub or_left : (a b : Bool) → IsTrue a → IsTrue (a || b)
+or_left : (a b : Bool) → IsTrue a → IsTrue (a || b)
 or_left true b h = refl
 or_left false b h = absurd (cc)
 
-pub or_right : (a b : Bool) → IsTrue b → IsTrue (a || b)
+or_right : (a b : Bool) → IsTrue b → IsTrue (a || b)
 or_right true b h = refl
 or_right false b h = h
+
+pub asks_same : {a : Asks} → AsksAtMost a a
+asks_same = record { lending = λ t. t; hashed = λ t. t; memory = λ t. t }
+
+pub asks_nothing_more : {a : Asks} → AsksAtMost asks_nothing a
+asks_nothing_more = record { lending = λ t. absurd (cc); hashed = λ t. absurd (cc); memory = λ t. absurd (cc) }
+
+pub asks_left : (a b : Asks) → AsksAtMost a (either_asks a b)
+asks_left a b = record { lending = or_left a.lending b.lending; hashed = or_left a.hashed b.hashed; memory = or_left a.memory b.memory }
+
+pub asks_right : (a b : Asks) → AsksAtMost b (either_asks a b)
+asks_right a b = record { lending = or_right a.lending b.lending; hashed = or_right a.hashed b.hashed; memory = or_right a.memory b.memory }
+
+pub asks_memory : {a : Asks} → AsksAtMost a (record a { memory = true })
+asks_memory = record { lending = λ t. t; hashed = λ t. t; memory = λ _. refl }
+
+pub asks_hashed : {a : Asks} → AsksAtMost a (record a { hashed = true })
+asks_hashed = record { lending = λ t. t; hashed = λ _. refl; memory = λ t. t }
+
+pub asks_after : {a b c : Asks} → AsksAtMost a b → AsksAtMost b c → AsksAtMost a c
+asks_after h k = record { lending = λ t. k.lending (h.lending t); hashed = λ t. k.hashed (h.hashed t); memory = λ t. k.memory (h.memory t) }
 
 neither : (a b : Bool) → (a || b) ≡ false → (a ≡ false) × (b ≡ false)
 neither true b h = absurd (cc)
@@ -65,9 +71,10 @@ second_decodes {U = U} {W = W} M strict m more s t r q p h e u same =
 
 module _ {U V : Type 0} {W : U → Type 0} {split : V → (u : U) × W u} {L : Format U} {asks : Asks} {M : (u : U) → Format (W u)} {strict : Bool} {n m : ℕ} where
   -- the laws of two parts, one after the other
-  pub sequence_laws : Laws strict n L → ((u : U) → Laws strict m (M u)) → Suffices asks M → ((v w : V) → split v ≡ split w → v ≡ w) → Laws strict (n + m) (sequence split L asks M)
+  pub sequence_laws : Laws strict n L → ((u : U) → Laws strict m (M u)) → ((u : U) → AsksAtMost (M u).asks asks)
+      → ((v w : V) → split v ≡ split w → v ≡ w) → Laws strict (n + m) (sequence split L asks M)
   unfolding sequence
-  sequence_laws laws more suffices injective = record {
+  sequence_laws laws more within injective = record {
     decodes = λ v w s t r q h k e.
         let joined = across s t r q h.front h.back k.front k.back h.whole_is k.whole_is e in
         let first = laws.decodes (split v).0 (split w).0 h.front k.front (h.back ++ r) (k.back ++ q) h.first_is k.first_is joined in
@@ -103,17 +110,17 @@ module _ {U V : Type 0} {W : U → Type 0} {split : V → (u : U) × W u} {L : F
         let second = (more (split v).0).has_written (split v).1 h.back h.second_is in
         (first.0 ++ second.0, record { front = first.0; back = second.0; whole_is = refl; first_is = first.1; second_is = second.1 });
     one_written = λ u v b c h k.
-        let no = neither L.hashed asks.hashed u in
+        let no = neither L.asks.hashed asks.hashed u in
         let first = laws.one_written no.0 (split v).0 h.front k.front h.first_is k.first_is in
-        let second = (more (split v).0).one_written (not_asked (M (split v).0).hashed asks.hashed (suffices.hashed (split v).0) no.1) (split v).1 h.back k.back h.second_is k.second_is in
+        let second = (more (split v).0).one_written (not_asked (M (split v).0).asks.hashed asks.hashed (within (split v).0).hashed no.1) (split v).1 h.back k.back h.second_is k.second_is in
         h.whole_is ∙ (cc) ∙ sym k.whole_is;
-    fault_unspelled = λ v front rest fault k.
+    malformed_unspelled = λ v front rest bad k.
         let joined : front ++ rest ≡ k.front ++ (k.back ++ rest) = ap (λ x. x ++ rest) k.whole_is ∙ append_assoc k.front k.back rest in
-        elim fault [
-          | inl h ↦ laws.fault_unspelled (split v).0 k.front (k.back ++ rest) (subst L.at_fault joined h) k.first_is
+        elim bad [
+          | inl h ↦ laws.malformed_unspelled (split v).0 k.front (k.back ++ rest) (subst L.malformed joined h) k.first_is
           | inr h ↦
               let first = laws.decodes h.0 (split v).0 h.1.front k.front h.1.back (k.back ++ rest) h.1.first_is k.first_is (sym h.1.whole_is ∙ joined) in
-              (more (split v).0).fault_unspelled (split v).1 k.back rest (subst (λ (x : List ℕ). (M (split v).0).at_fault x) first.2 (subst (λ (u : U). (M u).at_fault h.1.back) first.0 h.1.second_is)) k.second_is
+              (more (split v).0).malformed_unspelled (split v).1 k.back rest (subst (λ (x : List ℕ). (M (split v).0).malformed x) first.2 (subst (λ (u : U). (M u).malformed h.1.back) first.0 h.1.second_is)) k.second_is
         ];
     names_own = λ kind named.
         elim named [
@@ -128,5 +135,6 @@ module _ {U V : Type 0} {W : U → Type 0} {split : V → (u : U) × W u} {L : F
   }
 
 -- values that can be put together again from their parts differ in their parts
-pub told_apart : {U V : Type 0} {W : U → Type 0} (split : V → (u : U) × W u) (join : (u : U) → W u → V) → ((v : V) → join (split v).0 (split v).1 ≡ v) → (v w : V) → split v ≡ split w → v ≡ w
+pub told_apart : {U V : Type 0} {W : U → Type 0} (split : V → (u : U) × W u) (join : (u : U) → W u → V)
+    → ((v : V) → join (split v).0 (split v).1 ≡ v) → (v w : V) → split v ≡ split w → v ≡ w
 told_apart {U = U} {W = W} split join back v w e = sym (back v) ∙ (ap (λ (p : (u : U) × W u). join p.0 p.1) e ∙ back w)

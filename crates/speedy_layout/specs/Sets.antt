@@ -7,8 +7,8 @@ use Rattle.speedy_layout.specs.Laws.{Laws}
 use Rattle.speedy_layout.specs.Members.{IsIn, AreDistinct, Ascends, InFirstOrder}
 use Rattle.speedy_layout.specs.Orders.{IsStrictOrder, Ascends-distinct, same_ascending, own_first_order, same_first_order}
 use Rattle.speedy_layout.specs.Gathering.{IsGathering, gathered, gathered_laws}
-use Rattle.speedy_layout.specs.Keys.{TellsApart}
-use Rattle.speedy_layout.specs.SeenKeys.{AreSeen, find_seen}
+use Rattle.speedy_layout.specs.Equality.{TellsApart}
+use Rattle.speedy_layout.specs.SeenItems.{AreSeen, find_seen}
 
 -- the two lists have the same items
 abbrev pub HasItems : {T : Type 0} → List T → List T → Type 0

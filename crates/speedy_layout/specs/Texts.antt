@@ -1,5 +1,5 @@
 -- Bytes and texts. A text is seen as the bytes of its characters in UTF-8, which determine the characters, and are determined by them.
-use Rattle.std.specs.Prelude.{◌≡◌, ℕ, List, [], ◌∷◌, ◌++◌, length, Bool, true, false, refl}
+use Rattle.std.specs.Prelude.{◌≡◌, ℕ, List, [], ◌∷◌, ◌++◌, length, Bool, true, refl}
 use Rattle.std.proofs.Common.{sym, ◌∙◌, ap, arith}
 use Rattle.std.specs.Str.{IsUtf8}
 use Rattle.speedy_base.specs.declared.error.ErrorKind.TheVariants as kinds
@@ -7,12 +7,12 @@ use Rattle.speedy_base.specs.declared.endianness.Endianness.{Endianness}
 use Rattle.speedy_base.specs.Digits.{SpellsNumber, AreBytes}
 use Rattle.speedy_base.specs.DigitsLemmas.{SpellsNumber-one_byte, SpellsNumber-is_one_byte}
 use Rattle.speedy_base.specs.Encoding.{Encoding}
-use Rattle.speedy_layout.specs.Format.{Format, plain_format, Each}
+use Rattle.speedy_layout.specs.Format.{asks_nothing, Format, plain_format, Each}
 use Rattle.speedy_layout.specs.Laws.{Laws, Laws-less, plain_laws}
 use Rattle.speedy_layout.specs.Codes.{subset, subset_laws, coding}
 use Rattle.speedy_layout.specs.Numbers.{unsigned_number, unsigned_number_laws, same_fronts}
 use Rattle.speedy_layout.specs.Owned.{owned_content, owned_content_laws}
-use Rattle.speedy_layout.specs.Sequences.{Asks, Suffices, sequence, sequence_laws}
+use Rattle.speedy_layout.specs.Sequences.{AsksAtMost, asks_same, sequence, sequence_laws}
 
 -- so many bytes, as they are
 unfoldable pub raw_bytes : ℕ → Format (List ℕ)
@@ -30,13 +30,9 @@ text_of_length encoding n = owned_content (subset encoding IsUtf8 kinds.InvalidU
 abbrev pub text_parts : List ℕ → ℕ × List ℕ
 text_parts text = (length text, text)
 
--- memory for the text
-abbrev pub text_asks : Asks
-text_asks = record { lending = false; hashed = false; memory = true }
-
 -- README, `{length: u32, bytes: [u8]}`: the number of bytes in four digits, then the UTF-8 bytes
 unfoldable pub text : Encoding → Format (List ℕ)
-text encoding = sequence text_parts (unsigned_number 4 encoding) text_asks (text_of_length encoding)
+text encoding = sequence text_parts (unsigned_number 4 encoding) (record asks_nothing { memory = true }) (text_of_length encoding)
 
 pub raw_bytes_laws : {strict : Bool} (n : ℕ) → Laws strict n (raw_bytes n)
 unfolding raw_bytes
@@ -50,14 +46,14 @@ pub text_of_length_laws : (encoding : Encoding) (n : ℕ) → Laws encoding.stri
 unfolding text_of_length
 text_of_length_laws encoding n = owned_content_laws (subset_laws encoding IsUtf8 kinds.InvalidUtf8 tt (raw_bytes_laws n))
 
-pub text_suffices : (encoding : Encoding) → Suffices text_asks (text_of_length encoding)
+pub text_asks : (encoding : Encoding) (n : ℕ) → AsksAtMost (text_of_length encoding n).asks (record asks_nothing { memory = true })
 unfolding text_of_length owned_content coding raw_bytes
-text_suffices encoding = record { lending = λ _ t. t; hashed = λ _ t. t; memory = λ _ t. t }
+text_asks encoding n = asks_same
 
 pub text_laws : (encoding : Encoding) → Laws encoding.strict 4 (text encoding)
 unfolding text
 text_laws encoding =
-    sequence_laws {n = 4} {m = 0} (unsigned_number_laws 4 encoding) (λ n. Laws-less (omega arith) (text_of_length_laws encoding n)) (text_suffices encoding)
+    sequence_laws {n = 4} {m = 0} (unsigned_number_laws 4 encoding) (λ n. Laws-less (omega arith) (text_of_length_laws encoding n)) (text_asks encoding)
     (λ v w e. ap (λ (p : ℕ × List ℕ). p.1) e)
 
 -- ---- bytes as numbers

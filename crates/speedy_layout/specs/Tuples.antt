@@ -3,7 +3,7 @@ use Rattle.std.specs.Prelude.{◌≡◌, ℕ, ◌+◌, [], ◌++◌, refl, Bool}
 use Rattle.std.proofs.Common.{sym, ◌∙◌, ap, arith}
 use Rattle.speedy_layout.specs.Format.{Format, plain_format}
 use Rattle.speedy_layout.specs.Laws.{Laws, plain_laws, saturated_size, saturated_laws}
-use Rattle.speedy_layout.specs.Sequences.{asks_of, Suffices, sequence, sequence_laws}
+use Rattle.speedy_layout.specs.Sequences.{sequence, sequence_laws, asks_same}
 
 -- no bytes
 unfoldable pub unit : Format (Unit {0})
@@ -19,10 +19,8 @@ unit_laws =
 
 -- two values, one after the other
 abbrev pub pair : {U W : Type 0} → Format U → Format W → Format (U × W)
-pair L M = sequence (λ p. p) L (asks_of M) (λ _. M)
+pair L M = sequence (λ p. p) L M.asks (λ _. M)
 
-pub pair_suffices : {U W : Type 0} (M : Format W) → Suffices {U = U} (asks_of M) (λ _. M)
-pair_suffices M = record { lending = λ _ t. t; hashed = λ _ t. t; memory = λ _ t. t }
-
-pub pair_laws : {U W : Type 0} {strict : Bool} {n m : ℕ} {L : Format U} {M : Format W} → Laws strict n L → Laws strict m M → Laws strict (saturated_size (n + m)) (pair L M)
-pair_laws {M = M} laws more = saturated_laws (sequence_laws laws (λ _. more) (pair_suffices M) (λ v w e. e))
+pub pair_laws : {U W : Type 0} {strict : Bool} {n m : ℕ} {L : Format U} {M : Format W} → Laws strict n L → Laws strict m M
+    → Laws strict (saturated_size (n + m)) (pair L M)
+pair_laws laws more = saturated_laws (sequence_laws laws (λ _. more) (λ _. asks_same) (λ v w e. e))

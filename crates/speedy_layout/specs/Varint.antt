@@ -1,5 +1,5 @@
 -- Variable length integers: numbers below 2 ^ 64 in one to nine bytes, the same in both byte orders.
-use Rattle.std.specs.Prelude.{◌≡◌, ℕ, zero, suc, ◌+◌, ◌-◌, ◌*◌, ◌/◌, ◌%◌, ◌^◌, ◌<◌, ◌≤◌, List, [], ◌∷◌, ◌++◌, length, false, refl, IsTrue}
+use Rattle.std.specs.Prelude.{◌≡◌, ℕ, zero, suc, ◌+◌, ◌-◌, ◌*◌, ◌/◌, ◌%◌, ◌^◌, ◌<◌, ◌≤◌, List, [], ◌∷◌, ◌++◌, length, refl, IsTrue}
 use Rattle.std.proofs.Common.{sym, ◌∙◌, ap, ap₂, subst, inl, inr, lit<, arith}
 use Rattle.std.proofs.Math.Nat.{pow-suc, one-le-pow}
 use Rattle.std.proofs.Math.Pow.{pow_mono}
@@ -9,11 +9,11 @@ use Rattle.speedy_base.specs.declared.endianness.Endianness.TheVariants.{LittleE
 use Rattle.speedy_base.specs.Digits.{SpellsNumber, digits}
 use Rattle.speedy_base.specs.DigitsLemmas.{SpellsNumber-below, SpellsNumber-digits, SpellsNumber-one_byte, SpellsNumber-is_one_byte}
 use Rattle.speedy_base.specs.Encoding.{Encoding}
-use Rattle.speedy_layout.specs.Format.{Format}
+use Rattle.speedy_layout.specs.Format.{asks_nothing, Format}
 use Rattle.speedy_layout.specs.Laws.{Laws, Laws-less}
 use Rattle.speedy_layout.specs.Codes.{Code, IsCode, coding, coding_laws, exact_code, exact_is_code, Accepts-means, Accepts-exact_means, Accepts-is}
 use Rattle.speedy_layout.specs.Numbers.{unsigned_number, unsigned_number_laws}
-use Rattle.speedy_layout.specs.Sequences.{Asks, Suffices, sequence, sequence_laws}
+use Rattle.speedy_layout.specs.Sequences.{AsksAtMost, asks_same, sequence, sequence_laws}
 
 -- a first byte: so many leading one bits, and a low part below the first zero bit, which is 0 where no bit is left for it
 pub record IsFirstByte (ones low byte : ℕ) : Type 0 where
@@ -32,12 +32,9 @@ first_byte encoding = coding encoding first_byte_code (unsigned_number 1 encodin
 abbrev pub low_first : Encoding → Encoding
 low_first encoding = record encoding { order = LittleEndian }
 
-abbrev pub prefixed_asks : Asks
-prefixed_asks = record { lending = false; hashed = false; memory = false }
-
 -- a first byte, and after it as many digits as it has leading ones, least first
 abbrev pub prefixed_digits : Encoding → Format ((ℕ × ℕ) × ℕ)
-prefixed_digits encoding = sequence (λ p. p) (first_byte encoding) prefixed_asks (λ p. unsigned_number p.0 (low_first encoding))
+prefixed_digits encoding = sequence (λ p. p) (first_byte encoding) asks_nothing (λ p. unsigned_number p.0 (low_first encoding))
 
 -- no fewer bytes after the first one hold the number: j of them, up to 7, hold what is below 2 ^ (7 * (j + 1))
 abbrev pub HasNoShorter : ℕ → ℕ → Type 0
@@ -54,7 +51,7 @@ abbrev pub varint_code : Code ((ℕ × ℕ) × ℕ) ℕ
 varint_code = record {
   means = λ p n. n ≡ p.0.1 * 256 ^ p.0.0 + p.1;
   chosen = λ p n. IsFewest p.0.0 n × (p.0.1 ≡ n / 256 ^ p.0.0) × (p.1 ≡ n % 256 ^ p.0.0);
-  fault = λ kind. ⊥;
+  refusals = λ kind. ⊥;
 }
 
 -- a first byte, the digits after it, and the number that they hold
@@ -192,16 +189,17 @@ first_byte_laws encoding =
     coding_laws encoding (unsigned_number_laws 1 encoding)
     (exact_is_code (λ kind h. absurd h) one_first_byte (λ a b p h k. h.byte_is ∙ sym k.byte_is) (unsigned_number_laws 1 encoding))
 
-pub prefixed_suffices : (encoding : Encoding) → Suffices prefixed_asks (λ (p : ℕ × ℕ). unsigned_number p.0 (low_first encoding))
+pub prefixed_asks : (encoding : Encoding) (p : ℕ × ℕ) → AsksAtMost (unsigned_number p.0 (low_first encoding)).asks asks_nothing
 unfolding unsigned_number
-prefixed_suffices encoding = record { lending = λ _ t. t; hashed = λ _ t. t; memory = λ _ t. t }
+prefixed_asks encoding p = asks_same
 
 pub prefixed_digits_laws : (encoding : Encoding) → Laws encoding.strict 1 (prefixed_digits encoding)
 prefixed_digits_laws encoding =
-    sequence_laws {n = 1} {m = 0} (first_byte_laws encoding) (λ p. Laws-less (omega arith) (unsigned_number_laws p.0 (low_first encoding))) (prefixed_suffices encoding) (λ v w e. e)
+    sequence_laws {n = 1} {m = 0} (first_byte_laws encoding) (λ p. Laws-less (omega arith) (unsigned_number_laws p.0 (low_first encoding))) (prefixed_asks encoding) (λ v w e. e)
 
 -- a first byte and its digits, as they are written
-prefixed_written : (encoding : Encoding) (k low rest first : ℕ) (tail : List ℕ) → IsFirstByte k low first → SpellsNumber k LittleEndian rest tail → (prefixed_digits encoding).writes ((k, low), rest) (first ∷ tail)
+prefixed_written : (encoding : Encoding) (k low rest first : ℕ) (tail : List ℕ) → IsFirstByte k low first
+    → SpellsNumber k LittleEndian rest tail → (prefixed_digits encoding).writes ((k, low), rest) (first ∷ tail)
 unfolding sequence coding unsigned_number
 prefixed_written encoding k low rest first tail h digits = record {
   front = first ∷ [];
@@ -212,11 +210,13 @@ prefixed_written encoding k low rest first tail h digits = record {
 }
 
 -- and as they are read
-pub prefixed-spelled : (encoding : Encoding) (k low rest first : ℕ) (tail : List ℕ) → IsFirstByte k low first → SpellsNumber k LittleEndian rest tail → (prefixed_digits encoding).spells ((k, low), rest) (first ∷ tail)
+pub prefixed-spelled : (encoding : Encoding) (k low rest first : ℕ) (tail : List ℕ) → IsFirstByte k low first
+    → SpellsNumber k LittleEndian rest tail → (prefixed_digits encoding).spells ((k, low), rest) (first ∷ tail)
 prefixed-spelled encoding k low rest first tail h digits = (prefixed_digits_laws encoding).written_spells ((k, low), rest) (first ∷ tail) (prefixed_written encoding k low rest first tail h digits)
 
 -- the written form of an integer, where they are the fewest
-pub varint-written : (encoding : Encoding) (k n first : ℕ) (tail : List ℕ) → IsFewest k n → IsFirstByte k (n / 256 ^ k) first → SpellsNumber k LittleEndian (n % 256 ^ k) tail → (varint encoding).writes n (first ∷ tail)
+pub varint-written : (encoding : Encoding) (k n first : ℕ) (tail : List ℕ) → IsFewest k n → IsFirstByte k (n / 256 ^ k) first
+    → SpellsNumber k LittleEndian (n % 256 ^ k) tail → (varint encoding).writes n (first ∷ tail)
 unfolding varint coding
 varint-written encoding k n first tail fewest h digits = record { code = ((k, n / 256 ^ k), n % 256 ^ k); code_is = prefixed_written encoding k (n / 256 ^ k) (n % 256 ^ k) first tail h digits; stands = (fewest, refl, refl) }
 
@@ -287,7 +287,7 @@ varint_is_code encoding = record {
       let w = own.width_is in
       let v = other.width_is in
       omega arith;
-  fault_own = λ kind h. absurd h;
+  refusals_own = λ kind h. absurd h;
 }
 
 pub varint_laws : (encoding : Encoding) → Laws encoding.strict 1 (varint encoding)
@@ -309,14 +309,16 @@ pub StartsVarint-same : (k j x : ℕ) → StartsVarint k x → StartsVarint j x 
 StartsVarint-same k j x h g = IsFirstByte-same_ones k j h.0 g.0 x h.1 g.1
 
 -- a spelling is a first byte and what it says follows
-pub varint-starts : (encoding : Encoding) (n : ℕ) (bytes : List ℕ) → (varint encoding).spells n bytes → (first : ℕ) × (tail : List ℕ) × (bytes ≡ first ∷ tail) × StartsVarint (length tail) first
+pub varint-starts : (encoding : Encoding) (n : ℕ) (bytes : List ℕ) → (varint encoding).spells n bytes
+    → (first : ℕ) × (tail : List ℕ) × (bytes ≡ first ∷ tail) × StartsVarint (length tail) first
 unfolding varint coding
 varint-starts encoding n bytes h =
     let is = prefixed-is encoding h.code bytes h.code_is in
     (is.first, is.tail, is.whole_is, (h.code.0.1, subst (λ (i : ℕ). IsFirstByte i h.code.0.1 is.first) (sym is.width_is) is.first_is))
 
 -- a first byte and its digits are the code that is chosen for the number that they hold, where they are the fewest
-pub varint-chosen : {first : ℕ} {tail : List ℕ} (n : ℕ) → (parts : VarintParts first tail n) → IsFewest (length tail) n → varint_code.chosen ((length tail, parts.low), parts.rest) n
+pub varint-chosen : {first : ℕ} {tail : List ℕ} (n : ℕ) → (parts : VarintParts first tail n) → IsFewest (length tail) n
+    → varint_code.chosen ((length tail, parts.low), parts.rest) n
 varint-chosen {tail = tail} n parts fewest =
     let power = 256 ^ length tail in
     let small = SpellsNumber-below (length tail) LittleEndian parts.rest tail parts.tail_is in
@@ -324,7 +326,8 @@ varint-chosen {tail = tail} n parts fewest =
     (fewest, same.0, same.1)
 
 -- so they are a spelling of it, under a demand for the written form too
-pub varint-accepted : (encoding : Encoding) (n first : ℕ) (tail : List ℕ) → VarintParts first tail n → (IsTrue encoding.strict → IsFewest (length tail) n) → (varint encoding).spells n (first ∷ tail)
+pub varint-accepted : (encoding : Encoding) (n first : ℕ) (tail : List ℕ) → VarintParts first tail n
+    → (IsTrue encoding.strict → IsFewest (length tail) n) → (varint encoding).spells n (first ∷ tail)
 unfolding varint coding
 varint-accepted encoding n first tail parts fewest = record {
   code = ((length tail, parts.low), parts.rest);

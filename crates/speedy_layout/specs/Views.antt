@@ -38,7 +38,8 @@ module _ {A : Type 0} (decoded : List ℕ → A) (size : ℕ) where
   unfolding shown_items
   length-shown_items bytes = length-decode_each (length bytes / size) bytes
 
-  at-decode_each : (n i : ℕ) (bytes : List ℕ) (x : A) → i < n → get_or (decode_each decoded size n bytes) i x ≡ decoded (take size (drop (i * size) bytes))
+  at-decode_each : (n i : ℕ) (bytes : List ℕ) (x : A) → i < n
+      → get_or (decode_each decoded size n bytes) i x ≡ decoded (take size (drop (i * size) bytes))
   at-decode_each zero i bytes x l = absurd (omega arith)
   at-decode_each (suc n) zero bytes x l = ap (λ k. decoded (take size (drop k bytes))) (let none : 0 ≡ 0 * size = omega arith in none)
   at-decode_each (suc n) (suc i) bytes x l =
@@ -47,7 +48,8 @@ module _ {A : Type 0} (decoded : List ℕ → A) (size : ℕ) where
       ∙ ap (λ b. decoded (take size b)) (drop-drop (i * size) size bytes ∙ ap (λ k. drop k bytes) more)
 
   -- the item at an index
-  pub at-shown_items : (bytes : List ℕ) (i : ℕ) (x : A) → i < length (shown_items decoded size bytes) → get_or (shown_items decoded size bytes) i x ≡ decoded (take size (drop (i * size) bytes))
+  pub at-shown_items : (bytes : List ℕ) (i : ℕ) (x : A) → i < length (shown_items decoded size bytes)
+      → get_or (shown_items decoded size bytes) i x ≡ decoded (take size (drop (i * size) bytes))
   unfolding shown_items
   at-shown_items bytes i x l = at-decode_each (length bytes / size) i bytes x (subst (λ n. i < n) (length-shown_items bytes) l)
 
@@ -57,7 +59,8 @@ module _ {A : Type 0} (decoded : List ℕ → A) (size : ℕ) where
   shown_items-none bytes l = ap (λ n. decode_each decoded size n bytes) (div-eq_of_lt l)
 
   -- the first item, and those after it
-  pub shown_items-more : (bytes : List ℕ) → 0 < size → size ≤ length bytes → shown_items decoded size bytes ≡ decoded (take size bytes) ∷ shown_items decoded size (drop size bytes)
+  pub shown_items-more : (bytes : List ℕ) → 0 < size → size ≤ length bytes
+      → shown_items decoded size bytes ≡ decoded (take size bytes) ∷ shown_items decoded size (drop size bytes)
   unfolding shown_items
   shown_items-more bytes some l =
       let left = length-drop size bytes in
@@ -78,7 +81,8 @@ module _ {A : Type 0} (decoded : List ℕ → A) (size : ℕ) where
   pub item_missing : (bytes : List ℕ) (i n : ℕ) → n ≡ size → length bytes / n ≤ i → length (shown_items decoded size bytes) ≤ i
   item_missing bytes i n same past = rw (length-shown_items bytes) (subst (λ k. length bytes / k ≤ i) same past)
 
-  pub item_taken : (bytes first rest : List ℕ) (n : ℕ) (x : A) → n ≡ size → 0 < size → n ≤ length bytes → first ≡ take n bytes → rest ≡ drop n bytes → x ≡ decoded first → shown_items decoded size bytes ≡ x ∷ shown_items decoded size rest
+  pub item_taken : (bytes first rest : List ℕ) (n : ℕ) (x : A) → n ≡ size → 0 < size → n ≤ length bytes → first ≡ take n bytes
+      → rest ≡ drop n bytes → x ≡ decoded first → shown_items decoded size bytes ≡ x ∷ shown_items decoded size rest
   item_taken bytes first rest n x same some enough front back is =
       shown_items-more bytes some (subst (λ k. k ≤ length bytes) same enough)
       ∙ ap₂ (λ y ys. y ∷ ys) (ap (λ k. decoded (take k bytes)) (sym same) ∙ (ap decoded (sym front) ∙ sym is)) (ap (λ k. shown_items decoded size (drop k bytes)) (sym same) ∙ ap (shown_items decoded size) (sym back))
@@ -94,7 +98,8 @@ pub so_many_items : (n size : ℕ) → 0 < size → n * size / size ≡ n
 so_many_items n size some = mul-div_cancel n some
 
 -- bytes of so many items show so many
-pub length-shown_many : {A : Type 0} (decoded : List ℕ → A) (size n : ℕ) (bytes : List ℕ) → 0 < size → length bytes ≡ n * size → length (shown_items decoded size bytes) ≡ n
+pub length-shown_many : {A : Type 0} (decoded : List ℕ → A) (size n : ℕ) (bytes : List ℕ) → 0 < size → length bytes ≡ n * size
+    → length (shown_items decoded size bytes) ≡ n
 length-shown_many decoded size n bytes some l = length-shown_items decoded size bytes ∙ (ap (λ k. k / size) l ∙ so_many_items n size some)
 
 module _ {A V : Type 0} (decoded : List ℕ → A) (size : ℕ) (seen : A → V) (spells : V → List ℕ → Type 0) (decodes : (b : List ℕ) → length b ≡ size → AreBytes b → spells (seen (decoded b)) b) where
@@ -114,7 +119,8 @@ module _ {A V : Type 0} (decoded : List ℕ → A) (size : ℕ) (seen : A → V)
       }
 
   -- bytes of a whole number of items spell the items that they show
-  pub shown_items_spelled : (n : ℕ) (bytes : List ℕ) → 0 < size → length bytes ≡ n * size → AreBytes bytes → Each spells (map seen (shown_items decoded size bytes)) bytes
+  pub shown_items_spelled : (n : ℕ) (bytes : List ℕ) → 0 < size → length bytes ≡ n * size → AreBytes bytes
+      → Each spells (map seen (shown_items decoded size bytes)) bytes
   unfolding shown_items
   shown_items_spelled n bytes some l are =
       let many : length bytes / size ≡ n = ap (λ k. k / size) l ∙ so_many_items n size some in
@@ -123,11 +129,13 @@ module _ {A V : Type 0} (decoded : List ℕ → A) (size : ℕ) (seen : A → V)
 -- ---- what numbers are decoded
 
 -- bytes of the width spell their number
-pub number_spelled : (width : ℕ) (bytes : List ℕ) → length bytes ≡ width → AreBytes bytes → (unsigned_number width (plain_encoding LittleEndian)).spells (number LittleEndian bytes) bytes
+pub number_spelled : (width : ℕ) (bytes : List ℕ) → length bytes ≡ width → AreBytes bytes
+    → (unsigned_number width (plain_encoding LittleEndian)).spells (number LittleEndian bytes) bytes
 unfolding unsigned_number
 number_spelled width bytes l are = record { width_is = l; are_bytes = are; value_is = refl }
 
-pub signed_spelled : (w : Width) (bytes : List ℕ) → length bytes ≡ byte_len w → AreBytes bytes → (signed_number w (plain_encoding LittleEndian)).spells (cast_signed w (number LittleEndian bytes)) bytes
+pub signed_spelled : (w : Width) (bytes : List ℕ) → length bytes ≡ byte_len w → AreBytes bytes
+    → (signed_number w (plain_encoding LittleEndian)).spells (cast_signed w (number LittleEndian bytes)) bytes
 unfolding signed_number
 signed_spelled w bytes l are = SpellsSigned-cast_signed w LittleEndian (number LittleEndian bytes) bytes (record { width_is = l; are_bytes = are; value_is = refl })
 
@@ -155,29 +163,21 @@ byte_alike order n (b ∷ bytes) h =
     let below : n < 256 = (subst AreBytes is h.are_bytes).0 in
     subst (SpellsNumber 1 order n) (sym is) (SpellsNumber-one_byte order n below)
 
-pub byte_number_alike : (encoding : Encoding) (n : ℕ) (bytes : List ℕ) → (unsigned_number 1 (plain_encoding LittleEndian)).spells n bytes → (unsigned_number 1 encoding).spells n bytes
+pub byte_number_alike : (encoding : Encoding) (n : ℕ) (bytes : List ℕ) → (unsigned_number 1 (plain_encoding LittleEndian)).spells n bytes
+    → (unsigned_number 1 encoding).spells n bytes
 unfolding unsigned_number
 byte_number_alike encoding n bytes h = byte_alike encoding.order n bytes h
 
-pub signed_byte_alike : (encoding : Encoding) (z : ℤ) (bytes : List ℕ) → (signed_number w8 (plain_encoding LittleEndian)).spells z bytes → (signed_number w8 encoding).spells z bytes
+pub signed_byte_alike : (encoding : Encoding) (z : ℤ) (bytes : List ℕ) → (signed_number w8 (plain_encoding LittleEndian)).spells z bytes
+    → (signed_number w8 encoding).spells z bytes
 unfolding signed_number
 signed_byte_alike encoding z bytes h = record { range = h.range; digits = byte_alike encoding.order (cast_unsigned w8 z) bytes h.digits }
 
 -- ---- for readers of views
 
--- items are spelled as another format spells each
-pub each_as : {V : Type 0} {R S : V → List ℕ → Type 0} → ((v : V) (bytes : List ℕ) → R v bytes → S v bytes) → (vs : List V) (bytes : List ℕ) → Each R vs bytes → Each S vs bytes
-each_as alike [] bytes h = h
-each_as alike (v ∷ vs) bytes h = record {
-  front = h.front;
-  back = h.back;
-  whole_is = h.whole_is;
-  first_is = alike v h.front h.first_is;
-  second_is = each_as alike vs h.back h.second_is;
-}
-
 -- items of one size have together so many bytes
-pub each_one_size : {V : Type 0} {R : V → List ℕ → Type 0} {size : ℕ} → ((v : V) (bytes : List ℕ) → R v bytes → length bytes ≡ size) → (vs : List V) (bytes : List ℕ) → Each R vs bytes → length bytes ≡ length vs * size
+pub each_one_size : {V : Type 0} {R : V → List ℕ → Type 0} {size : ℕ} → ((v : V) (bytes : List ℕ) → R v bytes → length bytes ≡ size)
+    → (vs : List V) (bytes : List ℕ) → Each R vs bytes → length bytes ≡ length vs * size
 each_one_size one [] bytes h = let none = ap length h in omega arith
 each_one_size one (v ∷ vs) bytes h =
     let first = one v h.front h.first_is in

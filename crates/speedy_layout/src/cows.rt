@@ -1,13 +1,10 @@
 //! The layout of what owns its content or borrows it, and adds no byte to it.
 ghost use Rattle.std.specs.Prelude.{ℕ, List, map};
-ghost use Rattle.std.specs.Cmp.Lexicographic.{bytes_decides};
 ghost use Rattle.std.specs.Cow.{cow_value, cow_slice_items, cow_str_bytes};
-ghost use Rattle.speedy_layout.specs.Keys.{list_tells};
 ghost use Rattle.speedy_layout.specs.Lists.{list, list_laws};
 ghost use Rattle.speedy_layout.specs.Texts.{text, text_laws};
 
 use crate::layout::Layout;
-use crate::same_key::SameKey;
 use std::borrow::{Cow, CowSlice, CowStr};
 
 // It is read as owned, so it needs no reader that lends but for its content.
@@ -47,16 +44,4 @@ impl<'a> Layout for CowStr<'a> {
     ghost least = { 4 };
 
     ghost layout_laws = { text_laws };
-}
-
-impl<'a, T: SameKey> SameKey for Cow<'a, T> {
-    ghost same_key = { λ x y. T.same_key (cow_value x) (cow_value y) };
-}
-
-impl<'a, T: SameKey> SameKey for CowSlice<'a, T> {
-    ghost same_key = { λ x y. list_tells T.same_key (cow_slice_items x) (cow_slice_items y) };
-}
-
-impl<'a> SameKey for CowStr<'a> {
-    ghost same_key = { λ x y. bytes_decides (cow_str_bytes x) (cow_str_bytes y) };
 }

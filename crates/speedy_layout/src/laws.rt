@@ -40,7 +40,7 @@ pub fn no_spelling_is_below_least<T: Layout>()
 /// A value has one written form, where nothing in it is hashed.
 pub fn one_written_form<T: Layout>()
     ensures { (f : Encoding) (v : T.Seen) (bytes others : List ℕ) →
-        (T.format f).hashed ≡ false → (T.format f).writes v bytes → (T.format f).writes v others → bytes ≡ others }
+        (T.format f).asks.hashed ≡ false → (T.format f).writes v bytes → (T.format f).writes v others → bytes ≡ others }
 {}
 
 /// Two fronts of one list of bytes that spell are one front. They spell one value, and leave the same rest.
@@ -56,7 +56,7 @@ pub fn written_form_alone<T: Layout>()
     ensures written { (f : Encoding) (v : T.Seen) (bytes : List ℕ) →
         IsTrue f.strict → (T.format f).spells v bytes → (T.format f).writes v bytes }
     ensures same { (f : Encoding) (v : T.Seen) (bytes others : List ℕ) →
-        IsTrue f.strict → (T.format f).hashed ≡ false → (T.format f).spells v bytes → (T.format f).writes v others → bytes ≡ others }
+        IsTrue f.strict → (T.format f).asks.hashed ≡ false → (T.format f).spells v bytes → (T.format f).writes v others → bytes ≡ others }
 {}
 
 /// Two values of a type that may be a key are equal exactly where the same is seen of them.

@@ -1,9 +1,7 @@
 //! The layout of maps.
 ghost use Rattle.std.specs.Prelude.{List, map, Option, option_map};
 ghost use Rattle.std.specs.HashMap.{get};
-ghost use Rattle.speedy_layout.specs.Keys.{list_tells};
-ghost use Rattle.speedy_layout.specs.SeenKeys.{IsLess, seen_order};
-ghost use Rattle.speedy_layout.specs.SameKeys.{same_pairs, same_hash_maps};
+ghost use Rattle.speedy_layout.specs.SeenItems.{IsLess, seen_order};
 ghost use Rattle.speedy_layout.specs.Maps.{seen_pair, tree_map, tree_map_laws, hash_map, hash_map_laws, index_map, index_map_laws};
 
 use crate::layout::Layout;
@@ -25,10 +23,6 @@ impl<K: SameKey + Ord, V: Layout> Layout for BTreeMap<K, V> {
         (seen_order K.same_key K.total K.matches_eq) };
 }
 
-impl<K: SameKey + Ord, V: SameKey> SameKey for BTreeMap<K, V> {
-    ghost same_key = { λ m n. list_tells (same_pairs K.same_key V.same_key) m.entries n.entries };
-}
-
 impl<K: SameKey + Hash, V: Layout, S: BuildHasher> Layout for HashMap<K, V, S> {
     ghost Seen = { K → Option V.Seen };
 
@@ -39,10 +33,6 @@ impl<K: SameKey + Hash, V: Layout, S: BuildHasher> Layout for HashMap<K, V, S> {
     ghost least = { 4 };
 
     ghost layout_laws = { λ f. hash_map_laws f (K.layout_laws f) (V.layout_laws f) K.same_key };
-}
-
-impl<K: SameKey + Hash, V: SameKey, S: BuildHasher> SameKey for HashMap<K, V, S> {
-    ghost same_key = { same_hash_maps V.same_key K.Eq.laws };
 }
 
 impl<K: SameKey + Hash, V: Layout, S: BuildHasher> Layout for IndexMap<K, V, S> {

@@ -3,10 +3,12 @@ ghost use Rattle.std.specs.Prelude.{◌≡◌, ◌↔◌, IsTrue, refl};
 ghost use Rattle.std.specs.Box.{boxed_slice_items, boxed_str_bytes};
 ghost use Rattle.std.specs.Cmp.{unsigned_Decides, signed_Decides, booleans_Decides};
 ghost use Rattle.std.specs.Cmp.Lexicographic.{bytes_decides};
+ghost use Rattle.std.specs.Cow.{cow_value, cow_slice_items, cow_str_bytes};
 ghost use Rattle.std.specs.Int.NonZero.{non_zero_u8_get, non_zero_u16_get, non_zero_u32_get, non_zero_u64_get, non_zero_i8_get, non_zero_i16_get, non_zero_i32_get, non_zero_i64_get};
 ghost use Rattle.std.specs.Net.Addr.{ipv4_octets, ipv6_segments};
 ghost use Rattle.std.specs.String.{string_bytes};
-ghost use Rattle.speedy_layout.specs.Keys.{unit_tells, first_part, next_part, last_part, option_tells, result_tells, list_tells, order_tells, segments_tell, ip_tells};
+ghost use Rattle.speedy_layout.specs.Equality.{unit_tells, first_part, next_part, last_part, option_tells, result_tells, list_tells, order_tells, segments_tell, ip_tells};
+ghost use Rattle.speedy_layout.specs.EqualityOfMaps.{same_pairs, same_hash_maps, same_hash_sets};
 ghost use Rattle.speedy_layout.specs.Views.{shown_items};
 ghost use Rattle.speedy_layout.specs.Zigzag.{varint_number};
 
@@ -16,7 +18,10 @@ use crate::view_items::ViewItem;
 use crate::views::{ArrayView, SliceView};
 use smallvec::SmallVec;
 use speedy_base::endianness::Endianness;
+use std::borrow::{Cow, CowSlice, CowStr};
 use std::boxed::{BoxedSlice, BoxedStr};
+use std::collections::{BTreeMap, BTreeSet, HashMap, HashSet};
+use std::hash::{BuildHasher, Hash};
 use std::net::{IpAddr, Ipv4Addr, Ipv6Addr};
 use std::num::{
     NonZeroI8, NonZeroI16, NonZeroI32, NonZeroI64, NonZeroU8, NonZeroU16, NonZeroU32, NonZeroU64,
@@ -329,4 +334,32 @@ impl<
         (next_part (T6.same_key x.6 y.6) (next_part (T7.same_key x.7 y.7)
         (next_part (T8.same_key x.8 y.8) (next_part (T9.same_key x.9 y.9)
         (last_part (T10.same_key x.10 y.10))))))))))) };
+}
+
+impl<'a, T: SameKey> SameKey for Cow<'a, T> {
+    ghost same_key = { λ x y. T.same_key (cow_value x) (cow_value y) };
+}
+
+impl<'a, T: SameKey> SameKey for CowSlice<'a, T> {
+    ghost same_key = { λ x y. list_tells T.same_key (cow_slice_items x) (cow_slice_items y) };
+}
+
+impl<'a> SameKey for CowStr<'a> {
+    ghost same_key = { λ x y. bytes_decides (cow_str_bytes x) (cow_str_bytes y) };
+}
+
+impl<K: SameKey + Ord, V: SameKey> SameKey for BTreeMap<K, V> {
+    ghost same_key = { λ m n. list_tells (same_pairs K.same_key V.same_key) m.entries n.entries };
+}
+
+impl<K: SameKey + Hash, V: SameKey, S: BuildHasher> SameKey for HashMap<K, V, S> {
+    ghost same_key = { same_hash_maps V.same_key K.Eq.laws };
+}
+
+impl<T: SameKey + Ord> SameKey for BTreeSet<T> {
+    ghost same_key = { λ s t. list_tells T.same_key s.keys t.keys };
+}
+
+impl<T: SameKey + Hash, S: BuildHasher> SameKey for HashSet<T, S> {
+    ghost same_key = { same_hash_sets T.Eq.laws };
 }

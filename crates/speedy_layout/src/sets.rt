@@ -1,9 +1,7 @@
 //! The layout of sets.
 ghost use Rattle.std.specs.Prelude.{List, map, Bool};
 ghost use Rattle.std.specs.HashSet.{contains};
-ghost use Rattle.speedy_layout.specs.Keys.{list_tells};
-ghost use Rattle.speedy_layout.specs.SeenKeys.{IsLess, seen_order};
-ghost use Rattle.speedy_layout.specs.SameKeys.{same_hash_sets};
+ghost use Rattle.speedy_layout.specs.SeenItems.{IsLess, seen_order};
 ghost use Rattle.speedy_layout.specs.Sets.{tree_set, tree_set_laws, hash_set, hash_set_laws, index_set, index_set_laws};
 
 use crate::layout::Layout;
@@ -25,10 +23,6 @@ impl<T: SameKey + Ord> Layout for BTreeSet<T> {
         (seen_order T.same_key T.total T.matches_eq) };
 }
 
-impl<T: SameKey + Ord> SameKey for BTreeSet<T> {
-    ghost same_key = { λ s t. list_tells T.same_key s.keys t.keys };
-}
-
 impl<T: SameKey + Hash, S: BuildHasher> Layout for HashSet<T, S> {
     ghost Seen = { T → Bool };
 
@@ -39,10 +33,6 @@ impl<T: SameKey + Hash, S: BuildHasher> Layout for HashSet<T, S> {
     ghost least = { 4 };
 
     ghost layout_laws = { λ f. hash_set_laws f (T.layout_laws f) T.same_key };
-}
-
-impl<T: SameKey + Hash, S: BuildHasher> SameKey for HashSet<T, S> {
-    ghost same_key = { same_hash_sets T.Eq.laws };
 }
 
 impl<T: SameKey + Hash, S: BuildHasher> Layout for IndexSet<T, S> {

@@ -1,9 +1,9 @@
 -- Reads from bytes in memory.
-use Rattle.std.specs.Prelude.{◌≡◌, ℕ, ◌<◌, ◌≤◌, List, [], length, take, drop, Bool, true, false, Ok, Err, refl}
+use Rattle.std.specs.Prelude.{◌≡◌, ℕ, ◌<◌, ◌≤◌, List, [], ◌++◌, length, take, drop, Bool, true, false, Ok, Err, refl}
 use Rattle.std.specs.List.{IsSplitAt}
 use Rattle.std.specs.Borrow.{GName}
 use Rattle.std.proofs.Common.{sym, ◌∙◌, ap, arith, inr}
-use Rattle.std.proofs.lemmas.List.{append-nil, take-append-drop, length-take-le}
+use Rattle.std.proofs.lemmas.List.{take-append-drop, length-take-le}
 use Rattle.speedy_base.specs.declared.error.Error.{Error}
 use Rattle.speedy_base.specs.Encoding.{Encoding}
 use Rattle.speedy_layout.specs.Texts.{raw_bytes, any_bytes}
@@ -12,12 +12,8 @@ use Rattle.speedy_read.specs.ReadingLemmas.{Kept-same, KeptByPeek-same, ends_ear
 use Rattle.speedy_read.specs.Buffers.{memory_state}
 
 -- a front was taken
-Kept-drop : (n : ℕ) {lends : Bool} {targets : List GName} {bytes : List ℕ} {encoding : Encoding} → Kept (memory_state lends targets bytes encoding) (memory_state lends targets (drop n bytes) encoding)
-Kept-drop n {bytes = bytes} = record { fixed = refl; encoding = refl; tidy = λ t. t; faults = omega arith; tail = λ _. (take n bytes, sym (take-append-drop n bytes)) }
-
--- all bytes were taken
-pub Kept-all : {lends : Bool} {targets : List GName} {bytes : List ℕ} {encoding : Encoding} → Kept (memory_state lends targets bytes encoding) (memory_state lends targets [] encoding)
-Kept-all {bytes = bytes} = record { fixed = refl; encoding = refl; tidy = λ t. t; faults = omega arith; tail = λ _. (bytes, sym (append-nil bytes)) }
+pub Kept-rest : {lends : Bool} {targets : List GName} {bytes rest : List ℕ} {encoding : Encoding} (front : List ℕ) → bytes ≡ front ++ rest → Kept (memory_state lends targets bytes encoding) (memory_state lends targets rest encoding)
+Kept-rest front is = record { fixed = refl; encoding = refl; tidy = λ t. t; faults = omega arith; tail = λ _. (front, is) }
 
 -- where no byte is taken, all are left
 none_taken : (n : ℕ) {lends : Bool} {targets : List GName} {bytes : List ℕ} {encoding : Encoding} → n ≤ length bytes → take n bytes ≡ [] → memory_state lends targets (drop n bytes) encoding ≡ memory_state lends targets bytes encoding
@@ -30,14 +26,14 @@ module _ {E : Type 0} {gives : Error → E → Type 0} {eof : E → Bool} {A : T
   pub bytes_read : {seen : A → List ℕ} {x : A} → n ≤ length bytes → seen x ≡ take n bytes → Reads gives eof seen (raw_bytes n) (Ok x) (memory_state lends targets bytes encoding) (memory_state lends targets (drop n bytes) encoding)
   unfolding raw_bytes
   bytes_read l e = record {
-    kept = Kept-drop n;
+    kept = Kept-rest (take n bytes) (sym (take-append-drop n bytes));
     answer = record { front = take n bytes; front_is = (e, length-take-le n bytes l); taken = λ _. sym (take-append-drop n bytes); no_fault = refl; untouched = λ none. none_taken n l none };
   }
 
   pub bytes_skipped : {seen : A → Unit {0}} {x : A} → n ≤ length bytes → Reads gives eof seen (any_bytes n) (Ok x) (memory_state lends targets bytes encoding) (memory_state lends targets (drop n bytes) encoding)
   unfolding any_bytes
   bytes_skipped l = record {
-    kept = Kept-drop n;
+    kept = Kept-rest (take n bytes) (sym (take-append-drop n bytes));
     answer = record { front = take n bytes; front_is = length-take-le n bytes l; taken = λ _. sym (take-append-drop n bytes); no_fault = refl; untouched = λ none. none_taken n l none };
   }
 
@@ -61,15 +57,15 @@ module _ {E : Type 0} {gives : Error → E → Type 0} {eof : E → Bool} {A : T
   -- the bytes are not there
   pub bytes_missed : {seen : A → List ℕ} {e : E} → length bytes < n → IsEnd gives eof false e → Reads gives eof seen (raw_bytes n) (Err e) (memory_state lends targets bytes encoding) (memory_state lends targets bytes encoding)
   unfolding raw_bytes
-  bytes_missed l ended = record { kept = Kept-same; answer = inr (ends_early refl n (λ v s h. let k = h.1 in omega arith) (λ _ fault. fault) ended (λ _ _. l)) }
+  bytes_missed l ended = record { kept = Kept-same; answer = inr (ends_early refl n (λ v s h. let k = h.1 in omega arith) (λ _ bad. bad) ended (λ _ _. l)) }
 
   pub bytes_not_skipped : {seen : A → Unit {0}} {e : E} → length bytes < n → IsEnd gives eof false e → Reads gives eof seen (any_bytes n) (Err e) (memory_state lends targets bytes encoding) (memory_state lends targets bytes encoding)
   unfolding any_bytes
-  bytes_not_skipped l ended = record { kept = Kept-same; answer = inr (ends_early refl n (λ v s h. omega arith) (λ _ fault. fault) ended (λ _ _. l)) }
+  bytes_not_skipped l ended = record { kept = Kept-same; answer = inr (ends_early refl n (λ v s h. omega arith) (λ _ bad. bad) ended (λ _ _. l)) }
 
   pub bytes_not_peeked : {seen : A → List ℕ} {e : E} → length bytes < n → IsEnd gives eof false e → Peeks gives eof seen (raw_bytes n) (Err e) (memory_state lends targets bytes encoding) (memory_state lends targets bytes encoding)
   unfolding raw_bytes
-  bytes_not_peeked l ended = record { kept = KeptByPeek-same; answer = inr (inr (ends_early refl n (λ v s h. let k = h.1 in omega arith) (λ _ fault. fault) ended (λ _ _. l))) }
+  bytes_not_peeked l ended = record { kept = KeptByPeek-same; answer = inr (inr (ends_early refl n (λ v s h. let k = h.1 in omega arith) (λ _ bad. bad) ended (λ _ _. l))) }
 
 -- bytes that are lent until the next use are not there
 pub bytes_not_lent : {A E : Type 0} {n : ℕ} {lends : Bool} {targets : List GName} {bytes : List ℕ} {encoding : Encoding} {seen : A → List ℕ} {e : E} → length bytes < n → Reads ends_alone (λ _. true) seen (raw_bytes n) (Err e) (memory_state lends targets bytes encoding) (memory_state lends targets bytes encoding)

@@ -1,5 +1,5 @@
 -- Bytes that are read or skipped a chunk at a time.
-use Rattle.std.specs.Prelude.{◌≡◌, ℕ, ◌+◌, ◌-◌, ◌<◌, ◌≤◌, List, ◌++◌, length, take, drop, replicate, Bool, Ok, Err, refl}
+use Rattle.std.specs.Prelude.{◌≡◌, ℕ, ◌+◌, ◌-◌, ◌<◌, ◌≤◌, List, ◌++◌, length, take, drop, replicate, Bool, Ok, Err, Result, IsErrAnd, refl}
 use Rattle.std.proofs.Common.{sym, ◌∙◌, ap, ap₂, subst, arith, inl, inr}
 use Rattle.std.proofs.lemmas.Bool.{cases_lt}
 use Rattle.std.proofs.lemmas.List.{length-append, length-take-le, length-replicate, take-append-drop}
@@ -12,8 +12,9 @@ use Rattle.speedy_layout.specs.Lists.{vector, repeat}
 use Rattle.speedy_layout.specs.Numbers.{unsigned_number}
 use Rattle.speedy_layout.specs.Owned.{owned_content}
 use Rattle.speedy_layout.specs.Texts.{raw_bytes, any_bytes, each_byte, each_byte_is}
+use Rattle.speedy_layout.specs.Sequences.{asks_memory}
 use Rattle.speedy_read.specs.Reading.{ReaderState, Reads, Unspelled}
-use Rattle.speedy_read.specs.ReadingLemmas.{Kept-after, IsTold-after, part_refused, Got-as, ReadSoFar, more_so_far, all_so_far}
+use Rattle.speedy_read.specs.ReadingLemmas.{Kept-after, IsTold-after, part_refused, Got-as, ReadSoFar, more_so_far, all_so_far, Reads-passed}
 use Rattle.speedy_read.specs.Codes.{Covers, refused_covered}
 
 -- the front of a chunk that was filled
@@ -34,9 +35,8 @@ unfolding any_bytes vector owned_content repeat unsigned_number
 any_bytes_cover n encoding = record {
   under = λ v s h. (tt, ap length (sym (each_byte_is encoding.order v s h.1)) ∙ h.0);
   names = λ kind h. absurd h;
-  faults = λ bytes are h. absurd h;
-  takes = λ _. refl;
-  lends = λ t. t;
+  malformed = λ bytes are h. absurd h;
+  asks = asks_memory;
 }
 
 short_of : {E : Type 0} {gives : Error → E → Type 0} {eof : E → Bool} {e : E} (size : ℕ) (bytes : List ℕ) → Unspelled gives eof (raw_bytes size) e bytes → length bytes < size
@@ -58,9 +58,10 @@ module _ {E : Type 0} {gives : Error → E → Type 0} {eof : E → Bool} {old m
   more_bytes bytes all so_far read is = more_so_far so_far read (λ s t h k. ap₂ ◌++◌ h (sym k.0) ∙ sym is)
 
   -- a chunk was refused
-  pub chunk_refused : {B : Type 0} {view : B → Unit {0}} {e : E} {total : ℕ} (count : ℕ) → count + size ≤ total → SkippedSoFar count old mid → Reads gives eof seen (raw_bytes size) (Err e) mid new → Reads gives eof view (any_bytes total) (Err e) old new
+  pub chunk_refused : {B : Type 0} {view : B → Unit {0}} {e : E} {result : Result B E} {total : ℕ} (count : ℕ) → count + size ≤ total → SkippedSoFar count old mid → IsErrAnd result (λ x. x ≡ e)
+      → Reads gives eof seen (raw_bytes size) (Err e) mid new → Reads gives eof view (any_bytes total) result old new
   unfolding raw_bytes any_bytes
-  chunk_refused {e = e} {total = total} count within so_far read = record {
+  chunk_refused {e = e} {total = total} count within so_far passed read = Reads-passed passed (record {
     kept = Kept-after so_far.kept read.kept;
     answer = part_refused new so_far.kept.fixed so_far.got.no_fault (λ t. t) (λ kind h. h)
         (λ told because.
@@ -72,15 +73,16 @@ module _ {E : Type 0} {gives : Error → E → Type 0} {eof : E → Bool} {old m
           too_short = λ v more l.
               let missing = replicate (size - length mid.to_come) 0 in
               un.too_short (mid.to_come ++ missing) missing (refl, length-append mid.to_come missing ∙ (ap (λ n. length mid.to_come + n) (length-replicate (size - length mid.to_come) 0) ∙ omega (arith, short)));
-          at_fault = λ fault. absurd fault;
+          malformed = λ bad. absurd bad;
         })
         read.answer;
-  }
+  })
 
-  pub bytes_refused : {B : Type 0} {view : B → List ℕ} {e : E} {total : ℕ} (encoding : Encoding) (count : ℕ) (bytes : List ℕ) → length bytes ≡ count → count + size ≤ total → BytesSoFar bytes old mid → Reads gives eof seen (raw_bytes size) (Err e) mid new → Reads gives eof view (vector total (unsigned_number 1 encoding)) (Err e) old new
-  bytes_refused {total = total} encoding count bytes l within so_far read =
+  pub bytes_refused : {B : Type 0} {view : B → List ℕ} {e : E} {result : Result B E} {total : ℕ} (encoding : Encoding) (count : ℕ) (bytes : List ℕ) → length bytes ≡ count → count + size ≤ total → BytesSoFar bytes old mid → IsErrAnd result (λ x. x ≡ e)
+      → Reads gives eof seen (raw_bytes size) (Err e) mid new → Reads gives eof view (vector total (unsigned_number 1 encoding)) result old new
+  bytes_refused {total = total} encoding count bytes l within so_far passed read =
       let skipped : SkippedSoFar count old mid = record { kept = so_far.kept; got = Got-as (λ s h. ap length h ∙ l) so_far.got } in
-      refused_covered (any_bytes_cover total encoding) (chunk_refused {view = λ (u : Unit {0}). u} count within skipped read)
+      refused_covered (any_bytes_cover total encoding) passed (chunk_refused {view = λ (u : Unit {0}). u} count within skipped refl read)
 
 module _ {E : Type 0} {gives : Error → E → Type 0} {eof : E → Bool} {B : Type 0} {old new : ReaderState} where
   -- all were taken

@@ -1,14 +1,14 @@
 -- Reads of items make reads of what they gather to.
-use Rattle.std.specs.Prelude.{◌≡◌, ℕ, ◌+◌, ◌≤◌, ◌<◌, List, [], ◌∷◌, ◌++◌, length, map, Bool, true, false, IsTrue, Result, Ok, Err, OnOk, is_err, refl}
+use Rattle.std.specs.Prelude.{◌≡◌, ℕ, ◌+◌, ◌≤◌, ◌<◌, List, [], ◌∷◌, ◌++◌, length, map, Bool, true, false, IsTrue, Result, Ok, Err, OnOk, is_err, IsErrAnd, refl}
 use Rattle.std.proofs.Common.{sym, ◌∙◌, ap, subst, arith, inl, inr}
 use Rattle.std.proofs.lemmas.List.{map-append, append_assoc, append-nil, length-append, length-map}
 use Rattle.speedy_base.specs.declared.error.ErrorKind.TheVariants as kinds
 use Rattle.speedy_base.specs.declared.error.Error.{Error}
-use Rattle.speedy_base.specs.Error.{error_of}
+use Rattle.speedy_base.specs.Error.{error_of, passed_on}
 use Rattle.speedy_layout.specs.Format.{Format, Each}
 use Rattle.speedy_layout.specs.Laws.{Laws}
 use Rattle.speedy_layout.specs.Codes.{Code, ReadsWider, coding, Accepts-is, Accepts-demanded}
-use Rattle.speedy_layout.specs.Sequences.{across, sequence}
+use Rattle.speedy_layout.specs.Sequences.{across, sequence, asks_after, asks_hashed}
 use Rattle.speedy_layout.specs.Numbers.{unsigned_number, unsigned_number_laws}
 use Rattle.speedy_layout.specs.Gathering.{gathering, items_of, hashed_items}
 use Rattle.speedy_base.specs.Encoding.{Encoding}
@@ -71,13 +71,14 @@ module _ {T F V : Type 0} {g : Gatherer T F V} {L : Format V} {old : ReaderState
         }
 
     -- where the next item is refused, the collection is
-    pub next_refused : {strict : Bool} {least : ℕ} → Laws strict least L → {all : ℕ} {e : E} → n < all → Reads gives eof g.seen L (Err e) mid new → Collects g L all gives eof (Err e) old new
+    pub next_refused : {strict : Bool} {least : ℕ} → Laws strict least L → {all : ℕ} {e : E} {result : Result F E} → n < all → IsErrAnd result (λ x. x ≡ e) → Reads gives eof g.seen L (Err e) mid new → Collects g L all gives eof result old new
     unfolding vector owned_content
-    next_refused laws {all = all} less r =
+    next_refused laws {all = all} {e = e} {result = result} less passed r =
         let l = length-map h.so_far.items g.seen in
         let m = h.so_far.count_is in
-        let refused = refused_item laws {view = λ (vs : List V). vs} all (map g.seen h.so_far.items) (omega arith) (read_so_far h) r in
-        record { kept = refused.kept; answer = elim refused.answer [ inl x ↦ inl x | inr x ↦ inr (inl x) ] }
+        let refused : Reads gives eof (λ (vs : List V). vs) (vector all L) (Err e) old new = refused_item laws all (map g.seen h.so_far.items) (omega arith) (read_so_far h) refl r in
+        subst (λ (x : Result F E). Collects g L all gives eof x old new) (passed_on result e passed)
+        (record { kept = refused.kept; answer = elim refused.answer [ inl x ↦ inl x | inr x ↦ inr (inl x) ] })
 
 -- what a call says that succeeded
 pub on_success : {A E P : Type 0} (r : Result A E) → is_err r ≡ false → OnOk r P → P
@@ -151,7 +152,7 @@ module _ {T F V S : Type 0} {g : Gatherer T F V} {c : Code (List V) S} {view : F
         none_chosen laws k.code v front rest old.to_come [] k.code_is.0 k.code_is.1 (append-nil old.to_come ∙ whole) (h.ahead.stands tells) (Accepts-demanded old.encoding.strict c k.code v h.demanded k.stands);
     too_short = λ v more k.
         absurd (none_chosen laws k.code v (old.to_come ++ more) [] old.to_come more k.code_is.0 k.code_is.1 (sym (append-nil (old.to_come ++ more))) (h.ahead.stands tells) (Accepts-demanded old.encoding.strict c k.code v h.demanded k.stands));
-    at_fault = λ _. (kinds.NotWrittenForm, inr (inr (h.demanded, refl, wider)), given);
+    malformed = λ _. (kinds.NotWrittenForm, inr (inr (h.demanded, refl, wider)), given);
   }
 
 -- so items that are read and gathered are a value of the code that is read
@@ -175,7 +176,7 @@ collected_read {V = V} {g = g} {c = c} {L = L} {n = n} {gives = gives} {eof = eo
       | inr x ↦ elim x [
         | inl y ↦
             let items : Reads gives eof (λ (vs : List V). vs) (vector n L) (Err e) old new = record { kept = r.kept; answer = inr y } in
-            code_refused old.encoding c items
+            code_refused old.encoding c refl items
         | inr y ↦ record {
           kept = r.kept;
           answer = inr (record { no_fault = y.1.ahead.no_fault; kind = inr (kinds.NotWrittenForm, inr (inr (y.1.demanded, refl, wider is y.1)), y.0); because = λ told. not_written_unspelled is y.1 laws y.0 told.tells });
@@ -203,9 +204,9 @@ coded_list_composes {V = V} {L = L} laws encoding c =
       );
       names_first = λ kind h. inl (parts.names_first kind h);
       names_second = λ n kind h. elim h [ inl x ↦ inl (parts.names_second n kind x) | inr x ↦ inr x ];
-      faults = λ bytes h.
+      malformed = λ bytes h.
           elim h [
-            | inl x ↦ elim (parts.faults bytes x) [
+            | inl x ↦ elim (parts.malformed bytes x) [
               | inl y ↦ inl y
               | inr y ↦ inr (y.0, record { front = y.1.front; back = y.1.back; whole_is = y.1.whole_is; first_is = y.1.first_is; second_is = inl y.1.second_is })
             ]
@@ -222,10 +223,8 @@ coded_list_composes {V = V} {L = L} laws encoding c =
                   },
                 )
           ];
-      takes_first = parts.takes_first;
-      takes_second = parts.takes_second;
-      lends_first = parts.lends_first;
-      lends_second = parts.lends_second;
+      asks_first = parts.asks_first;
+      asks_second = parts.asks_second;
     }
 
 -- the items of a thing that has no order of its own are read alike
@@ -240,11 +239,9 @@ gathered_composes true laws encoding c =
       splits = same.splits;
       names_first = same.names_first;
       names_second = same.names_second;
-      faults = same.faults;
-      takes_first = same.takes_first;
-      takes_second = same.takes_second;
-      lends_first = same.lends_first;
-      lends_second = same.lends_second;
+      malformed = same.malformed;
+      asks_first = asks_after same.asks_first asks_hashed;
+      asks_second = λ n. asks_after (same.asks_second n) asks_hashed;
     }
 
 -- what stands for what it gathers to, and is written so, is the code of it
@@ -265,6 +262,6 @@ collection_read {c = c} {view = view} {L = L} {n = n} {gives = gives} {eof = eof
     (subst (λ (e : Encoding). Reads gives eof view (coding e c (vector n (L e))) result mid new) number.kept.encoding (collected_read (laws mid.encoding) is r)) (λ _. refl)
 
 -- and where the number is refused, so is the collection
-pub collection_refused : {V S : Type 0} (c : Code (List V) S) {L : Format V} {E : Type 0} {gives : Error → E → Type 0} {eof : E → Bool} {A B : Type 0} {seen : A → ℕ} {view : B → S} {e : E} {old new : ReaderState} {strict : Bool} {least : ℕ} (hashed : Bool) → Laws strict least L
-    → Reads gives eof seen (unsigned_number 4 old.encoding) (Err e) old new → Reads gives eof view (coding old.encoding c (items_of hashed old.encoding L)) (Err e) old new
-collection_refused c {old = old} hashed laws r = refused_first (gathered_composes hashed laws old.encoding c) r
+pub collection_refused : {V S : Type 0} (c : Code (List V) S) {L : Format V} {E : Type 0} {gives : Error → E → Type 0} {eof : E → Bool} {A B : Type 0} {seen : A → ℕ} {view : B → S} {e : E} {result : Result B E} {old new : ReaderState} {strict : Bool} {least : ℕ} (hashed : Bool) → Laws strict least L → IsErrAnd result (λ x. x ≡ e)
+    → Reads gives eof seen (unsigned_number 4 old.encoding) (Err e) old new → Reads gives eof view (coding old.encoding c (items_of hashed old.encoding L)) result old new
+collection_refused c {old = old} hashed laws passed r = refused_first (gathered_composes hashed laws old.encoding c) passed r

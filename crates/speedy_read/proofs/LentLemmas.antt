@@ -1,5 +1,5 @@
 -- Reads of what is lent make reads of what is borrowed.
-use Rattle.std.specs.Prelude.{◌≡◌, ℕ, List, [], ◌∷◌, length, Bool, false, IsTrue, Result, Ok, Err, MatchResult, refl}
+use Rattle.std.specs.Prelude.{◌≡◌, ℕ, List, [], ◌∷◌, length, Bool, false, IsTrue, Result, Ok, Err, MatchResult, IsErrAnd, refl}
 use Rattle.std.specs.Borrow.{Bor}
 use Rattle.std.specs.Str.{IsUtf8}
 use Rattle.std.proofs.Common.{sym, ◌∙◌, ap, subst, inl, inr}
@@ -15,8 +15,9 @@ use Rattle.speedy_layout.specs.Numbers.{unsigned_number}
 use Rattle.speedy_layout.specs.Owned.{owned_content, borrowed_content}
 use Rattle.speedy_layout.specs.Codes.{coding, subset, subset_code}
 use Rattle.speedy_layout.specs.Texts.{raw_bytes, raw_bytes_laws, text_of_length, text, each_byte, each_byte_is}
+use Rattle.speedy_layout.specs.Sequences.{asks_same}
 use Rattle.speedy_read.specs.Reading.{ReaderState, Kept, Reads, ShowsNothing}
-use Rattle.speedy_read.specs.ReadingLemmas.{Kept-same}
+use Rattle.speedy_read.specs.ReadingLemmas.{Kept-same, Reads-passed}
 use Rattle.speedy_read.specs.Sequences.{Composes}
 use Rattle.speedy_read.specs.Codes.{Covers, refused_covered, got_covered, code_refused, exact_code_read, code_means_nothing}
 use Rattle.speedy_read.proofs.OwnedLemmas.{owned_read}
@@ -28,40 +29,37 @@ pub slices_show : ShowsNothing {A = Bor (List ℕ)} (λ b. b.now) → ⊥
 slices_show nothing = let none = nothing (record { ref_ptr = (0, 0); now = 0 ∷ [] }) in absurd (cc)
 
 -- where a sequence is read, the borrowed one is too
-pub borrowed_composes : {U V : Type 0} {W : U → Type 0} {L : Format U} {M : (u : U) → Format (W u)} {N : Format V} {join : (u : U) → W u → V} → L.takes_memory ≡ false → Composes L M N join → Composes L (λ u. borrowed_content (M u)) (borrowed_content N) join
+pub borrowed_composes : {U V : Type 0} {W : U → Type 0} {L : Format U} {M : (u : U) → Format (W u)} {N : Format V} {join : (u : U) → W u → V} → L.asks.memory ≡ false → Composes L M N join → Composes L (λ u. borrowed_content (M u)) (borrowed_content N) join
 unfolding borrowed_content
 borrowed_composes none c = record {
   joins = c.joins;
   splits = c.splits;
   names_first = λ kind h. inl (c.names_first kind h);
   names_second = λ u kind h. elim h [ inl k ↦ inl (c.names_second u kind k) | inr k ↦ inr k ];
-  faults = c.faults;
-  takes_first = λ t. absurd (cc);
-  takes_second = λ u t. t;
-  lends_first = λ _. refl;
-  lends_second = λ u _. refl;
+  malformed = c.malformed;
+  asks_first = record { lending = λ _. refl; hashed = c.asks_first.hashed; memory = λ t. absurd (cc) };
+  asks_second = λ u. record { lending = λ _. refl; hashed = (c.asks_second u).hashed; memory = λ t. t };
 }
 
-content_covers : {V : Type 0} {L : Format V} → L.takes_memory ≡ false → Covers L (borrowed_content (owned_content L))
+content_covers : {V : Type 0} {L : Format V} → L.asks.memory ≡ false → Covers L (borrowed_content (owned_content L))
 unfolding borrowed_content owned_content
-content_covers none = record { under = λ v s h. (v, h); names = λ kind h. inl h; faults = λ bytes _ h. inl h; takes = λ t. absurd (cc); lends = λ _. refl }
+content_covers none = record { under = λ v s h. (v, h); names = λ kind h. inl h; malformed = λ bytes _ h. inl h; asks = record { lending = λ _. refl; hashed = λ t. t; memory = λ t. absurd (cc) } }
 
 bytes_cover_items : (n : ℕ) (encoding : Encoding) → Covers (raw_bytes n) (repeat n (unsigned_number 1 encoding))
 unfolding raw_bytes repeat unsigned_number
 bytes_cover_items n encoding = record {
   under = λ v s h. (s, (refl, ap length (sym (each_byte_is encoding.order v s h.1)) ∙ h.0));
   names = λ kind h. absurd h;
-  faults = λ bytes are h. absurd h;
-  takes = λ t. t;
-  lends = λ t. t;
+  malformed = λ bytes are h. absurd h;
+  asks = asks_same;
 }
 
 module _ {E : Type 0} {gives : Error → E → Type 0} {eof : E → Bool} {old new : ReaderState} where
   -- what takes no memory is read where it is borrowed
-  borrowed_read : {V : Type 0} (L : Format V) {A : Type 0} {view : A → V} {result : Result A E} → L.takes_memory ≡ false → Reads gives eof view L result old new → Reads gives eof view (borrowed_content (owned_content L)) result old new
+  borrowed_read : {V : Type 0} (L : Format V) {A : Type 0} {view : A → V} {result : Result A E} → L.asks.memory ≡ false → Reads gives eof view L result old new → Reads gives eof view (borrowed_content (owned_content L)) result old new
   unfolding borrowed_content owned_content
   borrowed_read L {result = Ok x} none r = got_covered (λ s h. h) r
-  borrowed_read L {result = Err e} none r = refused_covered (content_covers none) r
+  borrowed_read L {result = Err e} none r = refused_covered (content_covers none) refl r
 
   -- what is borrowed is refused as `Unsized` where nothing is lent
   pub not_lent : {V : Type 0} (L : Format V) {A : Type 0} {view : A → V} {e : E} → (IsTrue old.fixed.lends → ⊥) → new ≡ old → gives (error_of kinds.Unsized) e → Reads gives eof view (borrowed_content L) (Err e) old new
@@ -80,7 +78,7 @@ module _ {E : Type 0} {gives : Error → E → Type 0} {eof : E → Bool} {old n
     -- lent bytes that are refused are no text
     pub text_not_lent : {e : E} → Reads gives eof shows (raw_bytes n) (Err e) old new → Reads gives eof view (borrowed_content (text_of_length encoding n)) (Err e) old new
     unfolding text_of_length raw_bytes coding
-    text_not_lent r = borrowed_read (subset encoding IsUtf8 kinds.InvalidUtf8 (raw_bytes n)) refl (code_refused encoding (subset_code IsUtf8 kinds.InvalidUtf8) r)
+    text_not_lent r = borrowed_read (subset encoding IsUtf8 kinds.InvalidUtf8 (raw_bytes n)) refl (code_refused encoding (subset_code IsUtf8 kinds.InvalidUtf8) refl r)
 
     text_decided : {x : A} {r : Result B E} → MatchResult r (λ t. (view t ≡ shows x) × IsUtf8 (shows x)) (λ e. gives (error_of kinds.InvalidUtf8) e × (IsUtf8 (shows x) → ⊥)) → Reads gives eof shows (raw_bytes n) (Ok x) old new → Reads gives eof view (subset encoding IsUtf8 kinds.InvalidUtf8 (raw_bytes n)) r old new
     text_decided {r = Ok t} h read = exact_code_read _ _ _ (sym h.0, subst IsUtf8 (sym h.0) h.1) read
@@ -92,7 +90,7 @@ module _ {E : Type 0} {gives : Error → E → Type 0} {eof : E → Bool} {old n
     text_lent h read = borrowed_read (subset encoding IsUtf8 kinds.InvalidUtf8 (raw_bytes n)) refl (text_decided h read)
 
     items_refused : {e : E} → Reads gives eof shows (raw_bytes n) (Err e) old new → Reads gives eof view (repeat n (unsigned_number 1 encoding)) (Err e) old new
-    items_refused r = refused_covered (bytes_cover_items n encoding) r
+    items_refused r = refused_covered (bytes_cover_items n encoding) refl r
 
     items_read : {x : A} {y : B} → view y ≡ shows x → AreBytes (shows x) → Reads gives eof shows (raw_bytes n) (Ok x) old new → Reads gives eof view (repeat n (unsigned_number 1 encoding)) (Ok y) old new
     unfolding raw_bytes repeat unsigned_number
@@ -102,9 +100,9 @@ module _ {E : Type 0} {gives : Error → E → Type 0} {eof : E → Bool} {old n
         r
 
     -- lent bytes are items of one byte each
-    pub items_not_lent : {e : E} → Reads gives eof shows (raw_bytes n) (Err e) old new → Reads gives eof view (borrowed_content (vector n (unsigned_number 1 encoding))) (Err e) old new
+    pub items_not_lent : {e : E} {result : Result B E} → IsErrAnd result (λ x. x ≡ e) → Reads gives eof shows (raw_bytes n) (Err e) old new → Reads gives eof view (borrowed_content (vector n (unsigned_number 1 encoding))) result old new
     unfolding vector repeat unsigned_number
-    items_not_lent r = borrowed_read (repeat n (unsigned_number 1 encoding)) refl (items_refused r)
+    items_not_lent passed r = Reads-passed passed (borrowed_read (repeat n (unsigned_number 1 encoding)) refl (items_refused r))
 
     pub items_lent : {x : A} {y : B} → view y ≡ shows x → AreBytes (shows x) → Reads gives eof shows (raw_bytes n) (Ok x) old new → Reads gives eof view (borrowed_content (vector n (unsigned_number 1 encoding))) (Ok y) old new
     unfolding vector repeat unsigned_number

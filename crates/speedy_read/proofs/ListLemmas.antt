@@ -1,5 +1,5 @@
 -- Reads of items, one after another.
-use Rattle.std.specs.Prelude.{map, if◌then◌else◌, is_ok, is_err, ◌≡◌, ℕ, ◌*◌, ◌-◌, ◌^◌, ◌<◌, List, [], ◌∷◌, ◌++◌, length, Bool, false, IsTrue, Result, Ok, Err, refl}
+use Rattle.std.specs.Prelude.{map, if◌then◌else◌, is_ok, is_err, ◌≡◌, ℕ, ◌*◌, ◌-◌, ◌^◌, ◌<◌, List, [], ◌∷◌, ◌++◌, length, Bool, false, IsTrue, Result, Ok, Err, IsErrAnd, refl}
 use Rattle.std.proofs.Common.{sym, ◌∙◌, ap, subst, arith, inl, inr}
 use Rattle.std.proofs.lemmas.List.{map-append, append_assoc, append-nil}
 use Rattle.speedy_base.specs.declared.error.ErrorKind.TheVariants as kinds
@@ -8,12 +8,12 @@ use Rattle.speedy_base.specs.Error.{error_of}
 use Rattle.speedy_base.specs.Encoding.{Encoding}
 use Rattle.speedy_layout.specs.Format.{Format, Each}
 use Rattle.speedy_layout.specs.Laws.{Laws}
-use Rattle.speedy_layout.specs.Lists.{repeat, vector, vector_length, vector_laws, list, list_parts, list_suffices}
+use Rattle.speedy_layout.specs.Lists.{repeat, vector, vector_length, vector_laws, list, list_parts, vector_asks}
 use Rattle.speedy_layout.specs.Owned.{owned_content}
 use Rattle.speedy_layout.specs.Numbers.{unsigned_number}
 use Rattle.speedy_layout.specs.Sequences.{across}
 use Rattle.speedy_read.specs.Reading.{ReaderState, Kept, Reads, IsEnd}
-use Rattle.speedy_read.specs.ReadingLemmas.{fronts_nest, Kept-same, Kept-after, IsTold-after, part_refused, ends_early, ReadSoFar, more_so_far, all_so_far}
+use Rattle.speedy_read.specs.ReadingLemmas.{fronts_nest, Kept-same, Kept-after, IsTold-after, part_refused, ends_early, ReadSoFar, more_so_far, all_so_far, Reads-passed}
 use Rattle.speedy_read.specs.Sequences.{Composes, sequence_composes}
 use Rattle.speedy_read.proofs.OwnedLemmas.{memory_refused}
 
@@ -48,20 +48,21 @@ module _ {V : Type 0} {strict : Bool} {least : ℕ} {L : Format V} (laws : Laws 
   -- a list is read as its length, and then so many items
   pub list_composes : (encoding : Encoding) → Composes (unsigned_number 4 encoding) (λ n. vector n L) (list encoding L) (λ n vs. vs)
   unfolding list
-  list_composes encoding = sequence_composes list_parts (list_suffices L) (λ n vs s h. ap (λ (m : ℕ). let whole : ℕ × List V = (m, vs) in whole) (vector_length n L vs s h))
+  list_composes encoding = sequence_composes list_parts (vector_asks L) (λ n vs s h. ap (λ (m : ℕ). let whole : ℕ × List V = (m, vs) in whole) (vector_length n L vs s h))
 
   module _ {E : Type 0} {gives : Error → E → Type 0} {eof : E → Bool} {B : Type 0} {view : B → List V} (n : ℕ) {old : ReaderState} where
     -- fewer bytes are to come than so many items have at least
     pub refused_early : {e : E} → IsEnd gives eof old.fixed.ends_by_device e → (IsTrue old.fixed.tells → length old.to_come < 2 ^ 64 - 1 → length old.to_come < n * least) → Reads gives eof view (vector n L) (Err e) old old
     unfolding vector owned_content repeat
-    refused_early ended fewer = record { kept = Kept-same; answer = inr (ends_early refl (n * least) (vector_laws laws n).least_size (λ _ fault. fault) ended fewer) }
+    refused_early ended fewer = record { kept = Kept-same; answer = inr (ends_early refl (n * least) (vector_laws laws n).least_size (λ _ bad. bad) ended fewer) }
 
     -- where an item is refused, the vector is
-    pub refused_item : {A : Type 0} {seen : A → V} (vs : List V) {e : E} {mid new : ReaderState} → length vs < n → ReadSoFar (Each L.spells vs) old mid → Reads gives eof seen L (Err e) mid new → Reads gives eof view (vector n L) (Err e) old new
+    pub refused_item : {A : Type 0} {seen : A → V} (vs : List V) {e : E} {result : Result B E} {mid new : ReaderState} → length vs < n → ReadSoFar (Each L.spells vs) old mid → IsErrAnd result (λ x. x ≡ e)
+        → Reads gives eof seen L (Err e) mid new → Reads gives eof view (vector n L) result old new
     unfolding vector owned_content repeat
-    refused_item vs {e = e} {mid = mid} {new = new} fewer so_far r =
+    refused_item vs {e = e} {mid = mid} {new = new} fewer so_far passed r =
         let got = so_far.got in
-        record {
+        Reads-passed passed (record {
           kept = Kept-after so_far.kept r.kept;
           answer = part_refused new so_far.kept.fixed so_far.got.no_fault (λ _. refl) (λ kind h. h)
               (λ told because.
@@ -78,10 +79,10 @@ module _ {V : Type 0} {strict : Bool} {least : ℕ} {L : Format V} (laws : Laws 
                       | inl h ↦ un.too_short item.0 h.0 (subst (L.spells item.0) h.1 item.4)
                       | inr h ↦ absurd (un.no_front item.0 item.1 h.0 h.1 item.4)
                     ];
-                at_fault = λ fault. absurd fault;
+                malformed = λ bad. absurd bad;
               })
               r.answer;
-        }
+        })
 
 module _ {E : Type 0} {gives : Error → E → Type 0} {eof : E → Bool} {V : Type 0} (L : Format V) {old new : ReaderState} where
   -- one item more was read
@@ -95,6 +96,9 @@ module _ {E : Type 0} {gives : Error → E → Type 0} {eof : E → Bool} {V : T
   got_items n so_far l = all_so_far so_far (λ s h. (l, h))
 
 -- want of memory for an item
-pub refused_room : {E : Type 0} {gives : Error → E → Type 0} {eof : E → Bool} {V : Type 0} (n : ℕ) (L : Format V) {old new : ReaderState} {B : Type 0} {view : B → List V} {e : E} → Kept old new → new.faults ≡ old.faults → gives (error_of kinds.OutOfMemory) e → Reads gives eof view (vector n L) (Err e) old new
+pub refused_room : {E : Type 0} {gives : Error → E → Type 0} {eof : E → Bool} {V : Type 0} (n : ℕ) (L : Format V) (e : E) {old new : ReaderState} {B : Type 0} {view : B → List V} {result : Result B E} → Kept old new → new.faults ≡ old.faults → IsErrAnd result (λ x. x ≡ e)
+    → gives (error_of kinds.OutOfMemory) e → Reads gives eof view (vector n L) result old new
 unfolding vector
-refused_room n L k clean g = memory_refused (repeat n L) k clean g
+refused_room {gives = gives} {eof = eof} n L e {old = old} {new = new} {view = view} k clean passed g =
+    let refused : Reads gives eof view (owned_content (repeat n L)) (Err e) old new = memory_refused (repeat n L) k clean g in
+    Reads-passed passed refused

@@ -1,5 +1,5 @@
 -- Reads of bytes make reads of numbers, and these make reads of signed numbers, at each width.
-use Rattle.std.specs.Prelude.{◌≡◌, ℕ, ℤ, ◌<◌, List, [], ◌∷◌, length, Bool, Ok, Err, refl}
+use Rattle.std.specs.Prelude.{◌≡◌, ℕ, ℤ, ◌<◌, List, [], ◌∷◌, length, Bool, Ok, Err, Result, IsErrAnd, refl}
 use Rattle.std.specs.Int.{Width, byte_len, cast_unsigned, cast_signed}
 use Rattle.std.proofs.Common.{get_or, ◌∙◌, ap, subst, arith}
 use Rattle.speedy_base.specs.declared.error.Error.{Error}
@@ -10,6 +10,7 @@ use Rattle.speedy_base.specs.Encoding.{Encoding}
 use Rattle.speedy_base.specs.SignedLemmas.{SpellsSigned-answered}
 use Rattle.speedy_layout.specs.Numbers.{unsigned_number, signed_number}
 use Rattle.speedy_layout.specs.Texts.{raw_bytes}
+use Rattle.speedy_layout.specs.Sequences.{asks_same}
 use Rattle.speedy_read.specs.Reading.{ReaderState, Reads, Peeks}
 use Rattle.speedy_read.specs.Codes.{Covers, refused_covered, got_covered, ahead_covered}
 
@@ -19,9 +20,8 @@ unfolding raw_bytes unsigned_number
 bytes_cover_digits width encoding = record {
   under = λ v s h. (s, (refl, h.width_is));
   names = λ kind h. absurd h;
-  faults = λ bytes _ h. absurd h;
-  takes = λ t. t;
-  lends = λ t. t;
+  malformed = λ bytes _ h. absurd h;
+  asks = asks_same;
 }
 
 number_stands : (width : ℕ) (encoding : Encoding) (n : ℕ) (bytes s : List ℕ) → SpellsNumber width encoding.order n bytes → (raw_bytes width).spells bytes s → (unsigned_number width encoding).spells n s
@@ -40,15 +40,14 @@ unfolding unsigned_number signed_number
 digits_cover_signed w encoding = record {
   under = λ z s h. (cast_unsigned w z, h.digits);
   names = λ kind h. absurd h;
-  faults = λ bytes _ h. absurd h;
-  takes = λ t. t;
-  lends = λ t. t;
+  malformed = λ bytes _ h. absurd h;
+  asks = asks_same;
 }
 
 module _ {E : Type 0} {gives : Error → E → Type 0} {eof : E → Bool} {old new : ReaderState} where
   -- where so many bytes are refused, the number is
-  pub number_refused : (width : ℕ) {A B : Type 0} {seen : A → List ℕ} {view : B → ℕ} {e : E} → Reads gives eof seen (raw_bytes width) (Err e) old new → Reads gives eof view (unsigned_number width old.encoding) (Err e) old new
-  number_refused width r = refused_covered (bytes_cover_digits width old.encoding) r
+  pub number_refused : (width : ℕ) {A B : Type 0} {seen : A → List ℕ} {view : B → ℕ} {e : E} {result : Result B E} → IsErrAnd result (λ x. x ≡ e) → Reads gives eof seen (raw_bytes width) (Err e) old new → Reads gives eof view (unsigned_number width old.encoding) result old new
+  number_refused width passed r = refused_covered (bytes_cover_digits width old.encoding) passed r
 
   -- the number that the bytes spell in the order that the reader has after them
   pub number_read : {width n : ℕ} {order : Endianness} {bytes : List ℕ} {A : Type 0} {x : A} → Reads gives eof (λ _. bytes) (raw_bytes width) (Ok x) old new → order ≡ new.encoding.order → SpellsNumber width order n bytes → Reads gives eof (λ m. m) (unsigned_number width old.encoding) (Ok n) old new
@@ -64,8 +63,8 @@ module _ {E : Type 0} {gives : Error → E → Type 0} {eof : E → Bool} {old n
   byte_peeked {b = b} {bytes = bytes} value range r = ahead_covered (λ s h. byte_stands old.encoding b bytes s value range h) r
 
   -- where the unsigned number is refused, the signed one is
-  pub signed_refused : (w : Width) {e : E} → Reads gives eof (λ n. n) (unsigned_number (byte_len w) old.encoding) (Err e) old new → Reads gives eof (λ z. z) (signed_number w old.encoding) (Err e) old new
-  signed_refused w r = refused_covered (digits_cover_signed w old.encoding) r
+  pub signed_refused : (w : Width) {e : E} {result : Result ℤ E} → IsErrAnd result (λ x. x ≡ e) → Reads gives eof (λ n. n) (unsigned_number (byte_len w) old.encoding) (Err e) old new → Reads gives eof (λ z. z) (signed_number w old.encoding) result old new
+  signed_refused w passed r = refused_covered (digits_cover_signed w old.encoding) passed r
 
   -- the signed number of the bits that were read
   pub signed_read : (w : Width) {n : ℕ} {z : ℤ} → Reads gives eof (λ m. m) (unsigned_number (byte_len w) old.encoding) (Ok n) old new → z ≡ cast_signed w n → Reads gives eof (λ y. y) (signed_number w old.encoding) (Ok (cast_signed w (cast_unsigned w z))) old new

@@ -13,10 +13,10 @@ use Rattle.speedy_layout.specs.Laws.{Laws}
 use Rattle.speedy_layout.specs.Lists.{repeat, vector, vector_laws}
 use Rattle.speedy_layout.specs.Owned.{owned_content}
 use Rattle.speedy_read.specs.Buffers.{bytes_state}
-use Rattle.speedy_read.specs.Reading.{ReaderState, IsTold, Excused, Refused, RefusesBuffer, Reads, AnswersBuffer, AnswersCopied}
+use Rattle.speedy_read.specs.Reading.{ReaderState, IsTold, Excused, Refused, Reads}
+use Rattle.speedy_read.specs.WaysOfReading.{RefusesBufferIf, AnswersBuffer, AnswersCopied, AnswersStream}
 use Rattle.speedy_read.specs.RoundTrip.{AnswersWritten, ReadsWritten, ReadsWrittenFirst, StreamsWritten, WrittenIsAnswered, WrittenIsRead, WrittenIsStreamed, WrittenItemsAreRead}
-use Rattle.speedy_read.specs.StreamView.{most_held}
-use Rattle.speedy_read.specs.Streams.{AnswersStream}
+use Rattle.speedy_read.specs.StreamModel.{most_held}
 
 -- an unbuffered read leaves nothing that was read ahead
 nothing_ahead : (ahead : List ℕ) → length ahead ≤ most_held false → ahead ≡ []
@@ -29,15 +29,15 @@ module _ {E A V : Type 0} (gives : Error → E → Type 0) (eof : E → Bool) (s
     front_answered (Ok x) count buffer e a =
         let k = a.value in
         let one : (seen x ≡ v) × (k.front ≡ bytes) × (k.rest ≡ rest) = laws.decodes (seen x) v k.front bytes k.rest rest k.front_is (laws.written_spells v bytes written) (sym k.whole_is ∙ e) in
-        record { same = one.0; counted = k.count_is ∙ ap length one.1; refused = tt; takes_memory = tt }
+        record { same = one.0; counted = k.count_is ∙ ap length one.1; refused = tt; asks_memory = tt }
     front_answered (Err x) count buffer e a =
         let size = laws.least_size v bytes (laws.written_spells v bytes written) in
         let l : length buffer ≡ length bytes + length rest = ap length e ∙ length-append bytes rest in
         let want = refusal (a.refused (omega arith)) in
-        record { same = tt; counted = tt; refused = want.0; takes_memory = want.1 } where
-          refusal : (gives (error_of kinds.OutOfMemory) x × IsTrue L.takes_memory) ⊎ RefusesBuffer gives eof L x buffer → gives (error_of kinds.OutOfMemory) x × IsTrue L.takes_memory
+        record { same = tt; counted = tt; refused = want.0; asks_memory = want.1 } where
+          refusal : (gives (error_of kinds.OutOfMemory) x × IsTrue L.asks.memory) ⊎ RefusesBufferIf gives eof (Unit {0}) L x buffer → gives (error_of kinds.OutOfMemory) x × IsTrue L.asks.memory
           refusal (inl m) = m
-          refusal (inr r) = absurd (r.because.no_front v bytes rest e (laws.written_spells v bytes written))
+          refusal (inr r) = absurd ((r.because tt).no_front v bytes rest e (laws.written_spells v bytes written))
 
     read_back : (result : Result A E) (old new : ReaderState) → IsTrue old.fixed.tells → old.to_come ≡ bytes ++ rest → Reads gives eof seen L result old new → ReadsWritten gives eof seen L v rest result old new
     read_back (Ok x) old new told e a =
@@ -45,7 +45,7 @@ module _ {E A V : Type 0} (gives : Error → E → Type 0) (eof : E → Bool) (s
         let one : (seen x ≡ v) × (k.front ≡ bytes) × (new.to_come ≡ rest) = laws.decodes (seen x) v k.front bytes new.to_come rest k.front_is (laws.written_spells v bytes written) (sym (k.taken told) ∙ e) in
         record { same = one.0; rest_is = one.2; refused = λ _. tt }
     read_back (Err x) old new told e a = record { same = tt; rest_is = tt; refused = λ known. refusal known a.answer } where
-      refusal : IsTold L old → Excused gives L.takes_memory x old new ⊎ Refused gives eof L x old new → Excused gives L.takes_memory x old new
+      refusal : IsTold L old → Excused gives L.asks.memory x old new ⊎ Refused gives eof L x old new → Excused gives L.asks.memory x old new
       refusal known (inl m) = m
       refusal known (inr r) = absurd ((r.because known).no_front v bytes rest e (laws.written_spells v bytes written))
 
@@ -57,7 +57,7 @@ module _ {E A V : Type 0} (gives : Error → E → Type 0) (eof : E → Bool) (s
       rest_is = tt;
       refused = λ bytes fit. want (r.refused (subst (IsTold L) (sym s) (record { tells = refl; are_bytes = AreBytes-slice buffer bytes; fit = fit; lends = λ _. refl })));
     } where
-      want : Excused gives L.takes_memory x old (bytes_state left after) → gives (error_of kinds.OutOfMemory) x
+      want : Excused gives L.asks.memory x old (bytes_state left after) → gives (error_of kinds.OutOfMemory) x
       want (inl h) = h.0
       want (inr h) =
           let none : old.faults.count ≡ 0 = ap (λ (s : ReaderState). s.faults.count) s in
@@ -125,10 +125,10 @@ module _ {E A V : Type 0} (gives : Error → E → Type 0) (eof : E → Bool) (s
       }
 
 -- what borrows nothing is answered alike from bytes that are lent and from bytes that are not
-pub copied_alike : {E A V : Type 0} {gives : Error → E → Type 0} {eof : E → Bool} {seen : A → V} {least : ℕ} {L : Format V} {result : Result A E} {count : ℕ} {bytes : List ℕ} → L.needs_lending ≡ false → AnswersCopied gives eof seen least L result count bytes → AnswersBuffer gives eof seen least L result count bytes
+pub copied_alike : {E A V : Type 0} {gives : Error → E → Type 0} {eof : E → Bool} {seen : A → V} {least : ℕ} {L : Format V} {result : Result A E} {count : ℕ} {bytes : List ℕ} → L.asks.lending ≡ false → AnswersCopied gives eof seen least L result count bytes → AnswersBuffer gives eof seen least L result count bytes
 copied_alike {result = Ok x} none a = record { too_small = a.too_small; value = a.value; refused = λ _. tt }
 copied_alike {result = Err e} none a = record {
   too_small = a.too_small;
   value = tt;
-  refused = λ l. elim (a.refused l) [ inl m ↦ inl m | inr x ↦ inr (record { kind = x.kind; because = x.because none }) ];
+  refused = λ l. elim (a.refused l) [ inl m ↦ inl m | inr x ↦ inr (record { kind = x.kind; because = λ _. x.because none }) ];
 }

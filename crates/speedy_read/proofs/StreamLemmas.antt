@@ -1,5 +1,5 @@
 -- Reads from a source.
-use Rattle.std.specs.Prelude.{◌≡◌, ℕ, ◌+◌, ◌-◌, ◌^◌, ◌<◌, ◌≤◌, List, [], ◌++◌, length, take, drop, Bool, true, false, IsTrue, ◌⊎◌, Result, Ok, Err, IfOk, IfErr, OnOk, is_err, refl}
+use Rattle.std.specs.Prelude.{◌≡◌, ℕ, ◌+◌, ◌-◌, ◌^◌, ◌<◌, ◌≤◌, List, [], ◌++◌, length, take, drop, Bool, true, false, IsTrue, ◌⊎◌, Result, Ok, Err, IfOk, IfErr, OnOk, is_err, IsErrAnd, refl}
 use Rattle.std.specs.Borrow.{GName}
 use Rattle.std.proofs.Common.{sym, ◌∙◌, ap, subst, arith, inl, inr}
 use Rattle.std.proofs.lemmas.List.{append_assoc, append-nil, length-append, length-drop, length-take-le, take-append-drop}
@@ -19,10 +19,11 @@ use Rattle.speedy_base.specs.Ring.{Ring}
 use Rattle.speedy_layout.specs.Format.{Format}
 use Rattle.speedy_layout.specs.Texts.{raw_bytes}
 use Rattle.speedy_read.specs.Reading.{ReaderKind, ReaderState, Kept, KeptByPeek, IsEnd, Unspelled, Refused, Reads, Peeks}
-use Rattle.speedy_read.specs.ReadingLemmas.{tells_still, KeptByPeek-after, ends_early}
+use Rattle.speedy_read.specs.ReadingLemmas.{tells_still, KeptByPeek-after, ends_early, Peeks-passed}
 use Rattle.speedy_read.specs.declared.stream_reader.StreamReader.{StreamReader}
-use Rattle.speedy_read.specs.StreamView.{StreamView, stream_view, first_capacity, most_held, is_tidy, stream_kind, ring_state, stream_state}
-use Rattle.speedy_read.specs.Streams.{WantsMemory, FillsList, FillsRing, Fills, TookFront, RefusesStream, AnswersStream, AnswersFile}
+use Rattle.speedy_read.specs.StreamModel.{StreamModel, stream_model, first_capacity, most_held, is_tidy, stream_kind, ring_state, stream_state}
+use Rattle.speedy_read.specs.Streams.{FillsList, FillsRing, Fills}
+use Rattle.speedy_read.specs.WaysOfReading.{WantsMemory, TookFront, RefusesStream, AnswersStream, AnswersFile}
 
 -- ---- tidiness
 
@@ -49,7 +50,7 @@ device_ended gives eof e keeps n = (n, keeps (error_of n.0) e n.2 ∙ ends_eof t
 -- fewer bytes are to come
 stream_ended : {E : Type 0} {gives : Error → E → Type 0} {eof : E → Bool} {n : ℕ} {e : E} {old new : ReaderState} → new.faults ≡ old.faults → IsEnd gives eof old.fixed.ends_by_device e → (IsTrue old.fixed.tells → length old.to_come < n) → Refused gives eof (raw_bytes n) e old new
 unfolding raw_bytes
-stream_ended {n = n} clean ended fewer = ends_early clean n (λ v s h. let k = h.1 in omega arith) (λ _ fault. fault) ended (λ told _. fewer told)
+stream_ended {n = n} clean ended fewer = ends_early clean n (λ v s h. let k = h.1 in omega arith) (λ _ bad. bad) ended (λ told _. fewer told)
 
 -- ---- what is read after a peek
 
@@ -165,9 +166,9 @@ module _ {E : Type 0} {gives : Error → E → Type 0} {eof : E → Bool} {A B :
       }
 
   -- and of one that could not be
-  pub fill_not_peeked : {e : E} → Fills gives eof {A = B} n (Err e) held keeps (ring_state name old held b encoding) (ring_state after new keeps c encoding')
-      → Peeks gives eof seen (raw_bytes n) (Err e) (ring_state name old ring b encoding) (ring_state after new keeps c encoding')
-  fill_not_peeked {e = e} f = record {
+  pub fill_not_peeked : {e : E} {result : Result A E} → IsErrAnd result (λ x. x ≡ e) → Fills gives eof {A = B} n (Err e) held keeps (ring_state name old held b encoding) (ring_state after new keeps c encoding')
+      → Peeks gives eof seen (raw_bytes n) result (ring_state name old ring b encoding) (ring_state after new keeps c encoding')
+  fill_not_peeked {e = e} passed f = Peeks-passed passed (record {
     kept = KeptByPeek-after (same_bytes old ring held same) f.kept;
     answer =
         inr (elim f.why [
@@ -185,7 +186,7 @@ module _ {E : Type 0} {gives : Error → E → Type 0} {eof : E → Bool} {A B :
                 }));
           })
         ]);
-  }
+  })
 
 -- ---- reads past the ring
 
@@ -253,7 +254,7 @@ module _ {E : Type 0} (gives : Error → E → Type 0) (eof : E → Bool) {A V :
       }
   value_taken (Err e) r = tt
 
-  refusal_is : (result : Result A E) → Reads gives eof seen L result (ring_state name old ring b encoding) (ring_state after new left c encoding') → IfErr result (λ e. WantsMemory gives L.takes_memory b e old new ⊎ (IsOfFailedCall gives e old.faults new.faults ⊎ RefusesStream gives eof L e old new))
+  refusal_is : (result : Result A E) → Reads gives eof seen L result (ring_state name old ring b encoding) (ring_state after new left c encoding') → IfErr result (λ e. WantsMemory gives L.asks.memory b e old new ⊎ (IsOfFailedCall gives e old.faults new.faults ⊎ RefusesStream gives eof L e old new))
   refusal_is (Ok x) r = tt
   refusal_is (Err e) r =
       elim r.answer [
@@ -285,21 +286,21 @@ module _ {E : Type 0} (gives : Error → E → Type 0) (eof : E → Bool) {A V :
   }
 
 -- the reader that was made holds the source under its name
-pub view_name : {S C : Type 0} (r : StreamReader S C) {context : C} {name : GName} {source : S} {ring : Ring} {b : Bool} → stream_view r ≡ record { context = context; source_name = name; source = source; ring = ring; is_buffering = b } → r.source.ghost_name ≡ name
-view_name {S = S} {C = C} r view = ap (λ (v : StreamView S C). v.source_name) view
+pub view_name : {S C : Type 0} (r : StreamReader S C) {context : C} {name : GName} {source : S} {ring : Ring} {b : Bool} → stream_model r ≡ record { context = context; source_name = name; source = source; ring = ring; is_buffering = b } → r.source.ghost_name ≡ name
+view_name {S = S} {C = C} r view = ap (λ (v : StreamModel S C). v.source_name) view
 
 module _ {E : Type 0} {gives : Error → E → Type 0} {eof : E → Bool} {A V : Type 0} {seen : A → V} where
   -- and a function that made it
-  pub stream_answered : {S C : Type 0} (source : S → SourceState) (asks : C → Encoding) (format : Encoding → Format V) (first last : StreamReader S C) {context : C} {name : GName} {origin final : S} {ring : Ring} {buffers : Bool} {result : Result A E} → stream_view first ≡ record { context = context; source_name = name; source = origin; ring = ring; is_buffering = buffers } → ring ≡ record { bytes = []; capacity = first_capacity buffers; room = [] } → final ≡ last.source.now
+  pub stream_answered : {S C : Type 0} (source : S → SourceState) (asks : C → Encoding) (format : Encoding → Format V) (first last : StreamReader S C) {context : C} {name : GName} {origin final : S} {ring : Ring} {buffers : Bool} {result : Result A E} → stream_model first ≡ record { context = context; source_name = name; source = origin; ring = ring; is_buffering = buffers } → ring ≡ record { bytes = []; capacity = first_capacity buffers; room = [] } → final ≡ last.source.now
       → Reads gives eof seen (format (asks first.context)) result (stream_state source asks first) (stream_state source asks last) → AnswersStream gives eof seen (format (asks context)) buffers result (source origin) (source final)
   stream_answered {S = S} {C = C} source asks format first last {context = context} {origin = origin} {final = final} {buffers = buffers} {result = result} view made is_last r =
       let new : SourceState = source last.source.now in
-      let ring : first.ring ≡ record { bytes = []; capacity = first_capacity buffers; room = [] } = ap (λ (v : StreamView S C). v.ring) view ∙ made in
-      let same_way : first.is_buffering ≡ buffers = ap (λ (v : StreamView S C). v.is_buffering) view in
+      let ring : first.ring ≡ record { bytes = []; capacity = first_capacity buffers; room = [] } = ap (λ (v : StreamModel S C). v.ring) view ∙ made in
+      let same_way : first.is_buffering ≡ buffers = ap (λ (v : StreamModel S C). v.is_buffering) view in
       subst (λ (s : SourceState). AnswersStream gives eof seen (format (asks context)) buffers result (source origin) s) (sym (ap source is_last))
-      (subst (λ (s : S). AnswersStream gives eof seen (format (asks context)) buffers result (source s) new) (ap (λ (v : StreamView S C). v.source) view)
+      (subst (λ (s : S). AnswersStream gives eof seen (format (asks context)) buffers result (source s) new) (ap (λ (v : StreamModel S C). v.source) view)
       (subst (λ (way : Bool). AnswersStream gives eof seen (format (asks context)) way result (source first.source.now) new) same_way
-      (subst (λ (c : C). AnswersStream gives eof seen (format (asks c)) first.is_buffering result (source first.source.now) new) (ap (λ (v : StreamView S C). v.context) view)
+      (subst (λ (c : C). AnswersStream gives eof seen (format (asks c)) first.is_buffering result (source first.source.now) new) (ap (λ (v : StreamModel S C). v.context) view)
       (reader_answered gives eof seen (format (asks first.context)) first.is_buffering last.is_buffering first.ring last.ring first.source.ghost_name last.source.ghost_name (asks first.context) (asks last.context) (source first.source.now) new (ap (λ (r : Ring). r.bytes) ring) (ap (λ (r : Ring). r.capacity) ring ∙ ap (λ (b : Bool). first_capacity b) (sym same_way)) result r))))
 
   -- and of a file

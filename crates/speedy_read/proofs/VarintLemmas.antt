@@ -1,5 +1,5 @@
 -- Integers of variable length are read as their first byte, and then the bytes that it says follow.
-use Rattle.std.specs.Prelude.{◌≡◌, ℕ, ◌+◌, ◌-◌, ◌≤◌, List, [], ◌∷◌, ◌++◌, length, take, drop, Bool, IsTrue, Ok, Err, refl, ◌<◌}
+use Rattle.std.specs.Prelude.{◌≡◌, ℕ, ◌+◌, ◌-◌, ◌≤◌, List, [], ◌∷◌, ◌++◌, length, take, drop, Bool, IsTrue, Ok, Err, Result, IsErrAnd, refl, ◌<◌}
 use Rattle.std.proofs.Common.{sym, ◌∙◌, ap, ap₂, subst, arith, inl, inr}
 use Rattle.std.proofs.lemmas.List.{append-nil, length-take-le, take_all, length-append, take-append-drop}
 use Rattle.speedy_base.specs.declared.error.Error.{Error}
@@ -11,9 +11,9 @@ use Rattle.speedy_layout.specs.Codes.{ReadsWider, coding, Accepts-exact, Accepts
 use Rattle.speedy_layout.specs.Sequences.{sequence}
 use Rattle.speedy_layout.specs.Numbers.{unsigned_number}
 use Rattle.speedy_layout.specs.Texts.{raw_bytes}
-use Rattle.speedy_layout.specs.Varint.{varint, IsFirstByte, StartsVarint, StartsVarint-same, varint-starts, IsFewest, VarintParts, varint_code, first_byte, first_byte_code, low_first, prefixed_digits, prefixed_suffices, first_byte_laws, prefixed_digits_laws, varint_is_code, varint-chosen, prefixed-is, prefixed-spelled}
+use Rattle.speedy_layout.specs.Varint.{varint, IsFirstByte, StartsVarint, StartsVarint-same, varint-starts, IsFewest, VarintParts, varint_code, first_byte, first_byte_code, low_first, prefixed_digits, prefixed_asks, first_byte_laws, prefixed_digits_laws, varint_is_code, varint-chosen, prefixed-is, prefixed-spelled}
 use Rattle.speedy_read.specs.Reading.{ReaderKind, ReaderState, IsTold, Unspelled, Reads, Peeks}
-use Rattle.speedy_read.specs.ReadingLemmas.{tells_still, KeptByPeek-after, part_refused}
+use Rattle.speedy_read.specs.ReadingLemmas.{tells_still, KeptByPeek-after, part_refused, Peeks-passed}
 use Rattle.speedy_read.specs.Sequences.{Composes, sequence_composes, refused_first, refused_second, got_both, peek_refused_first}
 use Rattle.speedy_read.specs.Codes.{got_covered, code_refused, code_read, code_not_written, exact_code_read, refused_covered, unaccepted, peek_refused_covered, codes_cover}
 use Rattle.speedy_base.specs.Error.{error_of}
@@ -27,32 +27,33 @@ reads_wider {n = n} {tail = tail} parts not_fewest = record { code = ((length ta
 
 -- a first byte and its digits are read one after the other
 prefixed_composes : (encoding : Encoding) → Composes (first_byte encoding) (λ p. unsigned_number p.0 (low_first encoding)) (prefixed_digits encoding) (λ p n. (p, n))
-prefixed_composes encoding = sequence_composes (λ p. p) (prefixed_suffices encoding) (λ u w s h. refl)
+prefixed_composes encoding = sequence_composes (λ p. p) (prefixed_asks encoding) (λ u w s h. refl)
 
 module _ {E : Type 0} {gives : Error → E → Type 0} {eof : E → Bool} (encoding : Encoding) {old : ReaderState} where
   -- where the first byte is refused, the integer is
-  pub varint_first_refused : {new : ReaderState} {A B : Type 0} {seen : A → ℕ} {view : B → ℕ} {e : E} → Reads gives eof seen (unsigned_number 1 encoding) (Err e) old new → Reads gives eof view (varint encoding) (Err e) old new
+  pub varint_first_refused : {new : ReaderState} {A B : Type 0} {seen : A → ℕ} {view : B → ℕ} {e : E} {result : Result B E} → IsErrAnd result (λ x. x ≡ e) → Reads gives eof seen (unsigned_number 1 encoding) (Err e) old new → Reads gives eof view (varint encoding) result old new
   unfolding varint
-  varint_first_refused r =
-      code_refused encoding varint_code {seen = λ (p : (ℕ × ℕ) × ℕ). p}
-      (refused_first (prefixed_composes encoding) {seen = λ (p : ℕ × ℕ). p} (code_refused encoding first_byte_code r))
+  varint_first_refused passed r =
+      code_refused encoding varint_code {seen = λ (p : (ℕ × ℕ) × ℕ). p} passed
+      (refused_first (prefixed_composes encoding) {seen = λ (p : ℕ × ℕ). p} refl (code_refused encoding first_byte_code refl r))
 
-  pub varint_first_not_peeked : {new : ReaderState} {A B : Type 0} {seen : A → ℕ} {view : B → ℕ} {e : E} → Peeks gives eof seen (unsigned_number 1 encoding) (Err e) old new → Peeks gives eof view (varint encoding) (Err e) old new
+  pub varint_first_not_peeked : {new : ReaderState} {A B : Type 0} {seen : A → ℕ} {view : B → ℕ} {e : E} {result : Result B E} → IsErrAnd result (λ x. x ≡ e) → Peeks gives eof seen (unsigned_number 1 encoding) (Err e) old new → Peeks gives eof view (varint encoding) result old new
   unfolding varint
-  varint_first_not_peeked r =
-      peek_refused_covered (codes_cover encoding varint_code) {seen = λ (p : (ℕ × ℕ) × ℕ). p}
-      (peek_refused_first (prefixed_composes encoding) {seen = λ (p : ℕ × ℕ). p} (peek_refused_covered (codes_cover encoding first_byte_code) r))
+  varint_first_not_peeked passed r =
+      peek_refused_covered (codes_cover encoding varint_code) {seen = λ (p : (ℕ × ℕ) × ℕ). p} passed
+      (peek_refused_first (prefixed_composes encoding) {seen = λ (p : ℕ × ℕ). p} (peek_refused_covered (codes_cover encoding first_byte_code) refl r))
 
   first_byte_read : {mid : ReaderState} {first : ℕ} (more low : ℕ) → IsFirstByte more low first → Reads gives eof (λ n. n) (unsigned_number 1 encoding) (Ok first) old mid → Reads gives eof (λ (p : ℕ × ℕ). p) (first_byte encoding) (Ok (more, low)) old mid
   first_byte_read more low h r = exact_code_read encoding (λ (byte : ℕ) (p : ℕ × ℕ). IsFirstByte p.0 p.1 byte) (λ kind. ⊥) h r
 
   -- where the bytes after it are, the integer is
-  pub varint_rest_refused : {mid new : ReaderState} {first : ℕ} (more : ℕ) → StartsVarint more first → Reads gives eof (λ n. n) (unsigned_number 1 encoding) (Ok first) old mid → {A B : Type 0} {seen : A → List ℕ} {view : B → ℕ} {e : E} {size : ℕ} → size ≡ more → Reads gives eof seen (raw_bytes size) (Err e) mid new → Reads gives eof view (varint encoding) (Err e) old new
+  pub varint_rest_refused : {mid new : ReaderState} {first : ℕ} (more : ℕ) → StartsVarint more first → Reads gives eof (λ n. n) (unsigned_number 1 encoding) (Ok first) old mid → {A B : Type 0} {seen : A → List ℕ} {view : B → ℕ} {e : E} {result : Result B E} {size : ℕ} → size ≡ more → IsErrAnd result (λ x. x ≡ e)
+      → Reads gives eof seen (raw_bytes size) (Err e) mid new → Reads gives eof view (varint encoding) result old new
   unfolding varint
-  varint_rest_refused {mid = mid} {new = new} more starts one {seen = seen} {e = e} sized r =
-      code_refused encoding varint_code {seen = λ (p : (ℕ × ℕ) × ℕ). p}
-      (refused_second (prefixed_composes encoding) (first_byte_laws encoding) (first_byte_read more starts.0 starts.1 one)
-      (refused_covered (bytes_cover_digits more (low_first encoding)) {view = λ (n : ℕ). n} (subst (λ (n : ℕ). Reads gives eof seen (raw_bytes n) (Err e) mid new) sized r)))
+  varint_rest_refused {mid = mid} {new = new} more starts one {seen = seen} {e = e} sized passed r =
+      code_refused encoding varint_code {seen = λ (p : (ℕ × ℕ) × ℕ). p} passed
+      (refused_second (prefixed_composes encoding) (first_byte_laws encoding) (first_byte_read more starts.0 starts.1 one) refl
+      (refused_covered (bytes_cover_digits more (low_first encoding)) {view = λ (n : ℕ). n} refl (subst (λ (n : ℕ). Reads gives eof seen (raw_bytes n) (Err e) mid new) sized r)))
 
   -- the first byte, the digits after it and their number
   prefixed_read : {mid new : ReaderState} {first n : ℕ} {A : Type 0} {seen : A → List ℕ} {x : A} → (parts : VarintParts first (seen x) n) → Reads gives eof (λ n. n) (unsigned_number 1 encoding) (Ok first) old mid → (size : ℕ) → Reads gives eof seen (raw_bytes size) (Ok x) mid new
@@ -101,16 +102,16 @@ begins (b ∷ bytes) more others first l e =
     let heads : b ≡ first = (cc) in
     ap₂ (λ c x. c ∷ (x ++ more)) heads (sym (take_all (length (b ∷ bytes) - 1) bytes (omega arith)))
 
--- where fewer bytes follow than the first one says, nothing is at fault
-rest_no_fault : (encoding : Encoding) (more first : ℕ) (bytes rest : List ℕ) → StartsVarint more first → bytes ≡ first ∷ rest → length bytes < more + 1 → (varint encoding).at_fault bytes → ⊥
+-- where fewer bytes follow than the first one says, nothing is malformed
+rest_not_malformed : (encoding : Encoding) (more first : ℕ) (bytes rest : List ℕ) → StartsVarint more first → bytes ≡ first ∷ rest → length bytes < more + 1 → (varint encoding).malformed bytes → ⊥
 unfolding varint coding sequence unsigned_number
-rest_no_fault encoding more first bytes rest starts is few (inl (inl (inl h))) = h
-rest_no_fault encoding more first bytes rest starts is few (inl (inl (inr h))) =
+rest_not_malformed encoding more first bytes rest starts is few (inl (inl (inl h))) = h
+rest_not_malformed encoding more first bytes rest starts is few (inl (inl (inr h))) =
     let whole : h.code ∷ h.rest ≡ first ∷ rest = sym (h.whole_is ∙ ap (λ x. x ++ h.rest) (SpellsNumber-is_one_byte encoding.order h.code h.front h.code_is)) ∙ is in
     let same : first ≡ h.code = (cc) in
     h.nothing (more, starts.0) (Accepts-exact encoding.strict _ _ h.code (more, starts.0) (subst (IsFirstByte more starts.0) same starts.1))
-rest_no_fault encoding more first bytes rest starts is few (inl (inr h)) = h.1.second_is
-rest_no_fault encoding more first bytes rest starts is few (inr h) =
+rest_not_malformed encoding more first bytes rest starts is few (inl (inr h)) = h.1.second_is
+rest_not_malformed encoding more first bytes rest starts is few (inr h) =
     let p = prefixed-is encoding h.code h.front h.code_is in
     let whole : p.first ∷ (p.tail ++ h.rest) ≡ first ∷ rest = ap (λ x. x ++ h.rest) (sym p.whole_is) ∙ (sym h.whole_is ∙ is) in
     let firsts : p.first ≡ first = (cc) in
@@ -135,7 +136,7 @@ module _ {E : Type 0} {gives : Error → E → Type 0} {eof : E → Bool} (encod
   rest_unspelled more bytes rest starts is un = record {
     no_front = λ n front tail split h. un.no_front front front tail split (refl, whole_length encoding more first n front tail rest starts h (sym split ∙ is));
     too_short = λ n after h. un.too_short (bytes ++ after) after (refl, whole_length encoding more first n (bytes ++ after) [] (rest ++ after) starts h (append-nil (bytes ++ after) ∙ ap (λ x. x ++ after) is));
-    at_fault = λ fault. absurd (rest_no_fault encoding more first bytes rest starts is (too_few (more + 1) bytes un) fault);
+    malformed = λ bad. absurd (rest_not_malformed encoding more first bytes rest starts is (too_few (more + 1) bytes un) bad);
   }
 
   -- what is to come begins with the byte that was peeked
@@ -154,13 +155,14 @@ module _ {E : Type 0} {gives : Error → E → Type 0} {eof : E → Bool} (encod
 
   module _ {A B : Type 0} {seen : A → List ℕ} {view : B → ℕ} (count : ℕ) {old mid new : ReaderState} where
     -- where the first byte and those after it are refused, the integer is
-    pub rest_not_peeked : {e : E} (more : ℕ) → count ≡ more + 1 → StartsVarint more first → Peeks gives eof (λ n. n) (unsigned_number 1 encoding) (Ok first) old mid → Peeks gives eof seen (raw_bytes count) (Err e) mid new → Peeks gives eof view (varint encoding) (Err e) old new
+    pub rest_not_peeked : {e : E} {result : Result B E} (more : ℕ) → count ≡ more + 1 → StartsVarint more first → Peeks gives eof (λ n. n) (unsigned_number 1 encoding) (Ok first) old mid → IsErrAnd result (λ x. x ≡ e)
+        → Peeks gives eof seen (raw_bytes count) (Err e) mid new → Peeks gives eof view (varint encoding) result old new
     unfolding raw_bytes varint coding sequence unsigned_number
-    rest_not_peeked {e = e} more sized starts one r = record {
+    rest_not_peeked {e = e} more sized starts one passed r = Peeks-passed passed (record {
       kept = KeptByPeek-after one.kept r.kept;
       answer =
           elim r.answer [
-            | inl h ↦ inl (h.0, subst (λ (kind : ReaderKind). IsTrue kind.peeks_take_memory) one.kept.fixed h.1, h.2 ∙ one.answer.no_fault)
+            | inl h ↦ inl (h.0, subst (λ (kind : ReaderKind). IsTrue kind.peeks_ask_memory) one.kept.fixed h.1, h.2 ∙ one.answer.no_fault)
             | inr h ↦ inr (part_refused new one.kept.fixed one.answer.no_fault (λ t. t) (λ kind h. absurd h)
                 (λ told because.
                 let same = one.kept.to_come told.tells in
@@ -173,7 +175,7 @@ module _ {E : Type 0} {gives : Error → E → Type 0} {eof : E → Bool} (encod
                 rest_unspelled more old.to_come one.answer.rest starts (first_to_come one told.tells) (subst (λ (n : ℕ). Unspelled gives eof (raw_bytes n) e old.to_come) sized (subst (Unspelled gives eof (raw_bytes count) e) same (because there))))
                 h)
           ];
-    }
+    })
 
     -- a first byte and those after it are what the read takes
     pub varint_peeked : {x : A} {y : B} (more : ℕ) → Peeks gives eof (λ n. n) (unsigned_number 1 encoding) (Ok first) old mid → (varint encoding).spells (view y) (first ∷ take (length (seen x) - 1) (drop 1 (seen x))) → count ≡ more + 1 → Peeks gives eof seen (raw_bytes count) (Ok x) mid new → Peeks gives eof view (varint encoding) (Ok y) old new

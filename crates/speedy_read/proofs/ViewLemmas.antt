@@ -1,5 +1,5 @@
 -- Reads of lent bytes make reads of views.
-use Rattle.std.specs.Prelude.{◌≡◌, ℕ, ◌+◌, ◌-◌, ◌*◌, ◌<◌, ◌≤◌, ◌^◌, List, ◌++◌, length, replicate, map, Bool, Ok, Err, refl}
+use Rattle.std.specs.Prelude.{◌≡◌, ℕ, ◌+◌, ◌-◌, ◌*◌, ◌<◌, ◌≤◌, ◌^◌, List, ◌++◌, length, replicate, map, Bool, Ok, Err, Result, IsErrAnd, refl}
 use Rattle.std.proofs.Common.{sym, ◌∙◌, ap, subst, inr, arith}
 use Rattle.std.proofs.lemmas.List.{length-append, length-map, length-replicate}
 use Rattle.speedy_base.specs.declared.error.Error.{Error}
@@ -9,6 +9,7 @@ use Rattle.speedy_layout.specs.Lists.{repeat, vector}
 use Rattle.speedy_layout.specs.Owned.{owned_content, borrowed_content}
 use Rattle.speedy_layout.specs.Texts.{raw_bytes}
 use Rattle.speedy_layout.specs.Views.{shown_items, length-shown_many, shown_items_spelled, each_one_size}
+use Rattle.speedy_layout.specs.Sequences.{asks_nothing_more}
 use Rattle.speedy_read.specs.Reading.{ReaderState, Reads, IsEnd}
 use Rattle.speedy_read.specs.ReadingLemmas.{ends_early, part_refused}
 use Rattle.speedy_read.specs.Codes.{Covers, refused_covered, got_covered}
@@ -20,15 +21,14 @@ module _ {V : Type 0} (size : ℕ) (F : Format V) (one : (v : V) (bytes : List �
   bytes_cover_view = record {
     under = λ vs s h. (s, (refl, each_one_size one vs s h.1 ∙ ap (λ m. m * size) h.0));
     names = λ kind h. absurd h;
-    faults = λ bytes are h. absurd h;
-    takes = λ t. absurd (cc);
-    lends = λ _. refl;
+    malformed = λ bytes are h. absurd h;
+    asks = asks_nothing_more;
   }
 
   module _ {E : Type 0} {gives : Error → E → Type 0} {eof : E → Bool} {old new : ReaderState} {X Y : Type 0} {shows : X → List ℕ} {view : Y → List V} where
     -- lent bytes that are refused are no items
-    pub view_not_lent : {e : E} → Reads gives eof shows (raw_bytes (n * size)) (Err e) old new → Reads gives eof view (borrowed_content (vector n F)) (Err e) old new
-    view_not_lent r = refused_covered bytes_cover_view r
+    pub view_not_lent : {e : E} {result : Result Y E} → IsErrAnd result (λ x. x ≡ e) → Reads gives eof shows (raw_bytes (n * size)) (Err e) old new → Reads gives eof view (borrowed_content (vector n F)) result old new
+    view_not_lent passed r = refused_covered bytes_cover_view passed r
 
     -- those that are answered are the items that they show, if any bytes of that size spell one
     pub view_lent : {A : Type 0} (decoded : List ℕ → A) (seen : A → V) → 0 < size → ((bytes : List ℕ) → length bytes ≡ size → AreBytes bytes → F.spells (seen (decoded bytes)) bytes)
@@ -50,7 +50,7 @@ module _ {V : Type 0} (size : ℕ) (F : Format V) (one : (v : V) (bytes : List �
     unfolding borrowed_content vector owned_content repeat
     more_than_all k ended r = record {
       kept = r.kept;
-      answer = inr (ends_early r.answer.no_fault (n * size) (λ vs s h. let l = each_one_size one vs s h.1 ∙ ap (λ m. m * size) h.0 in omega arith) (λ _ fault. fault) ended (λ _ fit. omega arith));
+      answer = inr (ends_early r.answer.no_fault (n * size) (λ vs s h. let l = each_one_size one vs s h.1 ∙ ap (λ m. m * size) h.0 in omega arith) (λ _ bad. bad) ended (λ _ fit. omega arith));
     }
 
     -- so where as many as can be counted are refused, the items are
@@ -71,7 +71,7 @@ module _ {V : Type 0} (size : ℕ) (F : Format V) (one : (v : V) (bytes : List �
             too_short = λ vs more sp.
                 let fit = told.fit in
                 un.too_short (old.to_come ++ missing) missing (refl, length-append old.to_come missing ∙ (ap (λ m. length old.to_come + m) (length-replicate (2 ^ 64 - 1 - length old.to_come) 0) ∙ omega arith));
-            at_fault = λ fault. absurd fault;
+            malformed = λ bad. absurd bad;
           })
           r.answer;
     }

@@ -1,7 +1,7 @@
 -- Readers of bytes in memory.
 use Rattle.std.specs.Prelude.{ℕ, List, [], ◌∷◌, Bool, true, false}
 use Rattle.std.specs.Borrow.{GName}
-use Rattle.speedy_base.specs.Devices.{no_faults}
+use Rattle.speedy_base.specs.MemoryDevices.{no_faults}
 use Rattle.speedy_base.specs.Encoding.{Encoding}
 use Rattle.speedy_read.specs.Reading.{ReaderKind, ReaderState}
 
@@ -12,8 +12,8 @@ memory_kind lends targets = record {
   tells = true;
   lends = lends;
   buffers = false;
-  takes_memory = false;
-  peeks_take_memory = false;
+  asks_memory = false;
+  peeks_ask_memory = false;
   ends_by_device = false;
   tells_faults = true;
   targets = targets;

@@ -35,7 +35,9 @@ module _ {T F V : Type 0} (g : Gatherer T F V) (L : Format V) (n : ℕ) where
     pub gathered : g.gathers items whole
     pub not_written : g.are_written items → ⊥
 
-  -- A read of so many items and what they gather to. What is answered is gathered of items that a front of the bytes to come spells, and just that front is taken. A clean refusal means that no front spells so many items, or none that are written of a collection where that is demanded.
+  -- A read of so many items and what they gather to. What is answered is gathered of items that a front of the bytes to
+  -- come spells, and just that front is taken. A clean refusal means that no front spells so many items, or none that
+  -- are written of a collection where that is demanded.
   pub record Collects {E : Type 0} (gives : Error → E → Type 0) (eof : E → Bool) (result : Result F E) (old new : ReaderState) : Type 0 where
     pub kept : Kept old new
     pub answer : MatchResult result (λ whole. GotItems whole old new) (λ e. Excused gives true e old new ⊎ (Refused gives eof (vector n L) e old new ⊎ (gives (error_of kinds.NotWrittenForm) e × NotWritten old new)))

@@ -4,11 +4,11 @@ pub mod Sequences
 pub mod Codes
 pub mod Flags
 pub mod Buffers
-pub mod CopyingView
-pub mod OwnedView
-pub mod StreamView
+pub mod CopyingModel
+pub mod OwnedModel
+pub mod StreamModel
 pub mod Streams
 pub mod Lending
 pub mod RoundTrip
-pub mod Exits
 pub mod Collections
+pub mod WaysOfReading

@@ -1,5 +1,5 @@
 -- What a read does.
-use Rattle.std.specs.Prelude.{◌≡◌, ℕ, ℤ, ◌≤◌, ◌<◌, ◌-◌, ◌^◌, List, [], ◌++◌, length, Bool, true, false, IsTrue, ◌⊎◌, ◌↔◌, Option, Some, MatchOption, Result, MatchResult, IfOk, IfErr, IsErrAnd}
+use Rattle.std.specs.Prelude.{◌≡◌, ℕ, ℤ, ◌≤◌, ◌<◌, ◌-◌, ◌^◌, List, [], ◌++◌, length, Bool, true, false, IsTrue, ◌⊎◌, ◌↔◌, Option, Some, MatchOption, Result, MatchResult, IsErrAnd}
 use Rattle.std.specs.Borrow.{GName}
 use Rattle.std.specs.Int.{Width}
 use Rattle.speedy_base.specs.declared.error.ErrorKind.TheVariants as kinds
@@ -23,9 +23,9 @@ pub record ReaderKind : Type 0 where
   -- it reads ahead of what is asked
   pub buffers : Bool
   -- its reads may ask for memory
-  pub takes_memory : Bool
+  pub asks_memory : Bool
   -- its peeks may ask for memory
-  pub peeks_take_memory : Bool
+  pub peeks_ask_memory : Bool
   -- an end of its bytes may be answered as the device's own, an `IoError`, and not only as
   -- `UnexpectedEndOfInput`
   pub ends_by_device : Bool
@@ -84,28 +84,20 @@ pub record IsTold {V : Type 0} (L : Format V) (old : ReaderState) : Type 0 where
   pub tells : IsTrue old.fixed.tells
   pub are_bytes : AreBytes old.to_come
   pub fit : length old.to_come < 2 ^ 64 - 1
-  pub lends : IsTrue L.needs_lending → IsTrue old.fixed.lends
-
--- so many bytes at the front are spelled so
-pub record Counts (spelled : List ℕ → Type 0) (count : ℕ) (bytes : List ℕ) : Type 0 where
-  pub front : List ℕ
-  pub rest : List ℕ
-  pub whole_is : bytes ≡ front ++ rest
-  pub front_is : spelled front
-  pub count_is : count ≡ length front
+  pub lends : IsTrue L.asks.lending → IsTrue old.fixed.lends
 
 -- want of memory, where memory may be asked for and no call of the device failed, or a failed call of the device
 abbrev pub Excused : {E : Type 0} → (Error → E → Type 0) → Bool → E → ReaderState → ReaderState → Type 0
 Excused gives takes e old new =
     (gives (error_of kinds.OutOfMemory) e
-    × (IsTrue takes ⊎ IsTrue old.fixed.takes_memory)
+    × (IsTrue takes ⊎ IsTrue old.fixed.asks_memory)
     × (new.faults ≡ old.faults))
     ⊎ IsOfFault gives old.fixed.tells_faults e old.faults new.faults
 
 -- want of memory, where a peek may ask for it and no call of the device failed
 abbrev pub PeekWants : {E : Type 0} → (Error → E → Type 0) → E → ReaderState → ReaderState → Type 0
 PeekWants gives e old new =
-    gives (error_of kinds.OutOfMemory) e × IsTrue old.fixed.peeks_take_memory × (new.faults ≡ old.faults)
+    gives (error_of kinds.OutOfMemory) e × IsTrue old.fixed.peeks_ask_memory × (new.faults ≡ old.faults)
 
 -- no value shows a byte
 abbrev pub ShowsNothing : {A : Type 0} → (A → List ℕ) → Type 0
@@ -120,7 +112,7 @@ module _ {E : Type 0} (gives : Error → E → Type 0) (eof : E → Bool) where
   pub record Unspelled {V : Type 0} (L : Format V) (e : E) (bytes : List ℕ) : Type 0 where
     pub no_front : (v : V) (front rest : List ℕ) → bytes ≡ front ++ rest → L.spells v front → ⊥
     pub too_short : (v : V) (more : List ℕ) → L.spells v (bytes ++ more) → IsTrue (eof e)
-    pub at_fault : L.at_fault bytes → IsNamed gives L.names e
+    pub malformed : L.malformed bytes → IsNamed gives L.names e
 
   -- a clean refusal
   pub record Refused {V : Type 0} (L : Format V) (e : E) (old new : ReaderState) : Type 0 where
@@ -128,15 +120,11 @@ module _ {E : Type 0} (gives : Error → E → Type 0) (eof : E → Bool) where
     pub kind : IsEnd old.fixed.ends_by_device e ⊎ IsNamed gives L.names e
     pub because : IsTold L old → Unspelled L e old.to_come
 
-  -- bytes that spell no value at their front are refused: as `UnexpectedEndOfInput` where they may begin a spelling, and else so or with a kind that the type names
-  pub record RefusesBuffer {V : Type 0} (L : Format V) (e : E) (bytes : List ℕ) : Type 0 where
-    pub kind : IsEnd false e ⊎ IsNamed gives L.names e
-    pub because : Unspelled L e bytes
-
-  -- A read of a format's values. A value that is answered is spelled by a front of the bytes to come, and just that front is taken. A clean refusal means that no front spells any value.
+  -- A read of a format's values. A value that is answered is spelled by a front of the bytes to come, and just that
+  -- front is taken. A clean refusal means that no front spells any value.
   pub record Reads {A V : Type 0} (seen : A → V) (L : Format V) (result : Result A E) (old new : ReaderState) : Type 0 where
     pub kept : Kept old new
-    pub answer : MatchResult result (λ x. Got (L.spells (seen x)) old new) (λ e. Excused gives L.takes_memory e old new ⊎ Refused L e old new)
+    pub answer : MatchResult result (λ x. Got (L.spells (seen x)) old new) (λ e. Excused gives L.asks.memory e old new ⊎ Refused L e old new)
 
   -- a read of a number of so many digits, and of a signed one of a width, in the encoding of the reader
   abbrev pub ReadsUnsigned : ℕ → Result ℕ E → ReaderState → ReaderState → Type 0
@@ -148,38 +136,24 @@ module _ {E : Type 0} (gives : Error → E → Type 0) (eof : E → Bool) where
   -- A peek of a format's values: as the read, but nothing is taken, and it may want memory where the read does not.
   pub record Peeks {A V : Type 0} (seen : A → V) (L : Format V) (result : Result A E) (old new : ReaderState) : Type 0 where
     pub kept : KeptByPeek old new
-    pub answer : MatchResult result (λ x. Ahead (L.spells (seen x)) old new) (λ e. PeekWants gives e old new ⊎ (Excused gives L.takes_memory e old new ⊎ Refused L e old new))
+    pub answer : MatchResult result (λ x. Ahead (L.spells (seen x)) old new) (λ e. PeekWants gives e old new ⊎ (Excused gives L.asks.memory e old new ⊎ Refused L e old new))
 
-  -- What a read answers that lends its bytes. Where the reader lends, it answers, refuses and takes as a read of so many bytes does, and what is lent shows the bytes that were taken. A reader that lends nothing answers nothing and takes nothing; so does one whose loans show nothing.
+  -- What a read answers that lends its bytes. Where the reader lends, it answers, refuses and takes as a read of so
+  -- many bytes does, and what is lent shows the bytes that were taken. A reader that lends nothing answers nothing and
+  -- takes nothing; so does one whose loans show nothing.
   abbrev pub LendsBytes : {A : Type 0} → (A → List ℕ) → ℕ → Option (Result A E) → ReaderState → ReaderState → Type 0
   LendsBytes shows n lent old new =
       MatchOption lent
       ((IsTrue old.fixed.lends → ShowsNothing shows) × (new ≡ old))
       (λ result. IsTrue old.fixed.lends × Reads shows (raw_bytes n) result old new)
 
-  -- A read of a value that is borrowed, from a reader that lends nothing: where the bytes are there that are read before it, it is refused as `Unsized`.
+  -- A read of a value that is borrowed, from a reader that lends nothing: where the bytes are there that are read
+  -- before it, it is refused as `Unsized`.
   abbrev pub RefusesUnsized : {A U : Type 0} → Format U → Result A E → ReaderState → ReaderState → Type 0
   RefusesUnsized {U = U} before result old new =
       old.fixed.lends ≡ false → IsTold before old
       → (u : U) (front rest : List ℕ) → before.spells u front → old.to_come ≡ front ++ rest
-      → IsErrAnd result (λ e. Excused gives before.takes_memory e old new ⊎ gives (error_of kinds.Unsized) e)
-
-  -- What a function that reads from a buffer answers: a buffer that is shorter than the least size is refused with both sizes; else a value is answered exactly when a front of the bytes spells it, and the count is the length of that front.
-  pub record AnswersBuffer {A V : Type 0} (seen : A → V) (least : ℕ) (L : Format V) (result : Result A E) (count : ℕ) (bytes : List ℕ) : Type 0 where
-    pub too_small : length bytes < least → IsErrAnd result (λ e. gives (error_of (kinds.InputBufferIsTooSmall (length bytes) least)) e) × (count ≡ 0)
-    pub value : IfOk result (λ x. Counts (L.spells (seen x)) count bytes)
-    pub refused : least ≤ length bytes → IfErr result (λ e. (gives (error_of kinds.OutOfMemory) e × IsTrue L.takes_memory) ⊎ RefusesBuffer L e bytes)
-
-  -- what is refused of bytes that are not lent: as `RefusesBuffer`, but what borrows may be refused though the bytes spell a value
-  pub record RefusesCopied {V : Type 0} (L : Format V) (e : E) (bytes : List ℕ) : Type 0 where
-    pub kind : IsEnd false e ⊎ IsNamed gives L.names e
-    pub because : L.needs_lending ≡ false → Unspelled L e bytes
-
-  -- What a function answers that copies from a buffer: as `AnswersBuffer`, but what borrows may be refused though the bytes spell a value.
-  pub record AnswersCopied {A V : Type 0} (seen : A → V) (least : ℕ) (L : Format V) (result : Result A E) (count : ℕ) (bytes : List ℕ) : Type 0 where
-    pub too_small : length bytes < least → IsErrAnd result (λ e. gives (error_of (kinds.InputBufferIsTooSmall (length bytes) least)) e) × (count ≡ 0)
-    pub value : IfOk result (λ x. Counts (L.spells (seen x)) count bytes)
-    pub refused : least ≤ length bytes → IfErr result (λ e. (gives (error_of kinds.OutOfMemory) e × IsTrue L.takes_memory) ⊎ RefusesCopied L e bytes)
+      → IsErrAnd result (λ e. Excused gives before.asks.memory e old new ⊎ gives (error_of kinds.Unsized) e)
 
 -- what a reader says of the number of bytes to come is right
 abbrev pub IsRight : Option Bool → ReaderState → ℕ → Type 0
@@ -196,6 +170,7 @@ LendsAll shows lent old new =
 abbrev pub ends_alone : {E : Type 0} → Error → E → Type 0
 ends_alone error _ = error ≡ error_of kinds.UnexpectedEndOfInput
 
--- What a read answers that lends bytes until the reader is used again: as a read of so many bytes, refused by the one error that says that they ended; or nothing is lent, and none is taken.
+-- What a read answers that lends bytes until the reader is used again: as a read of so many bytes, refused by the one
+-- error that says that they ended; or nothing is lent, and none is taken.
 abbrev pub LendsUntilUsed : {A E : Type 0} → (A → List ℕ) → ℕ → Option (Result A E) → ReaderState → ReaderState → Type 0
 LendsUntilUsed shows n lent old new = MatchOption lent (new ≡ old) (λ result. Reads ends_alone (λ _. true) shows (raw_bytes n) result old new)

@@ -1,17 +1,17 @@
 -- What holds of reads and of the states of readers.
-use Rattle.std.specs.Prelude.{◌≡◌, ℕ, ◌≤◌, ◌<◌, ◌-◌, ◌^◌, List, [], ◌∷◌, ◌++◌, length, Bool, IsTrue, ◌⊎◌, Ok, Err, refl}
+use Rattle.std.specs.Prelude.{◌≡◌, ℕ, ◌≤◌, ◌<◌, ◌-◌, ◌^◌, List, [], ◌∷◌, ◌++◌, length, Bool, IsTrue, ◌⊎◌, Result, Ok, Err, IsErrAnd, refl}
 use Rattle.std.proofs.Common.{sym, ◌∙◌, ap, subst, arith, inl, inr}
 use Rattle.std.proofs.lemmas.List.{append_assoc, length-append}
 use Rattle.speedy_base.specs.declared.error.ErrorKind.{ErrorKind}
 use Rattle.speedy_base.specs.declared.error.ErrorKind.TheVariants as kinds
 use Rattle.speedy_base.specs.declared.error.Error.{Error}
-use Rattle.speedy_base.specs.Error.{error_of, IsNamed-more}
+use Rattle.speedy_base.specs.Error.{error_of, IsNamed-more, passed_on}
 use Rattle.speedy_base.specs.Digits.{AreBytes}
 use Rattle.speedy_base.specs.DigitsLemmas.{AreBytes-append_parts}
 use Rattle.speedy_base.specs.DeviceLemmas.{fault_after}
 use Rattle.speedy_base.specs.FailedCalls.{IsOfFault}
 use Rattle.speedy_layout.specs.Format.{Format}
-use Rattle.speedy_read.specs.Reading.{ReaderKind, ReaderState, Kept, KeptByPeek, Got, Ahead, IsTold, Excused, IsEnd, Unspelled, Refused, Reads}
+use Rattle.speedy_read.specs.Reading.{ReaderKind, ReaderState, Kept, KeptByPeek, Got, Ahead, IsTold, Excused, IsEnd, Unspelled, Refused, Reads, Peeks}
 
 -- ---- states
 
@@ -49,7 +49,8 @@ KeptByPeek-after h k = record {
 }
 
 -- bytes that are told to a whole are told to its part, also after a read
-pub IsTold-after : {U V : Type 0} {N : Format V} {M : Format U} {old mid : ReaderState} → Kept old mid → (IsTrue M.needs_lending → IsTrue N.needs_lending) → IsTold N old → IsTold M mid
+pub IsTold-after : {U V : Type 0} {N : Format V} {M : Format U} {old mid : ReaderState} → Kept old mid
+    → (IsTrue M.asks.lending → IsTrue N.asks.lending) → IsTold N old → IsTold M mid
 IsTold-after {mid = mid} k needs told = record {
   tells = tells_still k.fixed told.tells;
   are_bytes = let t = k.tail told.tells in (AreBytes-append_parts t.0 mid.to_come (subst AreBytes t.1 told.are_bytes)).1;
@@ -57,7 +58,8 @@ IsTold-after {mid = mid} k needs told = record {
   lends = λ need. subst (λ (kind : ReaderKind). IsTrue kind.lends) (sym k.fixed) (told.lends (needs need));
 }
 
-pub IsTold-part : {U V : Type 0} {N : Format V} {M : Format U} {old : ReaderState} → (IsTrue M.needs_lending → IsTrue N.needs_lending) → IsTold N old → IsTold M old
+pub IsTold-part : {U V : Type 0} {N : Format V} {M : Format U} {old : ReaderState} → (IsTrue M.asks.lending → IsTrue N.asks.lending)
+    → IsTold N old → IsTold M old
 IsTold-part needs told = record { tells = told.tells; are_bytes = told.are_bytes; fit = told.fit; lends = λ need. told.lends (needs need) }
 
 -- of two fronts of one list, one is a front of the other
@@ -74,38 +76,51 @@ fronts_nest (x ∷ a) b (y ∷ c) d e =
 
 -- ---- refusals
 
+-- what `?` passes on is refused as it was
+module _ {E : Type 0} {gives : Error → E → Type 0} {eof : E → Bool} {A V : Type 0} {seen : A → V} {L : Format V} {e : E} {result : Result A E} {old new : ReaderState} (passed : IsErrAnd result (λ x. x ≡ e)) where
+  pub Reads-passed : Reads gives eof seen L (Err e) old new → Reads gives eof seen L result old new
+  Reads-passed r = subst (λ (x : Result A E). Reads gives eof seen L x old new) (passed_on result e passed) r
+
+  pub Peeks-passed : Peeks gives eof seen L (Err e) old new → Peeks gives eof seen L result old new
+  Peeks-passed r = subst (λ (x : Result A E). Peeks gives eof seen L x old new) (passed_on result e passed) r
+
 -- an error that says that the input ended
-pub input_ended : {E : Type 0} (gives : Error → E → Type 0) (eof : E → Bool) (by_device : Bool) (e : E) → gives (error_of kinds.UnexpectedEndOfInput) e → IsTrue (eof e) → IsEnd gives eof by_device e
+pub input_ended : {E : Type 0} (gives : Error → E → Type 0) (eof : E → Bool) (by_device : Bool) (e : E)
+    → gives (error_of kinds.UnexpectedEndOfInput) e → IsTrue (eof e) → IsEnd gives eof by_device e
 input_ended gives eof by_device e g h = ((kinds.UnexpectedEndOfInput, tt, g), h)
 
 -- what excuses a part that is read from `mid` on, before which no call failed, excuses the whole
-excused_after : {E : Type 0} (gives : Error → E → Type 0) (takes more : Bool) (e : E) (old mid new : ReaderState) → mid.fixed ≡ old.fixed → mid.faults ≡ old.faults → (IsTrue takes → IsTrue more) → Excused gives takes e mid new → Excused gives more e old new
+excused_after : {E : Type 0} (gives : Error → E → Type 0) (takes more : Bool) (e : E) (old mid new : ReaderState) → mid.fixed ≡ old.fixed
+    → mid.faults ≡ old.faults → (IsTrue takes → IsTrue more) → Excused gives takes e mid new → Excused gives more e old new
 excused_after gives takes more e old mid new same clean f (inl (g, inl t, none)) = inl (g, inl (f t), none ∙ clean)
-excused_after gives takes more e old mid new same clean f (inl (g, inr t, none)) = inl (g, inr (subst (λ (kind : ReaderKind). IsTrue kind.takes_memory) same t), none ∙ clean)
+excused_after gives takes more e old mid new same clean f (inl (g, inr t, none)) = inl (g, inr (subst (λ (kind : ReaderKind). IsTrue kind.asks_memory) same t), none ∙ clean)
 excused_after gives takes more e old mid new same clean f (inr h) = inr (fault_after gives old.fixed.tells_faults e old.faults mid.faults new.faults clean (subst (λ (kind : ReaderKind). IsOfFault gives kind.tells_faults e mid.faults new.faults) same h))
 
 -- a part L that is refused from `mid` on refuses the whole N, where what L says of the bytes says it of N
-pub part_refused : {E : Type 0} {gives : Error → E → Type 0} {eof : E → Bool} {U V : Type 0} {L : Format U} {N : Format V} {e : E} {old mid : ReaderState} (new : ReaderState) → mid.fixed ≡ old.fixed → mid.faults ≡ old.faults
-    → (IsTrue L.takes_memory → IsTrue N.takes_memory) → ((kind : ErrorKind) → L.names kind → N.names kind)
+pub part_refused : {E : Type 0} {gives : Error → E → Type 0} {eof : E → Bool} {U V : Type 0} {L : Format U} {N : Format V} {e : E} {old mid : ReaderState} (new : ReaderState)
+    → mid.fixed ≡ old.fixed → mid.faults ≡ old.faults
+    → (IsTrue L.asks.memory → IsTrue N.asks.memory) → ((kind : ErrorKind) → L.names kind → N.names kind)
     → (IsTold N old → (IsTold L mid → Unspelled gives eof L e mid.to_come) → Unspelled gives eof N e old.to_come)
-    → Excused gives L.takes_memory e mid new ⊎ Refused gives eof L e mid new → Excused gives N.takes_memory e old new ⊎ Refused gives eof N e old new
-part_refused {gives = gives} {L = L} {N = N} {e = e} {old = old} {mid = mid} new same clean takes names un (inl x) = inl (excused_after gives L.takes_memory N.takes_memory e old mid new same clean takes x)
+    → Excused gives L.asks.memory e mid new ⊎ Refused gives eof L e mid new → Excused gives N.asks.memory e old new ⊎ Refused gives eof N e old new
+part_refused {gives = gives} {L = L} {N = N} {e = e} {old = old} {mid = mid} new same clean takes names un (inl x) = inl (excused_after gives L.asks.memory N.asks.memory e old mid new same clean takes x)
 part_refused {gives = gives} {eof = eof} {L = L} {N = N} {e = e} new same clean takes names un (inr x) = inr (record {
   no_fault = x.no_fault ∙ clean;
   kind = elim x.kind [ inl h ↦ inl (subst (λ (kind : ReaderKind). IsEnd gives eof kind.ends_by_device e) same h) | inr h ↦ inr (IsNamed-more gives e names h) ];
   because = λ told. un told x.because;
 })
 
--- an input that ended before the least size of a format without faults, and no call of the device failed
-pub ends_early : {E : Type 0} {gives : Error → E → Type 0} {eof : E → Bool} {V : Type 0} {L : Format V} {e : E} {old new : ReaderState} → new.faults ≡ old.faults → (least : ℕ) → ((v : V) (s : List ℕ) → L.spells v s → least ≤ length s) → ((bytes : List ℕ) → L.at_fault bytes → ⊥) → IsEnd gives eof old.fixed.ends_by_device e
+-- an input that ended before the least size of a format that refuses nothing itself, and no call of the device failed
+pub ends_early : {E : Type 0} {gives : Error → E → Type 0} {eof : E → Bool} {V : Type 0} {L : Format V} {e : E} {old new : ReaderState}
+    → new.faults ≡ old.faults → (least : ℕ) → ((v : V) (s : List ℕ) → L.spells v s → least ≤ length s)
+    → ((bytes : List ℕ) → L.malformed bytes → ⊥) → IsEnd gives eof old.fixed.ends_by_device e
     → (IsTrue old.fixed.tells → length old.to_come < 2 ^ 64 - 1 → length old.to_come < least) → Refused gives eof L e old new
-ends_early clean least size no_fault ended fewer = record {
+ends_early clean least size none ended fewer = record {
   no_fault = clean;
   kind = inl ended;
   because = λ told. record {
     no_front = λ v front rest is h. let k = size v front h in let l = ap length is ∙ length-append front rest in let f = fewer told.tells told.fit in absurd (omega arith);
     too_short = λ _ _ _. ended.1;
-    at_fault = λ fault. absurd (no_fault _ fault);
+    malformed = λ bad. absurd (none _ bad);
   };
 }
 
@@ -125,7 +140,8 @@ module _ {spelled other : List ℕ → Type 0} {old new : ReaderState} (f : (s :
   Ahead-as g = record { front = g.front; rest = g.rest; front_is = f g.front g.front_is; stands = g.stands; no_fault = g.no_fault }
 
 -- one front was taken after the other
-pub Got-after : {spelled next more : List ℕ → Type 0} {old mid new : ReaderState} → Kept old mid → ((s t : List ℕ) → spelled s → next t → more (s ++ t)) → Got spelled old mid → Got next mid new → Got more old new
+pub Got-after : {spelled next more : List ℕ → Type 0} {old mid new : ReaderState} → Kept old mid
+    → ((s t : List ℕ) → spelled s → next t → more (s ++ t)) → Got spelled old mid → Got next mid new → Got more old new
 Got-after {new = new} kept f g k = record {
   front = g.front ++ k.front;
   front_is = f g.front k.front g.front_is k.front_is;
@@ -150,19 +166,22 @@ none_so_far h = record { kept = Kept-same; got = Got-nothing h }
 
 module _ {E : Type 0} {gives : Error → E → Type 0} {eof : E → Bool} {A V : Type 0} {seen : A → V} {x : A} {L : Format V} {spelled : List ℕ → Type 0} where
   -- and a value more
-  pub more_so_far : {more : List ℕ → Type 0} {old mid new : ReaderState} → ReadSoFar spelled old mid → Reads gives eof seen L (Ok x) mid new → ((s t : List ℕ) → spelled s → L.spells (seen x) t → more (s ++ t)) → ReadSoFar more old new
+  pub more_so_far : {more : List ℕ → Type 0} {old mid new : ReaderState} → ReadSoFar spelled old mid → Reads gives eof seen L (Ok x) mid new
+      → ((s t : List ℕ) → spelled s → L.spells (seen x) t → more (s ++ t)) → ReadSoFar more old new
   more_so_far h r f = record { kept = Kept-after h.kept r.kept; got = Got-after h.kept f h.got r.answer }
 
   -- the front is a value
-  pub all_so_far : {old new : ReaderState} → ReadSoFar spelled old new → ((s : List ℕ) → spelled s → L.spells (seen x) s) → Reads gives eof seen L (Ok x) old new
+  pub all_so_far : {old new : ReaderState} → ReadSoFar spelled old new → ((s : List ℕ) → spelled s → L.spells (seen x) s)
+      → Reads gives eof seen L (Ok x) old new
   all_so_far h f = record { kept = h.kept; answer = Got-as f h.got }
 
 -- ---- another value of the same format
 
 module _ {E : Type 0} {gives : Error → E → Type 0} {eof : E → Bool} {A B V : Type 0} {seen : A → V} {view : B → V} {L : Format V} {old new : ReaderState} where
   -- what was refused as one value is refused as another
-  pub refused_as : {e : E} → Reads gives eof seen L (Err e) old new → Reads gives eof view L (Err e) old new
-  refused_as r = record { kept = r.kept; answer = r.answer }
+  pub refused_as : {e : E} {result : Result B E} → IsErrAnd result (λ x. x ≡ e) → Reads gives eof seen L (Err e) old new
+      → Reads gives eof view L result old new
+  refused_as passed r = Reads-passed passed (record { kept = r.kept; answer = r.answer })
 
   -- and answered, where the same is seen of it
   pub got_as : {x : A} {y : B} → view y ≡ seen x → Reads gives eof seen L (Ok x) old new → Reads gives eof view L (Ok y) old new

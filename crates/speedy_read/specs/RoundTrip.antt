@@ -11,52 +11,69 @@ use Rattle.speedy_base.specs.FailedCalls.{IsOfFailedCall}
 use Rattle.speedy_layout.specs.Format.{Format, Each}
 use Rattle.speedy_layout.specs.Lists.{vector}
 use Rattle.speedy_read.specs.Buffers.{bytes_state}
-use Rattle.speedy_read.specs.Reading.{ReaderState, IsTold, Excused, Reads, AnswersBuffer, AnswersCopied}
-use Rattle.speedy_read.specs.StreamView.{most_held}
-use Rattle.speedy_read.specs.Streams.{WantsMemory, AnswersStream}
+use Rattle.speedy_read.specs.Reading.{ReaderState, IsTold, Excused, Reads}
+use Rattle.speedy_read.specs.WaysOfReading.{AnswersBuffer, AnswersCopied, WantsMemory, AnswersStream}
+use Rattle.speedy_read.specs.StreamModel.{most_held}
 
--- What a function that reads from a buffer answers where a written form of so many bytes stands at the front: the value that was written, and the number of those bytes. It is refused only for want of memory.
+-- What a function that reads from a buffer answers where a written form of so many bytes stands at the front: the value
+-- that was written, and the number of those bytes. It is refused only for want of memory.
 pub record AnswersWritten {E A V : Type 0} (gives : Error → E → Type 0) (seen : A → V) (L : Format V) (v : V) (size : ℕ) (result : Result A E) (count : ℕ) : Type 0 where
   pub same : IfOk result (λ x. seen x ≡ v)
   pub counted : OnOk result (count ≡ size)
   pub refused : IfErr result (gives (error_of kinds.OutOfMemory))
   -- a type that asks for no memory is not refused
-  pub takes_memory : OnErr result (IsTrue L.takes_memory)
+  pub asks_memory : OnErr result (IsTrue L.asks.memory)
 
--- What a read answers where a written form and then the rest are to come: the value that was written, and the rest is still to come. Where all is told, it is refused only for want of memory or by a failed call of the device.
+-- What a read answers where a written form and then the rest are to come: the value that was written, and the rest is
+-- still to come. Where all is told, it is refused only for want of memory or by a failed call of the device.
 pub record ReadsWritten {E A V : Type 0} (gives : Error → E → Type 0) (eof : E → Bool) (seen : A → V) (L : Format V) (v : V) (rest : List ℕ) (result : Result A E) (old new : ReaderState) : Type 0 where
   pub same : IfOk result (λ x. seen x ≡ v)
   pub rest_is : OnOk result (new.to_come ≡ rest)
-  pub refused : IsTold L old → IfErr result (λ e. Excused gives L.takes_memory e old new)
+  pub refused : IsTold L old → IfErr result (λ e. Excused gives L.asks.memory e old new)
 
--- What a read answers that is the first one from a reader of a buffer: as above, with these bytes left. It is refused only for want of memory, since a slice has bytes and fewer than `usize::MAX` of them.
+-- What a read answers that is the first one from a reader of a buffer: as above, with these bytes left. It is refused
+-- only for want of memory, since a slice has bytes and fewer than `usize::MAX` of them.
 pub record ReadsWrittenFirst {E A V : Type 0} (gives : Error → E → Type 0) (seen : A → V) (v : V) (rest buffer : List ℕ) (result : Result A E) (left : List ℕ) : Type 0 where
   pub same : IfOk result (λ x. seen x ≡ v)
   pub rest_is : OnOk result (left ≡ rest)
   pub refused : ((i : ℕ) → Fits w8 (get_or buffer i 0)) → length buffer < 2 ^ 64 - 1 → IfErr result (gives (error_of kinds.OutOfMemory))
 
--- What a function that reads from a source answers where a written form and then the rest are to come: the value that was written, and the rest is still to come, but for what was read ahead of it. It is refused only for want of memory or as what a failed call answered, where the bytes are told and fewer than `usize::MAX`, and the type borrows nothing.
+-- What a function that reads from a source answers where a written form and then the rest are to come: the value that
+-- was written, and the rest is still to come, but for what was read ahead of it. It is refused only for want of memory
+-- or as what a failed call answered, where the bytes are told and fewer than `usize::MAX`, and the type borrows
+-- nothing.
 pub record StreamsWritten {E A V : Type 0} (gives : Error → E → Type 0) (seen : A → V) (L : Format V) (v : V) (buffers : Bool) (rest : List ℕ) (result : Result A E) (old new : SourceState) : Type 0 where
   pub same : IfOk result (λ x. seen x ≡ v)
   pub rest_is : OnOk result (buffers ≡ false → new.to_come ≡ rest)
   pub ahead : OnOk result ((ahead : List ℕ) × (length ahead ≤ most_held buffers) × (rest ≡ ahead ++ new.to_come))
   pub no_fault : OnOk result (new.faults ≡ old.faults)
-  pub refused : AreBytes old.to_come → length old.to_come < 2 ^ 64 - 1 → L.needs_lending ≡ false → IfErr result (λ e. WantsMemory gives L.takes_memory buffers e old new ⊎ IsOfFailedCall gives e old.faults new.faults)
+  pub refused : AreBytes old.to_come → length old.to_come < 2 ^ 64 - 1 → L.asks.lending ≡ false
+      → IfErr result (λ e. WantsMemory gives L.asks.memory buffers e old new ⊎ IsOfFailedCall gives e old.faults new.faults)
 
 module _ {E A : Type 0} (gives : Error → E → Type 0) (eof : E → Bool) where
   -- the law of the functions that read from a buffer
   pub record WrittenIsAnswered {V : Type 0} (seen : A → V) (least : ℕ) (format : Encoding → Format V) : Type 0 where
     -- what was written to the front of a buffer
-    pub front : {encoding : Encoding} {v : V} {bytes : List ℕ} (rest : List ℕ) {buffer : List ℕ} {result : Result A E} {count : ℕ} → (format encoding).writes v bytes → buffer ≡ bytes ++ rest → AnswersBuffer gives eof seen least (format encoding) result count buffer → AnswersWritten gives seen (format encoding) v (length bytes) result count
+    pub front : {encoding : Encoding} {v : V} {bytes : List ℕ} (rest : List ℕ) {buffer : List ℕ} {result : Result A E} {count : ℕ}
+        → (format encoding).writes v bytes → buffer ≡ bytes ++ rest
+        → AnswersBuffer gives eof seen least (format encoding) result count buffer
+        → AnswersWritten gives seen (format encoding) v (length bytes) result count
     -- what was written is the whole buffer
-    pub whole : {encoding : Encoding} {v : V} {bytes buffer : List ℕ} {result : Result A E} {count : ℕ} → (format encoding).writes v bytes → buffer ≡ bytes → AnswersBuffer gives eof seen least (format encoding) result count buffer → AnswersWritten gives seen (format encoding) v (length bytes) result count
+    pub whole : {encoding : Encoding} {v : V} {bytes buffer : List ℕ} {result : Result A E} {count : ℕ} → (format encoding).writes v bytes
+        → buffer ≡ bytes → AnswersBuffer gives eof seen least (format encoding) result count buffer
+        → AnswersWritten gives seen (format encoding) v (length bytes) result count
 
   -- the law of reads
   pub record WrittenIsRead {V : Type 0} (seen : A → V) (format : Encoding → Format V) : Type 0 where
     -- from any reader that tells its bytes
-    pub told : {encoding : Encoding} {v : V} {bytes rest : List ℕ} {result : Result A E} {old new : ReaderState} → (format encoding).writes v bytes → IsTrue old.fixed.tells → old.encoding ≡ encoding → old.to_come ≡ bytes ++ rest → Reads gives eof seen (format old.encoding) result old new → ReadsWritten gives eof seen (format encoding) v rest result old new
+    pub told : {encoding : Encoding} {v : V} {bytes rest : List ℕ} {result : Result A E} {old new : ReaderState}
+        → (format encoding).writes v bytes → IsTrue old.fixed.tells → old.encoding ≡ encoding → old.to_come ≡ bytes ++ rest
+        → Reads gives eof seen (format old.encoding) result old new → ReadsWritten gives eof seen (format encoding) v rest result old new
     -- from a reader of bytes in memory that has just been made
-    pub made : {encoding at after : Encoding} {v : V} {bytes rest buffer left : List ℕ} {result : Result A E} {old : ReaderState} → (format encoding).writes v bytes → buffer ≡ bytes ++ rest → old ≡ bytes_state buffer at → at ≡ encoding → Reads gives eof seen (format old.encoding) result old (bytes_state left after) → ReadsWrittenFirst gives seen v rest buffer result left
+    pub made : {encoding at after : Encoding} {v : V} {bytes rest buffer left : List ℕ} {result : Result A E} {old : ReaderState}
+        → (format encoding).writes v bytes → buffer ≡ bytes ++ rest → old ≡ bytes_state buffer at → at ≡ encoding
+        → Reads gives eof seen (format old.encoding) result old (bytes_state left after)
+        → ReadsWrittenFirst gives seen v rest buffer result left
 
   -- the law of the functions that read from a source that tells its bytes
   abbrev pub WrittenIsStreamed : {V : Type 0} → (A → V) → (Encoding → Format V) → Type 0
@@ -65,10 +82,16 @@ module _ {E A : Type 0} (gives : Error → E → Type 0) (eof : E → Bool) wher
   -- the law of reads of items by their number
   pub record WrittenItemsAreRead {V : Type 0} (seen : A → List V) (format : Encoding → Format V) : Type 0 where
     -- from any reader that tells its bytes
-    pub told : {encoding : Encoding} {vs : List V} (bytes : List ℕ) {rest : List ℕ} {n : ℕ} {result : Result A E} {old new : ReaderState} → Each (format encoding).writes vs bytes → n ≡ length vs → IsTrue old.fixed.tells → old.encoding ≡ encoding → old.to_come ≡ bytes ++ rest → Reads gives eof seen (vector n (format old.encoding)) result old new → ReadsWritten gives eof seen (vector n (format encoding)) vs rest result old new
+    pub told : {encoding : Encoding} {vs : List V} (bytes : List ℕ) {rest : List ℕ} {n : ℕ} {result : Result A E} {old new : ReaderState}
+        → Each (format encoding).writes vs bytes → n ≡ length vs → IsTrue old.fixed.tells → old.encoding ≡ encoding
+        → old.to_come ≡ bytes ++ rest → Reads gives eof seen (vector n (format old.encoding)) result old new
+        → ReadsWritten gives eof seen (vector n (format encoding)) vs rest result old new
     -- from a reader of bytes in memory that has just been made
-    pub made : {encoding at after : Encoding} {vs : List V} (bytes : List ℕ) {rest buffer left : List ℕ} {n : ℕ} {result : Result A E} {old : ReaderState} → Each (format encoding).writes vs bytes → n ≡ length vs → buffer ≡ bytes ++ rest → old ≡ bytes_state buffer at → at ≡ encoding → Reads gives eof seen (vector n (format old.encoding)) result old (bytes_state left after) → ReadsWrittenFirst gives seen vs rest buffer result left
+    pub made : {encoding at after : Encoding} {vs : List V} (bytes : List ℕ) {rest buffer left : List ℕ} {n : ℕ} {result : Result A E} {old : ReaderState}
+        → Each (format encoding).writes vs bytes → n ≡ length vs → buffer ≡ bytes ++ rest → old ≡ bytes_state buffer at → at ≡ encoding
+        → Reads gives eof seen (vector n (format old.encoding)) result old (bytes_state left after)
+        → ReadsWrittenFirst gives seen vs rest buffer result left
 
   -- The law of the functions that copy from a buffer: where the type borrows nothing, they answer as those do that lend it.
   abbrev pub CopiedIsAnswered : {V : Type 0} → (A → V) → ℕ → (Encoding → Format V) → Type 0
-  CopiedIsAnswered {V = V} seen least format = (encoding : Encoding) → (format encoding).needs_lending ≡ false → (result : Result A E) (count : ℕ) (bytes : List ℕ) → AnswersCopied gives eof seen least (format encoding) result count bytes → AnswersBuffer gives eof seen least (format encoding) result count bytes
+  CopiedIsAnswered {V = V} seen least format = (encoding : Encoding) → (format encoding).asks.lending ≡ false → (result : Result A E) (count : ℕ) (bytes : List ℕ) → AnswersCopied gives eof seen least (format encoding) result count bytes → AnswersBuffer gives eof seen least (format encoding) result count bytes

@@ -1,16 +1,16 @@
 -- Reads of two parts make reads of wholes.
-use Rattle.std.specs.Prelude.{◌≡◌, ℕ, List, ◌++◌, IsTrue, ◌⊎◌, Result, Ok, Err, Bool, refl}
+use Rattle.std.specs.Prelude.{◌≡◌, ℕ, List, ◌++◌, ◌⊎◌, Result, Ok, Err, IsErrAnd, Bool, refl}
 use Rattle.std.proofs.Common.{sym, ◌∙◌, ap, subst, inl, inr}
 use Rattle.std.proofs.lemmas.List.{append_assoc}
 use Rattle.speedy_base.specs.declared.error.ErrorKind.{ErrorKind}
 use Rattle.speedy_base.specs.declared.error.Error.{Error}
 use Rattle.speedy_base.specs.Error.{IsNamed-more}
-use Rattle.speedy_layout.specs.Format.{Format, Parts}
+use Rattle.speedy_layout.specs.Format.{Asks, Format, Parts}
 use Rattle.speedy_layout.specs.Laws.{Laws}
-use Rattle.speedy_layout.specs.Sequences.{Asks, Suffices, sequence, or_left, or_right}
-use Rattle.speedy_layout.specs.Tuples.{pair, pair_suffices}
+use Rattle.speedy_layout.specs.Sequences.{AsksAtMost, asks_same, asks_left, asks_right, asks_after, sequence}
+use Rattle.speedy_layout.specs.Tuples.{pair}
 use Rattle.speedy_read.specs.Reading.{ReaderState, Unspelled, Reads, Peeks}
-use Rattle.speedy_read.specs.ReadingLemmas.{Kept-after, IsTold-after, IsTold-part, fronts_nest, part_refused, more_so_far, all_so_far}
+use Rattle.speedy_read.specs.ReadingLemmas.{Kept-after, IsTold-after, IsTold-part, fronts_nest, Reads-passed, part_refused, more_so_far, all_so_far}
 
 -- a value of N is one of L and then one of M, which may depend on it
 pub record Composes {U V : Type 0} {W : U → Type 0} (L : Format U) (M : (u : U) → Format (W u)) (N : Format V) (join : (u : U) → W u → V) : Type 0 where
@@ -18,17 +18,16 @@ pub record Composes {U V : Type 0} {W : U → Type 0} (L : Format U) (M : (u : U
   pub splits : (v : V) (s : List ℕ) → N.spells v s → (u : U) × (w : W u) × Parts (L.spells u) ((M u).spells w) s
   pub names_first : (kind : ErrorKind) → L.names kind → N.names kind
   pub names_second : (u : U) (kind : ErrorKind) → (M u).names kind → N.names kind
-  pub faults : (bytes : List ℕ) → N.at_fault bytes → L.at_fault bytes ⊎ ((u : U) × Parts (L.spells u) ((M u).at_fault) bytes)
-  pub takes_first : IsTrue L.takes_memory → IsTrue N.takes_memory
-  pub takes_second : (u : U) → IsTrue (M u).takes_memory → IsTrue N.takes_memory
-  pub lends_first : IsTrue L.needs_lending → IsTrue N.needs_lending
-  pub lends_second : (u : U) → IsTrue (M u).needs_lending → IsTrue N.needs_lending
+  pub malformed : (bytes : List ℕ) → N.malformed bytes → L.malformed bytes ⊎ ((u : U) × Parts (L.spells u) ((M u).malformed) bytes)
+  pub asks_first : AsksAtMost L.asks N.asks
+  pub asks_second : (u : U) → AsksAtMost (M u).asks N.asks
 
 -- a sequence is read as its first part and then its second; what is joined splits again where the second part is spelled
-pub sequence_composes : {U V : Type 0} {W : U → Type 0} (split : V → (u : U) × W u) {join : (u : U) → W u → V} {L : Format U} {asks : Asks} {M : (u : U) → Format (W u)} → Suffices asks M
+pub sequence_composes : {U V : Type 0} {W : U → Type 0} (split : V → (u : U) × W u) {join : (u : U) → W u → V} {L : Format U} {asks : Asks} {M : (u : U) → Format (W u)}
+    → ((u : U) → AsksAtMost (M u).asks asks)
     → ((u : U) (w : W u) (s : List ℕ) → (M u).spells w s → let whole : (u : U) × W u = (u, w) in split (join u w) ≡ whole) → Composes L M (sequence split L asks M) join
 unfolding sequence
-sequence_composes {U = U} {W = W} split {L = L} {asks = asks} {M = M} suffices back = record {
+sequence_composes {U = U} {W = W} split {L = L} {asks = asks} {M = M} within back = record {
   joins = λ u w s t h k.
       let whole : (u : U) × W u = (u, w) in
       subst (λ (p : (u : U) × W u). Parts (L.spells p.0) ((M p.0).spells p.1) (s ++ t)) (sym (back u w t k))
@@ -36,16 +35,14 @@ sequence_composes {U = U} {W = W} split {L = L} {asks = asks} {M = M} suffices b
   splits = λ v s h. ((split v).0, (split v).1, h);
   names_first = λ kind h. inl h;
   names_second = λ u kind h. inr (u, h);
-  faults = λ bytes h. h;
-  takes_first = or_left L.takes_memory asks.memory;
-  takes_second = λ u t. or_right L.takes_memory asks.memory (suffices.memory u t);
-  lends_first = or_left L.needs_lending asks.lending;
-  lends_second = λ u t. or_right L.needs_lending asks.lending (suffices.lending u t);
+  malformed = λ bytes h. h;
+  asks_first = asks_left L.asks asks;
+  asks_second = λ u. asks_after (within u) (asks_right L.asks asks);
 }
 
 -- two values are read one after the other
 pub pair_composes : {U W : Type 0} {L : Format U} {M : Format W} → Composes L (λ _. M) (pair L M) (λ u w. (u, w))
-pair_composes {M = M} = sequence_composes (λ p. p) (pair_suffices M) (λ u w s h. refl)
+pair_composes = sequence_composes (λ p. p) (λ _. asks_same) (λ u w s h. refl)
 
 module _ {U V : Type 0} {W : U → Type 0} {L : Format U} {M : (u : U) → Format (W u)} {N : Format V} {join : (u : U) → W u → V} (c : Composes L M N join) {E : Type 0} {gives : Error → E → Type 0} {eof : E → Bool} where
   unspelled_first : {e : E} {bytes : List ℕ} → Unspelled gives eof L e bytes → Unspelled gives eof N e bytes
@@ -59,27 +56,30 @@ module _ {U V : Type 0} {W : U → Type 0} {L : Format U} {M : (u : U) → Forma
           | inl h ↦ un.too_short parts.0 h.0 (subst (L.spells parts.0) h.1 parts.2.first_is)
           | inr h ↦ absurd (un.no_front parts.0 parts.2.front h.0 h.1 parts.2.first_is)
         ];
-    at_fault = λ fault.
-        elim (c.faults bytes fault) [
-          | inl h ↦ IsNamed-more gives e c.names_first (un.at_fault h)
+    malformed = λ bad.
+        elim (c.malformed bytes bad) [
+          | inl h ↦ IsNamed-more gives e c.names_first (un.malformed h)
           | inr h ↦ absurd (un.no_front h.0 h.1.front h.1.back h.1.whole_is h.1.first_is)
         ];
   }
 
   -- where the first part is refused, the whole is
-  pub refused_first : {A B : Type 0} {seen : A → U} {view : B → V} {e : E} {old new : ReaderState} → Reads gives eof seen L (Err e) old new → Reads gives eof view N (Err e) old new
-  refused_first {new = new} r = record {
+  pub refused_first : {A B : Type 0} {seen : A → U} {view : B → V} {e : E} {result : Result B E} {old new : ReaderState}
+      → IsErrAnd result (λ x. x ≡ e) → Reads gives eof seen L (Err e) old new → Reads gives eof view N result old new
+  refused_first {new = new} passed r = Reads-passed passed (record {
     kept = r.kept;
-    answer = part_refused new refl refl c.takes_first c.names_first (λ told un. unspelled_first (un (IsTold-part c.lends_first told))) r.answer;
-  }
+    answer = part_refused new refl refl c.asks_first.memory c.names_first (λ told un. unspelled_first (un (IsTold-part c.asks_first.lending told))) r.answer;
+  })
 
-  pub peek_refused_first : {A B : Type 0} {seen : A → U} {view : B → V} {e : E} {old new : ReaderState} → Peeks gives eof seen L (Err e) old new → Peeks gives eof view N (Err e) old new
+  pub peek_refused_first : {A B : Type 0} {seen : A → U} {view : B → V} {e : E} {old new : ReaderState}
+      → Peeks gives eof seen L (Err e) old new → Peeks gives eof view N (Err e) old new
   peek_refused_first {new = new} r = record {
     kept = r.kept;
-    answer = elim r.answer [ inl h ↦ inl h | inr h ↦ inr (part_refused new refl refl c.takes_first c.names_first (λ told un. unspelled_first (un (IsTold-part c.lends_first told))) h) ];
+    answer = elim r.answer [ inl h ↦ inl h | inr h ↦ inr (part_refused new refl refl c.asks_first.memory c.names_first (λ told un. unspelled_first (un (IsTold-part c.asks_first.lending told))) h) ];
   }
 
-  unspelled_second : {strict : Bool} {least : ℕ} → Laws strict least L → (u : U) {e : E} (front rest : List ℕ) → L.spells u front → Unspelled gives eof (M u) e rest → Unspelled gives eof N e (front ++ rest)
+  unspelled_second : {strict : Bool} {least : ℕ} → Laws strict least L → (u : U) {e : E} (front rest : List ℕ) → L.spells u front
+      → Unspelled gives eof (M u) e rest → Unspelled gives eof N e (front ++ rest)
   unspelled_second laws u {e = e} front rest first un = record {
     no_front = λ v whole tail is sp.
         let parts = c.splits v whole sp in
@@ -91,33 +91,41 @@ module _ {U V : Type 0} {W : U → Type 0} {L : Format U} {M : (u : U) → Forma
         let same = laws.decodes u parts.0 front parts.2.front (rest ++ more) parts.2.back first parts.2.first_is (sym (append_assoc front rest more) ∙ parts.2.whole_is) in
         let second = subst (λ (x : U). (w : W x) × (M x).spells w parts.2.back) (sym same.0) (parts.1, parts.2.second_is) in
         un.too_short second.0 more (subst (λ (x : List ℕ). (M u).spells second.0 x) (sym same.2) second.1);
-    at_fault = λ fault.
-        elim (c.faults (front ++ rest) fault) [
-          | inl h ↦ absurd (laws.fault_unspelled u front rest h first)
+    malformed = λ bad.
+        elim (c.malformed (front ++ rest) bad) [
+          | inl h ↦ absurd (laws.malformed_unspelled u front rest h first)
           | inr h ↦
               let same = laws.decodes u h.0 front h.1.front rest h.1.back first h.1.first_is h.1.whole_is in
-              IsNamed-more gives e (c.names_second u) (un.at_fault (subst (λ (x : List ℕ). (M u).at_fault x) (sym same.2) (subst (λ (x : U). (M x).at_fault h.1.back) (sym same.0) h.1.second_is)))
+              IsNamed-more gives e (c.names_second u) (un.malformed (subst (λ (x : List ℕ). (M u).malformed x) (sym same.2) (subst (λ (x : U). (M x).malformed h.1.back) (sym same.0) h.1.second_is)))
         ];
   }
 
   -- where the second part is refused, the whole is
-  pub refused_second : {strict : Bool} {least : ℕ} → Laws strict least L → {A B D : Type 0} {first : D → U} {x : D} {seen : A → W (first x)} {view : B → V} {e : E} {old mid new : ReaderState} → Reads gives eof first L (Ok x) old mid → Reads gives eof seen (M (first x)) (Err e) mid new → Reads gives eof view N (Err e) old new
-  refused_second laws {first = first} {x = x} {e = e} {mid = mid} {new = new} h k = record {
+  pub refused_second : {strict : Bool} {least : ℕ} → Laws strict least L
+      → {A B D : Type 0} {first : D → U} {x : D} {seen : A → W (first x)} {view : B → V} {e : E} {result : Result B E} {old mid new : ReaderState}
+      → Reads gives eof first L (Ok x) old mid → IsErrAnd result (λ x. x ≡ e)
+      → Reads gives eof seen (M (first x)) (Err e) mid new → Reads gives eof view N result old new
+  refused_second laws {first = first} {x = x} {e = e} {mid = mid} {new = new} h passed k = Reads-passed passed (record {
     kept = Kept-after h.kept k.kept;
-    answer = part_refused new h.kept.fixed h.answer.no_fault (c.takes_second (first x)) (c.names_second (first x))
+    answer = part_refused new h.kept.fixed h.answer.no_fault (c.asks_second (first x)).memory (c.names_second (first x))
         (λ told un.
         subst (λ (bytes : List ℕ). Unspelled gives eof N e bytes) (sym (h.answer.taken told.tells))
-        (unspelled_second laws (first x) h.answer.front mid.to_come h.answer.front_is (un (IsTold-after h.kept (c.lends_second (first x)) told))))
+        (unspelled_second laws (first x) h.answer.front mid.to_come h.answer.front_is (un (IsTold-after h.kept (c.asks_second (first x)).lending told))))
         k.answer;
-  }
+  })
 
   -- both parts are read
-  pub got_both : {A B D : Type 0} {first : D → U} {x : D} {seen : A → W (first x)} {y : A} {view : B → V} {z : B} {old mid new : ReaderState} → Reads gives eof first L (Ok x) old mid → Reads gives eof seen (M (first x)) (Ok y) mid new → view z ≡ join (first x) (seen y) → Reads gives eof view N (Ok z) old new
+  pub got_both : {A B D : Type 0} {first : D → U} {x : D} {seen : A → W (first x)} {y : A} {view : B → V} {z : B} {old mid new : ReaderState}
+      → Reads gives eof first L (Ok x) old mid → Reads gives eof seen (M (first x)) (Ok y) mid new → view z ≡ join (first x) (seen y)
+      → Reads gives eof view N (Ok z) old new
   got_both {first = first} {x = x} {seen = seen} {y = y} h k e =
       all_so_far (more_so_far {more = N.spells (join (first x) (seen y))} (record { kept = h.kept; got = h.answer }) k (c.joins (first x) (seen y)))
       (λ s sp. subst (λ (v : V). N.spells v s) (sym e) sp)
 
   -- the second part decides
-  pub second_decides : {strict : Bool} {least : ℕ} → Laws strict least L → {A D : Type 0} {first : D → U} {x : D} {seen : A → W (first x)} {view : A → V} {r : Result A E} {old mid new : ReaderState} → Reads gives eof first L (Ok x) old mid → Reads gives eof seen (M (first x)) r mid new → ((y : A) → view y ≡ join (first x) (seen y)) → Reads gives eof view N r old new
+  pub second_decides : {strict : Bool} {least : ℕ} → Laws strict least L
+      → {A D : Type 0} {first : D → U} {x : D} {seen : A → W (first x)} {view : A → V} {r : Result A E} {old mid new : ReaderState}
+      → Reads gives eof first L (Ok x) old mid → Reads gives eof seen (M (first x)) r mid new → ((y : A) → view y ≡ join (first x) (seen y))
+      → Reads gives eof view N r old new
   second_decides laws {r = Ok y} h k same = got_both h k (same y)
-  second_decides laws {r = Err e} h k same = refused_second laws h k
+  second_decides laws {r = Err e} h k same = refused_second laws h refl k

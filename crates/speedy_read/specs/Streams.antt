@@ -1,17 +1,12 @@
 -- What is done with a source of bytes.
-use Rattle.std.specs.Prelude.{◌≡◌, ℕ, ◌≤◌, ◌<◌, ◌-◌, ◌^◌, max, List, [], ◌++◌, length, Bool, true, false, IsTrue, ◌⊎◌, Result, IsOk, IfOk, OnOk, IfErr, OnErr, MatchResult}
+use Rattle.std.specs.Prelude.{◌≡◌, ℕ, ◌≤◌, ◌<◌, max, List, [], ◌++◌, length, Bool, false, IsTrue, ◌⊎◌, Result, IsOk, IfOk, OnOk, IfErr, OnErr}
 use Rattle.std.specs.declared.io.Error.{Error as StdIoError}
 use Rattle.speedy_base.specs.Device.{SourceState, SourceKept}
-use Rattle.speedy_base.specs.FailedCalls.{OneFailed, IsErrorOf, IsOfFailedCall}
-use Rattle.speedy_base.specs.Digits.{AreBytes}
+use Rattle.speedy_base.specs.FailedCalls.{OneFailed, IsOfFailedCall}
 use Rattle.speedy_base.specs.Ring.{Ring}
-use Rattle.speedy_base.specs.declared.error.ErrorKind.TheVariants as kinds
 use Rattle.speedy_base.specs.declared.error.Error.{Error}
-use Rattle.speedy_base.specs.Error.{error_of, IsNamed}
-use Rattle.speedy_layout.specs.Format.{Format}
 use Rattle.speedy_layout.specs.Texts.{raw_bytes}
-use Rattle.speedy_read.specs.Reading.{ReaderState, KeptByPeek, IsEnd, Unspelled, Refused}
-use Rattle.speedy_read.specs.StreamView.{most_held}
+use Rattle.speedy_read.specs.Reading.{ReaderState, KeptByPeek, Refused}
 
 -- what is to come of a source is a tail of what was to come
 abbrev pub LeavesTail : SourceState → SourceState → Type 0
@@ -45,25 +40,9 @@ pub record FillsRing (count : ℕ) (ahead : Bool) (result : Result Bool StdIoErr
   -- the first call that fails is the last one
   pub fault : IfErr result (λ error. (length keeps.bytes < count) × OneFailed error old.faults new.faults)
 
--- two fronts of what a source had were taken, by calls that did not fail: one that is spelled so, and at most so many bytes that were read ahead
-pub record TookFront (spelled : List ℕ → Type 0) (most : ℕ) (old new : SourceState) : Type 0 where
-  pub front : List ℕ
-  pub ahead : List ℕ
-  pub front_is : spelled front
-  pub at_most : length ahead ≤ most
-  pub taken : IsTrue old.tells → old.to_come ≡ front ++ (ahead ++ new.to_come)
-  pub no_fault : new.faults ≡ old.faults
-  -- where no byte is taken, nothing is done
-  pub untouched : front ≡ [] → ahead ≡ [] → new ≡ old
-
--- want of memory, for a value that asks for it or, before the source is called, for what is read ahead
-pub record WantsMemory {E : Type 0} (gives : Error → E → Type 0) (takes buffers : Bool) (e : E) (old new : SourceState) : Type 0 where
-  pub given : gives (error_of kinds.OutOfMemory) e
-  pub of : IsTrue takes ⊎ (IsTrue buffers × (new ≡ old))
-  pub no_fault : new.faults ≡ old.faults
-
 module _ {E : Type 0} (gives : Error → E → Type 0) (eof : E → Bool) where
-  -- Filling the ring of a reader until it holds so many bytes. Nothing is taken. It is refused by a failed call, as what that answered, or where fewer bytes are to come.
+  -- Filling the ring of a reader until it holds so many bytes. Nothing is taken. It is refused by a failed call, as
+  -- what that answered, or where fewer bytes are to come.
   pub record Fills {A : Type 0} (count : ℕ) (result : Result A E) (held keeps : Ring) (old new : ReaderState) : Type 0 where
     pub kept : KeptByPeek old new
     pub capacity : keeps.capacity ≡ held.capacity
@@ -73,20 +52,3 @@ module _ {E : Type 0} (gives : Error → E → Type 0) (eof : E → Bool) where
     pub no_fault : OnOk result (new.faults ≡ old.faults)
     pub short : OnErr result (length keeps.bytes < count)
     pub why : IfErr result (λ e. IsOfFailedCall gives e old.faults new.faults ⊎ Refused gives eof (raw_bytes count) e old new)
-
-  -- a clean refusal of what a source gives: where its bytes are told, fewer than `usize::MAX` of them, and the type borrows nothing, no front of them spells a value
-  pub record RefusesStream {V : Type 0} (L : Format V) (e : E) (old new : SourceState) : Type 0 where
-    pub no_fault : new.faults ≡ old.faults
-    pub kind : IsEnd gives eof true e ⊎ IsNamed gives L.names e
-    pub because : IsTrue old.tells → AreBytes old.to_come → length old.to_come < 2 ^ 64 - 1 → L.needs_lending ≡ false → Unspelled gives eof L e old.to_come
-
-  -- What a function that reads from a source answers. A value that is answered is spelled by a front of what the source had, and the source lost that front, and as many bytes more as may be read ahead. A refusal is what a failed call answered, which was the only one; or no call failed, and it is want of memory, or what the bytes are refused with.
-  pub record AnswersStream {A V : Type 0} (seen : A → V) (L : Format V) (buffers : Bool) (result : Result A E) (old new : SourceState) : Type 0 where
-    pub kept : SourceKept old new
-    pub tail : LeavesTail old new
-    pub value : IfOk result (λ x. TookFront (L.spells (seen x)) (most_held buffers) old new)
-    pub refused : IfErr result (λ e. WantsMemory gives L.takes_memory buffers e old new ⊎ (IsOfFailedCall gives e old.faults new.faults ⊎ RefusesStream L e old new))
-
-  -- What a function that reads from a file answers: a value that is answered is spelled by some bytes, and a refusal is what some failed call answered, want of memory, an end, or of a kind that the type names. No contract sees the bytes of a file, or which of its calls failed.
-  abbrev pub AnswersFile : {A V : Type 0} → (A → V) → Format V → Result A E → Type 0
-  AnswersFile seen L result = MatchResult result (λ x. (bytes : List ℕ) × L.spells (seen x) bytes) (λ e. ((error : StdIoError) × IsErrorOf gives error e) ⊎ (gives (error_of kinds.OutOfMemory) e ⊎ (IsEnd gives eof true e ⊎ IsNamed gives L.names e)))

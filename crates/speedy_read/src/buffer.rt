@@ -1,6 +1,6 @@
 //! Bytes that are named by a type, for callers that are generic in what they read.
 ghost use Rattle.std.specs.Prelude.{ℕ};
-ghost use Rattle.speedy_read.specs.Reading.{AnswersBuffer};
+ghost use Rattle.speedy_read.specs.WaysOfReading.{AnswersBuffer};
 
 use crate::readable::{ReadMany, Readable};
 use speedy_base::context::Context;

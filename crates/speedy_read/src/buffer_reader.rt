@@ -2,8 +2,8 @@
 ghost use Rattle.std.specs.Prelude.{IsOk, ◌≡◌, ◌↔◌, [], IsTrue, length, nat_le, Some, OnErr, IfSome, IsSome, refl};
 ghost use Rattle.std.specs.Borrow.{sem, Lends};
 ghost use Rattle.std.specs.Io.BufRead.{Rests};
-ghost use mir.Syntax.{named};
 ghost use Rattle.speedy_layout.specs.Texts.{raw_bytes, any_bytes};
+ghost use Rattle.speedy_read.specs.Lending.{readers_lifetime};
 ghost use Rattle.speedy_read.specs.Reading.{Reads, Peeks, LendsBytes, LendsAll, LendsUntilUsed};
 ghost use Rattle.speedy_read.specs.contracts.buffer_reader.BufferReader.{the_row as reader_row};
 ghost use Rattle.speedy_read.specs.Buffers.{bytes_state};
@@ -145,7 +145,7 @@ impl<'a, C: Context> LendingReader<&'a [u8], C> for BufferReader<'a, C> {
         &mut self,
         length: usize,
     ) -> Option<Result<&[u8], EndOfInput>>
-        ensures* after { sem 𝓛 (Rests (reader_row (record { mir = named 1; lft = [] }) C.row)
+        ensures* after { sem 𝓛 (Rests (reader_row readers_lifetime C.row)
             self.entry (λ new. LendsUntilUsed (λ b. b.now) length result
             (⟦<BufferReader<'a, C> as LendingReader<&'a [u8], C>>⟧.state self.old)
             (⟦<BufferReader<'a, C> as LendingReader<&'a [u8], C>>⟧.state new))) }

@@ -8,9 +8,9 @@ ghost use Rattle.std.specs.HashSet as hash_set;
 ghost use Rattle.indexmap.specs.IndexMap.{insert_all};
 ghost use Rattle.indexmap.specs.IndexSet as index_set;
 ghost use Rattle.speedy_layout.specs.Members.{AreDistinct, Ascends};
-ghost use Rattle.speedy_layout.specs.SeenKeys.{IsLess};
+ghost use Rattle.speedy_layout.specs.SeenItems.{IsLess};
 ghost use Rattle.speedy_layout.specs.Maps.{seen_pair, by_key, HasDistinctKeys};
-ghost use Rattle.speedy_layout.specs.CollectedMaps.{seen_pairs};
+ghost use Rattle.speedy_layout.specs.StdMaps.{seen_pairs};
 ghost use Rattle.speedy_layout.specs.Adding.{ascending_first, distinct_first, distinct_keys_first};
 ghost use Rattle.speedy_read.specs.Collections.{gatherer, Collects};
 

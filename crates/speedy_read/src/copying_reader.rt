@@ -3,10 +3,10 @@ ghost use Rattle.std.specs.Prelude.{IsOk, ◌≡◌, [], length, nat_le, Some, N
 ghost use Rattle.std.specs.Borrow.{sem, Lends};
 ghost use Rattle.std.specs.Io.BufRead.{Rests};
 ghost use Rattle.speedy_layout.specs.Texts.{raw_bytes, any_bytes};
+ghost use Rattle.speedy_read.specs.Lending.{readers_lifetime};
 ghost use Rattle.speedy_read.specs.Reading.{Reads, Peeks, IsRight, LendsBytes, LendsUntilUsed};
 ghost use Rattle.speedy_read.specs.Buffers.{copied_state};
 ghost use Rattle.speedy_read.specs.contracts.copying_reader.CopyingBufferReader.{the_row as reader_row};
-ghost use mir.Syntax.{named};
 
 use crate::reader::{EndOfInput, LendingReader};
 use speedy_base::context::Context;
@@ -24,14 +24,14 @@ pub struct CopyingBufferReader<'a, C> {
 }
 
 impl<'a, C> CopyingBufferReader<'a, C> {
-    ghost use Rattle.speedy_read.specs.CopyingView.{copying_view};
+    ghost use Rattle.speedy_read.specs.CopyingModel.{copying_model};
 
     /// A reader at the front of the buffer.
     #[inline]
     pub fn new(alloc: Global, context: &'a mut C, buffer: &'a [u8]) -> CopyingBufferReader<'a, C>
-        ensures same_context { (copying_view result).context_name ≡ context.entry.ghost_name }
-        ensures context { (copying_view result).context ≡ context.old }
-        ensures rest { (copying_view result).rest ≡ buffer.now }
+        ensures same_context { (copying_model result).context_name ≡ context.entry.ghost_name }
+        ensures context { (copying_model result).context ≡ context.old }
+        ensures rest { (copying_model result).rest ≡ buffer.now }
     {
         CopyingBufferReader {
             context,
@@ -43,8 +43,8 @@ impl<'a, C> CopyingBufferReader<'a, C> {
     /// Gives the context back, and says how many bytes are to come.
     #[inline]
     pub fn finish(self) -> usize
-        ensures context { self.exit.0.now ≡ (copying_view self.entry).context }
-        ensures rest { result ≡ length (copying_view self.entry).rest }
+        ensures context { self.exit.0.now ≡ (copying_model self.entry).context }
+        ensures rest { result ≡ length (copying_model self.entry).rest }
     {
         self.rest.len()
     }
@@ -138,7 +138,7 @@ impl<'a, 'b, C: Context> LendingReader<&'b [u8], C> for CopyingBufferReader<'a, 
         length: usize,
     ) -> Option<Result<&[u8], EndOfInput>>
         ensures* after { let reader = ⟦<CopyingBufferReader<'a, C> as LendingReader<&'b [u8], C>>⟧ in
-            sem 𝓛 (Rests (reader_row (record { mir = named 1; lft = [] }) C.row)
+            sem 𝓛 (Rests (reader_row readers_lifetime C.row)
             self.entry (λ new. LendsUntilUsed (λ b. b.now) length result
             (reader.state self.old) (reader.state new))) }
         ensures is_lent { IsSome result }
@@ -168,7 +168,7 @@ impl<'a, 'b, C: Context> LendingReader<&'b [u8], C> for CopyingBufferReader<'a, 
     #[inline(always)]
     fn context_mut(&mut self) -> &mut C
         ensures* writes_back { let reader = ⟦<CopyingBufferReader<'a, C> as LendingReader<&'b [u8], C>>⟧ in
-            sem 𝓛 (Lends (reader_row (record { mir = named 1; lft = [] }) C.row) C.row
+            sem 𝓛 (Lends (reader_row readers_lifetime C.row) C.row
             self.entry result (reader.with_context self.old)) }
         ensures value { let reader = ⟦<CopyingBufferReader<'a, C> as LendingReader<&'b [u8], C>>⟧ in
             result.now ≡ reader.at self.old }

@@ -12,6 +12,7 @@ pub mod laws;
 pub mod leaves;
 pub mod lent;
 pub mod lists;
+pub mod many;
 pub mod maps;
 pub mod non_zero;
 pub mod numbers;

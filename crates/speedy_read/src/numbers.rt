@@ -1,12 +1,7 @@
 //! How numbers are read.
-ghost use Rattle.std.specs.Prelude.{◌≡◌};
-ghost use Rattle.speedy_base.specs.Digits.{AreBytes};
-ghost use Rattle.speedy_layout.specs.Lists.{vector};
-ghost use Rattle.speedy_layout.specs.Numbers.{unsigned_number};
-ghost use Rattle.speedy_read.specs.Reading.{Reads};
-
-use crate::lent::{AsBytes, FromLent, Many, lent_in_range};
-use crate::readable::{ReadFrom, ReadMany, vec_for};
+use crate::lent::lent_in_range;
+use crate::many::{AsBytes, FromLent, Many, read_chunks};
+use crate::readable::{ReadFrom, ReadMany};
 use crate::reader::LendingReader;
 use speedy_base::context::Context;
 use speedy_base::error::{error_out_of_memory, error_too_big_usize_for_this_architecture};
@@ -44,30 +39,6 @@ impl<L: AsSlice<u8> + Drop, C: Context> ReadMany<L, C> for u8 {
     }
 }
 
-// Reads so many bytes, a chunk at a time. The count may be any, so no more room is asked for than for what was read,
-// but where the reader says that so many are there.
-fn read_chunks<L: AsSlice<u8> + Drop, C: Context, R: LendingReader<L, C>>(
-    reader: &mut R,
-    length: usize,
-) -> Result<Vec<u8>, C::Error>
-    ensures { Reads C.Error.from_gives C.Error.eof (λ v. v.items)
-        (vector length (unsigned_number 1 (R.state reader.old).encoding)) result
-        (R.state reader.old) (R.state reader.new) }
-{
-    let mut bytes = vec_for::<u8, L, C, R>(reader, 1, length)?;
-    let mut chunk = [0_u8; 512];
-    let mut left = length;
-    while left > 0 {
-        let size = left.min(chunk.len());
-        reader.read_bytes(&mut chunk[..size])?;
-        if bytes.extend_from_slice(&chunk[..size]).is_err() {
-            return Err(error_out_of_memory());
-        }
-        left -= size;
-    }
-    Ok(in_range(bytes))
-}
-
 impl<L: AsSlice<u8> + Drop, C: Context> ReadFrom<L, C> for u16 {
     #[inline]
     fn read_from<R: LendingReader<L, C>>(reader: &mut R) -> Result<u16, C::Error> {
@@ -95,15 +66,6 @@ impl<L: AsSlice<u8> + Drop, C: Context> ReadFrom<L, C> for u32 {
 }
 
 impl<L: AsSlice<u8> + Drop, C: Context> ReadMany<L, C> for u32 {}
-
-// What a proof knows of the bytes is their range, which the contents of a buffer don't show.
-#[inline]
-fn in_range(bytes: Vec<u8>) -> Vec<u8>
-    ensures same { result.items ≡ bytes.items }
-    ensures range { AreBytes result.items }
-{
-    bytes
-}
 
 impl<L: AsSlice<u8> + Drop, C: Context> ReadFrom<L, C> for u64 {
     #[inline]

@@ -23,13 +23,13 @@ pub struct OwnedReader<'a, L, R> {
 }
 
 impl<'a, L, R> OwnedReader<'a, L, R> {
-    ghost use Rattle.speedy_read.specs.OwnedView.{owned_view};
+    ghost use Rattle.speedy_read.specs.OwnedModel.{owned_model};
 
     /// A reader at the place of this one.
     #[inline]
     pub fn new(reader: &'a mut R) -> OwnedReader<'a, L, R>
-        ensures same_reader { (owned_view result).reader_name ≡ reader.entry.ghost_name }
-        ensures reader { (owned_view result).reader ≡ reader.old }
+        ensures same_reader { (owned_model result).reader_name ≡ reader.entry.ghost_name }
+        ensures reader { (owned_model result).reader ≡ reader.old }
     {
         OwnedReader {
             reader,
@@ -40,8 +40,8 @@ impl<'a, L, R> OwnedReader<'a, L, R> {
     /// The reader, which goes on behind what was read.
     #[inline]
     pub fn into_inner(self) -> &'a mut R
-        ensures same_reader { result.ghost_name ≡ (owned_view self.entry).reader_name }
-        ensures reader { result.now ≡ (owned_view self.entry).reader }
+        ensures same_reader { result.ghost_name ≡ (owned_model self.entry).reader_name }
+        ensures reader { result.now ≡ (owned_model self.entry).reader }
     {
         self.reader
     }

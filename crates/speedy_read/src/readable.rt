@@ -1,17 +1,13 @@
 //! What types that are read do.
-ghost use Rattle.std.specs.Prelude.{◌≡◌, ℕ, [], List, map, MatchResult, true, false};
-ghost use Rattle.speedy_base.specs.Error.{error_of};
+ghost use Rattle.std.specs.Prelude.{◌≡◌, ℕ, true, false};
 ghost use Rattle.speedy_base.specs.Encoding.{plain_encoding};
-ghost use Rattle.speedy_layout.specs.Lists.{vector};
-ghost use Rattle.speedy_read.specs.Collections.{gatherer, Collects};
-ghost use Rattle.speedy_read.specs.Lending.{many_items};
-ghost use Rattle.speedy_read.specs.Reading.{Reads, AnswersBuffer, AnswersCopied};
-ghost use Rattle.speedy_read.specs.Streams.{AnswersStream, AnswersFile};
+ghost use Rattle.speedy_read.specs.Reading.{Reads};
+ghost use Rattle.speedy_read.specs.WaysOfReading.{AnswersBuffer, AnswersCopied, AnswersStream, AnswersFile};
 
 pub use crate::buffer_reader::BufferReader;
-use crate::collections::{FromItems, collect_items};
 pub use crate::copying_reader::CopyingBufferReader;
-use crate::lent::{FromLent, Many, Nothing};
+use crate::lent::Nothing;
+pub use crate::many::ReadMany;
 pub use crate::owned_reader::OwnedReader;
 use crate::reader::LendingReader;
 pub use crate::stream_reader::StreamReader;
@@ -19,7 +15,7 @@ use crate::stream_reader::read_stream;
 use speedy_base::context::{Context, PlainContext};
 use speedy_base::device::{Counted, Source};
 use speedy_base::endianness::Endianness;
-use speedy_base::error::{Error, ErrorKind, error_input_buffer_is_too_small, error_out_of_memory};
+use speedy_base::error::{Error, error_input_buffer_is_too_small};
 use speedy_layout::layout::Layout;
 use std::alloc::Global;
 use std::convert::AsSlice;
@@ -44,72 +40,6 @@ pub trait ReadFrom<L: AsSlice<u8> + Drop, C: Context>: Layout + Sized + Drop {
     /// The least size: no value is spelled by fewer bytes.
     fn minimum_bytes_needed() -> usize
         ensures { result ≡ Self.least };
-}
-
-/// What types that are read implement besides, for several values at once.
-///
-/// The body serves each type. One that is read faster in bulk has a body of its own.
-pub trait ReadMany<L: AsSlice<u8> + Drop, C: Context>: ReadFrom<L, C> {
-    /// Reads so many values, one after another.
-    ///
-    /// This body reads each by itself. Bytes have a body of their own, which takes them at once where the reader
-    /// lends them, and makes what is asked for of those.
-    fn read_many_lent<W: FromLent<L, Self>, R: LendingReader<L, C>>(
-        reader: &mut R,
-        length: usize,
-    ) -> Result<Many<W, Self>, C::Error>
-        ensures { Reads C.Error.from_gives C.Error.eof
-            (λ many. map Self.seen (many_items W.shown many))
-            (vector length (Self.format (R.state reader.old).encoding)) result
-            (R.state reader.old) (R.state reader.new) }
-    {
-        read_each::<W, Self, L, C, R>(reader, length)
-    }
-
-    /// Reads so many values, one after another, into a vector.
-    #[inline]
-    final fn read_many<R: LendingReader<L, C>>(
-        reader: &mut R,
-        length: usize,
-    ) -> Result<Vec<Self>, C::Error>
-        ensures { Reads C.Error.from_gives C.Error.eof (λ v. map Self.seen v.items)
-            (vector length (Self.format (R.state reader.old).encoding)) result
-            (R.state reader.old) (R.state reader.new) }
-    {
-        Self::read_many_cow::<Vec<Self>, R>(reader, length)
-    }
-
-    /// Reads so many values, one after another, into a cow or what else borrows what is lent.
-    #[inline]
-    final fn read_many_cow<W: FromLent<L, Self>, R: LendingReader<L, C>>(
-        reader: &mut R,
-        length: usize,
-    ) -> Result<W, C::Error>
-        ensures { Reads C.Error.from_gives C.Error.eof (λ w. map Self.seen (W.shown w))
-            (vector length (Self.format (R.state reader.old).encoding)) result
-            (R.state reader.old) (R.state reader.new) }
-    {
-        match Self::read_many_lent::<W, R>(reader, length) {
-            Ok(Many::Made(made)) => Ok(made),
-            Ok(Many::Owned(values)) => Ok(W::from_values(values)),
-            Err(error) => Err(error),
-        }
-    }
-
-    /// Reads so many values, one after another, and gathers them.
-    ///
-    /// Where the context demands the written form, items that are written of no collection are refused with
-    /// `NotWrittenForm`: a key that was there before, and in ordered ones one that does not come after it.
-    final fn collect_many<F: FromItems<Self>, R: LendingReader<L, C>>(
-        reader: &mut R,
-        length: usize,
-    ) -> Result<F, C::Error>
-        ensures { let items = gatherer Self.seen F.gathers F.are_written in
-            Collects items (Self.format (R.state reader.old).encoding) length
-            C.Error.from_gives C.Error.eof result (R.state reader.old) (R.state reader.new) }
-    {
-        collect_items::<F, Self, L, C, R>(reader, length)
-    }
 }
 
 /// Types that are read from bytes, which may be lent for `'a`.
@@ -400,47 +330,3 @@ pub trait ReadableOwned<C: Context>: ReadMany<Nothing, C> {
 }
 
 impl<C: Context, T: ReadMany<Nothing, C>> ReadableOwned<C> for T {}
-
-// Reads so many values, each by itself. It stands outside the trait, so that it is proved once for all types. What
-// `W` shows is left open, since a function that is told would ask more of an array than its impl knows.
-#[inline]
-fn read_each<W: Drop, T: ReadFrom<L, C>, L: AsSlice<u8> + Drop, C: Context, R: LendingReader<L, C>>(
-    reader: &mut R,
-    length: usize,
-) -> Result<Many<W, T>, C::Error>
-    ensures { (shown : W → List T) → Reads C.Error.from_gives C.Error.eof
-        (λ many. map T.seen (many_items shown many))
-        (vector length (T.format (R.state reader.old).encoding)) result
-        (R.state reader.old) (R.state reader.new) }
-{
-    let mut items = vec_for::<T, L, C, R>(reader, T::minimum_bytes_needed(), length)?;
-    for _i in 0..length {
-        let item = T::read_from(reader)?;
-        if items.push(item).is_err() {
-            return Err(error_out_of_memory());
-        }
-    }
-    Ok(Many::Owned(items))
-}
-
-// An empty vector, with room for so many items where the reader says that their bytes are to come.
-pub(crate) fn vec_for<T, L: AsSlice<u8> + Drop, C: Context, R: LendingReader<L, C>>(
-    reader: &R,
-    least: usize,
-    length: usize,
-) -> Result<Vec<T>, C::Error>
-    ensures { MatchResult result (λ v. v.items ≡ [])
-        (C.Error.from_gives (error_of ErrorKind.OutOfMemory)) }
-{
-    let known = match least.checked_mul(length) {
-        Some(size) => least > 0 && reader.can_read_at_least(size) == Some(true),
-        None => false,
-    };
-    if !known {
-        return Ok(Vec::new(reader.alloc()));
-    }
-    match Vec::with_capacity(reader.alloc(), length) {
-        Ok(items) => Ok(items),
-        Err(_) => Err(error_out_of_memory()),
-    }
-}

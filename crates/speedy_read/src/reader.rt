@@ -13,7 +13,8 @@ ghost use Rattle.speedy_read.specs.Collections.{gatherer, Collects};
 ghost use Rattle.speedy_read.specs.Reading.{ReaderState, Reads, ReadsUnsigned, ReadsSigned, Peeks, IsRight, LendsBytes, LendsAll, LendsUntilUsed};
 
 use crate::collections::FromItems;
-use crate::lent::{FromLent, Nothing};
+use crate::lent::Nothing;
+use crate::many::FromLent;
 use crate::owned_reader::OwnedReader;
 use crate::private::vec_to_string;
 use crate::readable::{ReadFrom, ReadMany};

@@ -3,11 +3,12 @@ ghost use Rattle.std.specs.Prelude.{◌≡◌, ◌≤◌, ◌<◌, [], ◌++◌,
 ghost use Rattle.std.specs.Borrow.{sem, Lends};
 ghost use Rattle.std.specs.Io.BufRead.{Rests};
 ghost use Rattle.speedy_layout.specs.Texts.{raw_bytes};
+ghost use Rattle.speedy_read.specs.Lending.{readers_lifetime};
 ghost use Rattle.speedy_read.specs.Reading.{Reads, Peeks, IsRight, LendsUntilUsed};
 ghost use Rattle.speedy_read.specs.contracts.stream_reader.StreamReader.{the_row as reader_row};
-ghost use mir.Syntax.{named};
-ghost use Rattle.speedy_read.specs.StreamView.{stream_view, stream_state, first_capacity};
-ghost use Rattle.speedy_read.specs.Streams.{FillsList, FillsRing, Fills, AnswersStream};
+ghost use Rattle.speedy_read.specs.StreamModel.{stream_model, stream_state, first_capacity};
+ghost use Rattle.speedy_read.specs.Streams.{FillsList, FillsRing, Fills};
+ghost use Rattle.speedy_read.specs.WaysOfReading.{AnswersStream};
 
 use crate::readable::ReadFrom;
 use crate::reader::{EndOfInput, LendingReader};
@@ -48,7 +49,7 @@ impl<'s, S, C: Drop> StreamReader<'s, S, C> {
         source: &'s mut S,
         is_buffering: bool,
     ) -> Result<StreamReader<'s, S, C>, AllocError>
-        ensures made { IfOk result (λ r. stream_view r ≡ record {
+        ensures made { IfOk result (λ r. stream_model r ≡ record {
           context = context;
           source_name = source.entry.ghost_name;
           source = source.old;
@@ -69,7 +70,7 @@ impl<'s, S, C: Drop> StreamReader<'s, S, C> {
         ring: CircularBuffer,
         is_buffering: bool,
     ) -> StreamReader<'s, S, C>
-        ensures { stream_view result ≡ record {
+        ensures { stream_model result ≡ record {
           context = context;
           source_name = source.entry.ghost_name;
           source = source.old;
@@ -143,10 +144,10 @@ impl<'s, S: Source, C: Context> StreamReader<'s, S, C> {
     /// The source, behind the bytes that the reader still holds of it: these are lost.
     #[inline]
     pub fn into_source(self) -> &'s mut S
-        ensures same_source { result.ghost_name ≡ (stream_view self.entry).source_name }
-        ensures source { result.now ≡ (stream_view self.entry).source }
+        ensures same_source { result.ghost_name ≡ (stream_model self.entry).source_name }
+        ensures source { result.now ≡ (stream_model self.entry).source }
         ensures lost { (stream_state S.source C.encoding self.entry).to_come
-            ≡ (stream_view self.entry).ring.bytes ++ (S.source result.now).to_come }
+            ≡ (stream_model self.entry).ring.bytes ++ (S.source result.now).to_come }
     {
         self.source
     }
@@ -225,8 +226,8 @@ impl<'s, 'b, C: Context, S: Source> LendingReader<&'b [u8], C> for StreamReader<
             Reads C.Error.from_gives C.Error.eof (λ _. output.new)
             (raw_bytes (length output.old)) result
             (reader.state self.old) (reader.state self.new) }
-        ensures untouched { length output.old ≤ length (stream_view self.old).ring.bytes
-            → IsOk result × ((stream_view self.new).source ≡ (stream_view self.old).source) }
+        ensures untouched { length output.old ≤ length (stream_model self.old).ring.bytes
+            → IsOk result × ((stream_model self.new).source ≡ (stream_model self.old).source) }
     {
         if output.len() <= self.ring.len() {
             self.ring.consume_into(output);
@@ -242,11 +243,11 @@ impl<'s, 'b, C: Context, S: Source> LendingReader<&'b [u8], C> for StreamReader<
             (raw_bytes (length output.old)) result
             (reader.state self.old) (reader.state self.new) }
         ensures held { let reader = ⟦<StreamReader<'s, S, C> as LendingReader<&'b [u8], C>>⟧ in
-            length output.old ≤ length (stream_view self.old).ring.bytes
+            length output.old ≤ length (stream_model self.old).ring.bytes
             → IsOk result × (reader.state self.new ≡ reader.state self.old) }
-        ensures exact { (stream_view self.old).is_buffering ≡ false
-            → length (stream_view self.new).ring.bytes
-            ≤ max (length (stream_view self.old).ring.bytes) (length output.old) }
+        ensures exact { (stream_model self.old).is_buffering ≡ false
+            → length (stream_model self.new).ring.bytes
+            ≤ max (length (stream_model self.old).ring.bytes) (length output.old) }
     {
         let count = output.len();
         let lacking = count.saturating_sub(self.ring.len());
@@ -283,7 +284,7 @@ impl<'s, 'b, C: Context, S: Source> LendingReader<&'b [u8], C> for StreamReader<
         _length: usize,
     ) -> Option<Result<&[u8], EndOfInput>>
         ensures* after { let reader = ⟦<StreamReader<'s, S, C> as LendingReader<&'b [u8], C>>⟧ in
-            sem 𝓛 (Rests (reader_row (record { mir = named 1; lft = [] }) S.row C.row)
+            sem 𝓛 (Rests (reader_row readers_lifetime S.row C.row)
             self.entry (λ new. LendsUntilUsed (λ b. b.now) _length result
             (reader.state self.old) (reader.state new))) }
     {
@@ -306,7 +307,7 @@ impl<'s, 'b, C: Context, S: Source> LendingReader<&'b [u8], C> for StreamReader<
     #[inline(always)]
     fn context_mut(&mut self) -> &mut C
         ensures* writes_back { let reader = ⟦<StreamReader<'s, S, C> as LendingReader<&'b [u8], C>>⟧ in
-            sem 𝓛 (Lends (reader_row (record { mir = named 1; lft = [] }) S.row C.row) C.row
+            sem 𝓛 (Lends (reader_row readers_lifetime S.row C.row) C.row
             self.entry result (reader.with_context self.old)) }
         ensures value { let reader = ⟦<StreamReader<'s, S, C> as LendingReader<&'b [u8], C>>⟧ in
             result.now ≡ reader.at self.old }

@@ -8,7 +8,8 @@ use Rattle.speedy.specs.declared.error.ErrorKind.TheVariants as kinds
 use Rattle.speedy.specs.Error.{IsNamed, kind_of, error_of, is_eof_error}
 use Rattle.speedy.specs.ErrorKind.{EndsInput}
 use Rattle.speedy.specs.Format.{Format}
-use Rattle.speedy.specs.Reading.{AnswersBuffer, RefusesBuffer, IsEnd}
+use Rattle.speedy.specs.Reading.{IsEnd}
+use Rattle.speedy.specs.WaysOfReading.{AnswersBuffer, RefusesBufferIf}
 use Rattle.speedy_vectors.specs.Answer.{refused_text, AnswersBytes, AnswersRefusal}
 
 module _ {A V : Type 0} (seen : A → V) (least : ℕ) (L : Format V) (e : Error) (count : ℕ) (bytes answer : List ℕ) where
@@ -19,15 +20,15 @@ module _ {A V : Type 0} (seen : A → V) (least : ℕ) (L : Format V) (e : Error
   named_kind (inl h) = inl (its_kind h.0)
   named_kind (inr h) = inr (its_kind h)
 
-  refusal : (kind_of e ≡ kinds.OutOfMemory → ⊥) → answer ≡ refused_text (kind_of e) → least ≤ length bytes → ((e ≡ error_of kinds.OutOfMemory) × IsTrue L.takes_memory) ⊎ RefusesBuffer (λ (x : Error) (y : Error). y ≡ x) is_eof_error L e bytes → AnswersRefusal least L bytes answer
+  refusal : (kind_of e ≡ kinds.OutOfMemory → ⊥) → answer ≡ refused_text (kind_of e) → least ≤ length bytes → ((e ≡ error_of kinds.OutOfMemory) × IsTrue L.asks.memory) ⊎ RefusesBufferIf (λ (x : Error) (y : Error). y ≡ x) is_eof_error (Unit {0}) L e bytes → AnswersRefusal least L bytes answer
   refusal memory is enough (inl h) = absurd (memory (ap kind_of h.0))
   refusal memory is enough (inr h) = record {
     kind = kind_of e;
     enough = enough;
-    no_front = h.because.no_front;
+    no_front = (h.because tt).no_front;
     kind_is = named_kind h.kind;
-    too_short = h.because.too_short;
-    at_fault = λ fault. its_kind (h.because.at_fault fault);
+    too_short = (h.because tt).too_short;
+    malformed = λ bad. its_kind ((h.because tt).malformed bad);
     answer_is = is;
   }
 

@@ -48,10 +48,6 @@ line_splits line f g hex order name bytes h k e is =
     let second = one_split g (name_text name) hex is.hex k (name_no_space name) first.1 in
     (first.0, second.0, subst (λ (x : List ℕ). IsHex x bytes) (sym second.1) is.hex_is)
 
--- what splits at no space is no line of the form
-pub bad_without_space : (line : List ℕ) → IsFreeOf space line → IsBad line
-bad_without_space line h = λ order name bytes is. no_space_in (order_text order) (name_text name ++ space ∷ is.hex) (subst (IsFreeOf space) is.line_is h)
-
 pub bad_without_second_space : (line f rest : List ℕ) → SplitsAt space line f rest → IsFreeOf space rest → IsBad line
 bad_without_second_space line f rest s h = λ order name bytes is.
     let first = one_split f (order_text order) rest (name_text name ++ space ∷ is.hex) s.front_is (order_no_space order) (sym s.text_is ∙ is.line_is) in

@@ -1,22 +1,25 @@
 -- Lines that come in pieces are answered like lines that come at once.
-use Rattle.std.specs.Prelude.{◌≡◌, ◌≢◌, ◌==◌, if◌then◌else◌, ℕ, ◌+◌, ◌-◌, ◌^◌, ◌<◌, ◌≤◌, List, [], ◌∷◌, ◌++◌, length, take, drop, Bool, true, false, IsTrue, Result, Ok, Err, OnOk, OnErr, refl}
+use Rattle.std.specs.Prelude.{◌≡◌, ◌≢◌, ◌==◌, if◌then◌else◌, ℕ, ◌+◌, ◌-◌, ◌^◌, ◌<◌, ◌≤◌, List, [], ◌∷◌, ◌++◌, length, take, Bool, true, false, IsTrue, Result, Ok, Err, OnOk, OnErr, IfErr, refl}
 use Rattle.std.proofs.Common.{sym, ◌∙◌, ap, subst, arith, inl, inr}
 use Rattle.std.proofs.lemmas.Bool.{ne_eqb, eqb-false, eqb-true}
-use Rattle.std.proofs.lemmas.List.{append_assoc, append-nil, length-append, length-drop, length-take-le, take-append-drop, take_rest, nil_from_length}
+use Rattle.std.proofs.lemmas.List.{append_assoc, append-nil, length-append, length-take-le, nil_from_length}
 use Rattle.std.proofs.lemmas.Result.{on_ok_weaker, on_err_weaker, IfErr-weaker}
+use Rattle.std.specs.Borrow.{GName}
 use Rattle.std.specs.declared.io.Error.{Error as StdIoError}
-use Rattle.speedy.specs.declared.device.Faults.{Faults}
 use Rattle.speedy.specs.declared.error.Error.{Error}
 use Rattle.speedy.specs.declared.error.ErrorKind.TheVariants as kinds
 use Rattle.speedy.specs.Error.{error_of, kind_of, IsIoErrorOf}
-use Rattle.speedy.specs.Device.{SourceState, SourceKept, SinkState, SinkKept, Pulls, Pushes, Flushes}
+use Rattle.speedy.specs.Collectors.{sink_state, Takes}
+use Rattle.speedy.specs.Device.{SourceState, SourceKept, SinkState, SinkKept, Pulls, Flushes}
 use Rattle.speedy.specs.DeviceLemmas.{DeviceKept-same, DeviceKept-after, DeviceKept-told}
-use Rattle.speedy.specs.FailedCalls.{OneFailed, IsOfFailedCall}
+use Rattle.speedy.specs.Encoding.{Encoding}
+use Rattle.speedy.specs.FailedCalls.{IsOfFailedCall}
 use Rattle.speedy.specs.Format.{Each}
+use Rattle.speedy.specs.Writing.{WritesBytes}
 use Rattle.speedy_vectors.proofs.EachLemmas.{each_append}
 use Rattle.speedy_vectors.specs.Answer.{AnswersLine}
 use Rattle.speedy_vectors.specs.Split.{IsFreeOf, SplitsAt}
-use Rattle.speedy_vectors.specs.Run.{line_feed, with_first, lines_of, AnsweredAll, Answered, AnsweredPartly, itself, IsSinkFailure, Answering, Pushing, IsRunFailure, Runs}
+use Rattle.speedy_vectors.specs.Run.{line_feed, with_first, lines_of, AnsweredAll, Answered, AnsweredPartly, itself, IsSinkFailure, Answering, IsRunFailure, Runs}
 
 -- lines
 
@@ -46,48 +49,14 @@ lines_split pending text line rest more h split =
 
 -- devices
 
--- what a failed call answered
-failed_call : (e : Error) (x : StdIoError) (a b : Faults) → IsIoErrorOf x (kind_of e) → OneFailed x a b → IsOfFailedCall itself e a b
-failed_call e x a b is one = (x, one, (kind_of e, is, refl))
-
--- the failed call of a later part is the one of the whole, where none failed before
-failed_after : (e : Error) (a b d : Faults) → b ≡ a → IsOfFailedCall itself e b d → IsOfFailedCall itself e a d
-failed_after e a b d same k = subst (λ (f : Faults). IsOfFailedCall itself e f d) same k
-
+-- the failure of a later part is one of the whole, where no call failed before
 failure_after : (e : Error) (s t u : SinkState) → t.faults ≡ s.faults → IsSinkFailure e t u → IsSinkFailure e s u
-failure_after e s t u same (inl k) = inl (failed_after e s.faults t.faults u.faults same k)
-failure_after e s t u same (inr k) = inr (k.0 ∙ same, k.1)
+failure_after e s t u same k = rw same at k
 
 taken_after : (s t u : SinkState) (x y : List ℕ) → SinkKept s t → (IsTrue s.tells → t.taken ≡ s.taken ++ x) → (IsTrue t.tells → u.taken ≡ t.taken ++ y) → IsTrue s.tells → u.taken ≡ s.taken ++ (x ++ y)
 taken_after s t u x y kept h k tells = k (DeviceKept-told kept tells) ∙ (ap (λ (z : List ℕ). z ++ y) (h tells) ∙ append_assoc s.taken x y)
 
--- pushes
-
--- the bytes but these were pushed so far
-pub record PushedSoFar (bytes rest : List ℕ) (old new : SinkState) : Type 0 where
-  pub kept : SinkKept old new
-  pub no_fault : new.faults ≡ old.faults
-  pub front : List ℕ
-  pub bytes_are : bytes ≡ front ++ rest
-  pub taken : IsTrue old.tells → new.taken ≡ old.taken ++ front
-
-pub none_pushed : (bytes : List ℕ) (s : SinkState) → PushedSoFar bytes bytes s s
-none_pushed bytes s = record { kept = DeviceKept-same; no_fault = refl; front = []; bytes_are = refl; taken = λ _. sym (append-nil s.taken) }
-
-pub more_pushed : (bytes rest : List ℕ) (n : ℕ) (s t u : SinkState) → PushedSoFar bytes rest s t → Pushes (Ok n) t u rest → PushedSoFar bytes (take (length rest - n) (drop n rest)) s u
-more_pushed bytes rest n s t u so_far p = subst (λ (x : List ℕ). PushedSoFar bytes x s u) (sym (take_rest rest n)) (record {
-  kept = DeviceKept-after so_far.kept p.kept;
-  no_fault = p.no_fault ∙ so_far.no_fault;
-  front = so_far.front ++ take n rest;
-  bytes_are = so_far.bytes_are ∙ (ap (λ (x : List ℕ). so_far.front ++ x) (sym (take-append-drop n rest)) ∙ sym (append_assoc so_far.front (take n rest) (drop n rest)));
-  taken = taken_after s t u so_far.front (take n rest) so_far.kept so_far.taken p.moved;
-})
-
-pub fewer_to_push : (rest : List ℕ) (n : ℕ) (t u : SinkState) → Pushes (Ok n) t u rest → 0 < length rest → length (take (length rest - n) (drop n rest)) < length rest
-fewer_to_push rest n t u p some =
-    let a = p.takes_some some in
-    let e = ap length (take_rest rest n) ∙ length-drop n rest in
-    omega arith
+-- empty lists, as the code tests them
 
 pub not_empty : (xs : List ℕ) → false ≡ (length xs == 0) → 0 < length xs
 not_empty xs e = let h = eqb-false (length xs) 0 (sym e) in omega arith
@@ -95,37 +64,35 @@ not_empty xs e = let h = eqb-false (length xs) 0 (sym e) in omega arith
 pub is_empty : (xs : List ℕ) → true ≡ (length xs == 0) → xs ≡ []
 is_empty xs e = nil_from_length xs (eqb-true (length xs) 0 (sym e))
 
-pub all_pushed : {T : Type 0} (x : T) (bytes rest : List ℕ) (s t : SinkState) → PushedSoFar bytes rest s t → rest ≡ [] → Pushing (Ok x) bytes s t
-all_pushed x bytes rest s t so_far none = record {
-  kept = so_far.kept;
-  no_fault = so_far.no_fault;
-  all = λ tells. so_far.taken tells ∙ ap (λ (z : List ℕ). s.taken ++ z) (sym (so_far.bytes_are ∙ (ap (λ (z : List ℕ). so_far.front ++ z) none ∙ append-nil so_far.front)));
-  partly = tt;
-  why = tt;
-}
-
-pub push_failed : {T : Type 0} (e : Error) (x : StdIoError) (bytes rest : List ℕ) (s t u : SinkState) → PushedSoFar bytes rest s t → IsIoErrorOf x (kind_of e) → Pushes (Err x) t u rest → Pushing {T = T} (Err e) bytes s u
-push_failed e x bytes rest s t u so_far is p = record {
-  kept = DeviceKept-after so_far.kept p.kept;
-  no_fault = tt;
-  all = tt;
-  partly = (so_far.front, rest, so_far.bytes_are, λ tells. p.unmoved (DeviceKept-told so_far.kept tells) ∙ so_far.taken tells);
-  why = failed_after e s.faults t.faults u.faults so_far.no_fault (failed_call e x t.faults u.faults is p.fault);
-}
-
 -- a line is answered
 
 one_answer : (line answer : List ℕ) → AnswersLine line answer → Each AnswersLine (line ∷ []) answer
 one_answer line answer h = record { front = answer; back = []; whole_is = sym (append-nil answer); first_is = h; second_is = refl }
 
-pub pushed_answer : {T : Type 0} (r : Result T Error) (line answer : List ℕ) (s t : SinkState) → AnswersLine line answer → Pushing r answer s t → Answering r (line ∷ []) [] s t
-pushed_answer r line answer s t h p = record {
-  kept = p.kept;
-  no_fault = p.no_fault;
-  all = on_ok_weaker r (λ taken. record { done = line ∷ []; lines_are = refl; answered = record { answers = answer; answers_are = one_answer line answer h; taken = taken } }) p.all;
-  partly = on_err_weaker r (λ q. record { done = line ∷ []; left = []; front = q.0; rest = q.1; lines_are = refl; answers_are = subst (λ (x : List ℕ). Each AnswersLine (line ∷ []) x) q.2 (one_answer line answer h); taken = q.3 }) p.partly;
-  why = IfErr-weaker r _ _ (λ e failed. inl failed) p.why;
-}
+-- what a collector over the sink wrote
+collected_answer : {at other : Encoding} {name other_name : GName} (r : Result (Unit {0}) Error) (line answer : List ℕ) (s t : SinkState) → AnswersLine line answer → WritesBytes itself answer r (sink_state at name s) (sink_state other other_name t) (λ b. Takes s b t) → IfErr r (λ e. IsOfFailedCall itself e s.faults t.faults) → Answering r (line ∷ []) [] s t
+collected_answer (Ok x) line answer s t h w failed =
+    let put = w.answer in
+    record {
+      kept = put.is_appended.kept;
+      no_fault = put.no_fault;
+      all = record { done = line ∷ []; lines_are = refl; answered = record { answers = put.bytes; answers_are = one_answer line put.bytes (subst (AnswersLine line) (sym put.is_written) h); taken = put.is_appended.taken_is } };
+      partly = tt;
+      why = tt;
+    }
+collected_answer (Err e) line answer s t h w failed =
+    let begun = w.answer.beginning answer refl in
+    record {
+      kept = begun.is_appended.kept;
+      no_fault = tt;
+      all = tt;
+      partly = record { done = line ∷ []; left = []; front = begun.front; rest = begun.rest; lines_are = refl; answers_are = one_answer line (begun.front ++ begun.rest) (subst (AnswersLine line) (sym begun.is_written) h); taken = begun.is_appended.taken_is };
+      why = inl failed;
+    }
+
+-- the same, whatever the states of its sink were called
+pub pushed_answer : {at other : Encoding} {name other_name : GName} {old new : SinkState} (r : Result (Unit {0}) Error) (line answer : List ℕ) (s t : SinkState) → s ≡ old → t ≡ new → AnswersLine line answer → WritesBytes itself answer r (sink_state at name s) (sink_state other other_name t) (λ b. Takes s b t) → IfErr r (λ e. IsOfFailedCall itself e s.faults t.faults) → Answering r (line ∷ []) [] old new
+pushed_answer r line answer s t starts ends h w failed = rw (← starts, ← ends) (collected_answer r line answer s t h w failed)
 
 none_answered : (lines : List (List ℕ)) (s : SinkState) → Answered lines lines s s
 none_answered lines s = record { done = []; lines_are = refl; answered = record { answers = []; answers_are = refl; taken = λ _. sym (append-nil s.taken) } }
@@ -222,7 +189,7 @@ flush_failed e x s t is f = record {
   no_fault = tt;
   all = tt;
   partly = record { done = []; left = []; front = []; rest = []; lines_are = refl; answers_are = refl; taken = λ _. f.same_taken ∙ sym (append-nil s.taken) };
-  why = inl (failed_call e x s.faults t.faults is f.fault);
+  why = inl (x, f.fault, (kind_of e, is, refl));
 }
 
 -- the last line, if it has no line feed
@@ -409,7 +376,7 @@ pull_failed e x chunk count pending a b d s t so_far is pull = record {
   settled = tt;
   all = tt;
   partly = λ tells. partly_answered (lines_of a.to_come) (lines_of (pending ++ b.to_come)) s t (so_far.answered tells);
-  why = inl (failed_after e a.faults b.faults d.faults so_far.input_no_fault (failed_call e x b.faults d.faults is pull.fault), so_far.output_no_fault);
+  why = inl ((x, rw so_far.input_no_fault at pull.fault, (kind_of e, is, refl)), so_far.output_no_fault);
 }
 
 -- the input did not end

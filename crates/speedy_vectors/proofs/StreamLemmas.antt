@@ -74,7 +74,7 @@ byte_spelled : (encoding : Encoding) (b : ℕ) → b < 256 → (unsigned_number 
 unfolding unsigned_number
 byte_spelled encoding b h = record { width_is = refl; are_bytes = (h, tt); value_is = refl }
 
-byte_needs_none : (encoding : Encoding) → (unsigned_number 1 encoding).needs_lending ≡ false
+byte_needs_none : (encoding : Encoding) → (unsigned_number 1 encoding).asks.lending ≡ false
 unfolding unsigned_number
 byte_needs_none encoding = refl
 
@@ -93,7 +93,7 @@ peeked_end {e = e} {old = old} {new = new} peeks is tells tells_faults are_bytes
   not_fault : IsOfFailedCall itself e old.faults new.faults → ⊥
   not_fault (error, one, named) = subst (IsIoErrorOf error) (sym (ap kind_of named.2) ∙ is) named.1
 
-  of : PeekWants itself e old new ⊎ (Excused itself (unsigned_number 1 old.encoding).takes_memory e old new ⊎ Refused itself is_eof_error (unsigned_number 1 old.encoding) e old new) → old.to_come ≡ []
+  of : PeekWants itself e old new ⊎ (Excused itself (unsigned_number 1 old.encoding).asks.memory e old new ⊎ Refused itself is_eof_error (unsigned_number 1 old.encoding) e old new) → old.to_come ≡ []
   of (inl wants) = absurd (not_memory wants.0)
   of (inr (inl (inl wants))) = absurd (not_memory wants.0)
   of (inr (inl (inr fault))) = absurd (not_fault (fault.1 tells_faults))

@@ -64,14 +64,15 @@ module _ {V : Type 0} (least : ℕ) (L : Format V) (bytes answer : List ℕ) whe
     pub written_is : L.writes value written
     pub answer_is : answer ≡ ok_text (length front) written
 
-  -- no front spells any: an end of input where more bytes may make a spelling, a kind that the type names where its fault stands, and else one of the two
+  -- no front spells any: an end of input where more bytes may make a spelling, a kind that the type names where it
+  -- refuses them itself, and else one of the two
   pub record AnswersRefusal : Type 0 where
     pub kind : ErrorKind
     pub enough : least ≤ length bytes
     pub no_front : (v : V) (front rest : List ℕ) → bytes ≡ front ++ rest → L.spells v front → ⊥
     pub kind_is : EndsInput false kind ⊎ L.names kind
     pub too_short : (v : V) (more : List ℕ) → L.spells v (bytes ++ more) → IsTrue (is_eof_kind kind)
-    pub at_fault : L.at_fault bytes → L.names kind
+    pub malformed : L.malformed bytes → L.names kind
     pub answer_is : answer ≡ refused_text kind
 
   -- what the bytes of a line are answered, read as values of a format

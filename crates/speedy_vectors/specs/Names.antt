@@ -13,7 +13,7 @@ use Rattle.speedy.specs.Addresses.{address, ip_address}
 use Rattle.speedy.specs.Flags.{flag, option, alternative}
 use Rattle.speedy.specs.Tuples.{unit, pair}
 use Rattle.speedy.specs.Lists.{list, vector}
-use Rattle.speedy.specs.SeenKeys.{IsLess}
+use Rattle.speedy.specs.SeenItems.{IsLess}
 use Rattle.speedy.specs.Maps.{tree_map, index_map}
 use Rattle.speedy.specs.Sets.{tree_set, index_set}
 use Rattle.speedy.specs.Texts.{text, raw_bytes}

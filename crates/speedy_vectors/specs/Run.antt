@@ -60,19 +60,12 @@ pub record Answering {T : Type 0} (result : Result T Error) (lines left : List (
   pub partly : OnErr result (AnsweredPartly lines old new)
   pub why : IfErr result (λ e. IsSinkFailure e old new)
 
--- the bytes were pushed, or a front of them and why not more
-pub record Pushing {T : Type 0} (result : Result T Error) (bytes : List ℕ) (old new : SinkState) : Type 0 where
-  pub kept : SinkKept old new
-  pub no_fault : OnOk result (new.faults ≡ old.faults)
-  pub all : OnOk result (IsTrue old.tells → new.taken ≡ old.taken ++ bytes)
-  pub partly : OnErr result ((front : List ℕ) × (rest : List ℕ) × (bytes ≡ front ++ rest) × (IsTrue old.tells → new.taken ≡ old.taken ++ front))
-  pub why : IfErr result (λ e. IsOfFailedCall itself e old.faults new.faults)
-
 -- the input was longer than the program counts
 abbrev pub IsTooLong : Error → SourceState → Type 0
 IsTooLong e input = (e ≡ error_of kinds.OutOfRangeLength) × (IsTrue input.tells → 2 ^ 64 - 1 ≤ length input.to_come)
 
--- Why a whole input is not answered: one call of the input or of the output failed, and the error is what it answered; or no call failed, and there was no memory, or the input is too long.
+-- Why a whole input is not answered: one call of the input or of the output failed, and the error is what it answered;
+-- or no call failed, and there was no memory, or the input is too long.
 abbrev pub IsRunFailure : Error → SourceState → SourceState → SinkState → SinkState → Type 0
 IsRunFailure e input input_after output output_after =
     (IsOfFailedCall itself e input.faults input_after.faults × (output_after.faults ≡ output.faults))

@@ -1,12 +1,13 @@
 //! The program over a whole input.
 ghost use Rattle.std.specs.Prelude.{◌≡◌, [], ◌++◌, ◌∷◌, MatchOption, IsTrue, OnOk, List, ℕ};
 ghost use Rattle.speedy_vectors.specs.Split.{IsFreeOf, SplitsAt};
-ghost use Rattle.speedy_vectors.specs.Run.{line_feed, lines_of, Answering, Pushing, Runs};
+ghost use Rattle.speedy_vectors.specs.Run.{line_feed, lines_of, Answering, Runs};
 
 use crate::answer::answer_line;
-use speedy::Error;
 use speedy::device::{Sink, Source};
 use speedy::private::error_out_of_range_length;
+use speedy::writable::WritingCollector;
+use speedy::{Error, LittleEndian, Writer};
 use std::alloc::Global;
 
 /// Answers each line of the input by one line, in order, and flushes the output at its end.
@@ -114,19 +115,8 @@ fn push_answer<W: Sink>(alloc: Global, line: &[u8], output: &mut W) -> Result<()
     ensures { Answering result (line.now ∷ []) [] (W.sink output.old) (W.sink output.new) }
 {
     let answer = answer_line(alloc, line)?;
-    push_all(alloc, &answer, output)
-}
-
-// Pushes all the bytes, in as many calls as it takes.
-fn push_all<W: Sink>(alloc: Global, bytes: &[u8], output: &mut W) -> Result<(), Error>
-    ensures { Pushing result bytes.now (W.sink output.old) (W.sink output.new) }
-{
-    let mut rest = bytes;
-    while !rest.is_empty() {
-        match output.push(rest) {
-            Ok(count) => rest = &rest[count..],
-            Err(error) => return Err(Error::from_io_error(alloc, error)),
-        }
-    }
-    Ok(())
+    let mut writer = WritingCollector::new(alloc, LittleEndian {}, output);
+    let outcome = writer.write_bytes(&answer);
+    writer.into_sink();
+    outcome
 }

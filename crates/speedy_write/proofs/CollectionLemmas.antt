@@ -11,7 +11,7 @@ use Rattle.speedy_base.specs.declared.error.Error.{Error}
 use Rattle.speedy_base.specs.Encoding.{Encoding}
 use Rattle.speedy_layout.specs.Codes.{coding}
 use Rattle.speedy_layout.specs.Format.{Format, Parts, Each}
-use Rattle.speedy_layout.specs.Gathered.{gathered_writes, gathered_form, gathered_form_length}
+use Rattle.speedy_layout.specs.GatheredLemmas.{gathered_writes, gathered_form, gathered_form_length}
 use Rattle.speedy_layout.specs.Gathering.{IsGathering, hashed_items, items_of, gathered}
 use Rattle.speedy_layout.specs.Laws.{Laws}
 use Rattle.speedy_layout.specs.Lists.{repeat, vector, list}
@@ -19,7 +19,8 @@ use Rattle.speedy_layout.specs.Owned.{owned_content, borrowed_content}
 use Rattle.speedy_layout.specs.Sequences.{sequence}
 use Rattle.speedy_layout.specs.Tuples.{pair, pair_laws}
 use Rattle.speedy_write.specs.Collections.{WritesItems}
-use Rattle.speedy_write.specs.Sequences.{Writes-as, is_sequence, first_refused, passed_on}
+use Rattle.speedy_write.specs.Sequences.{Writes-as, is_sequence, first_refused}
+use Rattle.speedy_base.specs.Error.{passed_on}
 use Rattle.speedy_write.specs.Writing.{WriterState, Writes, WritesEach}
 use Rattle.speedy_write.proofs.ListLemmas.{Each-append, Each-parts, next_refused}
 

@@ -11,7 +11,9 @@ use Rattle.speedy_write.specs.Sequences.{Writes-as}
 
 module _ {E : Type 0} {gives : Error → E → Type 0} {U V : Type 0} {c : Code U V} {u : U} {v : V} {result : Result (Unit {0}) E} {old new : WriterState} {appended : List ℕ → Type 0} where
   -- a value is written as the code that is chosen for it
-  pub code_written : {F : Encoding → Format U} → ((encoding : Encoding) → IsCode c (F encoding)) → ((encoding : Encoding) → (F encoding).hashed ≡ false) → c.chosen u v → Writes gives F u result old new appended → Writes gives (λ encoding. coding encoding c (F encoding)) v result old new appended
+  pub code_written : {F : Encoding → Format U} → ((encoding : Encoding) → IsCode c (F encoding))
+      → ((encoding : Encoding) → (F encoding).asks.hashed ≡ false) → c.chosen u v → Writes gives F u result old new appended
+      → Writes gives (λ encoding. coding encoding c (F encoding)) v result old new appended
   unfolding coding
   code_written {F = F} is_code not_hashed chosen w =
       let is = is_code old.encoding in
@@ -20,6 +22,9 @@ module _ {E : Type 0} {gives : Error → E → Type 0} {U V : Type 0} {c : Code 
       (λ b h. let x = is.has_chosen v b (record { code = h.code; code_is = h.code_is; stands = Accepts-means old.encoding.strict c h.code v (is.chosen_means h.code v) h.stands }) in (x.0, subst (λ (y : U). (F old.encoding).spells y x.0) (one x.1.code x.1.stands) x.1.code_is)) w
 
 -- a value is written as the number that is chosen for it
-pub number_code_written : {E : Type 0} {gives : Error → E → Type 0} {V : Type 0} {c : Code ℕ V} {n : ℕ} {v : V} {result : Result (Unit {0}) E} {old new : WriterState} {appended : List ℕ → Type 0} (width : ℕ) → ((encoding : Encoding) → IsCode c (unsigned_number width encoding)) → c.chosen n v → WritesNumber gives width n result old new appended → Writes gives (λ encoding. coding encoding c (unsigned_number width encoding)) v result old new appended
+pub number_code_written : {E : Type 0} {gives : Error → E → Type 0} {V : Type 0} {c : Code ℕ V} {n : ℕ} {v : V} {result : Result (Unit {0}) E} {old new : WriterState} {appended : List ℕ → Type 0} (width : ℕ)
+    → ((encoding : Encoding) → IsCode c (unsigned_number width encoding)) → c.chosen n v
+    → WritesNumber gives width n result old new appended
+    → Writes gives (λ encoding. coding encoding c (unsigned_number width encoding)) v result old new appended
 unfolding unsigned_number
 number_code_written width is_code chosen w = code_written is_code (λ _. refl) chosen w

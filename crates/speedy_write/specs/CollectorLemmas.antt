@@ -35,7 +35,8 @@ part_back p A s q n e h =
     ∙ (drop-append-add (take p A ++ s) (drop q A) n ∙ drop-drop n q A))
 
 -- what is put after what was put
-pub buffer_additive : {p : ℕ} {A s : List ℕ} {q : ℕ} {B t : List ℕ} {r : ℕ} {C : List ℕ} → BufferAppends p A s q B → BufferAppends q B t r C → BufferAppends p A (s ++ t) r C
+pub buffer_additive : {p : ℕ} {A s : List ℕ} {q : ℕ} {B t : List ℕ} {r : ℕ} {C : List ℕ} → BufferAppends p A s q B → BufferAppends q B t r C
+    → BufferAppends p A (s ++ t) r C
 buffer_additive {p = p} {A = A} {s = s} {q = q} {B = B} {t = t} {r = r} h k =
     let l = length-append s t in
     let same_length : length B ≡ length A = put_length p A s q B h in

@@ -3,7 +3,7 @@ use Rattle.std.specs.Prelude.{◌≡◌, ℕ, ◌+◌, ◌-◌, ◌^◌, ◌≤�
 use Rattle.std.specs.Borrow.{GName}
 use Rattle.speedy_base.specs.declared.error.ErrorKind.TheVariants as kinds
 use Rattle.speedy_base.specs.Device.{SinkState, SinkKept}
-use Rattle.speedy_base.specs.Devices.{no_faults}
+use Rattle.speedy_base.specs.MemoryDevices.{no_faults}
 use Rattle.speedy_base.specs.Encoding.{Encoding}
 use Rattle.speedy_write.specs.Writing.{WriterState}
 

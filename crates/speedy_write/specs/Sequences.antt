@@ -2,16 +2,15 @@
 use Rattle.std.specs.Prelude.{◌≡◌, ℕ, zero, ◌+◌, List, [], ◌++◌, length, Option, Some, None, Result, Ok, Err, IsErrAnd, refl, Bool}
 use Rattle.std.proofs.Common.{sym, ◌∙◌, ap, subst, arith, inl, inr}
 use Rattle.std.proofs.lemmas.List.{append_assoc, length-append}
-use Rattle.std.proofs.lemmas.Result.{err_from_is_err_and}
 use Rattle.speedy_base.specs.declared.error.ErrorKind.{ErrorKind}
 use Rattle.speedy_base.specs.declared.error.Error.{Error}
 use Rattle.speedy_base.specs.DeviceLemmas.{fault_after}
 use Rattle.speedy_base.specs.Encoding.{Encoding}
-use Rattle.speedy_base.specs.Error.{error_of, IsNamed-more}
+use Rattle.speedy_base.specs.Error.{error_of, IsNamed-more, passed_on}
 use Rattle.speedy_base.specs.FailedCalls.{IsOfFault}
-use Rattle.speedy_layout.specs.Format.{Format, Parts}
+use Rattle.speedy_layout.specs.Format.{Format, Parts, Asks}
 use Rattle.speedy_layout.specs.Laws.{Laws}
-use Rattle.speedy_layout.specs.Sequences.{Asks, sequence}
+use Rattle.speedy_layout.specs.Sequences.{sequence}
 use Rattle.speedy_layout.specs.Tuples.{unit}
 use Rattle.speedy_write.specs.Writing.{WriterKind, WriterState, IsOutOfRange, Fits, less, Kept, Put, Writes, WritesBytes}
 
@@ -61,7 +60,8 @@ pub Kept-same : (a : WriterState) → Kept a a
 Kept-same a = record { fixed = refl; encoding = refl; faults = omega arith; waits = λ settled. settled }
 
 -- what was put is said in other words
-pub Put-as : {writes other appended : List ℕ → Type 0} {old new : WriterState} → ((b : List ℕ) → writes b → other b) → Put writes old new appended → Put other old new appended
+pub Put-as : {writes other appended : List ℕ → Type 0} {old new : WriterState} → ((b : List ℕ) → writes b → other b)
+    → Put writes old new appended → Put other old new appended
 Put-as f p = record { bytes = p.bytes; is_written = f p.bytes p.is_written; is_appended = p.is_appended; fits = p.fits; space = p.space; no_fault = p.no_fault }
 
 -- nothing was put
@@ -69,7 +69,9 @@ pub Put-nothing : {appended : List ℕ → Type 0} (old : WriterState) → appen
 Put-nothing old h = record { bytes = []; is_written = refl; is_appended = h; fits = fits_nothing old.space; space = less_nothing old.space; no_fault = refl }
 
 -- one part was put after the other
-pub Put-both : {first second front back whole : List ℕ → Type 0} {old mid new : WriterState} → ((a b : List ℕ) → front a → back b → whole (a ++ b)) → Put first old mid front → Put second mid new back → Put (Parts first second) old new whole
+pub Put-both : {first second front back whole : List ℕ → Type 0} {old mid new : WriterState}
+    → ((a b : List ℕ) → front a → back b → whole (a ++ b)) → Put first old mid front → Put second mid new back
+    → Put (Parts first second) old new whole
 Put-both {old = old} join p q =
     let l = length-append p.bytes q.bytes in
     record {
@@ -82,7 +84,8 @@ Put-both {old = old} join p q =
     }
 
 -- the written forms of a value have one length
-pub one_length : {V : Type 0} {strict : Bool} {least : ℕ} {F : Format V} → Laws strict least F → (v : V) (a b : List ℕ) → F.writes v a → F.writes v b → length a ≡ length b
+pub one_length : {V : Type 0} {strict : Bool} {least : ℕ} {F : Format V} → Laws strict least F → (v : V) (a b : List ℕ) → F.writes v a
+    → F.writes v b → length a ≡ length b
 one_length laws v a b h k =
     let l = laws.shortest v a b h (laws.written_spells v b k) in
     let m = laws.shortest v b a k (laws.written_spells v a h) in
@@ -90,14 +93,19 @@ one_length laws v a b h k =
 
 -- ---- the same write in other words
 
-IsOutOfRange-more : {E : Type 0} (gives : Error → E → Type 0) {names more : ErrorKind → Type 0} (e : E) → ((kind : ErrorKind) → names kind → more kind) → IsOutOfRange gives names e → IsOutOfRange gives more e
+IsOutOfRange-more : {E : Type 0} (gives : Error → E → Type 0) {names more : ErrorKind → Type 0} (e : E)
+    → ((kind : ErrorKind) → names kind → more kind) → IsOutOfRange gives names e → IsOutOfRange gives more e
 IsOutOfRange-more gives e n (inl h) = inl h
 IsOutOfRange-more gives e n (inr h) = inr (IsNamed-more gives e n h)
 
 module _ {E : Type 0} {gives : Error → E → Type 0} {U V : Type 0} {F : Encoding → Format U} {G : Encoding → Format V} {u : U} {v : V} {old new : WriterState} {appended : List ℕ → Type 0} where
-  -- Between two formats: the written forms of the one are among those of the other, which are as long as one of these, and what the other spells the one spells too.
-  pub Writes-as : {result : Result (Unit {0}) E} → ((kind : ErrorKind) → (F old.encoding).refuses_writing kind → (G old.encoding).refuses_writing kind) → ((b : List ℕ) → (F old.encoding).writes u b → (G old.encoding).writes v b)
-      → ((b : List ℕ) → (G old.encoding).writes v b → (d : List ℕ) × (F old.encoding).writes u d × (length d ≡ length b)) → ((b : List ℕ) → (G old.encoding).spells v b → (d : List ℕ) × (F old.encoding).spells u d)
+  -- Between two formats: the written forms of the one are among those of the other, which are as long as one of these,
+  -- and what the other spells the one spells too.
+  pub Writes-as : {result : Result (Unit {0}) E}
+      → ((kind : ErrorKind) → (F old.encoding).refuses_writing kind → (G old.encoding).refuses_writing kind)
+      → ((b : List ℕ) → (F old.encoding).writes u b → (G old.encoding).writes v b)
+      → ((b : List ℕ) → (G old.encoding).writes v b → (d : List ℕ) × (F old.encoding).writes u d × (length d ≡ length b))
+      → ((b : List ℕ) → (G old.encoding).spells v b → (d : List ℕ) × (F old.encoding).spells u d)
       → Writes gives F u result old new appended → Writes gives G v result old new appended
   Writes-as {result = Ok _} n f g h w = record { kept = w.kept; answer = Put-as f w.answer }
   Writes-as {result = Err e} n f g h w = record {
@@ -118,42 +126,45 @@ module _ {E : Type 0} {gives : Error → E → Type 0} {U V : Type 0} {F : Encod
 
 module _ {E : Type 0} {gives : Error → E → Type 0} {V : Type 0} {F : Encoding → Format V} {v : V} {result : Result (Unit {0}) E} {old new : WriterState} {appended : List ℕ → Type 0} where
   -- the bytes of a written form are written as the value is
-  pub form_written : {least : ℕ} {bytes : List ℕ} → ((encoding : Encoding) → Laws encoding.strict least (F encoding)) → (F old.encoding).writes v bytes → WritesBytes gives bytes result old new appended → Writes gives F v result old new appended
+  pub form_written : {least : ℕ} {bytes : List ℕ} → ((encoding : Encoding) → Laws encoding.strict least (F encoding))
+      → (F old.encoding).writes v bytes → WritesBytes gives bytes result old new appended → Writes gives F v result old new appended
   form_written {bytes = bytes} laws written =
       Writes-as (λ _ k. absurd k) (λ b e. subst ((F old.encoding).writes v) (sym e) written) (λ b k. (bytes, refl, one_length (laws old.encoding) v bytes b written k)) (λ _ _. (bytes, refl))
 
   -- an encoding that was kept
-  pub Writes-at : {before : WriterState} → Kept before old → Writes gives F v result old new appended → Writes gives (λ _. F before.encoding) v result old new appended
+  pub Writes-at : {before : WriterState} → Kept before old → Writes gives F v result old new appended
+      → Writes gives (λ _. F before.encoding) v result old new appended
   Writes-at k w =
       let here : Writes gives (λ _. F old.encoding) v result old new appended = record { kept = w.kept; answer = w.answer } in
       subst (λ (e : Encoding). Writes gives (λ _. F e) v result old new appended) k.encoding here
 
 -- no bytes are written
-pub unit_written : {E : Type 0} {gives : Error → E → Type 0} {old : WriterState} {appended : List ℕ → Type 0} → appended [] → Writes gives (λ _. unit) tt (Ok tt) old old appended
+pub unit_written : {E : Type 0} {gives : Error → E → Type 0} {old : WriterState} {appended : List ℕ → Type 0} → appended []
+    → Writes gives (λ _. unit) tt (Ok tt) old old appended
 unfolding unit
 unit_written {old = old} h = record { kept = Kept-same old; answer = Put-nothing old h }
 
 -- ---- one part after another
 
--- a refusal that is passed on as it is
-pub passed_on : {E : Type 0} (result : Result (Unit {0}) E) (e : E) → IsErrAnd result (λ x. x ≡ e) → Err e ≡ result
-passed_on result e h = let p = err_from_is_err_and result h in sym (p.1 ∙ ap Err p.2)
-
 -- a format that is one part after another, under each encoding
 pub record IsSequence {U V : Type 0} {W : U → Type 0} (split : V → (u : U) × W u) (F : Encoding → Format U) (asks : Encoding → Asks) (G : Encoding → (u : U) → Format (W u)) (H : Encoding → Format V) : Type 1 where
   pub is : (encoding : Encoding) → H encoding ≡ sequence split (F encoding) (asks encoding) (G encoding)
 
-pub is_sequence : {U V : Type 0} {W : U → Type 0} {split : V → (u : U) × W u} {F : Encoding → Format U} {asks : Encoding → Asks} {G : Encoding → (u : U) → Format (W u)} → IsSequence split F asks G (λ encoding. sequence split (F encoding) (asks encoding) (G encoding))
+pub is_sequence : {U V : Type 0} {W : U → Type 0} {split : V → (u : U) × W u} {F : Encoding → Format U} {asks : Encoding → Asks} {G : Encoding → (u : U) → Format (W u)}
+    → IsSequence split F asks G (λ encoding. sequence split (F encoding) (asks encoding) (G encoding))
 is_sequence = record { is = λ _. refl }
 
 module _ {E : Type 0} {gives : Error → E → Type 0} {U V : Type 0} {W : U → Type 0} {split : V → (u : U) × W u} {F : Encoding → Format U} {asks : Encoding → Asks} {G : Encoding → (u : U) → Format (W u)} {H : Encoding → Format V} {v : V} (sequenced : IsSequence split F asks G H) where
   -- the format is the sequence
-  restated : {result : Result (Unit {0}) E} {old new : WriterState} {appended : List ℕ → Type 0} → Writes gives (λ _. sequence split (F old.encoding) (asks old.encoding) (G old.encoding)) v result old new appended → Writes gives H v result old new appended
+  restated : {result : Result (Unit {0}) E} {old new : WriterState} {appended : List ℕ → Type 0}
+      → Writes gives (λ _. sequence split (F old.encoding) (asks old.encoding) (G old.encoding)) v result old new appended
+      → Writes gives H v result old new appended
   restated {result = result} {old = old} {new = new} {appended = appended} w =
       let x = subst (λ (L : Format V). Writes gives (λ _. L) v result old new appended) (sym (sequenced.is old.encoding)) w in
       record { kept = x.kept; answer = x.answer }
 
-  refused : {e : E} {old new : WriterState} {appended : List ℕ → Type 0} → Writes gives F (split v).0 (Err e) old new appended → Writes gives (λ _. sequence split (F old.encoding) (asks old.encoding) (G old.encoding)) v (Err e) old new appended
+  refused : {e : E} {old new : WriterState} {appended : List ℕ → Type 0} → Writes gives F (split v).0 (Err e) old new appended
+      → Writes gives (λ _. sequence split (F old.encoding) (asks old.encoding) (G old.encoding)) v (Err e) old new appended
   unfolding sequence
   refused {e = e} {old = old} w = record {
     kept = w.kept;
@@ -179,7 +190,8 @@ module _ {E : Type 0} {gives : Error → E → Type 0} {U V : Type 0} {W : U →
   }
 
   module _ {old mid new : WriterState} {front back whole : List ℕ → Type 0} (one : (a b : List ℕ) → (F old.encoding).writes (split v).0 a → (F old.encoding).writes (split v).0 b → length a ≡ length b) (join : (a b : List ℕ) → front a → back b → whole (a ++ b)) (k : Kept old mid) (p : Put ((F old.encoding).writes (split v).0) old mid front) where
-    written : (result : Result (Unit {0}) E) → Writes gives (λ _. G old.encoding (split v).0) (split v).1 result mid new back → Writes gives (λ _. sequence split (F old.encoding) (asks old.encoding) (G old.encoding)) v result old new whole
+    written : (result : Result (Unit {0}) E) → Writes gives (λ _. G old.encoding (split v).0) (split v).1 result mid new back
+        → Writes gives (λ _. sequence split (F old.encoding) (asks old.encoding) (G old.encoding)) v result old new whole
     unfolding sequence
     written (Ok _) w = record { kept = Kept-after k w.kept; answer = Put-both join p w.answer }
     written (Err e) w = record {
@@ -212,14 +224,17 @@ module _ {E : Type 0} {gives : Error → E → Type 0} {U V : Type 0} {W : U →
 
   module _ {p : (u : U) × W u} (same : split v ≡ p) {old new : WriterState} where
     -- where the first part is refused, the whole is, as `?` passes the refusal on
-    pub first_refused : {e : E} {result : Result (Unit {0}) E} {appended : List ℕ → Type 0} → IsErrAnd result (λ x. x ≡ e) → Writes gives F p.0 (Err e) old new appended → Writes gives H v result old new appended
+    pub first_refused : {e : E} {result : Result (Unit {0}) E} {appended : List ℕ → Type 0} → IsErrAnd result (λ x. x ≡ e)
+        → Writes gives F p.0 (Err e) old new appended → Writes gives H v result old new appended
     first_refused {e = e} {result = result} {appended = appended} passed w =
         subst (λ (r : Result (Unit {0}) E). Writes gives H v r old new appended) (passed_on result e passed)
         (restated (refused (subst (λ (p : (u : U) × W u). Writes gives F p.0 (Err e) old new appended) (sym same) w)))
 
     -- once the first part is written, the whole is written as the second part is
-    pub second_written : {least : ℕ} {done : Unit {0}} {result : Result (Unit {0}) E} {mid : WriterState} {front back whole : List ℕ → Type 0} → ((encoding : Encoding) → Laws encoding.strict least (F encoding)) → ((a b : List ℕ) → front a → back b → whole (a ++ b))
-        → Writes gives F p.0 (Ok done) old mid front → Writes gives (λ encoding. G encoding p.0) p.1 result mid new back → Writes gives H v result old new whole
+    pub second_written : {least : ℕ} {done : Unit {0}} {result : Result (Unit {0}) E} {mid : WriterState} {front back whole : List ℕ → Type 0}
+        → ((encoding : Encoding) → Laws encoding.strict least (F encoding)) → ((a b : List ℕ) → front a → back b → whole (a ++ b))
+        → Writes gives F p.0 (Ok done) old mid front → Writes gives (λ encoding. G encoding p.0) p.1 result mid new back
+        → Writes gives H v result old new whole
     second_written {done = done} {result = result} {mid = mid} {front = front} {back = back} laws join h w =
         let first = subst (λ (p : (u : U) × W u). Writes gives F p.0 (Ok done) old mid front) (sym same) h in
         let second = subst (λ (p : (u : U) × W u). Writes gives (λ encoding. G encoding p.0) p.1 result mid new back) (sym same) w in

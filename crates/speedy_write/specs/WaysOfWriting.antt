@@ -40,7 +40,8 @@ module _ {E : Type 0} (gives : Error → E → Type 0) where
     -- a value whose written form fits is never refused
     pub fits : (bytes : List ℕ) → L.writes v bytes → length bytes < 2 ^ 64 - 1 → length bytes ≤ length old → IsOk result
     -- a shorter buffer is refused, with both sizes
-    pub too_small : (bytes : List ℕ) → L.writes v bytes → length bytes < 2 ^ 64 - 1 → length old < length bytes → IsErrAnd result (IsTooSmall (length old) (length bytes))
+    pub too_small : (bytes : List ℕ) → L.writes v bytes → length bytes < 2 ^ 64 - 1 → length old < length bytes
+        → IsErrAnd result (IsTooSmall (length old) (length bytes))
     -- there is no other refusal than that one and that of a value that cannot be written
     pub refused : IfErr result (λ e. ((bytes : List ℕ) × L.writes v bytes × (length old < length bytes) × IsTooSmall (length old) (length bytes) e) ⊎ IsOutOfRange gives L.refuses_writing e)
     -- what is refused leaves the buffer as it was

@@ -93,13 +93,16 @@ module _ {E : Type 0} (gives : Error → E → Type 0) where
     -- a call of the device failed, and where the writer tells which, one alone did, and the refusal is its error; or no call failed
     pub because : IsOfFault gives old.fixed.tells_faults e old.faults new.faults ⊎ Unwritten F v e old new
 
-  -- The write of a value, in the format of the writer's encoding. What succeeds appends a written form that fits, and no call of the device failed. What is refused appends a beginning of one, where there is one; and either a call of the device failed, and this is its error where the writer tells it, or none failed and no written form fits.
+  -- The write of a value, in the format of the writer's encoding. What succeeds appends a written form that fits, and
+  -- no call of the device failed. What is refused appends a beginning of one, where there is one; and either a call of
+  -- the device failed, and this is its error where the writer tells it, or none failed and no written form fits.
   pub record Writes {V : Type 0} (F : Encoding → Format V) (v : V) (result : Result (Unit {0}) E) (old new : WriterState) (appended : List ℕ → Type 0) : Type 0 where
     pub kept : Kept old new
     pub answer : MatchResult result (λ _. Put ((F old.encoding).writes v) old new appended) (λ e. Refused (F old.encoding) v e old new appended)
 
   -- the write of items, seen as values of a format, one after the other
-  abbrev pub WritesEach : {A V : Type 0} → (Encoding → Format V) → (A → V) → List A → Result (Unit {0}) E → WriterState → WriterState → (List ℕ → Type 0) → Type 0
+  abbrev pub WritesEach : {A V : Type 0} → (Encoding → Format V) → (A → V) → List A → Result (Unit {0}) E → WriterState → WriterState
+      → (List ℕ → Type 0) → Type 0
   WritesEach F seen items = Writes (λ encoding. repeat (length items) (F encoding)) (map seen items)
 
   -- the write of these bytes

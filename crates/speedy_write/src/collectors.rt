@@ -23,16 +23,16 @@ pub struct BufferCollector<'a, C> {
 }
 
 impl<'a, C> BufferCollector<'a, C> {
-    ghost use Rattle.speedy_write.specs.CollectorViews.{buffer_view};
+    ghost use Rattle.speedy_write.specs.CollectorModels.{buffer_model};
 
     /// Has the whole buffer ahead.
     #[inline]
     pub fn new(context: &'a mut C, buffer: &'a mut [u8]) -> BufferCollector<'a, C>
-        ensures same_context { (buffer_view result).context_name ≡ context.entry.ghost_name }
-        ensures context { (buffer_view result).context ≡ context.old }
-        ensures same_buffer { (buffer_view result).buffer_name ≡ buffer.entry.ghost_name }
-        ensures buffer { (buffer_view result).buffer ≡ buffer.old }
-        ensures position { (buffer_view result).position ≡ 0 }
+        ensures same_context { (buffer_model result).context_name ≡ context.entry.ghost_name }
+        ensures context { (buffer_model result).context ≡ context.old }
+        ensures same_buffer { (buffer_model result).buffer_name ≡ buffer.entry.ghost_name }
+        ensures buffer { (buffer_model result).buffer ≡ buffer.old }
+        ensures position { (buffer_model result).position ≡ 0 }
     {
         BufferCollector {
             context,
@@ -44,9 +44,9 @@ impl<'a, C> BufferCollector<'a, C> {
     /// Gives the context and the buffer back, and says how many bytes were written.
     #[inline]
     pub fn finish(self) -> usize
-        ensures position { result ≡ (buffer_view self.entry).position }
-        ensures context { self.exit.0.now ≡ (buffer_view self.entry).context }
-        ensures buffer { self.exit.1.0.now ≡ (buffer_view self.entry).buffer }
+        ensures position { result ≡ (buffer_model self.entry).position }
+        ensures context { self.exit.0.now ≡ (buffer_model self.entry).context }
+        ensures buffer { self.exit.1.0.now ≡ (buffer_model self.entry).buffer }
     {
         self.position
     }
@@ -119,14 +119,14 @@ pub struct WritingCollector<'s, S, C> {
 }
 
 impl<'s, S, C: Drop> WritingCollector<'s, S, C> {
-    ghost use Rattle.speedy_write.specs.CollectorViews.{writing_view};
+    ghost use Rattle.speedy_write.specs.CollectorModels.{writing_model};
 
     /// Goes on behind what the sink took. Memory is asked for where a push fails, for its error.
     #[inline]
     pub fn new(alloc: Global, context: C, sink: &'s mut S) -> WritingCollector<'s, S, C>
-        ensures context { (writing_view result).context ≡ context }
-        ensures same_sink { (writing_view result).sink_name ≡ sink.entry.ghost_name }
-        ensures sink { (writing_view result).sink ≡ sink.old }
+        ensures context { (writing_model result).context ≡ context }
+        ensures same_sink { (writing_model result).sink_name ≡ sink.entry.ghost_name }
+        ensures sink { (writing_model result).sink ≡ sink.old }
     {
         WritingCollector {
             alloc,
@@ -138,8 +138,8 @@ impl<'s, S, C: Drop> WritingCollector<'s, S, C> {
     /// The sink, with all that was written. It was not flushed.
     #[inline]
     pub fn into_sink(self) -> &'s mut S
-        ensures same_sink { result.ghost_name ≡ (writing_view self.entry).sink_name }
-        ensures sink { result.now ≡ (writing_view self.entry).sink }
+        ensures same_sink { result.ghost_name ≡ (writing_model self.entry).sink_name }
+        ensures sink { result.now ≡ (writing_model self.entry).sink }
     {
         self.sink
     }
@@ -233,14 +233,14 @@ pub struct SizeCalculatorCollector<'a, C> {
 }
 
 impl<'a, C> SizeCalculatorCollector<'a, C> {
-    ghost use Rattle.speedy_write.specs.CollectorViews.{size_view};
+    ghost use Rattle.speedy_write.specs.CollectorModels.{size_model};
 
     /// Starts at zero.
     #[inline]
     pub fn new(context: &'a mut C) -> SizeCalculatorCollector<'a, C>
-        ensures same_context { (size_view result).context_name ≡ context.entry.ghost_name }
-        ensures context { (size_view result).context ≡ context.old }
-        ensures size { (size_view result).size ≡ 0 }
+        ensures same_context { (size_model result).context_name ≡ context.entry.ghost_name }
+        ensures context { (size_model result).context ≡ context.old }
+        ensures size { (size_model result).size ≡ 0 }
     {
         SizeCalculatorCollector { context, size: 0 }
     }
@@ -248,8 +248,8 @@ impl<'a, C> SizeCalculatorCollector<'a, C> {
     /// Gives the context back, and says how many bytes were counted.
     #[inline]
     pub fn finish(self) -> usize
-        ensures context { self.exit.0.now ≡ (size_view self.entry).context }
-        ensures size { result ≡ (size_view self.entry).size }
+        ensures context { self.exit.0.now ≡ (size_model self.entry).context }
+        ensures size { result ≡ (size_model self.entry).size }
     {
         self.size
     }

@@ -2,7 +2,7 @@
 ghost use Rattle.std.specs.Prelude.{◌≡◌, ◌++◌, ℕ, List, length as count, map, IsTrue, IfOk, OnOk};
 ghost use Rattle.speedy.specs.Encoding.{plain_encoding, strict_encoding};
 ghost use Rattle.speedy.specs.Format.{Each};
-ghost use Rattle.speedy.specs.Reading.{Counts};
+ghost use Rattle.speedy.specs.WaysOfReading.{Counts};
 
 use speedy::laws::{written_form_alone, written_is_answered, written_items_are_read};
 use speedy::{

@@ -1,6 +1,5 @@
 use Rattle.std.specs.Prelude.{◌≡◌}
 use Rattle.std.proofs.Common.{sym, ◌∙◌, arith}
-use Rattle.speedy_read.specs.Exits.{exit_is}
 use Rattle.speedy_read.specs.ReadingLemmas.{Kept-after}
 use Rattle.speedy_read.proofs.CollectionLemmas.{none_gathered, one_gathered, item_not_written, next_refused, room_refused, all_gathered, on_success}
 use Rattle.speedy_read.proofs.collections.collect_written.Goals as goal
@@ -11,8 +10,8 @@ loop-i-init g c = none_gathered c.empty-items.ensures g.met.F.FromItems.none_wri
 pub returns-in_err-item : goal.returns-in_err-item
 returns-in_err-item g c =
     let so_far = c.loop-i.invariant in
-    rw (exit_is c.from_residual.result c.from_residual.ensures.1)
-    (next_refused {new = g.R.LendingReader.state c.read_from.new.reader} so_far (g.met.T.Layout.layout_laws _) (let t = c.loop-i-test.true in omega arith) (rw so_far.kept.encoding at c.in_err-item.ensures))
+    next_refused {new = g.R.LendingReader.state c.read_from.new.reader} so_far (g.met.T.Layout.layout_laws _) (let t = c.loop-i-test.true in omega arith) c.from_residual.ensures.1
+    (rw so_far.kept.encoding at c.in_err-item.ensures)
 
 pub returns-then-is_err : goal.returns-then-is_err
 returns-then-is_err g c = room_refused _ (Kept-after c.loop-i.invariant.kept c.in_ok-item.ensures.kept) (c.in_ok-item.ensures.answer.no_fault ∙ c.loop-i.invariant.so_far.got.no_fault) c.error_out_of_memory.ensures

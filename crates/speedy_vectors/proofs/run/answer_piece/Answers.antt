@@ -1,6 +1,6 @@
-use Rattle.std.proofs.Common.{◌≡◌, ◌++◌, rules}
+use Rattle.std.proofs.Common.{◌≡◌, ◌++◌, rules, sym}
 use Rattle.std.proofs.lemmas.Result.{err_from_is_err_and}
-use Rattle.speedy.specs.Exits.{exit_is}
+use Rattle.speedy.specs.Error.{passed_on}
 use Rattle.speedy_vectors.proofs.RunLemmas.{none_of_piece, more_of_piece, fewer_of_piece, all_of_piece, waits_after_piece, line_failed, memory_failed}
 use Rattle.speedy_vectors.proofs.run.answer_piece.Goals as goal
 
@@ -30,5 +30,5 @@ returns-in_err-extend_from_slice g c =
 
 pub returns-in_err-answer_waiting : goal.returns-in_err-answer_waiting
 returns-in_err-answer_waiting g c =
-    rw (exit_is c.from_residual.result c.from_residual.ensures.1)
+    rw (sym (passed_on c.from_residual.result _ c.from_residual.ensures.1))
     (record { waits = tt; answers = λ more. line_failed _ _ _ _ _ _ _ _ _ c.loop-line.invariant c.in-Some.ensures _ _ more c.in_err-answer_waiting.ensures.answers })

@@ -2,7 +2,7 @@ use Rattle.std.proofs.Common.{◌≡◌, ◌++◌, ◌∙◌, [], List, ℕ, ap,
 use Rattle.std.proofs.lemmas.Bool.{eqb-true}
 use Rattle.std.proofs.lemmas.List.{nil_from_length}
 use Rattle.std.proofs.lemmas.Result.{err_from_is_err_and}
-use Rattle.speedy.specs.Exits.{exit_is}
+use Rattle.speedy.specs.Error.{passed_on}
 use Rattle.speedy_vectors.proofs.RunLemmas.{whole_line, nothing_waits, no_memory_at_first}
 use Rattle.speedy_vectors.proofs.run.answer_waiting.Goals as goal
 
@@ -30,5 +30,5 @@ pub returns-in_err-push_answer : goal.returns-in_err-push_answer
 returns-in_err-push_answer g c =
     let is : c.deref.result.now ≡ c.extend_from_slice.new.self.items = search rules in
     let longer : c.extend_from_slice.new.self.items ≡ c.args.pending.now.items ++ c.args.line.now = search rules in
-    rw (exit_is c.from_residual-in_err-push_answer.result c.from_residual-in_err-push_answer.ensures.1)
+    rw (sym (passed_on c.from_residual-in_err-push_answer.result _ c.from_residual-in_err-push_answer.ensures.1))
     (record { waits = tt; answers = whole_line _ _ _ _ _ (is ∙ longer) c.in_err-push_answer.ensures })

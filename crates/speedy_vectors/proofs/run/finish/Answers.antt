@@ -1,10 +1,11 @@
-use Rattle.speedy.specs.Exits.{exit_is}
+use Rattle.std.proofs.Common.{sym}
+use Rattle.speedy.specs.Error.{passed_on}
 use Rattle.speedy_vectors.proofs.RunLemmas.{not_empty, is_empty, last_failed, last_answered, nothing_left}
 use Rattle.speedy_vectors.proofs.run.finish.Goals as goal
 
 pub returns-in_err-push_answer : goal.returns-in_err-push_answer
 returns-in_err-push_answer g c =
-    rw (exit_is c.from_residual.result c.from_residual.ensures.1)
+    rw (sym (passed_on c.from_residual.result _ c.from_residual.ensures.1))
     (record { answers = last_failed _ _ _ _ c.requires (not_empty _ c.if-is_empty.ensures) c.in_err-push_answer.ensures; settled = tt })
 
 pub returns : goal.returns

@@ -1,5 +1,5 @@
-use Rattle.std.proofs.Common.{◌<◌, length, refl, arith}
-use Rattle.speedy.specs.Exits.{exit_is}
+use Rattle.std.proofs.Common.{◌<◌, length, refl, arith, sym}
+use Rattle.speedy.specs.Error.{passed_on}
 use Rattle.speedy_vectors.proofs.RunLemmas.{none_run, more_run, piece_failed, input_ended, pull_failed, too_long}
 use Rattle.speedy_vectors.proofs.run.run.Goals as goal
 
@@ -24,5 +24,5 @@ returns-then-count-eq0 g c =
 
 pub returns-in_err-answer_piece : goal.returns-in_err-answer_piece
 returns-in_err-answer_piece g c =
-    rw (exit_is c.from_residual.result c.from_residual.ensures.1)
+    rw (sym (passed_on c.from_residual.result _ c.from_residual.ensures.1))
     (piece_failed _ _ _ _ _ _ _ _ c.loop-i.invariant _ _ _ c.in-Ok.ensures refl _ _ c.in_err-answer_piece.ensures.answers)

@@ -1,18 +1,18 @@
 use Rattle.std.proofs.Common.{[], ◌∷◌, refl, ap, arith}
-use Rattle.speedy_write.specs.CollectorViews.{buffer_view}
+use Rattle.speedy_write.specs.CollectorModels.{buffer_model}
 use Rattle.speedy_write.proofs.FillLemmas.{fill_succeeds, fill_stands}
 use Rattle.speedy_write.proofs.writable.fill.Goals as goal
 
 pub returns-clause-succeeds : goal.returns-clause-succeeds
 returns-clause-succeeds g c =
     let made = c.new-collector.ensures in
-    let view = buffer_view c.new-collector.result in
+    let view = buffer_model c.new-collector.result in
     fill_succeeds {targets = view.context_name ∷ view.buffer_name ∷ []} (ap g.C.Context.encoding made.context) made.buffer made.position _ c.write_to-outcome.result c.requires.1 c.requires.2 refl c.write_to-outcome.ensures
 
 pub returns-clause-stands : goal.returns-clause-stands
 returns-clause-stands g c =
     let made = c.new-collector.ensures in
-    let view = buffer_view c.new-collector.result in
+    let view = buffer_model c.new-collector.result in
     let fixed = c.write_to-outcome.ensures.kept.fixed in
     let same_name = made.same_buffer in
     let finished = c.finish.ensures.buffer in

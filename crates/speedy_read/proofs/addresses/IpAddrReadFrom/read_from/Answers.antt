@@ -4,7 +4,6 @@ use Rattle.speedy_layout.specs.Numbers.{unsigned_number_laws}
 use Rattle.speedy_layout.specs.Addresses.{address_tag_number, address_tag_code, address_tag_laws}
 use Rattle.speedy_read.specs.Sequences.{refused_first, refused_second, got_both}
 use Rattle.speedy_read.specs.Codes.{code_refused, code_read, code_means_nothing}
-use Rattle.speedy_read.specs.Exits.{exit_is}
 use Rattle.speedy_read.proofs.AddressLemmas.{ip_address_composes}
 use Rattle.speedy_read.proofs.addresses.IpAddrReadFrom.read_from.Goals as goal
 
@@ -14,19 +13,18 @@ neither n false e h k = h e
 
 pub returns-in_err-tag : goal.returns-in_err-tag
 returns-in_err-tag g c =
-    rw (exit_is c.from_residual.result c.from_residual.ensures.1)
-    (refused_first (ip_address_composes _) {seen = λ (b : Bool). b} (code_refused _ address_tag_code c.in_err-tag.ensures))
+    refused_first (ip_address_composes _) {seen = λ (b : Bool). b} c.from_residual.ensures.1 (code_refused _ address_tag_code refl c.in_err-tag.ensures)
 
 pub returns-in_default : goal.returns-in_default
 returns-in_default g c =
-    refused_first (ip_address_composes _) {seen = λ (b : Bool). b}
+    refused_first (ip_address_composes _) {seen = λ (b : Bool). b} refl
     (code_means_nothing _ address_tag_code (unsigned_number_laws 1 _) (λ _ h. h) (λ is_long h. neither _ is_long h (λ e. omega arith) (λ e. omega arith)) (kinds.InvalidEnumVariant, refl, c.error_invalid_enum_variant.ensures) c.in_ok-tag.ensures)
 
 pub returns-in_err-short-in-0 : goal.returns-in_err-short-in-0
 returns-in_err-short-in-0 g c =
     let tag = code_read _ address_tag_code {view = λ (b : Bool). b} {y = false} c.in-0.is (λ _. c.in-0.is) c.in_ok-tag.ensures in
-    rw (exit_is c.from_residual-in_err-short-in-0.result c.from_residual-in_err-short-in-0.ensures.1)
-    (refused_second (ip_address_composes _) (address_tag_laws _) tag (rw tag.kept.encoding at c.in_err-short-in-0.ensures))
+    refused_second (ip_address_composes _) (address_tag_laws _) tag c.from_residual-in_err-short-in-0.ensures.1
+    (rw tag.kept.encoding at c.in_err-short-in-0.ensures)
 
 pub returns-in_ok-short-in-0 : goal.returns-in_ok-short-in-0
 returns-in_ok-short-in-0 g c =
@@ -36,8 +34,8 @@ returns-in_ok-short-in-0 g c =
 pub returns-in_err-long-in-1 : goal.returns-in_err-long-in-1
 returns-in_err-long-in-1 g c =
     let tag = code_read _ address_tag_code {view = λ (b : Bool). b} {y = true} c.in-1.is (λ _. c.in-1.is) c.in_ok-tag.ensures in
-    rw (exit_is c.from_residual-in_err-long-in-1.result c.from_residual-in_err-long-in-1.ensures.1)
-    (refused_second (ip_address_composes _) (address_tag_laws _) tag (rw tag.kept.encoding at c.in_err-long-in-1.ensures))
+    refused_second (ip_address_composes _) (address_tag_laws _) tag c.from_residual-in_err-long-in-1.ensures.1
+    (rw tag.kept.encoding at c.in_err-long-in-1.ensures)
 
 pub returns-in_ok-long-in-1 : goal.returns-in_ok-long-in-1
 returns-in_ok-long-in-1 g c =

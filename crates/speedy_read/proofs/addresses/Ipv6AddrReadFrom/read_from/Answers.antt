@@ -4,11 +4,10 @@ use Rattle.speedy_base.specs.declared.endianness.Endianness.TheVariants.{BigEndi
 use Rattle.speedy_base.specs.Digits.{SpellsNumber}
 use Rattle.speedy_layout.specs.Addresses.{octets_of-segments_of}
 use Rattle.speedy_read.specs.Codes.{code_refused, exact_code_read}
-use Rattle.speedy_read.specs.Exits.{exit_is}
 use Rattle.speedy_read.proofs.addresses.Ipv6AddrReadFrom.read_from.Goals as goal
 
 pub returns-in_err-number : goal.returns-in_err-number
-returns-in_err-number g c = rw (exit_is c.from_residual.result c.from_residual.ensures.1) (code_refused _ _ c.in_err-number.ensures)
+returns-in_err-number g c = code_refused _ _ c.from_residual.ensures.1 c.in_err-number.ensures
 
 pub returns : goal.returns
 returns g c =

@@ -1,6 +1,6 @@
 use Rattle.std.proofs.Common.{◌∙◌, ap, refl}
 use Rattle.std.specs.Ordering.{is_lt}
-use Rattle.speedy_layout.specs.SeenKeys.{cmp_tells_apart}
+use Rattle.speedy_layout.specs.SeenItems.{cmp_tells_apart}
 use Rattle.speedy_layout.specs.Adding.{tree_map_accepts, tree_map_accepts_first}
 use Rattle.speedy_read.proofs.collections.BTreeMapFromItemsTuple2.accepts.Goals as goal
 

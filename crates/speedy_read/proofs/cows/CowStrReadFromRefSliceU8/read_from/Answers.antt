@@ -3,18 +3,17 @@ use Rattle.std.proofs.lemmas.List.{map-id}
 use Rattle.speedy_layout.specs.Numbers.{unsigned_number_laws}
 use Rattle.speedy_read.specs.Codes.{refused_covered}
 use Rattle.speedy_read.specs.Sequences.{refused_first, refused_second, second_decides}
-use Rattle.speedy_read.specs.Exits.{exit_is}
 use Rattle.speedy_read.proofs.TextLemmas.{text_composes, bytes_cover_text, text_decides}
 use Rattle.speedy_read.proofs.cows.CowStrReadFromRefSliceU8.read_from.Goals as goal
 
 pub returns-in_err-length : goal.returns-in_err-length
-returns-in_err-length g c = rw (exit_is c.from_residual.result c.from_residual.ensures.1) (refused_first (text_composes _) c.in_err-length.ensures)
+returns-in_err-length g c = refused_first (text_composes _) c.from_residual.ensures.1 c.in_err-length.ensures
 
 pub returns-in_err-bytes : goal.returns-in_err-bytes
 returns-in_err-bytes g c =
     let number = c.in_ok-length.ensures in
-    rw (exit_is c.from_residual-in_err-bytes.result c.from_residual-in_err-bytes.ensures.1)
-    (refused_second (text_composes _) (unsigned_number_laws 4 _) {A = List ℕ} {seen = λ t. t} number (refused_covered (bytes_cover_text _ _) (rw number.kept.encoding at c.in_err-bytes.ensures.reads)))
+    refused_second (text_composes _) (unsigned_number_laws 4 _) {A = List ℕ} {seen = λ t. t} number c.from_residual-in_err-bytes.ensures.1
+    (refused_covered (bytes_cover_text _ _) refl (rw number.kept.encoding at c.in_err-bytes.ensures.reads))
 
 pub returns : goal.returns
 returns g c =

@@ -3,13 +3,12 @@ use Rattle.speedy_layout.specs.Numbers.{unsigned_number_laws}
 use Rattle.speedy_layout.specs.Flags.{flag_code, flag_reads_wider, written_flag}
 use Rattle.speedy_read.specs.Codes.{code_refused, code_read, code_not_written, demanded, not_demanded}
 use Rattle.speedy_read.specs.Flags.{number_is_flag, number_is_written_flag, not_written_flag}
-use Rattle.speedy_read.specs.Exits.{exit_is}
 use Rattle.speedy_read.proofs.flags.BoolReadFrom.read_from.Given.{Over}
 use Rattle.speedy_read.proofs.flags.BoolReadFrom.read_from.Goals as goal
 use Rattle.speedy_read.proofs.flags.BoolReadFrom.read_from.Goals.{else-not-is_written-via-then-not-is_written+else-demands_written_form, else-not-is_written-via-else-not-is_written}
 
 pub returns-in_err-number : goal.returns-in_err-number
-returns-in_err-number g c = rw (exit_is c.from_residual.result c.from_residual.ensures.1) (code_refused _ flag_code c.in_err-number.ensures)
+returns-in_err-number g c = code_refused _ flag_code c.from_residual.ensures.1 c.in_err-number.ensures
 
 pub returns-then-demands_written_form : goal.returns-then-demands_written_form
 returns-then-demands_written_form g c =

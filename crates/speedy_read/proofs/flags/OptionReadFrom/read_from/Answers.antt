@@ -2,11 +2,10 @@ use Rattle.std.proofs.Common.{refl}
 use Rattle.speedy_layout.specs.Flags.{flag_laws}
 use Rattle.speedy_read.specs.Sequences.{refused_first, refused_second, got_both}
 use Rattle.speedy_read.specs.Flags.{option_composes, unit_read}
-use Rattle.speedy_read.specs.Exits.{exit_is}
 use Rattle.speedy_read.proofs.flags.OptionReadFrom.read_from.Goals as goal
 
 pub returns-in_err-is_some : goal.returns-in_err-is_some
-returns-in_err-is_some g c = rw (exit_is c.from_residual.result c.from_residual.ensures.1) (refused_first (option_composes _) c.in_err-is_some.ensures)
+returns-in_err-is_some g c = refused_first (option_composes _) c.from_residual.ensures.1 c.in_err-is_some.ensures
 
 pub returns-then-not-is_some : goal.returns-then-not-is_some
 returns-then-not-is_some g c =
@@ -16,8 +15,8 @@ returns-then-not-is_some g c =
 pub returns-in_err-value : goal.returns-in_err-value
 returns-in_err-value g c =
     let flag = c.in_ok-is_some.ensures in
-    rw (exit_is c.from_residual-in_err-value.result c.from_residual-in_err-value.ensures.1)
-    (refused_second (option_composes _) (flag_laws _) (rw c.if-not-is_some.false at flag) (rw flag.kept.encoding at c.in_err-value.ensures))
+    refused_second (option_composes _) (flag_laws _) (rw c.if-not-is_some.false at flag) c.from_residual-in_err-value.ensures.1
+    (rw flag.kept.encoding at c.in_err-value.ensures)
 
 pub returns : goal.returns
 returns g c =

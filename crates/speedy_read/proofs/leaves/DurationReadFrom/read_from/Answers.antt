@@ -3,13 +3,12 @@ use Rattle.std.proofs.Common.{refl, arith}
 use Rattle.speedy_base.specs.declared.error.ErrorKind.TheVariants as kinds
 use Rattle.speedy_layout.specs.Leaves.{duration_code, duration_reads_wider, seconds_and_nanos_laws}
 use Rattle.speedy_read.specs.Codes.{code_refused, code_read, code_means_nothing, code_not_written, demanded, not_demanded}
-use Rattle.speedy_read.specs.Exits.{exit_is}
 use Rattle.speedy_read.proofs.leaves.DurationReadFrom.read_from.Given.{Over}
 use Rattle.speedy_read.proofs.leaves.DurationReadFrom.read_from.Goals as goal
 use Rattle.speedy_read.proofs.leaves.DurationReadFrom.read_from.Goals.{else-not-is_written-via-then-not-is_written+else-demands_written_form, else-not-is_written-via-else-not-is_written}
 
 pub returns-in_err-seconds : goal.returns-in_err-seconds
-returns-in_err-seconds g c = rw (exit_is c.from_residual.result c.from_residual.ensures.1) (code_refused _ duration_code c.in_err-seconds.ensures)
+returns-in_err-seconds g c = code_refused _ duration_code c.from_residual.ensures.1 c.in_err-seconds.ensures
 
 pub returns-then-demands_written_form : goal.returns-then-demands_written_form
 returns-then-demands_written_form g c =

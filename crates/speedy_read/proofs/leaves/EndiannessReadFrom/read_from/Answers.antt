@@ -5,7 +5,6 @@ use Rattle.speedy_base.specs.declared.error.ErrorKind.TheVariants as kinds
 use Rattle.speedy_layout.specs.Leaves.{order_number}
 use Rattle.speedy_layout.specs.Numbers.{unsigned_number_laws}
 use Rattle.speedy_read.specs.Codes.{code_refused, exact_code_read, code_means_nothing}
-use Rattle.speedy_read.specs.Exits.{exit_is}
 use Rattle.speedy_read.proofs.leaves.EndiannessReadFrom.read_from.Goals as goal
 
 neither : (n : ℕ) (order : Endianness) → n ≡ order_number order → (n ≡ 0 → ⊥) → (n ≡ 1 → ⊥) → ⊥
@@ -13,7 +12,7 @@ neither n LittleEndian e h k = h e
 neither n BigEndian e h k = k e
 
 pub returns-in_err-read_u8 : goal.returns-in_err-read_u8
-returns-in_err-read_u8 g c = rw (exit_is c.from_residual.result c.from_residual.ensures.1) (code_refused _ _ c.in_err-read_u8.ensures)
+returns-in_err-read_u8 g c = code_refused _ _ c.from_residual.ensures.1 c.in_err-read_u8.ensures
 
 pub returns-in-0 : goal.returns-in-0
 returns-in-0 g c = exact_code_read _ _ _ c.in-0.is c.in_ok-read_u8.ensures

@@ -1,12 +1,11 @@
 use Rattle.std.proofs.Common.{◌∙◌}
 use Rattle.std.proofs.lemmas.List.{map-id}
-use Rattle.speedy_read.specs.Exits.{exit_is}
 use Rattle.speedy_read.proofs.LentLemmas.{slices_show, not_lent, lent_length, items_lent, items_not_lent}
 use Rattle.speedy_read.proofs.lists.RefArrayU8ReadFromRefSliceU8.read_from.Goals as goal
 
 pub returns-in_err-bytes-in-Some-clause-reads : goal.returns-in_err-bytes-in-Some-clause-reads
 returns-in_err-bytes-in-Some-clause-reads g c =
-    rw (exit_is c.from_residual.result c.from_residual.ensures.1) (items_not_lent _ _ (rw c.in_err-bytes-in-Some.was at c.in-Some.ensures.1))
+    items_not_lent _ _ c.from_residual.ensures.1 (rw c.in_err-bytes-in-Some.was at c.in-Some.ensures.1)
 
 pub unreachable-requires : goal.unreachable-requires
 unreachable-requires g c = c.in-Err.ensures.1 (lent_length (rw c.in_ok-bytes-in-Some.was at c.in-Some.ensures.1))

@@ -1,15 +1,15 @@
 use Rattle.std.proofs.Common.{false}
 use Rattle.speedy_layout.specs.Tuples.{pair_laws}
-use Rattle.speedy_layout.specs.SeenKeys.{IsLess}
+use Rattle.speedy_layout.specs.SeenItems.{IsLess}
 use Rattle.speedy_layout.specs.Maps.{by_key}
-use Rattle.speedy_layout.specs.CollectedMaps.{tree_map_collected}
+use Rattle.speedy_layout.specs.StdMaps.{tree_map_collected}
 use Rattle.speedy_layout.specs.Adding.{Ascends-first}
-use Rattle.speedy_read.specs.Exits.{exit_is}
 use Rattle.speedy_read.proofs.CollectionLemmas.{gatherer_code, collection_read, collection_refused}
 use Rattle.speedy_read.proofs.maps.BTreeMapReadFrom.read_from.Goals as goal
 
 pub returns-in_err-length : goal.returns-in_err-length
-returns-in_err-length g c = rw (exit_is c.from_residual.result c.from_residual.ensures.1) (collection_refused _ false (pair_laws (g.met.K.Layout.layout_laws _) (g.met.V.Layout.layout_laws _)) c.in_err-length.ensures)
+returns-in_err-length g c = collection_refused _ false (pair_laws (g.met.K.Layout.layout_laws _) (g.met.V.Layout.layout_laws _)) c.from_residual.ensures.1
+    c.in_err-length.ensures
 
 pub returns : goal.returns
 returns g c =

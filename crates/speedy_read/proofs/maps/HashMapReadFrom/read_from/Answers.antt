@@ -1,13 +1,13 @@
 use Rattle.std.proofs.Common.{true}
 use Rattle.speedy_layout.specs.Tuples.{pair_laws}
-use Rattle.speedy_layout.specs.CollectedMaps.{hash_map_collected}
+use Rattle.speedy_layout.specs.StdMaps.{hash_map_collected}
 use Rattle.speedy_layout.specs.Adding.{HasDistinctKeys-first}
-use Rattle.speedy_read.specs.Exits.{exit_is}
 use Rattle.speedy_read.proofs.CollectionLemmas.{gatherer_code, collection_read, collection_refused}
 use Rattle.speedy_read.proofs.maps.HashMapReadFrom.read_from.Goals as goal
 
 pub returns-in_err-length : goal.returns-in_err-length
-returns-in_err-length g c = rw (exit_is c.from_residual.result c.from_residual.ensures.1) (collection_refused _ true (pair_laws (g.met.K.Layout.layout_laws _) (g.met.V.Layout.layout_laws _)) c.in_err-length.ensures)
+returns-in_err-length g c = collection_refused _ true (pair_laws (g.met.K.Layout.layout_laws _) (g.met.V.Layout.layout_laws _)) c.from_residual.ensures.1
+    c.in_err-length.ensures
 
 pub returns : goal.returns
 returns g c =

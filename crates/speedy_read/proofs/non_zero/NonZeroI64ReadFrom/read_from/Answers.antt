@@ -1,11 +1,10 @@
 use Rattle.std.specs.Int.{w64}
 use Rattle.speedy_read.specs.Codes.{code_refused}
-use Rattle.speedy_read.specs.Exits.{exit_is}
 use Rattle.speedy_read.proofs.NonZeroLemmas.{signed_non_zero_read, signed_zero_refused}
 use Rattle.speedy_read.proofs.non_zero.NonZeroI64ReadFrom.read_from.Goals as goal
 
 pub returns-in_err-read_i64 : goal.returns-in_err-read_i64
-returns-in_err-read_i64 g c = rw (exit_is c.from_residual.result c.from_residual.ensures.1) (code_refused _ _ c.in_err-read_i64.ensures)
+returns-in_err-read_i64 g c = code_refused _ _ c.from_residual.ensures.1 c.in_err-read_i64.ensures
 
 pub returns-in-Some : goal.returns-in-Some
 returns-in-Some g c = signed_non_zero_read w64 c.in-Some.ensures c.in-Some.number.ok c.in_ok-read_i64.ensures

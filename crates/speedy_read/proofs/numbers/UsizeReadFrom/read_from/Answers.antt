@@ -2,11 +2,10 @@ use Rattle.std.proofs.Common.{refl, sym, arith}
 use Rattle.speedy_base.specs.declared.error.ErrorKind.TheVariants as kinds
 use Rattle.speedy_layout.specs.Numbers.{unsigned_number_laws}
 use Rattle.speedy_read.specs.Codes.{code_refused, exact_code_read, code_means_nothing}
-use Rattle.speedy_read.specs.Exits.{exit_is}
 use Rattle.speedy_read.proofs.numbers.UsizeReadFrom.read_from.Goals as goal
 
 pub returns-in_err-read_u64 : goal.returns-in_err-read_u64
-returns-in_err-read_u64 g c = rw (exit_is c.from_residual.result c.from_residual.ensures.1) (code_refused _ _ c.in_err-read_u64.ensures)
+returns-in_err-read_u64 g c = code_refused _ _ c.from_residual.ensures.1 c.in_err-read_u64.ensures
 
 pub returns-in-Ok : goal.returns-in-Ok
 returns-in-Ok g c =

@@ -2,19 +2,18 @@ use Rattle.std.specs.Prelude.{IsTrue, length}
 use Rattle.std.proofs.Common.{refl, ◌∙◌}
 use Rattle.speedy_layout.specs.Varint.{IsFewest}
 use Rattle.speedy_read.specs.Codes.{demanded, not_demanded}
-use Rattle.speedy_read.specs.Exits.{exit_is}
 use Rattle.speedy_read.proofs.VarintLemmas.{varint_first_refused, varint_rest_refused, varint_answered, varint_not_written, rest_sized}
 use Rattle.speedy_read.proofs.reader.LendingReader.read_u64_varint.Given.{Over}
 use Rattle.speedy_read.proofs.reader.LendingReader.read_u64_varint.Goals as goal
 use Rattle.speedy_read.proofs.reader.LendingReader.read_u64_varint.Goals.{else-not-is_written_with-via-then-not-is_written_with+else-demands_written_form, else-not-is_written_with-via-else-not-is_written_with}
 
 pub returns-in_err-first : goal.returns-in_err-first
-returns-in_err-first g c = rw (exit_is c.from_residual.result c.from_residual.ensures.1) (varint_first_refused _ c.in_err-first.ensures)
+returns-in_err-first g c = varint_first_refused _ c.from_residual.ensures.1 c.in_err-first.ensures
 
 pub returns-in_err-read_bytes : goal.returns-in_err-read_bytes
 returns-in_err-read_bytes g c =
-    rw (exit_is c.from_residual-in_err-read_bytes.result c.from_residual-in_err-read_bytes.ensures.1)
-    (varint_rest_refused _ _ c.length_of.ensures c.in_ok-first.ensures (rest_sized _ _ _ refl c.length_of.ensures) c.in_err-read_bytes.ensures)
+    varint_rest_refused _ _ c.length_of.ensures c.in_ok-first.ensures (rest_sized _ _ _ refl c.length_of.ensures) c.from_residual-in_err-read_bytes.ensures.1
+    c.in_err-read_bytes.ensures
 
 pub returns-then-demands_written_form : goal.returns-then-demands_written_form
 returns-then-demands_written_form g c =

@@ -1,7 +1,6 @@
 use Rattle.std.proofs.Common.{ℕ, drop, ◌∙◌, subst, refl, arith}
 use Rattle.std.proofs.lemmas.List.{length-append, length-drop, length-take-le}
 use Rattle.speedy_read.specs.ReadingLemmas.{none_so_far}
-use Rattle.speedy_read.specs.Exits.{exit_is}
 use Rattle.speedy_read.proofs.ByteLemmas.{SkippedSoFar, more_skipped, all_skipped, chunk_refused}
 use Rattle.speedy_read.proofs.reader.LendingReader.skip_bytes.Goals as goal
 
@@ -24,5 +23,5 @@ returns-clause-reads g c =
 pub returns-in_err-read_bytes-clause-reads : goal.returns-in_err-read_bytes-clause-reads
 returns-in_err-read_bytes-clause-reads g c =
     let size = length-take-le c.min-size.result c.loop-left.chunk (omega (arith, c.loop-left.invariant.1)) in
-    rw (exit_is c.from_residual.result c.from_residual.ensures.1)
-    (chunk_refused {new = g.Self.LendingReader.state c.read_bytes.new.self} _ _ (omega (arith, size)) c.loop-left.invariant.2 c.in_err-read_bytes.ensures)
+    chunk_refused {new = g.Self.LendingReader.state c.read_bytes.new.self} _ _ (omega (arith, size)) c.loop-left.invariant.2 c.from_residual.ensures.1
+    c.in_err-read_bytes.ensures

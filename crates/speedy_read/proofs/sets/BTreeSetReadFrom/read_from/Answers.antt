@@ -1,13 +1,12 @@
 use Rattle.std.proofs.Common.{false}
-use Rattle.speedy_layout.specs.SeenKeys.{IsLess}
-use Rattle.speedy_layout.specs.CollectedSets.{tree_set_collected}
+use Rattle.speedy_layout.specs.SeenItems.{IsLess}
+use Rattle.speedy_layout.specs.StdSets.{tree_set_collected}
 use Rattle.speedy_layout.specs.Adding.{Ascends-first}
-use Rattle.speedy_read.specs.Exits.{exit_is}
 use Rattle.speedy_read.proofs.CollectionLemmas.{gatherer_code, collection_read, collection_refused}
 use Rattle.speedy_read.proofs.sets.BTreeSetReadFrom.read_from.Goals as goal
 
 pub returns-in_err-length : goal.returns-in_err-length
-returns-in_err-length g c = rw (exit_is c.from_residual.result c.from_residual.ensures.1) (collection_refused _ false (g.met.T.Layout.layout_laws _) c.in_err-length.ensures)
+returns-in_err-length g c = collection_refused _ false (g.met.T.Layout.layout_laws _) c.from_residual.ensures.1 c.in_err-length.ensures
 
 pub returns : goal.returns
 returns g c =

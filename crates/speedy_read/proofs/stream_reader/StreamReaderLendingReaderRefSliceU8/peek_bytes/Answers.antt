@@ -1,5 +1,4 @@
 use Rattle.std.proofs.Common.{sym, ◌∙◌}
-use Rattle.speedy_read.specs.Exits.{exit_is}
 use Rattle.speedy_read.proofs.StreamLemmas.{succeeded, filled_peeked, fill_not_peeked}
 use Rattle.speedy_read.proofs.stream_reader.StreamReaderLendingReaderRefSliceU8.peek_bytes.Goals as goal
 
@@ -13,5 +12,5 @@ pub returns-in_err-fill-clause-peeks : goal.returns-in_err-fill-clause-peeks
 returns-in_err-fill-clause-peeks g c =
     let source = g.S.Source.source in
     let same = succeeded c.reserve.result (sym c.if-is_err.ensures.value) c.reserve.ensures.bytes in
-    rw (exit_is c.from_residual.result c.from_residual.ensures.1)
-    (fill_not_peeked (source c.args.self.now.source.now) (source c.fill.new.self.source.now) c.args.self.now.ring same c.in_err-fill.ensures)
+    fill_not_peeked (source c.args.self.now.source.now) (source c.fill.new.self.source.now) c.args.self.now.ring same c.from_residual.ensures.1
+    c.in_err-fill.ensures

@@ -1,6 +1,5 @@
 use Rattle.std.proofs.Common.{map, ap, ◌∙◌, lit<}
 use Rattle.speedy_layout.specs.Views.{shown_items}
-use Rattle.speedy_read.specs.Exits.{exit_is}
 use Rattle.speedy_read.specs.ReadingLemmas.{input_ended}
 use Rattle.speedy_read.proofs.LentLemmas.{slices_show, not_lent, lent_length}
 use Rattle.speedy_read.proofs.ViewLemmas.{view_lent, view_not_lent, more_than_all, all_refused}
@@ -25,8 +24,8 @@ returns-in-None-clause-reads g c =
 pub returns-in_err-bytes-in-Some-read_bytes_borrowed-clause-reads :
     goal.returns-in_err-bytes-in-Some-read_bytes_borrowed-clause-reads
 returns-in_err-bytes-in-Some-read_bytes_borrowed-clause-reads g c =
-    rw (exit_is c.from_residual.result c.from_residual.ensures.1)
-    (view_not_lent g.T.FixedSize.SIZE _ (g.met.T.ViewItem.one_size _) g.row.N (rw c.in-Some.ensures at (rw c.in_err-bytes-in-Some-read_bytes_borrowed.was at c.in-Some-read_bytes_borrowed.ensures.1)))
+    view_not_lent g.T.FixedSize.SIZE _ (g.met.T.ViewItem.one_size _) g.row.N c.from_residual.ensures.1
+    (rw c.in-Some.ensures at (rw c.in_err-bytes-in-Some-read_bytes_borrowed.was at c.in-Some-read_bytes_borrowed.ensures.1))
 
 pub over-requires : goal.over-requires
 over-requires g c = (lit< tt, lent_length (rw c.in_ok-bytes-in-Some-read_bytes_borrowed.was at c.in-Some-read_bytes_borrowed.ensures.1) ∙ c.in-Some.ensures)

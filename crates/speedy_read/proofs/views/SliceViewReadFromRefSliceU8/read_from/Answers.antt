@@ -4,7 +4,6 @@ use Rattle.std.proofs.Math.Nat.{mul-mod_left}
 use Rattle.speedy_layout.specs.Numbers.{unsigned_number_laws}
 use Rattle.speedy_layout.specs.Views.{shown_items}
 use Rattle.speedy_read.specs.Sequences.{refused_first, refused_second, second_decides}
-use Rattle.speedy_read.specs.Exits.{exit_is}
 use Rattle.speedy_read.proofs.LentLemmas.{slices_show, borrowed_list_composes, not_lent, lent_length}
 use Rattle.speedy_read.proofs.ViewLemmas.{view_lent, view_not_lent}
 use Rattle.speedy_read.proofs.views.SliceViewReadFromRefSliceU8.read_from.Goals as goal
@@ -15,15 +14,15 @@ over-requires g c =
     ap (λ n. n % g.T.FixedSize.SIZE) whole ∙ mul-mod_left c.in_ok-length.length g.T.FixedSize.SIZE
 
 pub returns-in_err-length-clause-reads : goal.returns-in_err-length-clause-reads
-returns-in_err-length-clause-reads g c = rw (exit_is c.from_residual.result c.from_residual.ensures.1) (refused_first (borrowed_list_composes (g.met.T.Layout.layout_laws _) _) c.in_err-length.ensures)
+returns-in_err-length-clause-reads g c = refused_first (borrowed_list_composes (g.met.T.Layout.layout_laws _) _) c.from_residual.ensures.1
+    c.in_err-length.ensures
 
 pub returns-in_err-bytes-in-Some-clause-reads : goal.returns-in_err-bytes-in-Some-clause-reads
 returns-in_err-bytes-in-Some-clause-reads g c =
     let item = g.met.T.ViewItem in
     let number = c.in_ok-length.ensures in
-    rw (exit_is c.from_residual-in_err-bytes-in-Some.result c.from_residual-in_err-bytes-in-Some.ensures.1)
-    (refused_second (borrowed_list_composes (g.met.T.Layout.layout_laws _) _) (unsigned_number_laws 4 _) {A = List g.T.Layout.Seen} {seen = λ t. t} number
-    (view_not_lent g.T.FixedSize.SIZE _ (item.one_size _) _ (rw c.size_of_items.ensures at (rw c.in_err-bytes-in-Some.was at c.in-Some.ensures.1))))
+    refused_second (borrowed_list_composes (g.met.T.Layout.layout_laws _) _) (unsigned_number_laws 4 _) {A = List g.T.Layout.Seen} {seen = λ t. t} number c.from_residual-in_err-bytes-in-Some.ensures.1
+    (view_not_lent g.T.FixedSize.SIZE _ (item.one_size _) _ refl (rw c.size_of_items.ensures at (rw c.in_err-bytes-in-Some.was at c.in-Some.ensures.1)))
 
 pub returns-in_ok-bytes-in-Some-clause-reads : goal.returns-in_ok-bytes-in-Some-clause-reads
 returns-in_ok-bytes-in-Some-clause-reads g c =
@@ -38,4 +37,4 @@ pub returns-in-None-clause-reads : goal.returns-in-None-clause-reads
 returns-in-None-clause-reads g c =
     let number = c.in_ok-length.ensures in
     let none = c.in-None.ensures in
-    refused_second (borrowed_list_composes (g.met.T.Layout.layout_laws _) _) (unsigned_number_laws 4 _) {A = List g.T.Layout.Seen} {seen = λ t. t} number (not_lent _ (λ l. slices_show (none.0 l)) none.1 c.error_unsized.ensures)
+    refused_second (borrowed_list_composes (g.met.T.Layout.layout_laws _) _) (unsigned_number_laws 4 _) {A = List g.T.Layout.Seen} {seen = λ t. t} number refl (not_lent _ (λ l. slices_show (none.0 l)) none.1 c.error_unsized.ensures)

@@ -1,5 +1,5 @@
 use Rattle.std.proofs.Common.{map}
-use Rattle.speedy.specs.StreamView.{stream_state}
+use Rattle.speedy.specs.StreamModel.{stream_state}
 use Rattle.speedy.specs.Encoding.{plain_encoding}
 use Rattle.speedy.specs.declared.endianness.Endianness.TheVariants.{LittleEndian}
 use Rattle.speedy_vectors.proofs.StreamLemmas.{ReadSoFar, message, seen_message}

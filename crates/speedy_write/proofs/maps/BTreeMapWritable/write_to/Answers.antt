@@ -1,9 +1,9 @@
 use Rattle.std.proofs.Common.{sym, ◌∙◌, map}
 use Rattle.std.proofs.lemmas.List.{length-map}
 use Rattle.std.specs.Map.Iter.{deref_pair}
-use Rattle.speedy_layout.specs.CollectedMaps.{tree_map_entries}
+use Rattle.speedy_layout.specs.StdMaps.{tree_map_entries}
 use Rattle.speedy_layout.specs.Maps.{seen_pair, tree_map_is}
-use Rattle.speedy_layout.specs.SeenKeys.{seen_order}
+use Rattle.speedy_layout.specs.SeenItems.{seen_order}
 use Rattle.speedy_write.proofs.CollectionLemmas.{shown_in_order, map_written}
 use Rattle.speedy_write.proofs.maps.BTreeMapWritable.write_to.Goals as goal
 

@@ -1,7 +1,7 @@
 use Rattle.std.proofs.Common.{sym, ◌∙◌, map}
 use Rattle.std.proofs.lemmas.List.{length-map}
 use Rattle.std.specs.Map.Iter.{deref_pair}
-use Rattle.speedy_layout.specs.CollectedIndexes.{index_map_entries}
+use Rattle.speedy_layout.specs.IndexMaps.{index_map_entries}
 use Rattle.speedy_layout.specs.Maps.{seen_pair, index_map_is}
 use Rattle.speedy_write.proofs.CollectionLemmas.{shown_in_order, map_written}
 use Rattle.speedy_write.proofs.maps.IndexMapWritable.write_to.Goals as goal

@@ -1,9 +1,9 @@
 use Rattle.std.proofs.Common.{sym, ◌∙◌, map}
 use Rattle.std.proofs.lemmas.List.{length-map}
 use Rattle.std.specs.Map.Iter.{deref}
-use Rattle.speedy_layout.specs.CollectedSets.{tree_set_items}
+use Rattle.speedy_layout.specs.StdSets.{tree_set_items}
 use Rattle.speedy_layout.specs.Sets.{tree_set_is}
-use Rattle.speedy_layout.specs.SeenKeys.{seen_order}
+use Rattle.speedy_layout.specs.SeenItems.{seen_order}
 use Rattle.speedy_write.proofs.CollectionLemmas.{shown_in_order, set_written}
 use Rattle.speedy_write.proofs.sets.BTreeSetWritable.write_to.Goals as goal
 

@@ -1,7 +1,7 @@
 use Rattle.std.proofs.Common.{sym, ◌∙◌, map}
 use Rattle.std.proofs.lemmas.List.{length-map}
 use Rattle.std.specs.Map.Iter.{deref}
-use Rattle.speedy_layout.specs.CollectedSets.{hash_set_items}
+use Rattle.speedy_layout.specs.StdSets.{hash_set_items}
 use Rattle.speedy_layout.specs.Sets.{hash_set_is}
 use Rattle.speedy_write.proofs.CollectionLemmas.{shown_in_order, set_written}
 use Rattle.speedy_write.proofs.sets.HashSetWritable.write_to.Goals as goal

@@ -1,7 +1,7 @@
 use Rattle.std.proofs.Common.{sym, ◌∙◌, map}
 use Rattle.std.proofs.lemmas.List.{length-map}
 use Rattle.std.specs.Map.Iter.{deref}
-use Rattle.speedy_layout.specs.CollectedIndexes.{index_set_items}
+use Rattle.speedy_layout.specs.IndexMaps.{index_set_items}
 use Rattle.speedy_layout.specs.Sets.{index_set_is}
 use Rattle.speedy_write.proofs.CollectionLemmas.{shown_in_order, set_written}
 use Rattle.speedy_write.proofs.sets.IndexSetWritable.write_to.Goals as goal

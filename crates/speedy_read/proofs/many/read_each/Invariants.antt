@@ -1,7 +1,7 @@
 use Rattle.std.proofs.Common.{◌≡◌, length, map}
 use Rattle.speedy_layout.specs.Format.{Each}
 use Rattle.speedy_read.specs.ReadingLemmas.{ReadSoFar}
-use Rattle.speedy_read.proofs.readable.read_each.Given as goal
+use Rattle.speedy_read.proofs.many.read_each.Given as goal
 
 abbrev pub invariant-loop-i : goal.invariant-loop-i
 invariant-loop-i g l =

@@ -1,10 +1,9 @@
 use Rattle.std.proofs.Common.{◌≡◌, ◌++◌, length, take, drop, sym, ◌∙◌, ap, arith, rules, refl}
 use Rattle.std.proofs.lemmas.List.{length-append, length-drop, length-take-le}
 use Rattle.speedy_read.specs.ReadingLemmas.{Kept-same, Kept-after, none_so_far}
-use Rattle.speedy_read.specs.Exits.{exit_is}
 use Rattle.speedy_read.proofs.ListLemmas.{refused_room}
 use Rattle.speedy_read.proofs.ByteLemmas.{front_of, more_bytes, all_bytes, bytes_refused}
-use Rattle.speedy_read.proofs.numbers.read_chunks.Goals as goal
+use Rattle.speedy_read.proofs.many.read_chunks.Goals as goal
 
 pub loop-left-init : goal.loop-left-init
 loop-left-init g c = (omega arith, refl, ap length c.in_ok-bytes.ensures ∙ omega arith, none_so_far (sym c.in_ok-bytes.ensures))
@@ -28,13 +27,13 @@ returns g c =
     all_bytes _ (rw (sym same) at c.loop-left.invariant.3) (ap length same ∙ omega (arith, c.loop-left.invariant.2)) c.in_range.ensures.range
 
 pub returns-in_err-bytes : goal.returns-in_err-bytes
-returns-in_err-bytes g c = rw (exit_is c.from_residual.result c.from_residual.ensures.1) (refused_room _ _ Kept-same refl c.in_err-bytes.ensures)
+returns-in_err-bytes g c = refused_room _ _ _ Kept-same refl c.from_residual.ensures.1 c.in_err-bytes.ensures
 
 pub returns-in_err-read_bytes : goal.returns-in_err-read_bytes
 returns-in_err-read_bytes g c =
     let size = length-take-le c.min-size.result c.loop-left.chunk (omega (arith, c.loop-left.invariant.1)) in
-    rw (exit_is c.from_residual-in_err-read_bytes.result c.from_residual-in_err-read_bytes.ensures.1)
-    (bytes_refused {new = g.R.LendingReader.state c.read_bytes.new.self} _ _ _ _ c.loop-left.invariant.2 (omega (arith, size)) c.loop-left.invariant.3 c.in_err-read_bytes.ensures)
+    bytes_refused {new = g.R.LendingReader.state c.read_bytes.new.self} _ _ _ _ c.loop-left.invariant.2 (omega (arith, size)) c.loop-left.invariant.3 c.from_residual-in_err-read_bytes.ensures.1
+    c.in_err-read_bytes.ensures
 
 pub returns-then-is_err : goal.returns-then-is_err
-returns-then-is_err g c = refused_room _ _ (Kept-after c.loop-left.invariant.3.kept c.in_ok-read_bytes.ensures.kept) (c.in_ok-read_bytes.ensures.answer.no_fault ∙ c.loop-left.invariant.3.got.no_fault) c.error_out_of_memory.ensures
+returns-then-is_err g c = refused_room _ _ _ (Kept-after c.loop-left.invariant.3.kept c.in_ok-read_bytes.ensures.kept) (c.in_ok-read_bytes.ensures.answer.no_fault ∙ c.loop-left.invariant.3.got.no_fault) refl c.error_out_of_memory.ensures

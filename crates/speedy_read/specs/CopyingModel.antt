@@ -4,10 +4,10 @@ use Rattle.std.specs.Borrow.{GName}
 use Rattle.speedy_read.specs.declared.copying_reader.CopyingBufferReader.{CopyingBufferReader}
 
 -- the context that a reader borrows, and the bytes to come
-pub record CopyingView (C : Type 0) : Type 0 where
+pub record CopyingModel (C : Type 0) : Type 0 where
   pub context : C
   pub context_name : GName
   pub rest : List ℕ
 
-abbrev pub copying_view : {C : Type 0} → CopyingBufferReader C → CopyingView C
-copying_view r = record { context = r.context.now; context_name = r.context.ghost_name; rest = r.rest.now }
+abbrev pub copying_model : {C : Type 0} → CopyingBufferReader C → CopyingModel C
+copying_model r = record { context = r.context.now; context_name = r.context.ghost_name; rest = r.rest.now }

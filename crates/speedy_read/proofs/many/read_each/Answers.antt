@@ -1,9 +1,8 @@
 use Rattle.std.proofs.Common.{◌<◌, length, map, sym, ◌∙◌, ap, refl, arith}
 use Rattle.std.proofs.lemmas.List.{length_push}
 use Rattle.speedy_read.specs.ReadingLemmas.{Kept-same, Kept-after, none_so_far}
-use Rattle.speedy_read.specs.Exits.{exit_is}
 use Rattle.speedy_read.proofs.ListLemmas.{seen_pushed, item_more, got_items, refused_item, refused_room}
-use Rattle.speedy_read.proofs.readable.read_each.Goals as goal
+use Rattle.speedy_read.proofs.many.read_each.Goals as goal
 
 pub loop-i-init : goal.loop-i-init
 loop-i-init g c = rw c.in_ok-items.ensures (refl, none_so_far refl)
@@ -23,11 +22,11 @@ pub returns-in_err-item : goal.returns-in_err-item
 returns-in_err-item g c shown =
     let so_far = c.loop-i.invariant.1 in
     let fewer : length (map g.T.Layout.seen c.loop-i.items.items) < c.args.length = let count = c.loop-i.invariant.0 in omega arith in
-    rw (exit_is c.from_residual-in_err-item.result c.from_residual-in_err-item.ensures.1)
-    (refused_item (g.met.T.Layout.layout_laws _) _ _ {new = g.R.LendingReader.state c.read_from.new.reader} fewer so_far (rw so_far.kept.encoding at c.in_err-item.ensures))
+    refused_item (g.met.T.Layout.layout_laws _) _ _ {new = g.R.LendingReader.state c.read_from.new.reader} fewer so_far c.from_residual-in_err-item.ensures.1
+    (rw so_far.kept.encoding at c.in_err-item.ensures)
 
 pub returns-in_err-items : goal.returns-in_err-items
-returns-in_err-items g c shown = rw (exit_is c.from_residual.result c.from_residual.ensures.1) (refused_room _ _ Kept-same refl c.in_err-items.ensures)
+returns-in_err-items g c shown = refused_room _ _ _ Kept-same refl c.from_residual.ensures.1 c.in_err-items.ensures
 
 pub returns-then-is_err : goal.returns-then-is_err
-returns-then-is_err g c shown = refused_room _ _ (Kept-after c.loop-i.invariant.1.kept c.in_ok-item.ensures.kept) (c.in_ok-item.ensures.answer.no_fault ∙ c.loop-i.invariant.1.got.no_fault) c.error_out_of_memory.ensures
+returns-then-is_err g c shown = refused_room _ _ _ (Kept-after c.loop-i.invariant.1.kept c.in_ok-item.ensures.kept) (c.in_ok-item.ensures.answer.no_fault ∙ c.loop-i.invariant.1.got.no_fault) refl c.error_out_of_memory.ensures

@@ -23,7 +23,8 @@ TellsApart eq seen = (x y : _) → Tells (eq x y) (seen x) (seen y)
 
 -- ---- parts, compared one after another
 
--- The answer on parts, given the answer on those before them. A tuple's equality takes its first parts together, and what is seen of it its last ones.
+-- The answer on parts, given the answer on those before them. A tuple's equality takes its first parts together, and
+-- what is seen of it its last ones.
 pub record TellsAfter {V : Type 0} (answer : Bool → Bool) (v w : V) : Type 0 where
   pub refused : answer false ≡ false
   pub tells : Tells (answer true) v w
@@ -52,7 +53,8 @@ next_part part others = record { refused = others.refused; tells = first_part pa
 pub unit_tells : TellsApart (λ (x y : Unit {0}). true) (λ x. x)
 unit_tells x y = (λ h. refl, λ e. refl)
 
-pub order_tells : (eq : Endianness → Endianness → Bool) → IsTrue (eq LittleEndian LittleEndian) → IsTrue (eq BigEndian BigEndian) → eq LittleEndian BigEndian ≡ false → eq BigEndian LittleEndian ≡ false → TellsApart eq (λ x. x)
+pub order_tells : (eq : Endianness → Endianness → Bool) → IsTrue (eq LittleEndian LittleEndian) → IsTrue (eq BigEndian BigEndian)
+    → eq LittleEndian BigEndian ≡ false → eq BigEndian LittleEndian ≡ false → TellsApart eq (λ x. x)
 order_tells eq l b lb bl LittleEndian LittleEndian = (λ h. refl, λ e. l)
 order_tells eq l b lb bl BigEndian BigEndian = (λ h. refl, λ e. b)
 order_tells eq l b lb bl LittleEndian BigEndian = (λ h. absurd (true≢false (sym h ∙ lb)), λ e. absurd (cc))
@@ -105,7 +107,8 @@ module _ {A V : Type 0} {eq : A → A → Bool} {seen : A → V} (item : TellsAp
         λ e. both.1 (ap₂ (λ (v : V) (vs : List V). let r : V × List V = (v, vs) in r) (ap (λ vs. get_or vs 0 (seen x)) e) (ap (λ vs. drop 1 vs) e)),
       )
 
-pub result_tells : {A B V W : Type 0} {eq : A → A → Bool} {eq_err : B → B → Bool} {seen : A → V} {seen_err : B → W} → TellsApart eq seen → TellsApart eq_err seen_err → TellsApart (result_eq eq eq_err) (result_map_both seen seen_err)
+pub result_tells : {A B V W : Type 0} {eq : A → A → Bool} {eq_err : B → B → Bool} {seen : A → V} {seen_err : B → W} → TellsApart eq seen
+    → TellsApart eq_err seen_err → TellsApart (result_eq eq eq_err) (result_map_both seen seen_err)
 result_tells item err (Ok x) (Ok y) = (λ h. ap Ok ((item x y).0 h), λ e. (item x y).1 (ok_same e))
 result_tells item err (Ok x) (Err y) = (λ h. absurd (true≢false (sym h)), λ e. absurd (cc))
 result_tells item err (Err x) (Ok y) = (λ h. absurd (true≢false (sym h)), λ e. absurd (cc))
@@ -127,8 +130,10 @@ one_segments (x ∷ xs) (y ∷ ys) e =
 pub segments_tell : (xs ys : List ℕ) → Tells (pointwise nat_eq xs ys) (octets_of xs) (octets_of ys)
 segments_tell xs ys = let same = bytes_decides xs ys in (λ h. ap octets_of (same.0 h), λ e. same.1 (one_segments xs ys e))
 
-pub ip_tells : (eq : IpAddr → IpAddr → Bool) → ((a b : Ipv4Addr) → eq (V4 a) (V4 b) ≡ pointwise nat_eq a.octets b.octets) → ((a b : Ipv6Addr) → eq (V6 a) (V6 b) ≡ pointwise nat_eq a.segments b.segments)
-    → ((a : Ipv4Addr) (b : Ipv6Addr) → eq (V4 a) (V6 b) ≡ false) → ((a : Ipv6Addr) (b : Ipv4Addr) → eq (V6 a) (V4 b) ≡ false) → TellsApart eq ip_octets
+pub ip_tells : (eq : IpAddr → IpAddr → Bool) → ((a b : Ipv4Addr) → eq (V4 a) (V4 b) ≡ pointwise nat_eq a.octets b.octets)
+    → ((a b : Ipv6Addr) → eq (V6 a) (V6 b) ≡ pointwise nat_eq a.segments b.segments)
+    → ((a : Ipv4Addr) (b : Ipv6Addr) → eq (V4 a) (V6 b) ≡ false) → ((a : Ipv6Addr) (b : Ipv4Addr) → eq (V6 a) (V4 b) ≡ false)
+    → TellsApart eq ip_octets
 ip_tells eq short long s l (V4 a) (V4 b) = let same = bytes_decides a.octets b.octets in (λ h. ap inl (same.0 (sym (short a b) ∙ h)), λ e. short a b ∙ same.1 (inl_same e))
 ip_tells eq short long s l (V6 a) (V6 b) = let same = segments_tell a.segments b.segments in (λ h. ap inr (same.0 (sym (long a b) ∙ h)), λ e. long a b ∙ same.1 (inr_same e))
 ip_tells eq short long s l (V4 a) (V6 b) = (λ h. absurd (true≢false (sym h ∙ s a b)), λ e. absurd (cc))

@@ -11,11 +11,12 @@ use Rattle.std.specs.HashSet.{HashSet}
 use Rattle.indexmap.specs.IndexMap as index
 use Rattle.indexmap.specs.IndexSet as index_set
 use Rattle.speedy_layout.specs.Members.{IsIn, AreDistinct, ComesFirst, InFirstOrder, IsIn-left, IsIn-right, IsIn-either}
-use Rattle.speedy_layout.specs.Keys.{TellsApart}
+use Rattle.speedy_layout.specs.Equality.{TellsApart}
 use Rattle.speedy_layout.specs.Maps.{HasDistinctKeys, GathersToIndexMap, own_index_map}
 use Rattle.speedy_layout.specs.Sets.{GathersToIndexSet, own_index_set}
-use Rattle.speedy_layout.specs.CollectedMaps.{seen_pairs, keys_seen, unique_keys_seen, found_lasts}
-use Rattle.speedy_layout.specs.CollectedSets.{unique_seen, member_seen, found_items}
+use Rattle.speedy_layout.specs.StdMaps.{seen_pairs, keys_seen, unique_keys_seen, found_lasts}
+use Rattle.speedy_layout.specs.StdSets.{member_seen, found_items}
+use Rattle.speedy_layout.specs.SeenItems.{unique_seen}
 
 -- ---- one more item
 
@@ -28,7 +29,8 @@ module _ {X : Type 0} where
   }
 
   -- where an item stands in a list with one more at its end
-  around_last : (x k : X) (xs before after : List X) → xs ++ k ∷ [] ≡ before ++ x ∷ after → ((before ≡ xs) × (x ≡ k)) ⊎ ((rest : List X) × (xs ≡ before ++ x ∷ rest))
+  around_last : (x k : X) (xs before after : List X) → xs ++ k ∷ [] ≡ before ++ x ∷ after
+      → ((before ≡ xs) × (x ≡ k)) ⊎ ((rest : List X) × (xs ≡ before ++ x ∷ rest))
   around_last x k [] [] after e = inl (refl, cc)
   around_last x k [] (b ∷ before) after e =
       let tails : [] ≡ before ++ x ∷ after = cc in
@@ -48,7 +50,8 @@ module _ {X : Type 0} where
   first_order_again items xs k h x at = ComesFirst-more x at.before items (k ∷ []) (h x at)
 
   -- a new one goes last
-  pub first_order_new : (items xs : List X) (k : X) → ((x : X) → IsIn x items → IsIn x xs) → InFirstOrder items xs → InFirstOrder (items ++ k ∷ []) (xs ++ k ∷ [])
+  pub first_order_new : (items xs : List X) (k : X) → ((x : X) → IsIn x items → IsIn x xs) → InFirstOrder items xs
+      → InFirstOrder (items ++ k ∷ []) (xs ++ k ∷ [])
   first_order_new items xs k inside h x at =
       elim (around_last x k xs at.before at.after at.whole_is) [
         | inl s ↦ record {
@@ -62,7 +65,8 @@ module _ {X : Type 0} where
 
 module _ {T A : Type 0} {seen : T → A} {eq : T → T → Bool} (same_key : TellsApart eq seen) where
   -- the items that were there, then more of them inserted in turn, stand in the order of their first occurrences
-  insert_all_order : (done : List A) (ks xs : List T) → ((a : A) → IsIn a done → IsIn a (map seen ks)) → InFirstOrder done (map seen ks) → InFirstOrder (done ++ map seen xs) (map seen (index_set.insert_all eq ks xs))
+  insert_all_order : (done : List A) (ks xs : List T) → ((a : A) → IsIn a done → IsIn a (map seen ks)) → InFirstOrder done (map seen ks)
+      → InFirstOrder (done ++ map seen xs) (map seen (index_set.insert_all eq ks xs))
   insert_all_order done ks [] inside h = subst (λ l. InFirstOrder l (map seen ks)) (sym (append-nil done)) h
   insert_all_order done ks (x ∷ xs) inside h =
       subst (λ l. InFirstOrder l (map seen (index_set.insert_all eq ks (x ∷ xs)))) (append_assoc done (seen x ∷ []) (map seen xs))
@@ -76,7 +80,8 @@ module _ {T A : Type 0} {seen : T → A} {eq : T → T → Bool} (same_key : Tel
           ]
 
       by : ((before : List A) (kept : List T) → ((a : A) → IsIn a before → IsIn a (map seen kept)) → InFirstOrder before (map seen kept) → InFirstOrder (before ++ map seen xs) (map seen (index_set.insert_all eq kept xs)))
-          → (b : Bool) → list_any (eq x) ks ≡ b → InFirstOrder ((done ++ seen x ∷ []) ++ map seen xs) (map seen (index_set.insert_all eq (if b then ks else ks ++ x ∷ []) xs))
+          → (b : Bool) → list_any (eq x) ks ≡ b
+          → InFirstOrder ((done ++ seen x ∷ []) ++ map seen xs) (map seen (index_set.insert_all eq (if b then ks else ks ++ x ∷ []) xs))
       by more true is =
           more (done ++ seen x ∷ []) ks
           (λ a s. elim (either a s) [ inl t ↦ t | inr e ↦ subst (λ b. IsIn b (map seen ks)) (sym e) ((member_seen seen same_key x ks).0 is) ])
@@ -97,16 +102,17 @@ module _ {T A : Type 0} {seen : T → A} {eq : T → T → Bool} (same_key : Tel
 
 module _ {T A H : Type 0} {seen : T → A} {eq : T → T → Bool} (same_key : TellsApart eq seen) where
   -- what `collect` and inserting in turn make is what the items gather to
-  pub index_set_collected : (xs : List T) (s : HashSet T H) → s.keys ≡ index_set.insert_all eq [] xs → bag.IsFromIterResult eq xs s → GathersToIndexSet (map seen xs) (map seen s.keys)
+  pub index_set_collected : (xs : List T) (s : HashSet T H) → s.keys ≡ index_set.insert_all eq [] xs → bag.IsFromIterResult eq xs s
+      → GathersToIndexSet (map seen xs) (map seen s.keys)
   index_set_collected xs s order h = (
-    unique_seen seen same_key s.keys h.1,
+    unique_seen same_key s.keys h.1,
     found_items seen same_key xs s.keys h.0,
     subst (λ ks. InFirstOrder (map seen xs) (map seen ks)) (sym order) (inserted_order same_key xs),
   )
 
   -- its items in their order are its form
   pub index_set_items : (s : HashSet T H) → bag.IsUnique eq s → GathersToIndexSet (map seen s.keys) (map seen s.keys) × AreDistinct (map seen s.keys)
-  index_set_items s h = let d = unique_seen seen same_key s.keys h in (own_index_set (map seen s.keys) d, d)
+  index_set_items s h = let d = unique_seen same_key s.keys h in (own_index_set (map seen s.keys) d, d)
 
 -- ---- `IndexMap`
 
@@ -116,7 +122,8 @@ module _ {K V : Type 0} (eq : K → K → Bool) where
   insert_entry_keys [] k v = refl
   insert_entry_keys (e ∷ es) k v = by (insert_entry_keys es k v) (eq k e.0) where
     by : keys_of (index.insert_entry eq es k v) ≡ index_set.insert_key eq (keys_of es) k
-        → (b : Bool) → keys_of (if b then (e.0, v) ∷ es else e ∷ index.insert_entry eq es k v) ≡ (if b || list_any (eq k) (keys_of es) then e.0 ∷ keys_of es else e.0 ∷ (keys_of es ++ k ∷ []))
+        → (b : Bool)
+        → keys_of (if b then (e.0, v) ∷ es else e ∷ index.insert_entry eq es k v) ≡ (if b || list_any (eq k) (keys_of es) then e.0 ∷ keys_of es else e.0 ∷ (keys_of es ++ k ∷ []))
     by rest true = refl
     by rest false = ap (λ ks. e.0 ∷ ks) rest ∙ next (list_any (eq k) (keys_of es)) where
       next : (c : Bool) → e.0 ∷ (if c then keys_of es else keys_of es ++ k ∷ []) ≡ (if c then e.0 ∷ keys_of es else e.0 ∷ (keys_of es ++ k ∷ []))
@@ -129,7 +136,8 @@ module _ {K V : Type 0} (eq : K → K → Bool) where
 
 module _ {K V A B H : Type 0} {seen : K → A} {eq : K → K → Bool} (value : V → B) (same_key : TellsApart eq seen) where
   -- what `collect` and inserting in turn make is what the pairs gather to
-  pub index_map_collected : (xs : List (K × V)) (m : HashMap K V H) → m.entries ≡ index.insert_all eq [] xs → hash.IsFromIterResult eq xs m → GathersToIndexMap (seen_pairs seen value xs) (seen_pairs seen value m.entries)
+  pub index_map_collected : (xs : List (K × V)) (m : HashMap K V H) → m.entries ≡ index.insert_all eq [] xs → hash.IsFromIterResult eq xs m
+      → GathersToIndexMap (seen_pairs seen value xs) (seen_pairs seen value m.entries)
   index_map_collected xs m order h =
       let d = unique_keys_seen seen value same_key m.entries h.1 in
       let keys = ap keys_of order ∙ insert_all_keys eq [] xs in
@@ -141,5 +149,6 @@ module _ {K V A B H : Type 0} {seen : K → A} {eq : K → K → Bool} (value : 
       )
 
   -- its entries in their order are its form
-  pub index_map_entries : (m : HashMap K V H) → hash.IsUnique eq m → GathersToIndexMap (seen_pairs seen value m.entries) (seen_pairs seen value m.entries) × HasDistinctKeys (seen_pairs seen value m.entries)
+  pub index_map_entries : (m : HashMap K V H) → hash.IsUnique eq m
+      → GathersToIndexMap (seen_pairs seen value m.entries) (seen_pairs seen value m.entries) × HasDistinctKeys (seen_pairs seen value m.entries)
   index_map_entries m h = let d = unique_keys_seen seen value same_key m.entries h in (own_index_map (seen_pairs seen value m.entries) d, d)

@@ -6,15 +6,15 @@ use Rattle.speedy_write.specs.declared.collectors.SizeCalculatorCollector.{SizeC
 use Rattle.speedy_write.specs.declared.collectors.WritingCollector.{WritingCollector}
 
 -- the context and the buffer that a collector borrows, and how many bytes it has written at the buffer's front
-pub record BufferView (C : Type 0) : Type 0 where
+pub record BufferModel (C : Type 0) : Type 0 where
   pub context : C
   pub context_name : GName
   pub buffer : List ℕ
   pub buffer_name : GName
   pub position : ℕ
 
-abbrev pub buffer_view : {C : Type 0} → BufferCollector C → BufferView C
-buffer_view w = record {
+abbrev pub buffer_model : {C : Type 0} → BufferCollector C → BufferModel C
+buffer_model w = record {
   context = w.context.now;
   context_name = w.context.ghost_name;
   buffer = w.buffer.now;
@@ -23,19 +23,19 @@ buffer_view w = record {
 }
 
 -- the context that the collector of sizes borrows, and the sum
-pub record SizeView (C : Type 0) : Type 0 where
+pub record SizeModel (C : Type 0) : Type 0 where
   pub context : C
   pub context_name : GName
   pub size : ℕ
 
-abbrev pub size_view : {C : Type 0} → SizeCalculatorCollector C → SizeView C
-size_view w = record { context = w.context.now; context_name = w.context.ghost_name; size = w.size }
+abbrev pub size_model : {C : Type 0} → SizeCalculatorCollector C → SizeModel C
+size_model w = record { context = w.context.now; context_name = w.context.ghost_name; size = w.size }
 
 -- the context that a collector holds, and the sink that it borrows
-pub record WritingView (S C : Type 0) : Type 0 where
+pub record WritingModel (S C : Type 0) : Type 0 where
   pub context : C
   pub sink : S
   pub sink_name : GName
 
-abbrev pub writing_view : {S C : Type 0} → WritingCollector S C → WritingView S C
-writing_view w = record { context = w.context; sink = w.sink.now; sink_name = w.sink.ghost_name }
+abbrev pub writing_model : {S C : Type 0} → WritingCollector S C → WritingModel S C
+writing_model w = record { context = w.context; sink = w.sink.now; sink_name = w.sink.ghost_name }

@@ -1,6 +1,6 @@
 use Rattle.std.proofs.Common.{◌≡◌, ◌-◌, ◌≤◌, length}
 use Rattle.speedy_read.proofs.ByteLemmas.{BytesSoFar}
-use Rattle.speedy_read.proofs.numbers.read_chunks.Given as goal
+use Rattle.speedy_read.proofs.many.read_chunks.Given as goal
 
 abbrev pub invariant-loop-left : goal.invariant-loop-left
 invariant-loop-left g l =

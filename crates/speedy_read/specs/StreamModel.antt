@@ -8,15 +8,15 @@ use Rattle.speedy_read.specs.Reading.{ReaderKind, ReaderState}
 use Rattle.speedy_read.specs.declared.stream_reader.StreamReader.{StreamReader}
 
 -- the context that a reader holds, the source that it borrows, the bytes that it keeps of it, and whether it reads ahead
-pub record StreamView (S C : Type 0) : Type 0 where
+pub record StreamModel (S C : Type 0) : Type 0 where
   pub context : C
   pub source_name : GName
   pub source : S
   pub ring : Ring
   pub is_buffering : Bool
 
-abbrev pub stream_view : {S C : Type 0} → StreamReader S C → StreamView S C
-stream_view r = record { context = r.context; source_name = r.source.ghost_name; source = r.source.now; ring = r.ring; is_buffering = r.is_buffering }
+abbrev pub stream_model : {S C : Type 0} → StreamReader S C → StreamModel S C
+stream_model r = record { context = r.context; source_name = r.source.ghost_name; source = r.source.now; ring = r.ring; is_buffering = r.is_buffering }
 
 -- how many bytes a new reader has room for, and how many it may hold after a read: 8,191, or none
 abbrev pub first_capacity : Bool → ℕ
@@ -37,8 +37,8 @@ stream_kind name tells is_buffering = record {
   tells = tells;
   lends = false;
   buffers = is_buffering;
-  takes_memory = false;
-  peeks_take_memory = true;
+  asks_memory = false;
+  peeks_ask_memory = true;
   ends_by_device = true;
   tells_faults = true;
   targets = name ∷ [];

@@ -3,9 +3,9 @@ use Rattle.std.specs.Borrow.{GName}
 use Rattle.speedy_read.specs.declared.owned_reader.OwnedReader.{OwnedReader}
 
 -- the reader that it reads by
-pub record OwnedView (R : Type 0) : Type 0 where
+pub record OwnedModel (R : Type 0) : Type 0 where
   pub reader : R
   pub reader_name : GName
 
-abbrev pub owned_view : {L R : Type 0} → OwnedReader L R → OwnedView R
-owned_view r = record { reader = r.reader.now; reader_name = r.reader.ghost_name }
+abbrev pub owned_model : {L R : Type 0} → OwnedReader L R → OwnedModel R
+owned_model r = record { reader = r.reader.now; reader_name = r.reader.ghost_name }

@@ -1,0 +1,71 @@
+-- What a read and a write of a list of items says of the thing that it gathers to.
+use Rattle.std.specs.Prelude.{◌≡◌, ℕ, List, length, Bool, true, false, IsTrue, refl}
+use Rattle.std.proofs.Common.{sym, subst, arith}
+use Rattle.speedy_base.specs.Encoding.{Encoding}
+use Rattle.speedy_layout.specs.Format.{Format}
+use Rattle.speedy_layout.specs.Laws.{Laws}
+use Rattle.speedy_layout.specs.Codes.{ReadsWider, coding, Accepts-means, Accepts-demanded}
+use Rattle.speedy_layout.specs.Lists.{list, list_laws}
+use Rattle.speedy_layout.specs.Gathering.{IsGathering, gathering, items_of, gathered, gathered_laws, hashed_items, form_spelled}
+
+pub items_of_spells : {E : Type 0} (hashed : Bool) (encoding : Encoding) (L : Format E)
+    → (items_of hashed encoding L).spells ≡ (list encoding L).spells
+unfolding hashed_items
+items_of_spells false encoding L = refl
+items_of_spells true encoding L = refl
+
+pub items_of_writes : {E : Type 0} (hashed : Bool) (encoding : Encoding) (L : Format E)
+    → (items_of hashed encoding L).writes ≡ (list encoding L).writes
+unfolding hashed_items
+items_of_writes false encoding L = refl
+items_of_writes true encoding L = refl
+
+module _ {E S : Type 0} (hashed : Bool) (encoding : Encoding) (stands : List E → S → Type 0) (written : List E → Type 0) (L : Format E) where
+  -- what is spelled is read from a list that stands for it and that is written, under a demand
+  pub gathered_spelled : (s : S) (bytes : List ℕ) → (gathered hashed encoding stands written L).spells s bytes
+      → (items : List E) × (list encoding L).spells items bytes × stands items s × (IsTrue encoding.strict → written items)
+  unfolding coding
+  gathered_spelled s bytes h = (
+    h.code,
+    subst (λ spells. spells h.code bytes) (items_of_spells hashed encoding L) h.code_is,
+    Accepts-means encoding.strict (gathering stands written) h.code s (λ c. c.0) h.stands,
+    λ t. (Accepts-demanded encoding.strict (gathering stands written) h.code s t h.stands).1,
+  )
+
+  -- a list that is written of a thing is a written form of it
+  pub gathered_writes : (items : List E) (s : S) (bytes : List ℕ) → (list encoding L).writes items bytes → stands items s → written items
+      → (gathered hashed encoding stands written L).writes s bytes
+  unfolding coding
+  gathered_writes items s bytes h k w = record {
+    code = items;
+    code_is = subst (λ writes. writes items bytes) (sym (items_of_writes hashed encoding L)) h;
+    stands = (k, w);
+  }
+
+-- each form of a thing that has a spelling has one itself
+pub gathered_form : {E S : Type 0} {hashed : Bool} {stands : List E → S → Type 0} {written : List E → Type 0} {least : ℕ} {L : Format E} (encoding : Encoding)
+    → Laws encoding.strict least L → IsGathering hashed stands written
+    → (s : S) (bytes : List ℕ) → (gathered hashed encoding stands written L).spells s bytes → (items : List E) → stands items s
+    → written items → (b : List ℕ) × (list encoding L).spells items b
+gathered_form {hashed = hashed} {stands = stands} {written = written} {L = L} encoding laws is s bytes h items stands_for is_written =
+    let x = gathered_spelled hashed encoding stands written L s bytes h in
+    form_spelled encoding laws is s bytes (record { code = x.0; code_is = x.1; stands = x.2 }) items stands_for is_written
+
+-- and is written in just as many bytes as the thing
+pub gathered_form_length : {E S : Type 0} {hashed : Bool} {stands : List E → S → Type 0} {written : List E → Type 0} {least : ℕ} {L : Format E} (encoding : Encoding)
+    → Laws encoding.strict least L → IsGathering hashed stands written
+    → (s : S) (bytes : List ℕ) → (gathered hashed encoding stands written L).writes s bytes → (items : List E) → stands items s
+    → written items → (b : List ℕ) × (list encoding L).writes items b × (length b ≡ length bytes)
+gathered_form_length {hashed = hashed} {stands = stands} {written = written} {L = L} encoding laws is s bytes h items stands_for is_written =
+    let whole = gathered_laws encoding laws is in
+    let spelled = gathered_form encoding laws is s bytes (whole.written_spells s bytes h) items stands_for is_written in
+    let b = (list_laws encoding laws).has_written items spelled.0 spelled.1 in
+    let again = gathered_writes hashed encoding stands written L items s b.0 b.1 stands_for is_written in
+    let no_less = whole.shortest s bytes b.0 h (whole.written_spells s b.0 again) in
+    let no_more = whole.shortest s b.0 bytes again (whole.written_spells s bytes h) in
+    (b.0, b.1, omega arith)
+
+-- a list that is not written stands for something, and so the kind of what is no written form is named
+pub reads_wider : {E S : Type 0} {stands : List E → S → Type 0} {written : List E → Type 0} (items : List E) (s : S) → stands items s
+    → (written items → ⊥) → ReadsWider (gathering stands written)
+reads_wider items s h k = record { code = items; value = s; meant = h; not_chosen = λ c. k c.1 }

@@ -1,0 +1,86 @@
+-- What the ways of reading answer.
+use Rattle.std.specs.Prelude.{◌≡◌, ℕ, ◌≤◌, ◌<◌, ◌-◌, ◌^◌, List, [], ◌++◌, length, Bool, true, false, IsTrue, ◌⊎◌, Result, MatchResult, IfOk, IfErr, IsErrAnd}
+use Rattle.std.specs.declared.io.Error.{Error as StdIoError}
+use Rattle.speedy_base.specs.Device.{SourceState, SourceKept}
+use Rattle.speedy_base.specs.Digits.{AreBytes}
+use Rattle.speedy_base.specs.declared.error.ErrorKind.TheVariants as kinds
+use Rattle.speedy_base.specs.declared.error.Error.{Error}
+use Rattle.speedy_base.specs.Error.{error_of, IsNamed}
+use Rattle.speedy_base.specs.FailedCalls.{IsErrorOf, IsOfFailedCall}
+use Rattle.speedy_layout.specs.Format.{Format}
+use Rattle.speedy_read.specs.Reading.{IsEnd, Unspelled}
+use Rattle.speedy_read.specs.StreamModel.{most_held}
+use Rattle.speedy_read.specs.Streams.{LeavesTail}
+
+-- so many bytes at the front are spelled so
+pub record Counts (spelled : List ℕ → Type 0) (count : ℕ) (bytes : List ℕ) : Type 0 where
+  pub front : List ℕ
+  pub rest : List ℕ
+  pub whole_is : bytes ≡ front ++ rest
+  pub front_is : spelled front
+  pub count_is : count ≡ length front
+
+-- two fronts of what a source had were taken, by calls that did not fail: one that is spelled so, and at most so many
+-- bytes that were read ahead
+pub record TookFront (spelled : List ℕ → Type 0) (most : ℕ) (old new : SourceState) : Type 0 where
+  pub front : List ℕ
+  pub ahead : List ℕ
+  pub front_is : spelled front
+  pub at_most : length ahead ≤ most
+  pub taken : IsTrue old.tells → old.to_come ≡ front ++ (ahead ++ new.to_come)
+  pub no_fault : new.faults ≡ old.faults
+  -- where no byte is taken, nothing is done
+  pub untouched : front ≡ [] → ahead ≡ [] → new ≡ old
+
+-- want of memory, for a value that asks for it or, before the source is called, for what is read ahead
+pub record WantsMemory {E : Type 0} (gives : Error → E → Type 0) (takes buffers : Bool) (e : E) (old new : SourceState) : Type 0 where
+  pub given : gives (error_of kinds.OutOfMemory) e
+  pub of : IsTrue takes ⊎ (IsTrue buffers × (new ≡ old))
+  pub no_fault : new.faults ≡ old.faults
+
+module _ {E : Type 0} (gives : Error → E → Type 0) (eof : E → Bool) where
+  -- bytes that spell no value at their front are refused: as `UnexpectedEndOfInput` where they may begin a spelling,
+  -- and else so or with a kind that the type names; a refusal means so where this holds
+  pub record RefusesBufferIf {V : Type 0} (holds : Type 0) (L : Format V) (e : E) (bytes : List ℕ) : Type 0 where
+    pub kind : IsEnd gives eof false e ⊎ IsNamed gives L.names e
+    pub because : holds → Unspelled gives eof L e bytes
+
+  -- What a function that reads from a buffer answers: a buffer that is shorter than the least size is refused with both
+  -- sizes; else a value is answered exactly when a front of the bytes spells it, where this holds, and the count is the
+  -- length of that front.
+  pub record AnswersBufferIf {A V : Type 0} (holds : Type 0) (seen : A → V) (least : ℕ) (L : Format V) (result : Result A E) (count : ℕ) (bytes : List ℕ) : Type 0 where
+    pub too_small : length bytes < least → IsErrAnd result (λ e. gives (error_of (kinds.InputBufferIsTooSmall (length bytes) least)) e) × (count ≡ 0)
+    pub value : IfOk result (λ x. Counts (L.spells (seen x)) count bytes)
+    pub refused : least ≤ length bytes
+        → IfErr result (λ e. (gives (error_of kinds.OutOfMemory) e × IsTrue L.asks.memory) ⊎ RefusesBufferIf holds L e bytes)
+
+  -- from a buffer that is lent
+  abbrev pub AnswersBuffer : {A V : Type 0} → (A → V) → ℕ → Format V → Result A E → ℕ → List ℕ → Type 0
+  AnswersBuffer seen least L result count bytes = AnswersBufferIf (Unit {0}) seen least L result count bytes
+
+  -- from one that is copied: what borrows may be refused though the bytes spell a value
+  abbrev pub AnswersCopied : {A V : Type 0} → (A → V) → ℕ → Format V → Result A E → ℕ → List ℕ → Type 0
+  AnswersCopied seen least L result count bytes = AnswersBufferIf (L.asks.lending ≡ false) seen least L result count bytes
+
+  -- a clean refusal of what a source gives: where its bytes are told, fewer than `usize::MAX` of them, and the type
+  -- borrows nothing, no front of them spells a value
+  pub record RefusesStream {V : Type 0} (L : Format V) (e : E) (old new : SourceState) : Type 0 where
+    pub no_fault : new.faults ≡ old.faults
+    pub kind : IsEnd gives eof true e ⊎ IsNamed gives L.names e
+    pub because : IsTrue old.tells → AreBytes old.to_come → length old.to_come < 2 ^ 64 - 1 → L.asks.lending ≡ false
+        → Unspelled gives eof L e old.to_come
+
+  -- What a function that reads from a source answers. A value that is answered is spelled by a front of what the source
+  -- had, and the source lost that front, and as many bytes more as may be read ahead. A refusal is what a failed call
+  -- answered, which was the only one; or no call failed, and it is want of memory, or what the bytes are refused with.
+  pub record AnswersStream {A V : Type 0} (seen : A → V) (L : Format V) (buffers : Bool) (result : Result A E) (old new : SourceState) : Type 0 where
+    pub kept : SourceKept old new
+    pub tail : LeavesTail old new
+    pub value : IfOk result (λ x. TookFront (L.spells (seen x)) (most_held buffers) old new)
+    pub refused : IfErr result (λ e. WantsMemory gives L.asks.memory buffers e old new ⊎ (IsOfFailedCall gives e old.faults new.faults ⊎ RefusesStream L e old new))
+
+  -- What a function that reads from a file answers: a value that is answered is spelled by some bytes, and a refusal is
+  -- what some failed call answered, want of memory, an end, or of a kind that the type names. No contract sees the
+  -- bytes of a file, or which of its calls failed.
+  abbrev pub AnswersFile : {A V : Type 0} → (A → V) → Format V → Result A E → Type 0
+  AnswersFile seen L result = MatchResult result (λ x. (bytes : List ℕ) × L.spells (seen x) bytes) (λ e. ((error : StdIoError) × IsErrorOf gives error e) ⊎ (gives (error_of kinds.OutOfMemory) e ⊎ (IsEnd gives eof true e ⊎ IsNamed gives L.names e)))

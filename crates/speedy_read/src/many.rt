@@ -1,0 +1,253 @@
+//! Values that are read one after another, and what is made of them; bytes, which are read a chunk at a time.
+ghost use Rattle.std.specs.Prelude.{◌≡◌, ℕ, ⊤, [], List, IsSome, map, MatchResult, true, false};
+ghost use Rattle.std.specs.Cow.{cow_slice_items};
+ghost use Rattle.std.specs.Option.{MatchOption};
+ghost use Rattle.speedy_base.specs.Digits.{AreBytes};
+ghost use Rattle.speedy_base.specs.Error.{error_of};
+ghost use Rattle.speedy_layout.specs.Lists.{vector};
+ghost use Rattle.speedy_layout.specs.Numbers.{unsigned_number};
+ghost use Rattle.speedy_read.specs.Collections.{gatherer, Collects};
+ghost use Rattle.speedy_read.specs.Lending.{many_items};
+ghost use Rattle.speedy_read.specs.Reading.{Reads};
+
+use crate::collections::{FromItems, collect_items};
+use crate::readable::ReadFrom;
+use crate::reader::LendingReader;
+use speedy_base::context::Context;
+use speedy_base::error::{ErrorKind, error_out_of_memory};
+use std::alloc::Global;
+use std::borrow::CowSlice;
+use std::convert::AsSlice;
+
+/// What types that are read implement besides, for several values at once.
+///
+/// The body serves each type. One that is read faster in bulk has a body of its own.
+pub trait ReadMany<L: AsSlice<u8> + Drop, C: Context>: ReadFrom<L, C> {
+    /// Reads so many values, one after another.
+    ///
+    /// This body reads each by itself. Bytes have a body of their own, which takes them at once where the reader
+    /// lends them, and makes what is asked for of those.
+    fn read_many_lent<W: FromLent<L, Self>, R: LendingReader<L, C>>(
+        reader: &mut R,
+        length: usize,
+    ) -> Result<Many<W, Self>, C::Error>
+        ensures { Reads C.Error.from_gives C.Error.eof
+            (λ many. map Self.seen (many_items W.shown many))
+            (vector length (Self.format (R.state reader.old).encoding)) result
+            (R.state reader.old) (R.state reader.new) }
+    {
+        read_each::<W, Self, L, C, R>(reader, length)
+    }
+
+    /// Reads so many values, one after another, into a vector.
+    #[inline]
+    final fn read_many<R: LendingReader<L, C>>(
+        reader: &mut R,
+        length: usize,
+    ) -> Result<Vec<Self>, C::Error>
+        ensures { Reads C.Error.from_gives C.Error.eof (λ v. map Self.seen v.items)
+            (vector length (Self.format (R.state reader.old).encoding)) result
+            (R.state reader.old) (R.state reader.new) }
+    {
+        Self::read_many_cow::<Vec<Self>, R>(reader, length)
+    }
+
+    /// Reads so many values, one after another, into a cow or what else borrows what is lent.
+    #[inline]
+    final fn read_many_cow<W: FromLent<L, Self>, R: LendingReader<L, C>>(
+        reader: &mut R,
+        length: usize,
+    ) -> Result<W, C::Error>
+        ensures { Reads C.Error.from_gives C.Error.eof (λ w. map Self.seen (W.shown w))
+            (vector length (Self.format (R.state reader.old).encoding)) result
+            (R.state reader.old) (R.state reader.new) }
+    {
+        match Self::read_many_lent::<W, R>(reader, length) {
+            Ok(Many::Made(made)) => Ok(made),
+            Ok(Many::Owned(values)) => Ok(W::from_values(values)),
+            Err(error) => Err(error),
+        }
+    }
+
+    /// Reads so many values, one after another, and gathers them.
+    ///
+    /// Where the context demands the written form, items that are written of no collection are refused with
+    /// `NotWrittenForm`: a key that was there before, and in ordered ones one that does not come after it.
+    final fn collect_many<F: FromItems<Self>, R: LendingReader<L, C>>(
+        reader: &mut R,
+        length: usize,
+    ) -> Result<F, C::Error>
+        ensures { let items = gatherer Self.seen F.gathers F.are_written in
+            Collects items (Self.format (R.state reader.old).encoding) length
+            C.Error.from_gives C.Error.eof result (R.state reader.old) (R.state reader.new) }
+    {
+        collect_items::<F, Self, L, C, R>(reader, length)
+    }
+}
+
+/// How bytes are seen as values.
+pub trait BytesAs<T: Drop> {
+    /// The values that bytes are.
+    ghost values: { List ℕ → List T };
+
+    /// The values that the bytes are, without a copy.
+    fn values_of(bytes: &[u8]) -> &[T]
+        ensures { result.now ≡ values bytes.now };
+
+    /// A copy of the values that the bytes are; `None` is want of memory.
+    fn copy_of(bytes: &[u8], alloc: Global) -> Option<Vec<T>>
+        ensures { MatchOption result ⊤ (λ v. v.items ≡ values bytes.now) };
+}
+
+/// Bytes as they are.
+pub struct AsBytes {}
+
+impl BytesAs<u8> for AsBytes {
+    ghost values = { λ bytes. bytes };
+
+    fn values_of(bytes: &[u8]) -> &[u8] {
+        bytes
+    }
+
+    #[inline]
+    fn copy_of(bytes: &[u8], alloc: Global) -> Option<Vec<u8>> {
+        bytes.to_vec(alloc).ok()
+    }
+}
+
+/// What is made of values that were read, or of bytes that were lent: a vector, or a cow.
+pub trait FromLent<L: AsSlice<u8> + Drop, T: Drop>: Sized + Drop {
+    /// The values that it shows.
+    ghost shown: { Self → List T };
+
+    /// It owns the values.
+    fn from_values(values: Vec<T>) -> Self
+        ensures { shown result ≡ values.items };
+
+    /// It borrows what was lent, or copies it; `None` is want of memory.
+    fn from_lent<B: BytesAs<T>>(lent: L, alloc: Global) -> Option<Self>
+        ensures { MatchOption result ⊤ (λ w. shown w ≡ B.values (L.items lent)) };
+}
+
+impl<L: AsSlice<u8> + Drop, T: Drop> FromLent<L, T> for Vec<T> {
+    ghost shown = { λ v. v.items };
+
+    #[inline]
+    fn from_values(values: Vec<T>) -> Vec<T>
+        ensures { result.items ≡ values.items }
+    {
+        values
+    }
+
+    #[inline]
+    fn from_lent<B: BytesAs<T>>(lent: L, alloc: Global) -> Option<Vec<T>>
+        ensures { MatchOption result ⊤ (λ v. v.items ≡ B.values (L.items lent)) }
+    {
+        B::copy_of(lent.as_slice(), alloc)
+    }
+}
+
+impl<'a, T: Drop> FromLent<&'a [u8], T> for CowSlice<'a, T> {
+    ghost shown = { cow_slice_items };
+
+    #[inline]
+    fn from_values(values: Vec<T>) -> CowSlice<'a, T>
+        ensures { cow_slice_items result ≡ values.items }
+    {
+        CowSlice::Owned(values)
+    }
+
+    #[inline]
+    fn from_lent<B: BytesAs<T>>(lent: &'a [u8], _alloc: Global) -> Option<CowSlice<'a, T>>
+        ensures shows { MatchOption result ⊤ (λ cow. cow_slice_items cow ≡ B.values lent.now) }
+        ensures made { IsSome result }
+    {
+        Some(CowSlice::Borrowed(B::values_of(lent)))
+    }
+}
+
+/// So many values: as what was made of lent bytes, or as a vector.
+#[derive(Drop)]
+pub enum Many<W, T> {
+    /// What was made of lent bytes.
+    Made(W),
+    /// The values.
+    Owned(Vec<T>),
+}
+
+// Reads so many values, each by itself. It stands outside the trait, so that it is proved once for all types. What
+// `W` shows is left open, since a function that is told would ask more of an array than its impl knows.
+#[inline]
+fn read_each<W: Drop, T: ReadFrom<L, C>, L: AsSlice<u8> + Drop, C: Context, R: LendingReader<L, C>>(
+    reader: &mut R,
+    length: usize,
+) -> Result<Many<W, T>, C::Error>
+    ensures { (shown : W → List T) → Reads C.Error.from_gives C.Error.eof
+        (λ many. map T.seen (many_items shown many))
+        (vector length (T.format (R.state reader.old).encoding)) result
+        (R.state reader.old) (R.state reader.new) }
+{
+    let mut items = vec_for::<T, L, C, R>(reader, T::minimum_bytes_needed(), length)?;
+    for _i in 0..length {
+        let item = T::read_from(reader)?;
+        if items.push(item).is_err() {
+            return Err(error_out_of_memory());
+        }
+    }
+    Ok(Many::Owned(items))
+}
+
+// An empty vector, with room for so many items where the reader says that their bytes are to come.
+pub(crate) fn vec_for<T, L: AsSlice<u8> + Drop, C: Context, R: LendingReader<L, C>>(
+    reader: &R,
+    least: usize,
+    length: usize,
+) -> Result<Vec<T>, C::Error>
+    ensures { MatchResult result (λ v. v.items ≡ [])
+        (C.Error.from_gives (error_of ErrorKind.OutOfMemory)) }
+{
+    let known = match least.checked_mul(length) {
+        Some(size) => least > 0 && reader.can_read_at_least(size) == Some(true),
+        None => false,
+    };
+    if !known {
+        return Ok(Vec::new(reader.alloc()));
+    }
+    match Vec::with_capacity(reader.alloc(), length) {
+        Ok(items) => Ok(items),
+        Err(_) => Err(error_out_of_memory()),
+    }
+}
+
+// Reads so many bytes, a chunk at a time. The count may be any, so no more room is asked for than for what was read,
+// but where the reader says that so many are there.
+pub(crate) fn read_chunks<L: AsSlice<u8> + Drop, C: Context, R: LendingReader<L, C>>(
+    reader: &mut R,
+    length: usize,
+) -> Result<Vec<u8>, C::Error>
+    ensures { Reads C.Error.from_gives C.Error.eof (λ v. v.items)
+        (vector length (unsigned_number 1 (R.state reader.old).encoding)) result
+        (R.state reader.old) (R.state reader.new) }
+{
+    let mut bytes = vec_for::<u8, L, C, R>(reader, 1, length)?;
+    let mut chunk = [0_u8; 512];
+    let mut left = length;
+    while left > 0 {
+        let size = left.min(chunk.len());
+        reader.read_bytes(&mut chunk[..size])?;
+        if bytes.extend_from_slice(&chunk[..size]).is_err() {
+            return Err(error_out_of_memory());
+        }
+        left -= size;
+    }
+    Ok(in_range(bytes))
+}
+
+// What a proof knows of the bytes is their range, which the contents of a buffer don't show.
+#[inline]
+fn in_range(bytes: Vec<u8>) -> Vec<u8>
+    ensures same { result.items ≡ bytes.items }
+    ensures range { AreBytes result.items }
+{
+    bytes
+}
