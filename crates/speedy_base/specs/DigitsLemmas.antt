@@ -1,9 +1,9 @@
 -- What holds of base 256 digits, at each width and in both orders; and that std's conversions between numbers and bytes are these digits.
-use Rattle.std.proofs.Common.{◌≡◌, ◌↔◌, Bool, false, true≢false, IsTrue, ℕ, zero, suc, ◌+◌, ◌-◌, ◌*◌, ◌/◌, ◌%◌, ◌^◌, ◌<◌, ◌≤◌, List, [], ◌∷◌, ◌++◌, length, reverse, get_or, slice_index, refl, sym, ap, ap₂, ◌∙◌, subst, subst₂, arith}
+use Rattle.std.proofs.Common.{◌≡◌, ℕ, zero, suc, ◌+◌, ◌-◌, ◌*◌, ◌/◌, ◌%◌, ◌^◌, ◌<◌, ◌≤◌, List, [], ◌∷◌, ◌++◌, length, reverse, get_or, slice_index, refl, sym, ap, ap₂, ◌∙◌, subst, subst₂, arith}
 use Rattle.std.proofs.Math.Nat.{pow-suc, div-div-eq-div-mul, div-one}
 use Rattle.std.proofs.lemmas.List.{reverse-append, reverse-reverse, length-reverse}
 use mir.Val.{bits, Fits}
-use Rattle.std.specs.Int.{Width, w8, w16, w32, w64, w128, byte_len, byte_at, byte_worth, bytes_low_first, bytes_high_first, sum_through, from_le_bytes, from_be_bytes, to_le_bytes, to_be_bytes, swap_bytes}
+use Rattle.std.specs.Int.{Width, w8, w16, w32, w64, w128, byte_len, byte_at, byte_worth, bytes_low_first, sum_through, from_le_bytes, to_le_bytes}
 use Rattle.speedy_base.specs.declared.endianness.Endianness.{Endianness}
 use Rattle.speedy_base.specs.declared.endianness.Endianness.TheVariants.{LittleEndian, BigEndian}
 use Rattle.speedy_base.specs.Digits.{little_number, number, little_digits, digits, AreBytes, SpellsNumber, swapped}
@@ -11,11 +11,11 @@ use Rattle.speedy_base.specs.Digits.{little_number, number, little_digits, digit
 -- ---- sums
 
 -- a sum is its first term and the rest
-sum_first : (f : ℕ → ℕ) (k : ℕ) → sum_through f (suc k) ≡ f 0 + sum_through (λ i. f (suc i)) k
+pub sum_first : (f : ℕ → ℕ) (k : ℕ) → sum_through f (suc k) ≡ f 0 + sum_through (λ i. f (suc i)) k
 sum_first f zero = refl
 sum_first f (suc k) = omega (arith, sum_first f k)
 
-sum_same : (f g : ℕ → ℕ) (k : ℕ) → ((i : ℕ) → i ≤ k → f i ≡ g i) → sum_through f k ≡ sum_through g k
+pub sum_same : (f g : ℕ → ℕ) (k : ℕ) → ((i : ℕ) → i ≤ k → f i ≡ g i) → sum_through f k ≡ sum_through g k
 sum_same f g zero h = h 0 (omega arith)
 sum_same f g (suc k) h = ap₂ ◌+◌ (sum_same f g k (λ i l. h i (omega arith))) (h (suc k) (omega arith))
 
@@ -29,22 +29,15 @@ worth_more : (i b : ℕ) → byte_worth (suc i) b ≡ 256 * byte_worth i b
 worth_more zero b = omega arith
 worth_more (suc i) b = rw (pow-suc 256 (suc i)) (omega arith)
 
-worth_is : (i b : ℕ) → byte_worth i b ≡ b * 256 ^ i
-worth_is zero b = omega arith
-worth_is (suc i) b = refl
-
 -- ---- numbers of digits
 
-reverse-cons : (b : ℕ) (bs : List ℕ) → reverse (b ∷ bs) ≡ reverse bs ++ b ∷ []
+pub reverse-cons : (b : ℕ) (bs : List ℕ) → reverse (b ∷ bs) ≡ reverse bs ++ b ∷ []
 reverse-cons b bs = reverse-append (b ∷ []) bs
 
 -- the digits of two lists, one above the other
 pub little_number-append : (xs ys : List ℕ) → little_number (xs ++ ys) ≡ little_number xs + 256 ^ length xs * little_number ys
 little_number-append [] ys = omega arith
 little_number-append (x ∷ xs) ys = rw (pow-suc 256 (length xs), little_number-append xs ys) (omega arith)
-
-little_number-reverse_cons : (b : ℕ) (bs : List ℕ) → little_number (reverse (b ∷ bs)) ≡ b * 256 ^ length bs + little_number (reverse bs)
-little_number-reverse_cons b bs = rw (reverse-cons b bs, little_number-append (reverse bs) (b ∷ []), length-reverse bs) (omega arith)
 
 -- ---- std's numbers from bytes
 
@@ -60,22 +53,8 @@ from_low_first (suc k) (b ∷ bs) e =
     ∙ sum_times (λ i. byte_worth i (slice_index bs i)) 256 k
     ∙ ap (λ (n : ℕ). 256 * n) (from_low_first k bs (omega arith)))
 
-from_high_first : (k : ℕ) (bytes : List ℕ) → length bytes ≡ suc k
-    → sum_through (λ i. byte_worth (k - i) (slice_index bytes i)) k ≡ little_number (reverse bytes)
-from_high_first zero [] e = absurd (omega arith)
-from_high_first zero (b ∷ []) e = omega arith
-from_high_first zero (b ∷ c ∷ bs) e = absurd (omega arith)
-from_high_first (suc k) [] e = absurd (omega arith)
-from_high_first (suc k) (b ∷ bs) e =
-    let top : suc k - 0 ≡ length bs = omega arith in
-    sum_first (λ i. byte_worth (suc k - i) (slice_index (b ∷ bs) i)) k
-    ∙ ap₂ ◌+◌ (worth_is (suc k - 0) b ∙ ap (λ (n : ℕ). b * 256 ^ n) top)
-    (sum_same (λ i. byte_worth (suc k - suc i) (slice_index bs i)) (λ i. byte_worth (k - i) (slice_index bs i)) k (λ i l. let less : suc k - suc i ≡ k - i = omega arith in ap (λ (n : ℕ). byte_worth n (slice_index bs i)) less)
-    ∙ from_high_first k bs (omega arith))
-    ∙ sym (little_number-reverse_cons b bs)
-
 -- each width has a byte
-byte_len-above : (w : Width) → byte_len w ≡ suc (byte_len w - 1)
+pub byte_len-above : (w : Width) → byte_len w ≡ suc (byte_len w - 1)
 byte_len-above w8 = refl
 byte_len-above w16 = refl
 byte_len-above w32 = refl
@@ -85,12 +64,9 @@ byte_len-above w128 = refl
 pub little_number-from_le_bytes : (w : Width) (bytes : List ℕ) → length bytes ≡ byte_len w → from_le_bytes w bytes ≡ little_number bytes
 little_number-from_le_bytes w bytes e = from_low_first (byte_len w - 1) bytes (e ∙ byte_len-above w)
 
-pub little_number-from_be_bytes : (w : Width) (bytes : List ℕ) → length bytes ≡ byte_len w → from_be_bytes w bytes ≡ little_number (reverse bytes)
-little_number-from_be_bytes w bytes e = from_high_first (byte_len w - 1) bytes (e ∙ byte_len-above w)
-
 -- ---- std's bytes of numbers
 
-byte_at-is : (i n : ℕ) → byte_at i n ≡ n / 256 ^ i % 256
+pub byte_at-is : (i n : ℕ) → byte_at i n ≡ n / 256 ^ i % 256
 byte_at-is zero n = ap (λ (m : ℕ). m % 256) (sym (div-one n))
 byte_at-is (suc i) n = refl
 
@@ -101,25 +77,8 @@ low_first_is : (i k n : ℕ) → bytes_low_first i k n ≡ little_digits k (n / 
 low_first_is i zero n = refl
 low_first_is i (suc k) n = ap₂ ◌∷◌ (byte_at-is i n) (low_first_is (suc i) k n ∙ ap (little_digits k) (sym (div-pow-suc i n)))
 
--- the greatest digit, taken off
-little_digits-last : (k n : ℕ) → little_digits (suc k) n ≡ little_digits k n ++ (n / 256 ^ k % 256) ∷ []
-little_digits-last zero n = ap (λ (m : ℕ). m % 256 ∷ []) (sym (div-one n))
-little_digits-last (suc k) n =
-    ap (◌∷◌ (n % 256))
-    (little_digits-last k (n / 256)
-    ∙ ap (λ (m : ℕ). little_digits k (n / 256) ++ m % 256 ∷ []) (div-div-eq-div-mul n 256 (256 ^ k) ∙ ap (λ (m : ℕ). n / m) (let turned : 256 * 256 ^ k ≡ 256 ^ suc k = rw (pow-suc 256 k) (omega arith) in turned)))
-
-high_first_is : (k n : ℕ) → bytes_high_first k n ≡ reverse (little_digits k n)
-high_first_is zero n = refl
-high_first_is (suc k) n =
-    ap₂ ◌∷◌ (byte_at-is k n) (high_first_is k n)
-    ∙ sym (ap reverse (little_digits-last k n) ∙ reverse-append (little_digits k n) ((n / 256 ^ k % 256) ∷ []))
-
 pub to_le_bytes-little_digits : (w : Width) (n : ℕ) → to_le_bytes w n ≡ little_digits (byte_len w) n
 to_le_bytes-little_digits w n = low_first_is 0 (byte_len w) n ∙ ap (little_digits (byte_len w)) (div-one n)
-
-pub to_be_bytes-little_digits : (w : Width) (n : ℕ) → to_be_bytes w n ≡ reverse (little_digits (byte_len w) n)
-to_be_bytes-little_digits w n = high_first_is (byte_len w) n
 
 -- ---- bytes
 
@@ -250,25 +209,6 @@ pow-byte_len w32 = refl
 pow-byte_len w64 = refl
 pow-byte_len w128 = refl
 
--- a number that was read from a slice, byte by byte
-pub SpellsNumber-from_le_bytes : (w : Width) (order : Endianness) (n : ℕ) (bytes items : List ℕ) → order ≡ LittleEndian → items ≡ bytes
-    → length bytes ≡ byte_len w → AreBytes bytes → n ≡ from_le_bytes w items → SpellsNumber (byte_len w) order n bytes
-unfolding number
-SpellsNumber-from_le_bytes w order n bytes items is same len are e = record {
-  width_is = len;
-  are_bytes = are;
-  value_is = ap (λ (o : Endianness). number o bytes) is ∙ sym (e ∙ ap (from_le_bytes w) same ∙ little_number-from_le_bytes w bytes len);
-}
-
-pub SpellsNumber-from_be_bytes : (w : Width) (order : Endianness) (n : ℕ) (bytes items : List ℕ) → order ≡ BigEndian → items ≡ bytes
-    → length bytes ≡ byte_len w → AreBytes bytes → n ≡ from_be_bytes w items → SpellsNumber (byte_len w) order n bytes
-unfolding number
-SpellsNumber-from_be_bytes w order n bytes items is same len are e = record {
-  width_is = len;
-  are_bytes = are;
-  value_is = ap (λ (o : Endianness). number o bytes) is ∙ sym (e ∙ ap (from_be_bytes w) same ∙ little_number-from_be_bytes w bytes len);
-}
-
 -- a number of the type, written
 pub SpellsNumber-to_le_bytes : (w : Width) (order : Endianness) (n : ℕ) (bytes : List ℕ) → order ≡ LittleEndian → n < 2 ^ bits w
     → bytes ≡ to_le_bytes w n → SpellsNumber (byte_len w) order n bytes
@@ -276,29 +216,11 @@ unfolding digits
 SpellsNumber-to_le_bytes w order n bytes is l e =
     subst₂ (λ (o : Endianness) (bs : List ℕ). SpellsNumber (byte_len w) o n bs) (sym is) (sym (e ∙ to_le_bytes-little_digits w n)) (SpellsNumber-digits (byte_len w) LittleEndian n (subst (λ (m : ℕ). n < m) (pow-byte_len w) l))
 
-pub SpellsNumber-to_be_bytes : (w : Width) (order : Endianness) (n : ℕ) (bytes : List ℕ) → order ≡ BigEndian → n < 2 ^ bits w
-    → bytes ≡ to_be_bytes w n → SpellsNumber (byte_len w) order n bytes
-unfolding digits
-SpellsNumber-to_be_bytes w order n bytes is l e =
-    subst₂ (λ (o : Endianness) (bs : List ℕ). SpellsNumber (byte_len w) o n bs) (sym is) (sym (e ∙ to_be_bytes-little_digits w n)) (SpellsNumber-digits (byte_len w) BigEndian n (subst (λ (m : ℕ). n < m) (pow-byte_len w) l))
-
 -- ---- std's reversal of a number's bytes
 
 pub swapped-little : (order : Endianness) (width n : ℕ) → order ≡ LittleEndian → swapped order width n ≡ n
 unfolding swapped
 swapped-little order width n is = ap (λ (o : Endianness). swapped o width n) is
-
-pub swapped-swap_bytes : (w : Width) (order : Endianness) (n : ℕ) → order ≡ BigEndian → swap_bytes w n ≡ swapped order (byte_len w) n
-unfolding swapped digits number
-swapped-swap_bytes w order n is =
-    ap (from_be_bytes w) (to_le_bytes-little_digits w n)
-    ∙ little_number-from_be_bytes w (little_digits (byte_len w) n) (length-little_digits (byte_len w) n)
-    ∙ sym (ap (λ (o : Endianness). swapped o (byte_len w) n) is)
-
--- an order that is not the one is the other
-pub little_from_not_big : (order : Endianness) (is_big : Bool) → (IsTrue is_big ↔ (order ≡ BigEndian)) → is_big ≡ false → order ≡ LittleEndian
-little_from_not_big LittleEndian is_big h e = refl
-little_from_not_big BigEndian is_big h e = absurd (true≢false (sym (h.1 refl) ∙ e))
 
 -- ---- one byte
 

@@ -3,12 +3,12 @@ use Rattle.std.specs.Prelude.{◌≡◌, ℕ, ℤ, ◌<◌, List}
 use Rattle.std.proofs.Common.{refl, sym, ◌∙◌, ap, subst}
 use mir.Val.{Fits}
 use mir.ValLaws.{to_z-of_z, of_z-to_z, to_z-Fits}
-use Rattle.std.specs.Int.{Width, byte_len, cast_unsigned, cast_signed, swap_bytes}
+use Rattle.std.specs.Int.{Width, byte_len, cast_unsigned, cast_signed}
 use Rattle.std.specs.Int.RustNames.{FitsSigned}
 use Rattle.speedy_base.specs.declared.endianness.Endianness.{Endianness}
-use Rattle.speedy_base.specs.declared.endianness.Endianness.TheVariants.{LittleEndian, BigEndian}
+use Rattle.speedy_base.specs.declared.endianness.Endianness.TheVariants.{LittleEndian}
 use Rattle.speedy_base.specs.Digits.{SpellsNumber}
-use Rattle.speedy_base.specs.DigitsLemmas.{SpellsNumber-below, SpellsNumber-same_value, pow-byte_len, swapped-swap_bytes}
+use Rattle.speedy_base.specs.DigitsLemmas.{SpellsNumber-below, SpellsNumber-same_value, pow-byte_len}
 use Rattle.speedy_base.specs.Signed.{SpellsSigned, swapped_signed}
 
 -- a number that has a spelling fits the width
@@ -44,14 +44,3 @@ SpellsSigned-same_value w order y z bytes s t = cast_unsigned-same w y z s.range
 pub swapped_signed-little : (w : Width) (z : ℤ) → swapped_signed LittleEndian w z ≡ z
 unfolding swapped_signed
 swapped_signed-little w z = refl
-
-pub swapped_signed-swap_bytes : (w : Width) (z : ℤ) → cast_signed w (swap_bytes w (cast_unsigned w z)) ≡ swapped_signed BigEndian w z
-unfolding swapped_signed
-swapped_signed-swap_bytes w z = ap (cast_signed w) (swapped-swap_bytes w BigEndian (cast_unsigned w z) refl)
-
--- and so where a function answers it
-pub swapped_signed-answered : (w : Width) (y z : ℤ) → FitsSigned w y → FitsSigned w z
-    → y ≡ cast_signed w (swap_bytes w (cast_unsigned w (cast_signed w (cast_unsigned w z))))
-    → cast_signed w (cast_unsigned w y) ≡ swapped_signed BigEndian w z
-swapped_signed-answered w y z f g e =
-    to_z-of_z w y f ∙ (e ∙ (ap (λ (x : ℤ). cast_signed w (swap_bytes w (cast_unsigned w x))) (to_z-of_z w z g) ∙ swapped_signed-swap_bytes w z))

@@ -1,2 +1,4 @@
 pub mod VarintCode
 pub mod WalkLemmas
+pub mod ViewLemmas
+pub mod VarintForms

@@ -11,7 +11,8 @@ use Rattle.speedy_base.specs.declared.endianness.Endianness.TheVariants.{LittleE
 use Rattle.speedy_base.specs.Digits.{SpellsNumber, number, little_number, AreBytes}
 use Rattle.speedy_base.specs.DigitsLemmas.{little_number-append, little_number-from_le_bytes, AreBytes-append_parts, little_number-below}
 use Rattle.speedy_base.specs.Encoding.{Encoding}
-use Rattle.speedy_layout.specs.Varint.{IsFirstByte, StartsVarint, HasNoShorter, varint, varint-written, capacity}
+use Rattle.speedy_layout.specs.Varint.{IsFirstByte, StartsVarint, HasNoShorter, varint, capacity}
+use Rattle.speedy_layout.proofs.VarintForms.{varint-written}
 
 -- the mark of so many leading ones
 pub mark : (k : ℕ) → k ≤ 8 → 256 / 2 ^ k ≡ 2 ^ (8 - k)

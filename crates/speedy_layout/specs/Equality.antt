@@ -38,14 +38,18 @@ both_so true answer refused h = (refl, h)
 both_so false answer refused h = absurd (true≢false (sym h ∙ refused))
 
 -- the first part, and those after it
-pub first_part : {U V : Type 0} {b : Bool} {answer : Bool → Bool} {t u : U} {v w : V} → Tells b t u → TellsAfter answer v w → let one : U × V = (t, v) in let other : U × V = (u, w) in Tells (answer b) one other
+pub first_part : {U V : Type 0} {b : Bool} {answer : Bool → Bool} {t u : U} {v w : V}
+    → Tells b t u → TellsAfter answer v w
+    → let one : U × V = (t, v) in let other : U × V = (u, w) in Tells (answer b) one other
 first_part {U} {V} {b = b} {answer = answer} part others = (
   λ h. let both = both_so b answer others.refused h in ap₂ (λ (x : U) (y : V). let r : U × V = (x, y) in r) (part.0 both.0) (others.tells.0 both.1),
   λ e. subst (λ (a : Bool). IsTrue (answer a)) (sym (part.1 (ap (λ (p : U × V). p.0) e))) (others.tells.1 (ap (λ (p : U × V). p.1) e)),
 )
 
 -- a part between
-pub next_part : {U V : Type 0} {b : Bool} {answer : Bool → Bool} {t u : U} {v w : V} → Tells b t u → TellsAfter answer v w → let one : U × V = (t, v) in let other : U × V = (u, w) in TellsAfter (λ before. answer (before && b)) one other
+pub next_part : {U V : Type 0} {b : Bool} {answer : Bool → Bool} {t u : U} {v w : V}
+    → Tells b t u → TellsAfter answer v w
+    → let one : U × V = (t, v) in let other : U × V = (u, w) in TellsAfter (λ before. answer (before && b)) one other
 next_part part others = record { refused = others.refused; tells = first_part part others }
 
 -- ---- no parts

@@ -4,7 +4,7 @@ use Rattle.std.proofs.Common.{sym, subst, arith}
 use Rattle.speedy_base.specs.Encoding.{Encoding}
 use Rattle.speedy_layout.specs.Format.{Format}
 use Rattle.speedy_layout.specs.Laws.{Laws}
-use Rattle.speedy_layout.specs.Codes.{ReadsWider, coding, Accepts-means, Accepts-demanded}
+use Rattle.speedy_layout.specs.Codes.{coding, Accepts-means, Accepts-demanded}
 use Rattle.speedy_layout.specs.Lists.{list, list_laws}
 use Rattle.speedy_layout.specs.Gathering.{IsGathering, gathering, items_of, gathered, gathered_laws, hashed_items, form_spelled}
 
@@ -64,8 +64,3 @@ gathered_form_length {hashed = hashed} {stands = stands} {written = written} {L 
     let no_less = whole.shortest s bytes b.0 h (whole.written_spells s b.0 again) in
     let no_more = whole.shortest s b.0 bytes again (whole.written_spells s bytes h) in
     (b.0, b.1, omega arith)
-
--- a list that is not written stands for something, and so the kind of what is no written form is named
-pub reads_wider : {E S : Type 0} {stands : List E → S → Type 0} {written : List E → Type 0} (items : List E) (s : S) → stands items s
-    → (written items → ⊥) → ReadsWider (gathering stands written)
-reads_wider items s h k = record { code = items; value = s; meant = h; not_chosen = λ c. k c.1 }

@@ -116,7 +116,8 @@ module _ {V : Type 0} (spells : V → List ℕ → Type 0) where
 
 -- ---- the laws
 
-module _ {E S : Type 0} {hashed : Bool} {stands : List E → S → Type 0} {written : List E → Type 0} {least : ℕ} {L : Format E} (encoding : Encoding) (laws : Laws encoding.strict least L) (is : IsGathering hashed stands written) where
+module _ {E S : Type 0} {hashed : Bool} {stands : List E → S → Type 0} {written : List E → Type 0}
+    {least : ℕ} {L : Format E} (encoding : Encoding) (laws : Laws encoding.strict least L) (is : IsGathering hashed stands written) where
   -- each form of a thing that is spelled is spelled
   pub form_spelled : (s : S) (bytes : List ℕ) → Coded (list encoding L).spells stands s bytes → (xs : List E) → stands xs s → written xs
       → (b : List ℕ) × (list encoding L).spells xs b

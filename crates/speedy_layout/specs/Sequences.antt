@@ -64,7 +64,10 @@ pub across : (s t r q a b c d : List ℕ) → s ≡ a ++ b → t ≡ c ++ d → 
 across s t r q a b c d h k e = sym (append_assoc a b r) ∙ (ap (λ x. x ++ r) (sym h) ∙ (e ∙ (ap (λ x. x ++ q) k ∙ append_assoc c d q)))
 
 -- once the first parts are the same, the second parts decode
-second_decodes : {U : Type 0} {W : U → Type 0} (M : (u : U) → Format (W u)) (strict : Bool) (m : ℕ) → ((u : U) → Laws strict m (M u)) → (s t r q : List ℕ) (p : (u : U) × W u) → (M p.0).spells p.1 s → s ++ r ≡ t ++ q → (u : U) → p.0 ≡ u → (w : W u) → (M u).spells w t → let whole : (u : U) × W u = (u, w) in (p ≡ whole) × (s ≡ t) × (r ≡ q)
+second_decodes : {U : Type 0} {W : U → Type 0} (M : (u : U) → Format (W u)) (strict : Bool) (m : ℕ)
+    → ((u : U) → Laws strict m (M u)) → (s t r q : List ℕ) (p : (u : U) × W u) → (M p.0).spells p.1 s → s ++ r ≡ t ++ q
+    → (u : U) → p.0 ≡ u → (w : W u) → (M u).spells w t
+    → let whole : (u : U) × W u = (u, w) in (p ≡ whole) × (s ≡ t) × (r ≡ q)
 second_decodes {U = U} {W = W} M strict m more s t r q p h e u same =
     subst (λ (u : U). (w : W u) → (M u).spells w t → let whole : (u : U) × W u = (u, w) in (p ≡ whole) × (s ≡ t) × (r ≡ q)) same
     (λ w k. let d = (more p.0).decodes p.1 w s t r q h k e in (ap (λ (x : W p.0). let whole : (u : U) × W u = (p.0, x) in whole) d.0, d.1, d.2))

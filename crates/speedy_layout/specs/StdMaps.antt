@@ -156,7 +156,8 @@ module _ {K V A B : Type 0} (seen : K → A) (value : V → B) (cmp : K → K �
   pub sorted_pairs_ascend : (es : List (K × V)) → IsStrictlySortedBy cmp (keys_of es) → Ascends (by_key (IsLess seen cmp)) (seen_pairs seen value es)
   sorted_pairs_ascend es h = Ascends-by_key (IsLess seen cmp) (seen_pairs seen value es) (subst (λ ks. Ascends (IsLess seen cmp) ks) (sym (keys_seen seen value es)) (sorted_ascend seen cmp (keys_of es) h))
 
-module _ {K V A B : Type 0} {seen : K → A} {cmp : K → K → Ordering} {eq : K → K → Bool} (value : V → B) (same_key : TellsApart eq seen) (total : IsTotalOrder cmp) (matches_eq : (x y : K) → eq x y ≡ eq_by_cmp cmp x y) where
+module _ {K V A B : Type 0} {seen : K → A} {cmp : K → K → Ordering} {eq : K → K → Bool} (value : V → B)
+    (same_key : TellsApart eq seen) (total : IsTotalOrder cmp) (matches_eq : (x y : K) → eq x y ≡ eq_by_cmp cmp x y) where
   -- what `collect` and inserting in turn make is what the pairs gather to
   pub tree_map_collected : (xs : List (K × V)) (m : BTreeMap K V) → tree.IsFromIterResult cmp xs m
       → GathersToTreeMap (IsLess seen cmp) (seen_pairs seen value xs) (seen_pairs seen value m.entries)

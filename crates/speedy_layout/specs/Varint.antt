@@ -11,7 +11,7 @@ use Rattle.speedy_base.specs.DigitsLemmas.{SpellsNumber-below, SpellsNumber-digi
 use Rattle.speedy_base.specs.Encoding.{Encoding}
 use Rattle.speedy_layout.specs.Format.{asks_nothing, Format}
 use Rattle.speedy_layout.specs.Laws.{Laws, Laws-less}
-use Rattle.speedy_layout.specs.Codes.{Code, IsCode, coding, coding_laws, exact_code, exact_is_code, Accepts-means, Accepts-exact_means, Accepts-is}
+use Rattle.speedy_layout.specs.Codes.{Code, IsCode, coding, coding_laws, exact_code, exact_is_code, Accepts-exact_means, Accepts-is}
 use Rattle.speedy_layout.specs.Numbers.{unsigned_number, unsigned_number_laws}
 use Rattle.speedy_layout.specs.Sequences.{AsksAtMost, asks_same, sequence, sequence_laws}
 
@@ -198,7 +198,7 @@ prefixed_digits_laws encoding =
     sequence_laws {n = 1} {m = 0} (first_byte_laws encoding) (λ p. Laws-less (omega arith) (unsigned_number_laws p.0 (low_first encoding))) (prefixed_asks encoding) (λ v w e. e)
 
 -- a first byte and its digits, as they are written
-prefixed_written : (encoding : Encoding) (k low rest first : ℕ) (tail : List ℕ) → IsFirstByte k low first
+pub prefixed_written : (encoding : Encoding) (k low rest first : ℕ) (tail : List ℕ) → IsFirstByte k low first
     → SpellsNumber k LittleEndian rest tail → (prefixed_digits encoding).writes ((k, low), rest) (first ∷ tail)
 unfolding sequence coding unsigned_number
 prefixed_written encoding k low rest first tail h digits = record {
@@ -213,12 +213,6 @@ prefixed_written encoding k low rest first tail h digits = record {
 pub prefixed-spelled : (encoding : Encoding) (k low rest first : ℕ) (tail : List ℕ) → IsFirstByte k low first
     → SpellsNumber k LittleEndian rest tail → (prefixed_digits encoding).spells ((k, low), rest) (first ∷ tail)
 prefixed-spelled encoding k low rest first tail h digits = (prefixed_digits_laws encoding).written_spells ((k, low), rest) (first ∷ tail) (prefixed_written encoding k low rest first tail h digits)
-
--- the written form of an integer, where they are the fewest
-pub varint-written : (encoding : Encoding) (k n first : ℕ) (tail : List ℕ) → IsFewest k n → IsFirstByte k (n / 256 ^ k) first
-    → SpellsNumber k LittleEndian (n % 256 ^ k) tail → (varint encoding).writes n (first ∷ tail)
-unfolding varint coding
-varint-written encoding k n first tail fewest h digits = record { code = ((k, n / 256 ^ k), n % 256 ^ k); code_is = prefixed_written encoding k (n / 256 ^ k) (n % 256 ^ k) first tail h digits; stands = (fewest, refl, refl) }
 
 -- what a spelling says of its code
 pub record IsPrefixed (p : (ℕ × ℕ) × ℕ) (bytes : List ℕ) : Type 0 where
@@ -273,7 +267,8 @@ varint_is_code encoding = record {
         first ∷ tail,
         record {
           code = code_of n k;
-          code_is = prefixed-spelled encoding k (n / 256 ^ k) (n % 256 ^ k) first tail (record { at_most_eight = f.1.at_most_eight; low_is_below = low; byte_is = refl }) (SpellsNumber-digits k LittleEndian (n % 256 ^ k) (mod_below n (256 ^ k) (pow_above k)));
+          code_is = prefixed-spelled encoding k (n / 256 ^ k) (n % 256 ^ k) first tail (record { at_most_eight = f.1.at_most_eight; low_is_below = low; byte_is = refl })
+              (SpellsNumber-digits k LittleEndian (n % 256 ^ k) (mod_below n (256 ^ k) (pow_above k)));
           stands = (f.1, refl, refl);
         },
       );
@@ -295,14 +290,6 @@ unfolding varint
 varint_laws encoding = coding_laws encoding (prefixed_digits_laws encoding) (varint_is_code encoding)
 
 -- ---- for readers
-
--- a number that has a spelling is below 2 ^ 64
-pub varint-below_64 : (encoding : Encoding) (n : ℕ) (bytes : List ℕ) → (varint encoding).spells n bytes → n < 2 ^ 64
-unfolding varint coding
-varint-below_64 encoding n bytes h =
-    let is = prefixed-is encoding h.code bytes h.code_is in
-    let means = Accepts-means encoding.strict varint_code h.code n ((varint_is_code encoding).chosen_means h.code n) h.stands in
-    capacity-below_64 h.code.0.0 n is.first_is.at_most_eight (let l = is.holds in omega arith)
 
 -- a first byte determines how many bytes follow
 pub StartsVarint-same : (k j x : ℕ) → StartsVarint k x → StartsVarint j x → k ≡ j

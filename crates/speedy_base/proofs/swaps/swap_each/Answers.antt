@@ -1,7 +1,7 @@
 use Rattle.std.proofs.Common.{◌≡◌, ◌∙◌, sym, ap, get_or, refl}
 use Rattle.speedy_base.specs.declared.endianness.Endianness.{Endianness}
 use Rattle.speedy_base.specs.declared.endianness.Endianness.TheVariants.{LittleEndian, BigEndian}
-use Rattle.speedy_base.specs.DigitsLemmas.{little_from_not_big}
+use Rattle.speedy_base.proofs.Conversions.{little_from_not_big}
 use Rattle.speedy_base.proofs.Mapping.{passed_more, passed_all, map_same}
 use Rattle.speedy_base.proofs.swaps.swap_each.Goals as goal
 

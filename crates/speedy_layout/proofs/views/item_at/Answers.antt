@@ -1,4 +1,4 @@
-use Rattle.speedy_layout.specs.Views.{item_found, item_missing}
+use Rattle.speedy_layout.proofs.ViewLemmas.{item_found, item_missing}
 use Rattle.speedy_layout.proofs.views.item_at.Goals as goal
 
 pub returns-then-index-bytes : goal.returns-then-index-bytes

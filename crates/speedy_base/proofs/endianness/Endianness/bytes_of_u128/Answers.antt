@@ -1,6 +1,7 @@
 use Rattle.std.specs.Int.{w128}
 use Rattle.std.proofs.Common.{arith}
-use Rattle.speedy_base.specs.DigitsLemmas.{SpellsNumber-to_le_bytes, SpellsNumber-to_be_bytes}
+use Rattle.speedy_base.specs.DigitsLemmas.{SpellsNumber-to_le_bytes}
+use Rattle.speedy_base.proofs.Conversions.{SpellsNumber-to_be_bytes}
 use Rattle.speedy_base.proofs.endianness.Endianness.bytes_of_u128.Goals as goal
 
 pub returns-in-LittleEndian : goal.returns-in-LittleEndian

@@ -1,5 +1,6 @@
 use Rattle.std.proofs.Common.{w32, arith}
-use Rattle.speedy_base.specs.DigitsLemmas.{SpellsNumber-to_le_bytes, SpellsNumber-to_be_bytes}
+use Rattle.speedy_base.specs.DigitsLemmas.{SpellsNumber-to_le_bytes}
+use Rattle.speedy_base.proofs.Conversions.{SpellsNumber-to_be_bytes}
 use Rattle.speedy_base.proofs.endianness.Endianness.bytes_of_u32.Goals as goal
 
 pub returns-in-LittleEndian : goal.returns-in-LittleEndian

@@ -1,5 +1,6 @@
 use Rattle.std.proofs.Common.{w32}
-use Rattle.speedy_base.specs.DigitsLemmas.{listed-all, AreBytes-slice, SpellsNumber-from_le_bytes, SpellsNumber-from_be_bytes}
+use Rattle.speedy_base.specs.DigitsLemmas.{listed-all, AreBytes-slice}
+use Rattle.speedy_base.proofs.Conversions.{SpellsNumber-from_le_bytes, SpellsNumber-from_be_bytes}
 use Rattle.speedy_base.proofs.endianness.Endianness.read_u32.Goals as goal
 
 pub returns-in-LittleEndian : goal.returns-in-LittleEndian

@@ -1,5 +1,6 @@
 use Rattle.std.specs.Int.{w64}
-use Rattle.speedy_base.specs.DigitsLemmas.{AreBytes-slice, SpellsNumber-from_le_bytes, SpellsNumber-from_be_bytes}
+use Rattle.speedy_base.specs.DigitsLemmas.{AreBytes-slice}
+use Rattle.speedy_base.proofs.Conversions.{SpellsNumber-from_le_bytes, SpellsNumber-from_be_bytes}
 use Rattle.speedy_base.proofs.endianness.Endianness.read_u64.Goals as goal
 
 pub returns-in-LittleEndian : goal.returns-in-LittleEndian

@@ -1,5 +1,6 @@
 use Rattle.std.proofs.Common.{◌∙◌, sym, w16}
-use Rattle.speedy_base.specs.DigitsLemmas.{swapped-swap_bytes, swapped-little, little_from_not_big}
+use Rattle.speedy_base.specs.DigitsLemmas.{swapped-little}
+use Rattle.speedy_base.proofs.Conversions.{swapped-swap_bytes, little_from_not_big}
 use Rattle.speedy_base.proofs.endianness.Endianness.swap_u16.Goals as goal
 
 pub returns-then-conversion_necessary : goal.returns-then-conversion_necessary

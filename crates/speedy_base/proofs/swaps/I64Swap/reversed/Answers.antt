@@ -1,5 +1,5 @@
 use Rattle.std.specs.Int.{w64}
-use Rattle.speedy_base.specs.SignedLemmas.{swapped_signed-answered}
+use Rattle.speedy_base.proofs.SignedSwaps.{swapped_signed-answered}
 use Rattle.speedy_base.proofs.swaps.I64Swap.reversed.Goals as goal
 
 pub returns : goal.returns

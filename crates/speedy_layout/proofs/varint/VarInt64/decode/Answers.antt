@@ -3,7 +3,8 @@ use Rattle.std.specs.Int.{w64, from_le_bytes}
 use Rattle.speedy_base.specs.DigitsLemmas.{AreBytes-slice}
 use Rattle.speedy_base.specs.declared.endianness.Endianness.TheVariants.{LittleEndian}
 use Rattle.speedy_base.specs.Encoding.{plain_encoding}
-use Rattle.speedy_layout.specs.Varint.{VarintParts, varint-accepted, varint-below_64}
+use Rattle.speedy_layout.specs.Varint.{VarintParts, varint-accepted}
+use Rattle.speedy_layout.proofs.VarintForms.{varint-below_64}
 use Rattle.speedy_layout.proofs.VarintCode.{zeros, mark_below, high_at_eight, high_below_eight, SpellsNumber-padded}
 use Rattle.speedy_layout.proofs.varint.VarInt64.decode.Goals as goal
 use Rattle.speedy_layout.proofs.varint.VarInt64.decode.Goals.{then-more-lt8, else-more-lt8}

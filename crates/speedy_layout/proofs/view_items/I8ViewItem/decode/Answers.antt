@@ -1,7 +1,7 @@
 use Rattle.std.proofs.Common.{ap, ◌∙◌}
 use mir.ValLaws.{of_z-to_z}
 use Rattle.std.specs.Int.{w8, cast_signed, cast_unsigned}
-use Rattle.speedy_layout.specs.Views.{one_byte_number}
+use Rattle.speedy_layout.proofs.ViewLemmas.{one_byte_number}
 use Rattle.speedy_layout.proofs.view_items.I8ViewItem.decode.Goals as goal
 
 pub returns : goal.returns

@@ -1,4 +1,4 @@
-use Rattle.speedy_layout.specs.Views.{one_byte_number}
+use Rattle.speedy_layout.proofs.ViewLemmas.{one_byte_number}
 use Rattle.speedy_layout.proofs.view_items.U8ViewItem.decode.Goals as goal
 
 pub returns : goal.returns

@@ -1,5 +1,5 @@
 use Rattle.std.proofs.Common.{◌/◌, length}
-use Rattle.speedy_layout.specs.Views.{whole_items}
+use Rattle.speedy_layout.proofs.ViewLemmas.{whole_items}
 use Rattle.speedy_layout.proofs.views.SliceView.iter.Goals as goal
 
 pub returns-clause-spelled : goal.returns-clause-spelled

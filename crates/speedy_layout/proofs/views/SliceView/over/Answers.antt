@@ -1,6 +1,7 @@
 use Rattle.std.proofs.Common.{◌/◌, length}
 use Rattle.speedy_base.specs.DigitsLemmas.{AreBytes-slice}
-use Rattle.speedy_layout.specs.Views.{shown_items_spelled, whole_items}
+use Rattle.speedy_layout.specs.Views.{shown_items_spelled}
+use Rattle.speedy_layout.proofs.ViewLemmas.{whole_items}
 use Rattle.speedy_layout.proofs.views.SliceView.over.Goals as goal
 
 pub returns-clause-spelled : goal.returns-clause-spelled

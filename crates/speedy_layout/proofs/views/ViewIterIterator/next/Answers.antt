@@ -1,5 +1,6 @@
 use Rattle.std.proofs.Common.{◌≡◌, ◌<◌, ◌∷◌, length, ap, subst, arith}
-use Rattle.speedy_layout.specs.Views.{shown_items, shown_items-none, item_taken}
+use Rattle.speedy_layout.specs.Views.{shown_items}
+use Rattle.speedy_layout.proofs.ViewLemmas.{shown_items-none, item_taken}
 use Rattle.speedy_layout.proofs.views.ViewIterIterator.next.Goals as goal
 
 -- the item is the first that was left
