@@ -58,8 +58,8 @@ module _ {E : Type 0} {gives : Error → E → Type 0} {eof : E → Bool} {old m
   more_bytes bytes all so_far read is = more_so_far so_far read (λ s t h k. ap₂ ◌++◌ h (sym k.0) ∙ sym is)
 
   -- a chunk was refused
-  pub chunk_refused : {B : Type 0} {view : B → Unit {0}} {e : E} {result : Result B E} {total : ℕ} (count : ℕ) → count + size ≤ total → SkippedSoFar count old mid → IsErrAnd result (λ x. x ≡ e)
-      → Reads gives eof seen (raw_bytes size) (Err e) mid new → Reads gives eof view (any_bytes total) result old new
+  pub chunk_refused : {B : Type 0} {seen' : B → Unit {0}} {e : E} {result : Result B E} {total : ℕ} (count : ℕ) → count + size ≤ total → SkippedSoFar count old mid → IsErrAnd result (λ x. x ≡ e)
+      → Reads gives eof seen (raw_bytes size) (Err e) mid new → Reads gives eof seen' (any_bytes total) result old new
   unfolding raw_bytes any_bytes
   chunk_refused {e = e} {total = total} count within so_far passed read = Reads-passed passed (record {
     kept = Kept-after so_far.kept read.kept;
@@ -78,19 +78,19 @@ module _ {E : Type 0} {gives : Error → E → Type 0} {eof : E → Bool} {old m
         read.answer;
   })
 
-  pub bytes_refused : {B : Type 0} {view : B → List ℕ} {e : E} {result : Result B E} {total : ℕ} (encoding : Encoding) (count : ℕ) (bytes : List ℕ) → length bytes ≡ count → count + size ≤ total → BytesSoFar bytes old mid → IsErrAnd result (λ x. x ≡ e)
-      → Reads gives eof seen (raw_bytes size) (Err e) mid new → Reads gives eof view (vector total (unsigned_number 1 encoding)) result old new
+  pub bytes_refused : {B : Type 0} {seen' : B → List ℕ} {e : E} {result : Result B E} {total : ℕ} (encoding : Encoding) (count : ℕ) (bytes : List ℕ) → length bytes ≡ count → count + size ≤ total → BytesSoFar bytes old mid → IsErrAnd result (λ x. x ≡ e)
+      → Reads gives eof seen (raw_bytes size) (Err e) mid new → Reads gives eof seen' (vector total (unsigned_number 1 encoding)) result old new
   bytes_refused {total = total} encoding count bytes l within so_far passed read =
       let skipped : SkippedSoFar count old mid = record { kept = so_far.kept; got = Got-as (λ s h. ap length h ∙ l) so_far.got } in
-      refused_covered (any_bytes_cover total encoding) passed (chunk_refused {view = λ (u : Unit {0}). u} count within skipped refl read)
+      refused_covered (any_bytes_cover total encoding) passed (chunk_refused {seen' = λ (u : Unit {0}). u} count within skipped refl read)
 
 module _ {E : Type 0} {gives : Error → E → Type 0} {eof : E → Bool} {B : Type 0} {old new : ReaderState} where
   -- all were taken
-  pub all_skipped : {view : B → Unit {0}} {x : B} {count : ℕ} → SkippedSoFar count old new → Reads gives eof view (any_bytes count) (Ok x) old new
+  pub all_skipped : {seen' : B → Unit {0}} {x : B} {count : ℕ} → SkippedSoFar count old new → Reads gives eof seen' (any_bytes count) (Ok x) old new
   unfolding any_bytes
   all_skipped so_far = all_so_far so_far (λ s h. h)
 
-  pub all_bytes : {view : B → List ℕ} {y : B} {n : ℕ} (encoding : Encoding) → BytesSoFar (view y) old new → length (view y) ≡ n → AreBytes (view y) → Reads gives eof view (vector n (unsigned_number 1 encoding)) (Ok y) old new
+  pub all_bytes : {seen' : B → List ℕ} {y : B} {n : ℕ} (encoding : Encoding) → BytesSoFar (seen' y) old new → length (seen' y) ≡ n → AreBytes (seen' y) → Reads gives eof seen' (vector n (unsigned_number 1 encoding)) (Ok y) old new
   unfolding vector owned_content repeat unsigned_number
-  all_bytes {view = view} {y = y} encoding so_far l are =
-      all_so_far so_far (λ s h. (l, subst (λ (x : List ℕ). Each (SpellsNumber 1 encoding.order) (view y) x) (sym h) (each_byte encoding.order (view y) are)))
+  all_bytes {seen' = seen'} {y = y} encoding so_far l are =
+      all_so_far so_far (λ s h. (l, subst (λ (x : List ℕ). Each (SpellsNumber 1 encoding.order) (seen' y) x) (sym h) (each_byte encoding.order (seen' y) are)))

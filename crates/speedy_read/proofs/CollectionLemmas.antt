@@ -113,9 +113,9 @@ gathered_at_once {g = g} items {all = all} r gathered written =
 -- ---- what was gathered is a value of a code
 
 -- what the items gather to is what the code says of what is seen of them
-pub record IsCodeOf {T F V S : Type 0} (g : Gatherer T F V) (c : Code (List V) S) (view : F → S) : Type 0 where
-  pub meant : (items : List T) (whole : F) → g.gathers items whole → c.means (map g.seen items) (view whole)
-  pub chosen : (items : List T) (whole : F) → g.gathers items whole → g.are_written items → c.chosen (map g.seen items) (view whole)
+pub record IsCodeOf {T F V S : Type 0} (g : Gatherer T F V) (c : Code (List V) S) (seen' : F → S) : Type 0 where
+  pub meant : (items : List T) (whole : F) → g.gathers items whole → c.means (map g.seen items) (seen' whole)
+  pub chosen : (items : List T) (whole : F) → g.gathers items whole → g.are_written items → c.chosen (map g.seen items) (seen' whole)
   pub first_chosen : (items : List T) (more : List V) (s : S) → c.chosen (map g.seen items ++ more) s → g.are_written items
 
 -- where more items are spelled than others, which stand at the same place, they begin with these
@@ -128,13 +128,13 @@ each_begins laws (v ∷ vs) (w ∷ ws) s t r q l h k e =
     let rest = each_begins laws vs ws h.back k.back r q (omega arith) h.second_is k.second_is first.2 in
     (rest.0, let a = first.0 in let b = rest.1 in (cc))
 
-module _ {T F V S : Type 0} {g : Gatherer T F V} {c : Code (List V) S} {view : F → S} (is : IsCodeOf g c view) {L : Format V} {n : ℕ} {old : ReaderState} {new : ReaderState} (h : NotWritten g L n old new) where
+module _ {T F V S : Type 0} {g : Gatherer T F V} {c : Code (List V) S} {seen' : F → S} (is : IsCodeOf g c seen') {L : Format V} {n : ℕ} {old : ReaderState} {new : ReaderState} (h : NotWritten g L n old new) where
   wider : ReadsWider c
   wider = record {
     code = map g.seen h.items;
-    value = view h.whole;
+    value = seen' h.whole;
     meant = is.meant h.items h.whole h.gathered;
-    not_chosen = λ k. h.not_written (is.first_chosen h.items [] (view h.whole) (subst (λ (vs : List V). c.chosen vs (view h.whole)) (sym (append-nil (map g.seen h.items))) k));
+    not_chosen = λ k. h.not_written (is.first_chosen h.items [] (seen' h.whole) (subst (λ (vs : List V). c.chosen vs (seen' h.whole)) (sym (append-nil (map g.seen h.items))) k));
   }
 
   -- what is spelled where such items stand is written of no collection
@@ -156,10 +156,10 @@ module _ {T F V S : Type 0} {g : Gatherer T F V} {c : Code (List V) S} {view : F
   }
 
 -- so items that are read and gathered are a value of the code that is read
-pub collected_read : {T F V S : Type 0} {g : Gatherer T F V} {c : Code (List V) S} {view : F → S} {L : Format V} {n : ℕ} {E : Type 0} {gives : Error → E → Type 0} {eof : E → Bool} {result : Result F E} {old new : ReaderState} {least : ℕ} → Laws old.encoding.strict least L → IsCodeOf g c view
-    → Collects g L n gives eof result old new → Reads gives eof view (coding old.encoding c (vector n L)) result old new
+pub collected_read : {T F V S : Type 0} {g : Gatherer T F V} {c : Code (List V) S} {seen' : F → S} {L : Format V} {n : ℕ} {E : Type 0} {gives : Error → E → Type 0} {eof : E → Bool} {result : Result F E} {old new : ReaderState} {least : ℕ} → Laws old.encoding.strict least L → IsCodeOf g c seen'
+    → Collects g L n gives eof result old new → Reads gives eof seen' (coding old.encoding c (vector n L)) result old new
 unfolding coding vector owned_content repeat
-collected_read {g = g} {c = c} {view = view} {L = L} {n = n} {result = Ok whole} {old = old} laws is r =
+collected_read {g = g} {c = c} {seen' = seen'} {L = L} {n = n} {result = Ok whole} {old = old} laws is r =
     let h = r.answer in
     record {
       kept = r.kept;
@@ -167,7 +167,7 @@ collected_read {g = g} {c = c} {view = view} {L = L} {n = n} {result = Ok whole}
           (λ s k. record {
             code = map g.seen h.items;
             code_is = (length-map h.items g.seen ∙ h.count_is, k);
-            stands = Accepts-is old.encoding.strict c (map g.seen h.items) (view whole) (is.meant h.items whole h.gathered) (λ strict. is.chosen h.items whole h.gathered (h.written strict));
+            stands = Accepts-is old.encoding.strict c (map g.seen h.items) (seen' whole) (is.meant h.items whole h.gathered) (λ strict. is.chosen h.items whole h.gathered (h.written strict));
           }) h.got;
     }
 collected_read {V = V} {g = g} {c = c} {L = L} {n = n} {gives = gives} {eof = eof} {result = Err e} {old = old} {new = new} laws is r =
@@ -245,8 +245,8 @@ gathered_composes true laws encoding c =
     }
 
 -- what stands for what it gathers to, and is written so, is the code of it
-pub gatherer_code : {T F V S : Type 0} {g : Gatherer T F V} {stands : List V → S → Type 0} {written : List V → Type 0} {view : F → S} → ((items : List T) (whole : F) → g.gathers items whole → stands (map g.seen items) (view whole))
-    → ((items : List T) → g.are_written items → written (map g.seen items)) → ((items : List T) → written (map g.seen items) → g.are_written items) → ((xs ys : List V) → written (xs ++ ys) → written xs) → IsCodeOf g (gathering stands written) view
+pub gatherer_code : {T F V S : Type 0} {g : Gatherer T F V} {stands : List V → S → Type 0} {written : List V → Type 0} {seen' : F → S} → ((items : List T) (whole : F) → g.gathers items whole → stands (map g.seen items) (seen' whole))
+    → ((items : List T) → g.are_written items → written (map g.seen items)) → ((items : List T) → written (map g.seen items) → g.are_written items) → ((xs ys : List V) → written (xs ++ ys) → written xs) → IsCodeOf g (gathering stands written) seen'
 gatherer_code {g = g} stands to from first = record {
   meant = stands;
   chosen = λ items whole h w. (stands items whole h, to items w);
@@ -254,14 +254,14 @@ gatherer_code {g = g} stands to from first = record {
 }
 
 -- the number of items and then the items are read as what they gather to
-pub collection_read : {T F V S : Type 0} {g : Gatherer T F V} {c : Code (List V) S} {view : F → S} {L : Encoding → Format V} {n : ℕ} {E : Type 0} {gives : Error → E → Type 0} {eof : E → Bool} {result : Result F E} {old mid new : ReaderState} {least : ℕ} (hashed : Bool)
-    → ((encoding : Encoding) → Laws encoding.strict least (L encoding)) → IsCodeOf g c view → Reads gives eof (λ x. x) (unsigned_number 4 old.encoding) (Ok n) old mid → Collects g (L mid.encoding) n gives eof result mid new
-    → Reads gives eof view (coding old.encoding c (items_of hashed old.encoding (L old.encoding))) result old new
-collection_read {c = c} {view = view} {L = L} {n = n} {gives = gives} {eof = eof} {result = result} {old = old} {mid = mid} {new = new} hashed laws is number r =
+pub collection_read : {T F V S : Type 0} {g : Gatherer T F V} {c : Code (List V) S} {seen' : F → S} {L : Encoding → Format V} {n : ℕ} {E : Type 0} {gives : Error → E → Type 0} {eof : E → Bool} {result : Result F E} {old mid new : ReaderState} {least : ℕ} (hashed : Bool)
+    → ((encoding : Encoding) → Laws encoding.strict least (L encoding)) → IsCodeOf g c seen' → Reads gives eof (λ x. x) (unsigned_number 4 old.encoding) (Ok n) old mid → Collects g (L mid.encoding) n gives eof result mid new
+    → Reads gives eof seen' (coding old.encoding c (items_of hashed old.encoding (L old.encoding))) result old new
+collection_read {c = c} {seen' = seen'} {L = L} {n = n} {gives = gives} {eof = eof} {result = result} {old = old} {mid = mid} {new = new} hashed laws is number r =
     second_decides (gathered_composes hashed (laws old.encoding) old.encoding c) (unsigned_number_laws 4 old.encoding) number
-    (subst (λ (e : Encoding). Reads gives eof view (coding e c (vector n (L e))) result mid new) number.kept.encoding (collected_read (laws mid.encoding) is r)) (λ _. refl)
+    (subst (λ (e : Encoding). Reads gives eof seen' (coding e c (vector n (L e))) result mid new) number.kept.encoding (collected_read (laws mid.encoding) is r)) (λ _. refl)
 
 -- and where the number is refused, so is the collection
-pub collection_refused : {V S : Type 0} (c : Code (List V) S) {L : Format V} {E : Type 0} {gives : Error → E → Type 0} {eof : E → Bool} {A B : Type 0} {seen : A → ℕ} {view : B → S} {e : E} {result : Result B E} {old new : ReaderState} {strict : Bool} {least : ℕ} (hashed : Bool) → Laws strict least L → IsErrAnd result (λ x. x ≡ e)
-    → Reads gives eof seen (unsigned_number 4 old.encoding) (Err e) old new → Reads gives eof view (coding old.encoding c (items_of hashed old.encoding L)) result old new
+pub collection_refused : {V S : Type 0} (c : Code (List V) S) {L : Format V} {E : Type 0} {gives : Error → E → Type 0} {eof : E → Bool} {A B : Type 0} {seen : A → ℕ} {seen' : B → S} {e : E} {result : Result B E} {old new : ReaderState} {strict : Bool} {least : ℕ} (hashed : Bool) → Laws strict least L → IsErrAnd result (λ x. x ≡ e)
+    → Reads gives eof seen (unsigned_number 4 old.encoding) (Err e) old new → Reads gives eof seen' (coding old.encoding c (items_of hashed old.encoding L)) result old new
 collection_refused c {old = old} hashed laws passed r = refused_first (gathered_composes hashed laws old.encoding c) passed r

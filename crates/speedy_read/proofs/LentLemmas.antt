@@ -56,13 +56,13 @@ bytes_cover_items n encoding = record {
 
 module _ {E : Type 0} {gives : Error → E → Type 0} {eof : E → Bool} {old new : ReaderState} where
   -- what takes no memory is read where it is borrowed
-  borrowed_read : {V : Type 0} (L : Format V) {A : Type 0} {view : A → V} {result : Result A E} → L.asks.memory ≡ false → Reads gives eof view L result old new → Reads gives eof view (borrowed_content (owned_content L)) result old new
+  borrowed_read : {V : Type 0} (L : Format V) {A : Type 0} {seen' : A → V} {result : Result A E} → L.asks.memory ≡ false → Reads gives eof seen' L result old new → Reads gives eof seen' (borrowed_content (owned_content L)) result old new
   unfolding borrowed_content owned_content
   borrowed_read L {result = Ok x} none r = got_covered (λ s h. h) r
   borrowed_read L {result = Err e} none r = refused_covered (content_covers none) refl r
 
   -- what is borrowed is refused as `Unsized` where nothing is lent
-  pub not_lent : {V : Type 0} (L : Format V) {A : Type 0} {view : A → V} {e : E} → (IsTrue old.fixed.lends → ⊥) → new ≡ old → gives (error_of kinds.Unsized) e → Reads gives eof view (borrowed_content L) (Err e) old new
+  pub not_lent : {V : Type 0} (L : Format V) {A : Type 0} {seen' : A → V} {e : E} → (IsTrue old.fixed.lends → ⊥) → new ≡ old → gives (error_of kinds.Unsized) e → Reads gives eof seen' (borrowed_content L) (Err e) old new
   unfolding borrowed_content
   not_lent L nothing same g = record {
     kept = subst (λ (s : ReaderState). Kept old s) (sym same) Kept-same;
@@ -74,25 +74,25 @@ module _ {E : Type 0} {gives : Error → E → Type 0} {eof : E → Bool} {old n
   unfolding raw_bytes
   lent_length r = let is = r.answer.front_is in ap length is.0 ∙ is.1
 
-  module _ {A B : Type 0} {shows : A → List ℕ} {view : B → List ℕ} (n : ℕ) (encoding : Encoding) where
+  module _ {A B : Type 0} {shows : A → List ℕ} {seen' : B → List ℕ} (n : ℕ) (encoding : Encoding) where
     -- lent bytes that are refused are no text
-    pub text_not_lent : {e : E} → Reads gives eof shows (raw_bytes n) (Err e) old new → Reads gives eof view (borrowed_content (text_of_length encoding n)) (Err e) old new
+    pub text_not_lent : {e : E} → Reads gives eof shows (raw_bytes n) (Err e) old new → Reads gives eof seen' (borrowed_content (text_of_length encoding n)) (Err e) old new
     unfolding text_of_length raw_bytes coding
     text_not_lent r = borrowed_read (subset encoding IsUtf8 kinds.InvalidUtf8 (raw_bytes n)) refl (code_refused encoding (subset_code IsUtf8 kinds.InvalidUtf8) refl r)
 
-    text_decided : {x : A} {r : Result B E} → MatchResult r (λ t. (view t ≡ shows x) × IsUtf8 (shows x)) (λ e. gives (error_of kinds.InvalidUtf8) e × (IsUtf8 (shows x) → ⊥)) → Reads gives eof shows (raw_bytes n) (Ok x) old new → Reads gives eof view (subset encoding IsUtf8 kinds.InvalidUtf8 (raw_bytes n)) r old new
+    text_decided : {x : A} {r : Result B E} → MatchResult r (λ t. (seen' t ≡ shows x) × IsUtf8 (shows x)) (λ e. gives (error_of kinds.InvalidUtf8) e × (IsUtf8 (shows x) → ⊥)) → Reads gives eof shows (raw_bytes n) (Ok x) old new → Reads gives eof seen' (subset encoding IsUtf8 kinds.InvalidUtf8 (raw_bytes n)) r old new
     text_decided {r = Ok t} h read = exact_code_read _ _ _ (sym h.0, subst IsUtf8 (sym h.0) h.1) read
     text_decided {r = Err e} h read = code_means_nothing _ _ (raw_bytes_laws n) (λ _ h. h) (λ v k. h.1 (subst IsUtf8 (sym k.0) k.1)) (kinds.InvalidUtf8, refl, h.0) read
 
     -- those that are answered are one, or are refused as none
-    pub text_lent : {x : A} {r : Result B E} → MatchResult r (λ t. (view t ≡ shows x) × IsUtf8 (shows x)) (λ e. gives (error_of kinds.InvalidUtf8) e × (IsUtf8 (shows x) → ⊥)) → Reads gives eof shows (raw_bytes n) (Ok x) old new → Reads gives eof view (borrowed_content (text_of_length encoding n)) r old new
+    pub text_lent : {x : A} {r : Result B E} → MatchResult r (λ t. (seen' t ≡ shows x) × IsUtf8 (shows x)) (λ e. gives (error_of kinds.InvalidUtf8) e × (IsUtf8 (shows x) → ⊥)) → Reads gives eof shows (raw_bytes n) (Ok x) old new → Reads gives eof seen' (borrowed_content (text_of_length encoding n)) r old new
     unfolding text_of_length raw_bytes coding
     text_lent h read = borrowed_read (subset encoding IsUtf8 kinds.InvalidUtf8 (raw_bytes n)) refl (text_decided h read)
 
-    items_refused : {e : E} → Reads gives eof shows (raw_bytes n) (Err e) old new → Reads gives eof view (repeat n (unsigned_number 1 encoding)) (Err e) old new
+    items_refused : {e : E} → Reads gives eof shows (raw_bytes n) (Err e) old new → Reads gives eof seen' (repeat n (unsigned_number 1 encoding)) (Err e) old new
     items_refused r = refused_covered (bytes_cover_items n encoding) refl r
 
-    items_read : {x : A} {y : B} → view y ≡ shows x → AreBytes (shows x) → Reads gives eof shows (raw_bytes n) (Ok x) old new → Reads gives eof view (repeat n (unsigned_number 1 encoding)) (Ok y) old new
+    items_read : {x : A} {y : B} → seen' y ≡ shows x → AreBytes (shows x) → Reads gives eof shows (raw_bytes n) (Ok x) old new → Reads gives eof seen' (repeat n (unsigned_number 1 encoding)) (Ok y) old new
     unfolding raw_bytes repeat unsigned_number
     items_read {x = x} {y = y} same are r =
         got_covered
@@ -100,20 +100,20 @@ module _ {E : Type 0} {gives : Error → E → Type 0} {eof : E → Bool} {old n
         r
 
     -- lent bytes are items of one byte each
-    pub items_not_lent : {e : E} {result : Result B E} → IsErrAnd result (λ x. x ≡ e) → Reads gives eof shows (raw_bytes n) (Err e) old new → Reads gives eof view (borrowed_content (vector n (unsigned_number 1 encoding))) result old new
+    pub items_not_lent : {e : E} {result : Result B E} → IsErrAnd result (λ x. x ≡ e) → Reads gives eof shows (raw_bytes n) (Err e) old new → Reads gives eof seen' (borrowed_content (vector n (unsigned_number 1 encoding))) result old new
     unfolding vector repeat unsigned_number
     items_not_lent passed r = Reads-passed passed (borrowed_read (repeat n (unsigned_number 1 encoding)) refl (items_refused r))
 
-    pub items_lent : {x : A} {y : B} → view y ≡ shows x → AreBytes (shows x) → Reads gives eof shows (raw_bytes n) (Ok x) old new → Reads gives eof view (borrowed_content (vector n (unsigned_number 1 encoding))) (Ok y) old new
+    pub items_lent : {x : A} {y : B} → seen' y ≡ shows x → AreBytes (shows x) → Reads gives eof shows (raw_bytes n) (Ok x) old new → Reads gives eof seen' (borrowed_content (vector n (unsigned_number 1 encoding))) (Ok y) old new
     unfolding vector repeat unsigned_number
     items_lent same are r = borrowed_read (repeat n (unsigned_number 1 encoding)) refl (items_read same are r)
 
     -- as they are of a vector, which a cow may borrow
-    pub cow_not_lent : {e : E} → Reads gives eof shows (raw_bytes n) (Err e) old new → Reads gives eof view (vector n (unsigned_number 1 encoding)) (Err e) old new
+    pub cow_not_lent : {e : E} → Reads gives eof shows (raw_bytes n) (Err e) old new → Reads gives eof seen' (vector n (unsigned_number 1 encoding)) (Err e) old new
     unfolding vector
     cow_not_lent r = owned_read (items_refused r)
 
-    pub cow_lent : {x : A} {y : B} → view y ≡ shows x → AreBytes (shows x) → Reads gives eof shows (raw_bytes n) (Ok x) old new → Reads gives eof view (vector n (unsigned_number 1 encoding)) (Ok y) old new
+    pub cow_lent : {x : A} {y : B} → seen' y ≡ shows x → AreBytes (shows x) → Reads gives eof shows (raw_bytes n) (Ok x) old new → Reads gives eof seen' (vector n (unsigned_number 1 encoding)) (Ok y) old new
     unfolding vector
     cow_lent same are r = owned_read (items_read same are r)
 

@@ -50,15 +50,15 @@ module _ {V : Type 0} {strict : Bool} {least : ℕ} {L : Format V} (laws : Laws 
   unfolding list
   list_composes encoding = sequence_composes list_parts (vector_asks L) (λ n vs s h. ap (λ (m : ℕ). let whole : ℕ × List V = (m, vs) in whole) (vector_length n L vs s h))
 
-  module _ {E : Type 0} {gives : Error → E → Type 0} {eof : E → Bool} {B : Type 0} {view : B → List V} (n : ℕ) {old : ReaderState} where
+  module _ {E : Type 0} {gives : Error → E → Type 0} {eof : E → Bool} {B : Type 0} {seen' : B → List V} (n : ℕ) {old : ReaderState} where
     -- fewer bytes are to come than so many items have at least
-    pub refused_early : {e : E} → IsEnd gives eof old.fixed.ends_by_device e → (IsTrue old.fixed.tells → length old.to_come < 2 ^ 64 - 1 → length old.to_come < n * least) → Reads gives eof view (vector n L) (Err e) old old
+    pub refused_early : {e : E} → IsEnd gives eof old.fixed.ends_by_device e → (IsTrue old.fixed.tells → length old.to_come < 2 ^ 64 - 1 → length old.to_come < n * least) → Reads gives eof seen' (vector n L) (Err e) old old
     unfolding vector owned_content repeat
     refused_early ended fewer = record { kept = Kept-same; answer = inr (ends_early refl (n * least) (vector_laws laws n).least_size (λ _ bad. bad) ended fewer) }
 
     -- where an item is refused, the vector is
     pub refused_item : {A : Type 0} {seen : A → V} (vs : List V) {e : E} {result : Result B E} {mid new : ReaderState} → length vs < n → ReadSoFar (Each L.spells vs) old mid → IsErrAnd result (λ x. x ≡ e)
-        → Reads gives eof seen L (Err e) mid new → Reads gives eof view (vector n L) result old new
+        → Reads gives eof seen L (Err e) mid new → Reads gives eof seen' (vector n L) result old new
     unfolding vector owned_content repeat
     refused_item vs {e = e} {mid = mid} {new = new} fewer so_far passed r =
         let got = so_far.got in
@@ -91,14 +91,14 @@ module _ {E : Type 0} {gives : Error → E → Type 0} {eof : E → Bool} {V : T
       subst (λ (us : List V). ReadSoFar (Each L.spells us) old new) (sym is) (more_so_far so_far read (λ s t h k. each_more L.spells vs (seen x) s t h k))
 
   -- all items were read
-  pub got_items : {B : Type 0} {view : B → List V} {y : B} (n : ℕ) → ReadSoFar (Each L.spells (view y)) old new → length (view y) ≡ n → Reads gives eof view (vector n L) (Ok y) old new
+  pub got_items : {B : Type 0} {seen' : B → List V} {y : B} (n : ℕ) → ReadSoFar (Each L.spells (seen' y)) old new → length (seen' y) ≡ n → Reads gives eof seen' (vector n L) (Ok y) old new
   unfolding vector owned_content repeat
   got_items n so_far l = all_so_far so_far (λ s h. (l, h))
 
 -- want of memory for an item
-pub refused_room : {E : Type 0} {gives : Error → E → Type 0} {eof : E → Bool} {V : Type 0} (n : ℕ) (L : Format V) (e : E) {old new : ReaderState} {B : Type 0} {view : B → List V} {result : Result B E} → Kept old new → new.faults ≡ old.faults → IsErrAnd result (λ x. x ≡ e)
-    → gives (error_of kinds.OutOfMemory) e → Reads gives eof view (vector n L) result old new
+pub refused_room : {E : Type 0} {gives : Error → E → Type 0} {eof : E → Bool} {V : Type 0} (n : ℕ) (L : Format V) (e : E) {old new : ReaderState} {B : Type 0} {seen' : B → List V} {result : Result B E} → Kept old new → new.faults ≡ old.faults → IsErrAnd result (λ x. x ≡ e)
+    → gives (error_of kinds.OutOfMemory) e → Reads gives eof seen' (vector n L) result old new
 unfolding vector
-refused_room {gives = gives} {eof = eof} n L e {old = old} {new = new} {view = view} k clean passed g =
-    let refused : Reads gives eof view (owned_content (repeat n L)) (Err e) old new = memory_refused (repeat n L) k clean g in
+refused_room {gives = gives} {eof = eof} n L e {old = old} {new = new} {seen' = seen'} k clean passed g =
+    let refused : Reads gives eof seen' (owned_content (repeat n L)) (Err e) old new = memory_refused (repeat n L) k clean g in
     Reads-passed passed refused

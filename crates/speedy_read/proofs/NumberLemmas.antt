@@ -46,7 +46,7 @@ digits_cover_signed w encoding = record {
 
 module _ {E : Type 0} {gives : Error → E → Type 0} {eof : E → Bool} {old new : ReaderState} where
   -- where so many bytes are refused, the number is
-  pub number_refused : (width : ℕ) {A B : Type 0} {seen : A → List ℕ} {view : B → ℕ} {e : E} {result : Result B E} → IsErrAnd result (λ x. x ≡ e) → Reads gives eof seen (raw_bytes width) (Err e) old new → Reads gives eof view (unsigned_number width old.encoding) result old new
+  pub number_refused : (width : ℕ) {A B : Type 0} {seen : A → List ℕ} {seen' : B → ℕ} {e : E} {result : Result B E} → IsErrAnd result (λ x. x ≡ e) → Reads gives eof seen (raw_bytes width) (Err e) old new → Reads gives eof seen' (unsigned_number width old.encoding) result old new
   number_refused width passed r = refused_covered (bytes_cover_digits width old.encoding) passed r
 
   -- the number that the bytes spell in the order that the reader has after them

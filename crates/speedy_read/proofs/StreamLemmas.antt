@@ -287,20 +287,20 @@ module _ {E : Type 0} (gives : Error → E → Type 0) (eof : E → Bool) {A V :
 
 -- the reader that was made holds the source under its name
 pub view_name : {S C : Type 0} (r : StreamReader S C) {context : C} {name : GName} {source : S} {ring : Ring} {b : Bool} → stream_model r ≡ record { context = context; source_name = name; source = source; ring = ring; is_buffering = b } → r.source.ghost_name ≡ name
-view_name {S = S} {C = C} r view = ap (λ (v : StreamModel S C). v.source_name) view
+view_name {S = S} {C = C} r shown = ap (λ (v : StreamModel S C). v.source_name) shown
 
 module _ {E : Type 0} {gives : Error → E → Type 0} {eof : E → Bool} {A V : Type 0} {seen : A → V} where
   -- and a function that made it
   pub stream_answered : {S C : Type 0} (source : S → SourceState) (asks : C → Encoding) (format : Encoding → Format V) (first last : StreamReader S C) {context : C} {name : GName} {origin final : S} {ring : Ring} {buffers : Bool} {result : Result A E} → stream_model first ≡ record { context = context; source_name = name; source = origin; ring = ring; is_buffering = buffers } → ring ≡ record { bytes = []; capacity = first_capacity buffers; room = [] } → final ≡ last.source.now
       → Reads gives eof seen (format (asks first.context)) result (stream_state source asks first) (stream_state source asks last) → AnswersStream gives eof seen (format (asks context)) buffers result (source origin) (source final)
-  stream_answered {S = S} {C = C} source asks format first last {context = context} {origin = origin} {final = final} {buffers = buffers} {result = result} view made is_last r =
+  stream_answered {S = S} {C = C} source asks format first last {context = context} {origin = origin} {final = final} {buffers = buffers} {result = result} shown made is_last r =
       let new : SourceState = source last.source.now in
-      let ring : first.ring ≡ record { bytes = []; capacity = first_capacity buffers; room = [] } = ap (λ (v : StreamModel S C). v.ring) view ∙ made in
-      let same_way : first.is_buffering ≡ buffers = ap (λ (v : StreamModel S C). v.is_buffering) view in
+      let ring : first.ring ≡ record { bytes = []; capacity = first_capacity buffers; room = [] } = ap (λ (v : StreamModel S C). v.ring) shown ∙ made in
+      let same_way : first.is_buffering ≡ buffers = ap (λ (v : StreamModel S C). v.is_buffering) shown in
       subst (λ (s : SourceState). AnswersStream gives eof seen (format (asks context)) buffers result (source origin) s) (sym (ap source is_last))
-      (subst (λ (s : S). AnswersStream gives eof seen (format (asks context)) buffers result (source s) new) (ap (λ (v : StreamModel S C). v.source) view)
+      (subst (λ (s : S). AnswersStream gives eof seen (format (asks context)) buffers result (source s) new) (ap (λ (v : StreamModel S C). v.source) shown)
       (subst (λ (way : Bool). AnswersStream gives eof seen (format (asks context)) way result (source first.source.now) new) same_way
-      (subst (λ (c : C). AnswersStream gives eof seen (format (asks c)) first.is_buffering result (source first.source.now) new) (ap (λ (v : StreamModel S C). v.context) view)
+      (subst (λ (c : C). AnswersStream gives eof seen (format (asks c)) first.is_buffering result (source first.source.now) new) (ap (λ (v : StreamModel S C). v.context) shown)
       (reader_answered gives eof seen (format (asks first.context)) first.is_buffering last.is_buffering first.ring last.ring first.source.ghost_name last.source.ghost_name (asks first.context) (asks last.context) (source first.source.now) new (ap (λ (r : Ring). r.bytes) ring) (ap (λ (r : Ring). r.capacity) ring ∙ ap (λ (b : Bool). first_capacity b) (sym same_way)) result r))))
 
   -- and of a file

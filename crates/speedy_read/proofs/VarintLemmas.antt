@@ -31,13 +31,13 @@ prefixed_composes encoding = sequence_composes (λ p. p) (prefixed_asks encoding
 
 module _ {E : Type 0} {gives : Error → E → Type 0} {eof : E → Bool} (encoding : Encoding) {old : ReaderState} where
   -- where the first byte is refused, the integer is
-  pub varint_first_refused : {new : ReaderState} {A B : Type 0} {seen : A → ℕ} {view : B → ℕ} {e : E} {result : Result B E} → IsErrAnd result (λ x. x ≡ e) → Reads gives eof seen (unsigned_number 1 encoding) (Err e) old new → Reads gives eof view (varint encoding) result old new
+  pub varint_first_refused : {new : ReaderState} {A B : Type 0} {seen : A → ℕ} {seen' : B → ℕ} {e : E} {result : Result B E} → IsErrAnd result (λ x. x ≡ e) → Reads gives eof seen (unsigned_number 1 encoding) (Err e) old new → Reads gives eof seen' (varint encoding) result old new
   unfolding varint
   varint_first_refused passed r =
       code_refused encoding varint_code {seen = λ (p : (ℕ × ℕ) × ℕ). p} passed
       (refused_first (prefixed_composes encoding) {seen = λ (p : ℕ × ℕ). p} refl (code_refused encoding first_byte_code refl r))
 
-  pub varint_first_not_peeked : {new : ReaderState} {A B : Type 0} {seen : A → ℕ} {view : B → ℕ} {e : E} {result : Result B E} → IsErrAnd result (λ x. x ≡ e) → Peeks gives eof seen (unsigned_number 1 encoding) (Err e) old new → Peeks gives eof view (varint encoding) result old new
+  pub varint_first_not_peeked : {new : ReaderState} {A B : Type 0} {seen : A → ℕ} {seen' : B → ℕ} {e : E} {result : Result B E} → IsErrAnd result (λ x. x ≡ e) → Peeks gives eof seen (unsigned_number 1 encoding) (Err e) old new → Peeks gives eof seen' (varint encoding) result old new
   unfolding varint
   varint_first_not_peeked passed r =
       peek_refused_covered (codes_cover encoding varint_code) {seen = λ (p : (ℕ × ℕ) × ℕ). p} passed
@@ -47,13 +47,13 @@ module _ {E : Type 0} {gives : Error → E → Type 0} {eof : E → Bool} (encod
   first_byte_read more low h r = exact_code_read encoding (λ (byte : ℕ) (p : ℕ × ℕ). IsFirstByte p.0 p.1 byte) (λ kind. ⊥) h r
 
   -- where the bytes after it are, the integer is
-  pub varint_rest_refused : {mid new : ReaderState} {first : ℕ} (more : ℕ) → StartsVarint more first → Reads gives eof (λ n. n) (unsigned_number 1 encoding) (Ok first) old mid → {A B : Type 0} {seen : A → List ℕ} {view : B → ℕ} {e : E} {result : Result B E} {size : ℕ} → size ≡ more → IsErrAnd result (λ x. x ≡ e)
-      → Reads gives eof seen (raw_bytes size) (Err e) mid new → Reads gives eof view (varint encoding) result old new
+  pub varint_rest_refused : {mid new : ReaderState} {first : ℕ} (more : ℕ) → StartsVarint more first → Reads gives eof (λ n. n) (unsigned_number 1 encoding) (Ok first) old mid → {A B : Type 0} {seen : A → List ℕ} {seen' : B → ℕ} {e : E} {result : Result B E} {size : ℕ} → size ≡ more → IsErrAnd result (λ x. x ≡ e)
+      → Reads gives eof seen (raw_bytes size) (Err e) mid new → Reads gives eof seen' (varint encoding) result old new
   unfolding varint
   varint_rest_refused {mid = mid} {new = new} more starts one {seen = seen} {e = e} sized passed r =
       code_refused encoding varint_code {seen = λ (p : (ℕ × ℕ) × ℕ). p} passed
       (refused_second (prefixed_composes encoding) (first_byte_laws encoding) (first_byte_read more starts.0 starts.1 one) refl
-      (refused_covered (bytes_cover_digits more (low_first encoding)) {view = λ (n : ℕ). n} refl (subst (λ (n : ℕ). Reads gives eof seen (raw_bytes n) (Err e) mid new) sized r)))
+      (refused_covered (bytes_cover_digits more (low_first encoding)) {seen' = λ (n : ℕ). n} refl (subst (λ (n : ℕ). Reads gives eof seen (raw_bytes n) (Err e) mid new) sized r)))
 
   -- the first byte, the digits after it and their number
   prefixed_read : {mid new : ReaderState} {first n : ℕ} {A : Type 0} {seen : A → List ℕ} {x : A} → (parts : VarintParts first (seen x) n) → Reads gives eof (λ n. n) (unsigned_number 1 encoding) (Ok first) old mid → (size : ℕ) → Reads gives eof seen (raw_bytes size) (Ok x) mid new
@@ -61,13 +61,13 @@ module _ {E : Type 0} {gives : Error → E → Type 0} {eof : E → Bool} (encod
   unfolding raw_bytes unsigned_number
   prefixed_read {seen = seen} {x = x} parts one size r =
       got_both (prefixed_composes encoding) (first_byte_read (length (seen x)) parts.low parts.first_is one)
-      (got_covered {view = λ (n : ℕ). n} {y = parts.rest} (λ s is. subst (SpellsNumber (length (seen x)) LittleEndian parts.rest) is.0 parts.tail_is) r) refl
+      (got_covered {seen' = λ (n : ℕ). n} {y = parts.rest} (λ s is. subst (SpellsNumber (length (seen x)) LittleEndian parts.rest) is.0 parts.tail_is) r) refl
 
   -- make the integer, if they are the fewest or no written form is demanded
   pub varint_answered : {mid new : ReaderState} {first n : ℕ} {A : Type 0} {seen : A → List ℕ} {x : A} → VarintParts first (seen x) n → (IsTrue encoding.strict → IsFewest (length (seen x)) n) → Reads gives eof (λ n. n) (unsigned_number 1 encoding) (Ok first) old mid → (size : ℕ) → Reads gives eof seen (raw_bytes size) (Ok x) mid new → Reads gives eof (λ n. n) (varint encoding) (Ok n) old new
   unfolding varint
   varint_answered {n = n} {seen = seen} {x = x} parts fewest one size r =
-      code_read encoding varint_code {view = λ (n : ℕ). n} parts.value_is (λ strict. varint-chosen n parts (fewest strict)) (prefixed_read parts one size r)
+      code_read encoding varint_code {seen' = λ (n : ℕ). n} parts.value_is (λ strict. varint-chosen n parts (fewest strict)) (prefixed_read parts one size r)
 
   -- and are refused where one is demanded and they are not
   pub varint_not_written : {mid new : ReaderState} {first n : ℕ} {A : Type 0} {seen : A → List ℕ} {x : A} {e : E} → VarintParts first (seen x) n → IsTrue encoding.strict → (IsFewest (length (seen x)) n → ⊥) → gives (error_of kinds.NotWrittenForm) e → Reads gives eof (λ n. n) (unsigned_number 1 encoding) (Ok first) old mid → (size : ℕ) → Reads gives eof seen (raw_bytes size) (Ok x) mid new → Reads gives eof (λ n. n) (varint encoding) (Err e) old new
@@ -153,10 +153,10 @@ module _ {E : Type 0} {gives : Error → E → Type 0} {eof : E → Bool} (encod
       let whole : old.to_come ≡ seen x ++ r.answer.rest = sym (one.kept.to_come told) ∙ (all ∙ ap (λ x. x ++ r.answer.rest) bytes) in
       whole ∙ begins (seen x) r.answer.rest one.answer.rest first (let l = r.answer.front_is.1 in let m = ap length bytes in omega arith) (sym whole ∙ first_to_come one told)
 
-  module _ {A B : Type 0} {seen : A → List ℕ} {view : B → ℕ} (count : ℕ) {old mid new : ReaderState} where
+  module _ {A B : Type 0} {seen : A → List ℕ} {seen' : B → ℕ} (count : ℕ) {old mid new : ReaderState} where
     -- where the first byte and those after it are refused, the integer is
     pub rest_not_peeked : {e : E} {result : Result B E} (more : ℕ) → count ≡ more + 1 → StartsVarint more first → Peeks gives eof (λ n. n) (unsigned_number 1 encoding) (Ok first) old mid → IsErrAnd result (λ x. x ≡ e)
-        → Peeks gives eof seen (raw_bytes count) (Err e) mid new → Peeks gives eof view (varint encoding) result old new
+        → Peeks gives eof seen (raw_bytes count) (Err e) mid new → Peeks gives eof seen' (varint encoding) result old new
     unfolding raw_bytes varint coding sequence unsigned_number
     rest_not_peeked {e = e} more sized starts one passed r = Peeks-passed passed (record {
       kept = KeptByPeek-after one.kept r.kept;
@@ -178,7 +178,7 @@ module _ {E : Type 0} {gives : Error → E → Type 0} {eof : E → Bool} (encod
     })
 
     -- a first byte and those after it are what the read takes
-    pub varint_peeked : {x : A} {y : B} (more : ℕ) → Peeks gives eof (λ n. n) (unsigned_number 1 encoding) (Ok first) old mid → (varint encoding).spells (view y) (first ∷ take (length (seen x) - 1) (drop 1 (seen x))) → count ≡ more + 1 → Peeks gives eof seen (raw_bytes count) (Ok x) mid new → Peeks gives eof view (varint encoding) (Ok y) old new
+    pub varint_peeked : {x : A} {y : B} (more : ℕ) → Peeks gives eof (λ n. n) (unsigned_number 1 encoding) (Ok first) old mid → (varint encoding).spells (seen' y) (first ∷ take (length (seen x) - 1) (drop 1 (seen x))) → count ≡ more + 1 → Peeks gives eof seen (raw_bytes count) (Ok x) mid new → Peeks gives eof seen' (varint encoding) (Ok y) old new
     varint_peeked {x = x} more one spelled sized r = record {
       kept = KeptByPeek-after one.kept r.kept;
       answer = record { front = first ∷ take (length (seen x) - 1) (drop 1 (seen x)); rest = r.answer.rest; front_is = spelled; stands = whole_to_come count more one sized r; no_fault = r.answer.no_fault ∙ one.answer.no_fault };
@@ -186,7 +186,7 @@ module _ {E : Type 0} {gives : Error → E → Type 0} {eof : E → Bool} (encod
 
     -- and are refused where the written form is demanded and they are not
     pub varint_peek_not_written : {x : A} {n : ℕ} {e : E} (more : ℕ) → Peeks gives eof (λ n. n) (unsigned_number 1 encoding) (Ok first) old mid → VarintParts first (take (length (seen x) - 1) (drop 1 (seen x))) n → IsTrue encoding.strict → (IsFewest (length (take (length (seen x) - 1) (drop 1 (seen x)))) n → ⊥) → gives (error_of kinds.NotWrittenForm) e → count ≡ more + 1
-        → Peeks gives eof seen (raw_bytes count) (Ok x) mid new → Peeks gives eof view (varint encoding) (Err e) old new
+        → Peeks gives eof seen (raw_bytes count) (Ok x) mid new → Peeks gives eof seen' (varint encoding) (Err e) old new
     unfolding varint coding
     varint_peek_not_written {x = x} {n = n} more one parts strict not_fewest given sized r =
         let tail = take (length (seen x) - 1) (drop 1 (seen x)) in

@@ -25,14 +25,14 @@ module _ {V : Type 0} (size : ℕ) (F : Format V) (one : (v : V) (bytes : List �
     asks = asks_nothing_more;
   }
 
-  module _ {E : Type 0} {gives : Error → E → Type 0} {eof : E → Bool} {old new : ReaderState} {X Y : Type 0} {shows : X → List ℕ} {view : Y → List V} where
+  module _ {E : Type 0} {gives : Error → E → Type 0} {eof : E → Bool} {old new : ReaderState} {X Y : Type 0} {shows : X → List ℕ} {seen' : Y → List V} where
     -- lent bytes that are refused are no items
-    pub view_not_lent : {e : E} {result : Result Y E} → IsErrAnd result (λ x. x ≡ e) → Reads gives eof shows (raw_bytes (n * size)) (Err e) old new → Reads gives eof view (borrowed_content (vector n F)) result old new
+    pub view_not_lent : {e : E} {result : Result Y E} → IsErrAnd result (λ x. x ≡ e) → Reads gives eof shows (raw_bytes (n * size)) (Err e) old new → Reads gives eof seen' (borrowed_content (vector n F)) result old new
     view_not_lent passed r = refused_covered bytes_cover_view passed r
 
     -- those that are answered are the items that they show, if any bytes of that size spell one
     pub view_lent : {A : Type 0} (decoded : List ℕ → A) (seen : A → V) → 0 < size → ((bytes : List ℕ) → length bytes ≡ size → AreBytes bytes → F.spells (seen (decoded bytes)) bytes)
-        → {x : X} {y : Y} → view y ≡ map seen (shown_items decoded size (shows x)) → AreBytes (shows x) → Reads gives eof shows (raw_bytes (n * size)) (Ok x) old new → Reads gives eof view (borrowed_content (vector n F)) (Ok y) old new
+        → {x : X} {y : Y} → seen' y ≡ map seen (shown_items decoded size (shows x)) → AreBytes (shows x) → Reads gives eof shows (raw_bytes (n * size)) (Ok x) old new → Reads gives eof seen' (borrowed_content (vector n F)) (Ok y) old new
     unfolding raw_bytes borrowed_content vector owned_content repeat
     view_lent decoded seen some decodes {x = x} {y = y} same are r =
         got_covered
@@ -45,8 +45,8 @@ module _ {V : Type 0} (size : ℕ) (F : Format V) (one : (v : V) (bytes : List �
         r
 
   -- no input has more bytes than can be counted
-  module _ {E : Type 0} {gives : Error → E → Type 0} {eof : E → Bool} {old new : ReaderState} {X Y : Type 0} {shows : X → List ℕ} {view : Y → List V} (many : 2 ^ 64 ≤ n * size) where
-    pub more_than_all : (k : ℕ) {x : X} {e : E} → IsEnd gives eof old.fixed.ends_by_device e → Reads gives eof shows (raw_bytes k) (Ok x) old new → Reads gives eof view (borrowed_content (vector n F)) (Err e) old new
+  module _ {E : Type 0} {gives : Error → E → Type 0} {eof : E → Bool} {old new : ReaderState} {X Y : Type 0} {shows : X → List ℕ} {seen' : Y → List V} (many : 2 ^ 64 ≤ n * size) where
+    pub more_than_all : (k : ℕ) {x : X} {e : E} → IsEnd gives eof old.fixed.ends_by_device e → Reads gives eof shows (raw_bytes k) (Ok x) old new → Reads gives eof seen' (borrowed_content (vector n F)) (Err e) old new
     unfolding borrowed_content vector owned_content repeat
     more_than_all k ended r = record {
       kept = r.kept;
@@ -54,7 +54,7 @@ module _ {V : Type 0} (size : ℕ) (F : Format V) (one : (v : V) (bytes : List �
     }
 
     -- so where as many as can be counted are refused, the items are
-    pub all_refused : {e : E} → Reads gives eof shows (raw_bytes (2 ^ 64 - 1)) (Err e) old new → Reads gives eof view (borrowed_content (vector n F)) (Err e) old new
+    pub all_refused : {e : E} → Reads gives eof shows (raw_bytes (2 ^ 64 - 1)) (Err e) old new → Reads gives eof seen' (borrowed_content (vector n F)) (Err e) old new
     unfolding raw_bytes borrowed_content vector owned_content repeat
     all_refused r = record {
       kept = r.kept;

@@ -39,25 +39,27 @@ module _ {U V : Type 0} {L : Format U} {N : Format V} (c : Covers L N) {E : Type
             ];
       }
 
-  module _ {A B : Type 0} {seen : A → U} {view : B → V} {old new : ReaderState} where
+  module _ {A B : Type 0} {seen : A → U} {seen' : B → V} {old new : ReaderState} where
     -- where L is refused, N is
     pub refused_covered : {e : E} {result : Result B E} → IsErrAnd result (λ x. x ≡ e) → Reads gives eof seen L (Err e) old new
-        → Reads gives eof view N result old new
+        → Reads gives eof seen' N result old new
     refused_covered passed r = Reads-passed passed (record { kept = r.kept; answer = part_refused new refl refl c.asks.memory c.names unspelled_covered r.answer })
 
     pub peek_refused_covered : {e : E} {result : Result B E} → IsErrAnd result (λ x. x ≡ e) → Peeks gives eof seen L (Err e) old new
-        → Peeks gives eof view N result old new
+        → Peeks gives eof seen' N result old new
     peek_refused_covered passed r = Peeks-passed passed (record {
       kept = r.kept;
       answer = elim r.answer [ inl h ↦ inl h | inr h ↦ inr (part_refused new refl refl c.asks.memory c.names unspelled_covered h) ];
     })
 
 -- what is read under L stands under N, if its spellings do
-module _ {U V : Type 0} {L : Format U} {N : Format V} {E : Type 0} {gives : Error → E → Type 0} {eof : E → Bool} {A B : Type 0} {seen : A → U} {view : B → V} {x : A} {y : B} {old new : ReaderState} (stands : (s : List ℕ) → L.spells (seen x) s → N.spells (view y) s) where
-  pub got_covered : Reads gives eof seen L (Ok x) old new → Reads gives eof view N (Ok y) old new
+module _ {U V : Type 0} {L : Format U} {N : Format V} {E : Type 0} {gives : Error → E → Type 0} {eof : E → Bool}
+    {A B : Type 0} {seen : A → U} {seen' : B → V} {x : A} {y : B} {old new : ReaderState}
+    (stands : (s : List ℕ) → L.spells (seen x) s → N.spells (seen' y) s) where
+  pub got_covered : Reads gives eof seen L (Ok x) old new → Reads gives eof seen' N (Ok y) old new
   got_covered r = record { kept = r.kept; answer = Got-as stands r.answer }
 
-  pub ahead_covered : Peeks gives eof seen L (Ok x) old new → Peeks gives eof view N (Ok y) old new
+  pub ahead_covered : Peeks gives eof seen L (Ok x) old new → Peeks gives eof seen' N (Ok y) old new
   ahead_covered r = record { kept = r.kept; answer = Ahead-as stands r.answer }
 
 -- ---- codes
@@ -90,22 +92,23 @@ unaccepted {gives = gives} {U = U} encoding c {L = L} laws {u = u} {e = e} {byte
   malformed = λ _. IsNamed-more gives {more = λ kind. L.names kind ⊎ (c.refusals kind ⊎ IsDemand encoding.strict c kind)} e (λ kind h. inr h) named;
 }
 
-module _ {E : Type 0} {gives : Error → E → Type 0} {eof : E → Bool} {U V : Type 0} (encoding : Encoding) (c : Code U V) {L : Format U} {A B : Type 0} {seen : A → U} {view : B → V} {old new : ReaderState} where
+module _ {E : Type 0} {gives : Error → E → Type 0} {eof : E → Bool} {U V : Type 0} (encoding : Encoding) (c : Code U V) {L : Format U}
+    {A B : Type 0} {seen : A → U} {seen' : B → V} {old new : ReaderState} where
   -- where no code is read, no value is
   pub code_refused : {e : E} {result : Result B E} → IsErrAnd result (λ x. x ≡ e) → Reads gives eof seen L (Err e) old new
-      → Reads gives eof view (coding encoding c L) result old new
+      → Reads gives eof seen' (coding encoding c L) result old new
   code_refused passed r = refused_covered (codes_cover encoding c) passed r
 
   -- the value that the code means is read, where it is chosen for it under a demand for the written form
-  pub code_read : {x : A} {y : B} → c.means (seen x) (view y) → (IsTrue encoding.strict → c.chosen (seen x) (view y))
-      → Reads gives eof seen L (Ok x) old new → Reads gives eof view (coding encoding c L) (Ok y) old new
+  pub code_read : {x : A} {y : B} → c.means (seen x) (seen' y) → (IsTrue encoding.strict → c.chosen (seen x) (seen' y))
+      → Reads gives eof seen L (Ok x) old new → Reads gives eof seen' (coding encoding c L) (Ok y) old new
   unfolding coding
-  code_read {x = x} {y = y} means chosen r = got_covered (λ s h. record { code = seen x; code_is = h; stands = Accepts-is encoding.strict c (seen x) (view y) means chosen }) r
+  code_read {x = x} {y = y} means chosen r = got_covered (λ s h. record { code = seen x; code_is = h; stands = Accepts-is encoding.strict c (seen x) (seen' y) means chosen }) r
 
   -- a code that is accepted as no value is refused
   pub code_unaccepted : {least : ℕ} → Laws encoding.strict least L → {x : A} {e : E} → ((v : V) → Accepts encoding.strict c (seen x) v → ⊥)
       → IsNamed gives (λ kind. c.refusals kind ⊎ IsDemand encoding.strict c kind) e → Reads gives eof seen L (Ok x) old new
-      → Reads gives eof view (coding encoding c L) (Err e) old new
+      → Reads gives eof seen' (coding encoding c L) (Err e) old new
   unfolding coding
   code_unaccepted laws {e = e} nothing named r = record {
     kept = r.kept;
@@ -119,14 +122,14 @@ module _ {E : Type 0} {gives : Error → E → Type 0} {eof : E → Bool} {U V :
   -- so is one that means nothing
   pub code_means_nothing : {least : ℕ} → Laws encoding.strict least L → {x : A} {e : E}
       → ((v : V) → c.chosen (seen x) v → c.means (seen x) v) → ((v : V) → c.means (seen x) v → ⊥) → IsNamed gives c.refusals e
-      → Reads gives eof seen L (Ok x) old new → Reads gives eof view (coding encoding c L) (Err e) old new
+      → Reads gives eof seen L (Ok x) old new → Reads gives eof seen' (coding encoding c L) (Err e) old new
   code_means_nothing laws {x = x} {e = e} chosen nothing named r =
       code_unaccepted laws (λ v h. nothing v (Accepts-means encoding.strict c (seen x) v (chosen v) h)) (IsNamed-more gives e (λ kind h. inl h) named) r
 
   -- and, under a demand for the written form, one that is chosen for no value
   pub code_not_written : {least : ℕ} → Laws encoding.strict least L → {x : A} {e : E} → ReadsWider c → IsTrue encoding.strict
       → ((v : V) → c.chosen (seen x) v → ⊥) → gives (error_of kinds.NotWrittenForm) e → Reads gives eof seen L (Ok x) old new
-      → Reads gives eof view (coding encoding c L) (Err e) old new
+      → Reads gives eof seen' (coding encoding c L) (Err e) old new
   code_not_written laws {x = x} wider strict unchosen given r =
       code_unaccepted laws (λ v h. unchosen v (Accepts-demanded encoding.strict c (seen x) v strict h)) (kinds.NotWrittenForm, inr (strict, refl, wider), given) r
 
@@ -139,7 +142,9 @@ pub not_demanded : {old new : Encoding} {asked : Bool} → new ≡ old → asked
 not_demanded kept is not_asked strict = let asked_before = ap (λ (e : Encoding). e.strict) kept in absurd (cc)
 
 -- of an exact code one fact is enough
-pub exact_code_read : {E : Type 0} {gives : Error → E → Type 0} {eof : E → Bool} {U V : Type 0} (encoding : Encoding) (means : U → V → Type 0) (refusals : ErrorKind → Type 0) {L : Format U} {A B : Type 0} {seen : A → U} {view : B → V} {old new : ReaderState} {x : A} {y : B}
-    → means (seen x) (view y)
-    → Reads gives eof seen L (Ok x) old new → Reads gives eof view (coding encoding (exact_code means refusals) L) (Ok y) old new
+pub exact_code_read : {E : Type 0} {gives : Error → E → Type 0} {eof : E → Bool} {U V : Type 0} (encoding : Encoding)
+    (means : U → V → Type 0) (refusals : ErrorKind → Type 0) {L : Format U}
+    {A B : Type 0} {seen : A → U} {seen' : B → V} {old new : ReaderState} {x : A} {y : B}
+    → means (seen x) (seen' y)
+    → Reads gives eof seen L (Ok x) old new → Reads gives eof seen' (coding encoding (exact_code means refusals) L) (Ok y) old new
 exact_code_read encoding means refusals h r = code_read encoding (exact_code means refusals) h (λ _. h) r

@@ -40,4 +40,5 @@ module _ {T F V : Type 0} (g : Gatherer T F V) (L : Format V) (n : ℕ) where
   -- are written of a collection where that is demanded.
   pub record Collects {E : Type 0} (gives : Error → E → Type 0) (eof : E → Bool) (result : Result F E) (old new : ReaderState) : Type 0 where
     pub kept : Kept old new
-    pub answer : MatchResult result (λ whole. GotItems whole old new) (λ e. Excused gives true e old new ⊎ (Refused gives eof (vector n L) e old new ⊎ (gives (error_of kinds.NotWrittenForm) e × NotWritten old new)))
+    pub answer : MatchResult result (λ whole. GotItems whole old new)
+        (λ e. Excused gives true e old new ⊎ (Refused gives eof (vector n L) e old new ⊎ (gives (error_of kinds.NotWrittenForm) e × NotWritten old new)))

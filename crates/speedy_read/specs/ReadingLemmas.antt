@@ -77,7 +77,8 @@ fronts_nest (x ∷ a) b (y ∷ c) d e =
 -- ---- refusals
 
 -- what `?` passes on is refused as it was
-module _ {E : Type 0} {gives : Error → E → Type 0} {eof : E → Bool} {A V : Type 0} {seen : A → V} {L : Format V} {e : E} {result : Result A E} {old new : ReaderState} (passed : IsErrAnd result (λ x. x ≡ e)) where
+module _ {E : Type 0} {gives : Error → E → Type 0} {eof : E → Bool} {A V : Type 0} {seen : A → V}
+    {L : Format V} {e : E} {result : Result A E} {old new : ReaderState} (passed : IsErrAnd result (λ x. x ≡ e)) where
   pub Reads-passed : Reads gives eof seen L (Err e) old new → Reads gives eof seen L result old new
   Reads-passed r = subst (λ (x : Result A E). Reads gives eof seen L x old new) (passed_on result e passed) r
 
@@ -94,7 +95,9 @@ excused_after : {E : Type 0} (gives : Error → E → Type 0) (takes more : Bool
     → mid.faults ≡ old.faults → (IsTrue takes → IsTrue more) → Excused gives takes e mid new → Excused gives more e old new
 excused_after gives takes more e old mid new same clean f (inl (g, inl t, none)) = inl (g, inl (f t), none ∙ clean)
 excused_after gives takes more e old mid new same clean f (inl (g, inr t, none)) = inl (g, inr (subst (λ (kind : ReaderKind). IsTrue kind.asks_memory) same t), none ∙ clean)
-excused_after gives takes more e old mid new same clean f (inr h) = inr (fault_after gives old.fixed.tells_faults e old.faults mid.faults new.faults clean (subst (λ (kind : ReaderKind). IsOfFault gives kind.tells_faults e mid.faults new.faults) same h))
+excused_after gives takes more e old mid new same clean f (inr h) =
+    inr (fault_after gives old.fixed.tells_faults e old.faults mid.faults new.faults clean
+    (subst (λ (kind : ReaderKind). IsOfFault gives kind.tells_faults e mid.faults new.faults) same h))
 
 -- a part L that is refused from `mid` on refuses the whole N, where what L says of the bytes says it of N
 pub part_refused : {E : Type 0} {gives : Error → E → Type 0} {eof : E → Bool} {U V : Type 0} {L : Format U} {N : Format V} {e : E} {old mid : ReaderState} (new : ReaderState)
@@ -102,7 +105,8 @@ pub part_refused : {E : Type 0} {gives : Error → E → Type 0} {eof : E → Bo
     → (IsTrue L.asks.memory → IsTrue N.asks.memory) → ((kind : ErrorKind) → L.names kind → N.names kind)
     → (IsTold N old → (IsTold L mid → Unspelled gives eof L e mid.to_come) → Unspelled gives eof N e old.to_come)
     → Excused gives L.asks.memory e mid new ⊎ Refused gives eof L e mid new → Excused gives N.asks.memory e old new ⊎ Refused gives eof N e old new
-part_refused {gives = gives} {L = L} {N = N} {e = e} {old = old} {mid = mid} new same clean takes names un (inl x) = inl (excused_after gives L.asks.memory N.asks.memory e old mid new same clean takes x)
+part_refused {gives = gives} {L = L} {N = N} {e = e} {old = old} {mid = mid} new same clean takes names un (inl x) =
+    inl (excused_after gives L.asks.memory N.asks.memory e old mid new same clean takes x)
 part_refused {gives = gives} {eof = eof} {L = L} {N = N} {e = e} new same clean takes names un (inr x) = inr (record {
   no_fault = x.no_fault ∙ clean;
   kind = elim x.kind [ inl h ↦ inl (subst (λ (kind : ReaderKind). IsEnd gives eof kind.ends_by_device e) same h) | inr h ↦ inr (IsNamed-more gives e names h) ];
@@ -177,12 +181,12 @@ module _ {E : Type 0} {gives : Error → E → Type 0} {eof : E → Bool} {A V :
 
 -- ---- another value of the same format
 
-module _ {E : Type 0} {gives : Error → E → Type 0} {eof : E → Bool} {A B V : Type 0} {seen : A → V} {view : B → V} {L : Format V} {old new : ReaderState} where
+module _ {E : Type 0} {gives : Error → E → Type 0} {eof : E → Bool} {A B V : Type 0} {seen : A → V} {seen' : B → V} {L : Format V} {old new : ReaderState} where
   -- what was refused as one value is refused as another
   pub refused_as : {e : E} {result : Result B E} → IsErrAnd result (λ x. x ≡ e) → Reads gives eof seen L (Err e) old new
-      → Reads gives eof view L result old new
+      → Reads gives eof seen' L result old new
   refused_as passed r = Reads-passed passed (record { kept = r.kept; answer = r.answer })
 
   -- and answered, where the same is seen of it
-  pub got_as : {x : A} {y : B} → view y ≡ seen x → Reads gives eof seen L (Ok x) old new → Reads gives eof view L (Ok y) old new
+  pub got_as : {x : A} {y : B} → seen' y ≡ seen x → Reads gives eof seen L (Ok x) old new → Reads gives eof seen' L (Ok y) old new
   got_as same r = record { kept = r.kept; answer = Got-as (λ s h. subst (λ (v : V). L.spells v s) (sym same) h) r.answer }

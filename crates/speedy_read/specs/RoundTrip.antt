@@ -26,7 +26,8 @@ pub record AnswersWritten {E A V : Type 0} (gives : Error → E → Type 0) (see
 
 -- What a read answers where a written form and then the rest are to come: the value that was written, and the rest is
 -- still to come. Where all is told, it is refused only for want of memory or by a failed call of the device.
-pub record ReadsWritten {E A V : Type 0} (gives : Error → E → Type 0) (eof : E → Bool) (seen : A → V) (L : Format V) (v : V) (rest : List ℕ) (result : Result A E) (old new : ReaderState) : Type 0 where
+pub record ReadsWritten {E A V : Type 0} (gives : Error → E → Type 0) (eof : E → Bool) (seen : A → V) (L : Format V)
+    (v : V) (rest : List ℕ) (result : Result A E) (old new : ReaderState) : Type 0 where
   pub same : IfOk result (λ x. seen x ≡ v)
   pub rest_is : OnOk result (new.to_come ≡ rest)
   pub refused : IsTold L old → IfErr result (λ e. Excused gives L.asks.memory e old new)
@@ -42,7 +43,8 @@ pub record ReadsWrittenFirst {E A V : Type 0} (gives : Error → E → Type 0) (
 -- was written, and the rest is still to come, but for what was read ahead of it. It is refused only for want of memory
 -- or as what a failed call answered, where the bytes are told and fewer than `usize::MAX`, and the type borrows
 -- nothing.
-pub record StreamsWritten {E A V : Type 0} (gives : Error → E → Type 0) (seen : A → V) (L : Format V) (v : V) (buffers : Bool) (rest : List ℕ) (result : Result A E) (old new : SourceState) : Type 0 where
+pub record StreamsWritten {E A V : Type 0} (gives : Error → E → Type 0) (seen : A → V) (L : Format V)
+    (v : V) (buffers : Bool) (rest : List ℕ) (result : Result A E) (old new : SourceState) : Type 0 where
   pub same : IfOk result (λ x. seen x ≡ v)
   pub rest_is : OnOk result (buffers ≡ false → new.to_come ≡ rest)
   pub ahead : OnOk result ((ahead : List ℕ) × (length ahead ≤ most_held buffers) × (rest ≡ ahead ++ new.to_come))
@@ -77,7 +79,10 @@ module _ {E A : Type 0} (gives : Error → E → Type 0) (eof : E → Bool) wher
 
   -- the law of the functions that read from a source that tells its bytes
   abbrev pub WrittenIsStreamed : {V : Type 0} → (A → V) → (Encoding → Format V) → Type 0
-  WrittenIsStreamed {V = V} seen format = (encoding : Encoding) (v : V) (bytes rest : List ℕ) (buffers : Bool) (result : Result A E) (old new : SourceState) → (format encoding).writes v bytes → IsTrue old.tells → old.to_come ≡ bytes ++ rest → AnswersStream gives eof seen (format encoding) buffers result old new → StreamsWritten gives seen (format encoding) v buffers rest result old new
+  WrittenIsStreamed {V = V} seen format = (encoding : Encoding) (v : V) (bytes rest : List ℕ) (buffers : Bool) (result : Result A E) (old new : SourceState)
+      → (format encoding).writes v bytes → IsTrue old.tells → old.to_come ≡ bytes ++ rest
+      → AnswersStream gives eof seen (format encoding) buffers result old new
+      → StreamsWritten gives seen (format encoding) v buffers rest result old new
 
   -- the law of reads of items by their number
   pub record WrittenItemsAreRead {V : Type 0} (seen : A → List V) (format : Encoding → Format V) : Type 0 where
@@ -94,4 +99,7 @@ module _ {E A : Type 0} (gives : Error → E → Type 0) (eof : E → Bool) wher
 
   -- The law of the functions that copy from a buffer: where the type borrows nothing, they answer as those do that lend it.
   abbrev pub CopiedIsAnswered : {V : Type 0} → (A → V) → ℕ → (Encoding → Format V) → Type 0
-  CopiedIsAnswered {V = V} seen least format = (encoding : Encoding) → (format encoding).asks.lending ≡ false → (result : Result A E) (count : ℕ) (bytes : List ℕ) → AnswersCopied gives eof seen least (format encoding) result count bytes → AnswersBuffer gives eof seen least (format encoding) result count bytes
+  CopiedIsAnswered {V = V} seen least format = (encoding : Encoding) → (format encoding).asks.lending ≡ false
+      → (result : Result A E) (count : ℕ) (bytes : List ℕ)
+      → AnswersCopied gives eof seen least (format encoding) result count bytes
+      → AnswersBuffer gives eof seen least (format encoding) result count bytes

@@ -44,7 +44,8 @@ sequence_composes {U = U} {W = W} split {L = L} {asks = asks} {M = M} within bac
 pub pair_composes : {U W : Type 0} {L : Format U} {M : Format W} → Composes L (λ _. M) (pair L M) (λ u w. (u, w))
 pair_composes = sequence_composes (λ p. p) (λ _. asks_same) (λ u w s h. refl)
 
-module _ {U V : Type 0} {W : U → Type 0} {L : Format U} {M : (u : U) → Format (W u)} {N : Format V} {join : (u : U) → W u → V} (c : Composes L M N join) {E : Type 0} {gives : Error → E → Type 0} {eof : E → Bool} where
+module _ {U V : Type 0} {W : U → Type 0} {L : Format U} {M : (u : U) → Format (W u)} {N : Format V}
+    {join : (u : U) → W u → V} (c : Composes L M N join) {E : Type 0} {gives : Error → E → Type 0} {eof : E → Bool} where
   unspelled_first : {e : E} {bytes : List ℕ} → Unspelled gives eof L e bytes → Unspelled gives eof N e bytes
   unspelled_first {e = e} {bytes = bytes} un = record {
     no_front = λ v front rest is sp.
@@ -64,18 +65,21 @@ module _ {U V : Type 0} {W : U → Type 0} {L : Format U} {M : (u : U) → Forma
   }
 
   -- where the first part is refused, the whole is
-  pub refused_first : {A B : Type 0} {seen : A → U} {view : B → V} {e : E} {result : Result B E} {old new : ReaderState}
-      → IsErrAnd result (λ x. x ≡ e) → Reads gives eof seen L (Err e) old new → Reads gives eof view N result old new
+  pub refused_first : {A B : Type 0} {seen : A → U} {seen' : B → V} {e : E} {result : Result B E} {old new : ReaderState}
+      → IsErrAnd result (λ x. x ≡ e) → Reads gives eof seen L (Err e) old new → Reads gives eof seen' N result old new
   refused_first {new = new} passed r = Reads-passed passed (record {
     kept = r.kept;
     answer = part_refused new refl refl c.asks_first.memory c.names_first (λ told un. unspelled_first (un (IsTold-part c.asks_first.lending told))) r.answer;
   })
 
-  pub peek_refused_first : {A B : Type 0} {seen : A → U} {view : B → V} {e : E} {old new : ReaderState}
-      → Peeks gives eof seen L (Err e) old new → Peeks gives eof view N (Err e) old new
+  pub peek_refused_first : {A B : Type 0} {seen : A → U} {seen' : B → V} {e : E} {old new : ReaderState}
+      → Peeks gives eof seen L (Err e) old new → Peeks gives eof seen' N (Err e) old new
   peek_refused_first {new = new} r = record {
     kept = r.kept;
-    answer = elim r.answer [ inl h ↦ inl h | inr h ↦ inr (part_refused new refl refl c.asks_first.memory c.names_first (λ told un. unspelled_first (un (IsTold-part c.asks_first.lending told))) h) ];
+    answer = elim r.answer [
+      | inl h ↦ inl h
+      | inr h ↦ inr (part_refused new refl refl c.asks_first.memory c.names_first (λ told un. unspelled_first (un (IsTold-part c.asks_first.lending told))) h)
+    ];
   }
 
   unspelled_second : {strict : Bool} {least : ℕ} → Laws strict least L → (u : U) {e : E} (front rest : List ℕ) → L.spells u front
@@ -102,9 +106,9 @@ module _ {U V : Type 0} {W : U → Type 0} {L : Format U} {M : (u : U) → Forma
 
   -- where the second part is refused, the whole is
   pub refused_second : {strict : Bool} {least : ℕ} → Laws strict least L
-      → {A B D : Type 0} {first : D → U} {x : D} {seen : A → W (first x)} {view : B → V} {e : E} {result : Result B E} {old mid new : ReaderState}
+      → {A B D : Type 0} {first : D → U} {x : D} {seen : A → W (first x)} {seen' : B → V} {e : E} {result : Result B E} {old mid new : ReaderState}
       → Reads gives eof first L (Ok x) old mid → IsErrAnd result (λ x. x ≡ e)
-      → Reads gives eof seen (M (first x)) (Err e) mid new → Reads gives eof view N result old new
+      → Reads gives eof seen (M (first x)) (Err e) mid new → Reads gives eof seen' N result old new
   refused_second laws {first = first} {x = x} {e = e} {mid = mid} {new = new} h passed k = Reads-passed passed (record {
     kept = Kept-after h.kept k.kept;
     answer = part_refused new h.kept.fixed h.answer.no_fault (c.asks_second (first x)).memory (c.names_second (first x))
@@ -115,17 +119,17 @@ module _ {U V : Type 0} {W : U → Type 0} {L : Format U} {M : (u : U) → Forma
   })
 
   -- both parts are read
-  pub got_both : {A B D : Type 0} {first : D → U} {x : D} {seen : A → W (first x)} {y : A} {view : B → V} {z : B} {old mid new : ReaderState}
-      → Reads gives eof first L (Ok x) old mid → Reads gives eof seen (M (first x)) (Ok y) mid new → view z ≡ join (first x) (seen y)
-      → Reads gives eof view N (Ok z) old new
+  pub got_both : {A B D : Type 0} {first : D → U} {x : D} {seen : A → W (first x)} {y : A} {seen' : B → V} {z : B} {old mid new : ReaderState}
+      → Reads gives eof first L (Ok x) old mid → Reads gives eof seen (M (first x)) (Ok y) mid new → seen' z ≡ join (first x) (seen y)
+      → Reads gives eof seen' N (Ok z) old new
   got_both {first = first} {x = x} {seen = seen} {y = y} h k e =
       all_so_far (more_so_far {more = N.spells (join (first x) (seen y))} (record { kept = h.kept; got = h.answer }) k (c.joins (first x) (seen y)))
       (λ s sp. subst (λ (v : V). N.spells v s) (sym e) sp)
 
   -- the second part decides
   pub second_decides : {strict : Bool} {least : ℕ} → Laws strict least L
-      → {A D : Type 0} {first : D → U} {x : D} {seen : A → W (first x)} {view : A → V} {r : Result A E} {old mid new : ReaderState}
-      → Reads gives eof first L (Ok x) old mid → Reads gives eof seen (M (first x)) r mid new → ((y : A) → view y ≡ join (first x) (seen y))
-      → Reads gives eof view N r old new
+      → {A D : Type 0} {first : D → U} {x : D} {seen : A → W (first x)} {seen' : A → V} {r : Result A E} {old mid new : ReaderState}
+      → Reads gives eof first L (Ok x) old mid → Reads gives eof seen (M (first x)) r mid new → ((y : A) → seen' y ≡ join (first x) (seen y))
+      → Reads gives eof seen' N r old new
   second_decides laws {r = Ok y} h k same = got_both h k (same y)
   second_decides laws {r = Err e} h k same = refused_second laws h refl k

@@ -83,4 +83,5 @@ module _ {E : Type 0} (gives : Error → E → Type 0) (eof : E → Bool) where
   -- what some failed call answered, want of memory, an end, or of a kind that the type names. No contract sees the
   -- bytes of a file, or which of its calls failed.
   abbrev pub AnswersFile : {A V : Type 0} → (A → V) → Format V → Result A E → Type 0
-  AnswersFile seen L result = MatchResult result (λ x. (bytes : List ℕ) × L.spells (seen x) bytes) (λ e. ((error : StdIoError) × IsErrorOf gives error e) ⊎ (gives (error_of kinds.OutOfMemory) e ⊎ (IsEnd gives eof true e ⊎ IsNamed gives L.names e)))
+  AnswersFile seen L result = MatchResult result (λ x. (bytes : List ℕ) × L.spells (seen x) bytes)
+      (λ e. ((error : StdIoError) × IsErrorOf gives error e) ⊎ (gives (error_of kinds.OutOfMemory) e ⊎ (IsEnd gives eof true e ⊎ IsNamed gives L.names e)))

@@ -19,10 +19,14 @@ module _ {E : Type 0} {gives : Error → E → Type 0} {U V : Type 0} {c : Code 
       let is = is_code old.encoding in
       let one : (x : U) → c.chosen x v → x ≡ u = λ x k. is.one_chosen (not_hashed old.encoding) x u v k chosen in
       Writes-as {F = F} (λ _ k. k) (λ b h. record { code = u; code_is = h; stands = chosen }) (λ b h. (b, subst (λ (x : U). (F old.encoding).writes x b) (one h.code h.stands) h.code_is, refl))
-      (λ b h. let x = is.has_chosen v b (record { code = h.code; code_is = h.code_is; stands = Accepts-means old.encoding.strict c h.code v (is.chosen_means h.code v) h.stands }) in (x.0, subst (λ (y : U). (F old.encoding).spells y x.0) (one x.1.code x.1.stands) x.1.code_is)) w
+      (λ b h.
+      let means = Accepts-means old.encoding.strict c h.code v (is.chosen_means h.code v) h.stands in
+      let x = is.has_chosen v b (record { code = h.code; code_is = h.code_is; stands = means }) in
+      (x.0, subst (λ (y : U). (F old.encoding).spells y x.0) (one x.1.code x.1.stands) x.1.code_is)) w
 
 -- a value is written as the number that is chosen for it
-pub number_code_written : {E : Type 0} {gives : Error → E → Type 0} {V : Type 0} {c : Code ℕ V} {n : ℕ} {v : V} {result : Result (Unit {0}) E} {old new : WriterState} {appended : List ℕ → Type 0} (width : ℕ)
+pub number_code_written : {E : Type 0} {gives : Error → E → Type 0} {V : Type 0} {c : Code ℕ V} {n : ℕ} {v : V}
+    {result : Result (Unit {0}) E} {old new : WriterState} {appended : List ℕ → Type 0} (width : ℕ)
     → ((encoding : Encoding) → IsCode c (unsigned_number width encoding)) → c.chosen n v
     → WritesNumber gives width n result old new appended
     → Writes gives (λ encoding. coding encoding c (unsigned_number width encoding)) v result old new appended

@@ -98,7 +98,8 @@ IsOutOfRange-more : {E : Type 0} (gives : Error → E → Type 0) {names more : 
 IsOutOfRange-more gives e n (inl h) = inl h
 IsOutOfRange-more gives e n (inr h) = inr (IsNamed-more gives e n h)
 
-module _ {E : Type 0} {gives : Error → E → Type 0} {U V : Type 0} {F : Encoding → Format U} {G : Encoding → Format V} {u : U} {v : V} {old new : WriterState} {appended : List ℕ → Type 0} where
+module _ {E : Type 0} {gives : Error → E → Type 0} {U V : Type 0} {F : Encoding → Format U} {G : Encoding → Format V}
+    {u : U} {v : V} {old new : WriterState} {appended : List ℕ → Type 0} where
   -- Between two formats: the written forms of the one are among those of the other, which are as long as one of these,
   -- and what the other spells the one spells too.
   pub Writes-as : {result : Result (Unit {0}) E}
@@ -111,7 +112,9 @@ module _ {E : Type 0} {gives : Error → E → Type 0} {U V : Type 0} {F : Encod
   Writes-as {result = Err e} n f g h w = record {
     kept = w.kept;
     answer = record {
-      beginning = λ b k. let d = g b k in let x = w.answer.beginning d.0 d.1 in record { front = x.front; rest = x.rest; is_written = f (x.front ++ x.rest) x.is_written; is_appended = x.is_appended };
+      beginning = λ b k. let d = g b k in
+          let x = w.answer.beginning d.0 d.1 in
+          record { front = x.front; rest = x.rest; is_written = f (x.front ++ x.rest) x.is_written; is_appended = x.is_appended };
       because = elim w.answer.because [
         | inl x ↦ inl x
         | inr x ↦ inr (record {
@@ -147,14 +150,17 @@ unit_written {old = old} h = record { kept = Kept-same old; answer = Put-nothing
 -- ---- one part after another
 
 -- a format that is one part after another, under each encoding
-pub record IsSequence {U V : Type 0} {W : U → Type 0} (split : V → (u : U) × W u) (F : Encoding → Format U) (asks : Encoding → Asks) (G : Encoding → (u : U) → Format (W u)) (H : Encoding → Format V) : Type 1 where
+pub record IsSequence {U V : Type 0} {W : U → Type 0} (split : V → (u : U) × W u) (F : Encoding → Format U)
+    (asks : Encoding → Asks) (G : Encoding → (u : U) → Format (W u)) (H : Encoding → Format V) : Type 1 where
   pub is : (encoding : Encoding) → H encoding ≡ sequence split (F encoding) (asks encoding) (G encoding)
 
 pub is_sequence : {U V : Type 0} {W : U → Type 0} {split : V → (u : U) × W u} {F : Encoding → Format U} {asks : Encoding → Asks} {G : Encoding → (u : U) → Format (W u)}
     → IsSequence split F asks G (λ encoding. sequence split (F encoding) (asks encoding) (G encoding))
 is_sequence = record { is = λ _. refl }
 
-module _ {E : Type 0} {gives : Error → E → Type 0} {U V : Type 0} {W : U → Type 0} {split : V → (u : U) × W u} {F : Encoding → Format U} {asks : Encoding → Asks} {G : Encoding → (u : U) → Format (W u)} {H : Encoding → Format V} {v : V} (sequenced : IsSequence split F asks G H) where
+module _ {E : Type 0} {gives : Error → E → Type 0} {U V : Type 0} {W : U → Type 0} {split : V → (u : U) × W u} {F : Encoding → Format U}
+    {asks : Encoding → Asks} {G : Encoding → (u : U) → Format (W u)} {H : Encoding → Format V} {v : V}
+    (sequenced : IsSequence split F asks G H) where
   -- the format is the sequence
   restated : {result : Result (Unit {0}) E} {old new : WriterState} {appended : List ℕ → Type 0}
       → Writes gives (λ _. sequence split (F old.encoding) (asks old.encoding) (G old.encoding)) v result old new appended
@@ -189,7 +195,10 @@ module _ {E : Type 0} {gives : Error → E → Type 0} {U V : Type 0} {W : U →
     };
   }
 
-  module _ {old mid new : WriterState} {front back whole : List ℕ → Type 0} (one : (a b : List ℕ) → (F old.encoding).writes (split v).0 a → (F old.encoding).writes (split v).0 b → length a ≡ length b) (join : (a b : List ℕ) → front a → back b → whole (a ++ b)) (k : Kept old mid) (p : Put ((F old.encoding).writes (split v).0) old mid front) where
+  module _ {old mid new : WriterState} {front back whole : List ℕ → Type 0}
+      (one : (a b : List ℕ) → (F old.encoding).writes (split v).0 a → (F old.encoding).writes (split v).0 b → length a ≡ length b)
+      (join : (a b : List ℕ) → front a → back b → whole (a ++ b))
+      (k : Kept old mid) (p : Put ((F old.encoding).writes (split v).0) old mid front) where
     written : (result : Result (Unit {0}) E) → Writes gives (λ _. G old.encoding (split v).0) (split v).1 result mid new back
         → Writes gives (λ _. sequence split (F old.encoding) (asks old.encoding) (G old.encoding)) v result old new whole
     unfolding sequence
@@ -210,7 +219,8 @@ module _ {E : Type 0} {gives : Error → E → Type 0} {U V : Type 0} {W : U →
           | inr x ↦ inr (record {
             no_fault = x.no_fault ∙ p.no_fault;
             no_fit = λ b h fit.
-                let l : length b ≡ length p.bytes + length h.back = let m = one h.front p.bytes h.first_is p.is_written in let q = ap length h.whole_is ∙ length-append h.front h.back in omega arith in
+                let l : length b ≡ length p.bytes + length h.back =
+                let m = one h.front p.bytes h.first_is p.is_written in let q = ap length h.whole_is ∙ length-append h.front h.back in omega arith in
                 x.no_fit h.back h.second_is (subst (Fits (length h.back)) (sym p.space) (fits_second old.space (length p.bytes) (length h.back) (subst (λ n. Fits n old.space) l fit)));
             no_spelling = λ s b h. x.no_spelling (p.space ∙ less_none old.space (length p.bytes) s) h.back h.second_is;
             kind = elim x.kind [

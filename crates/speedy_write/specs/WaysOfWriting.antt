@@ -51,7 +51,8 @@ module _ {E : Type 0} (gives : Error → E → Type 0) where
   pub record WritesToVec {V A : Type 0} (L : Format V) (v : V) (items : A → List ℕ) (result : Result A E) : Type 0 where
     pub written : IfOk result (λ vec. IsShortest L v (items vec))
     -- a refusal means want of memory, or that the value has no spelling that can be counted
-    pub refused : IfErr result (λ e. gives (error_of kinds.OutOfMemory) e ⊎ (((bytes : List ℕ) → L.spells v bytes → length bytes < 2 ^ 64 - 1 → ⊥) × IsOutOfRange gives L.refuses_writing e))
+    pub refused : IfErr result (λ e. gives (error_of kinds.OutOfMemory) e
+        ⊎ (((bytes : List ℕ) → L.spells v bytes → length bytes < 2 ^ 64 - 1 → ⊥) × IsOutOfRange gives L.refuses_writing e))
 
   -- the refusal of a value that has no spelling
   pub record RefusesUnspelled {V : Type 0} (L : Format V) (v : V) (e : E) : Type 0 where

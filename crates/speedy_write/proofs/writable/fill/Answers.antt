@@ -6,14 +6,14 @@ use Rattle.speedy_write.proofs.writable.fill.Goals as goal
 pub returns-clause-succeeds : goal.returns-clause-succeeds
 returns-clause-succeeds g c =
     let made = c.new-collector.ensures in
-    let view = buffer_model c.new-collector.result in
-    fill_succeeds {targets = view.context_name ∷ view.buffer_name ∷ []} (ap g.C.Context.encoding made.context) made.buffer made.position _ c.write_to-outcome.result c.requires.1 c.requires.2 refl c.write_to-outcome.ensures
+    let model = buffer_model c.new-collector.result in
+    fill_succeeds {targets = model.context_name ∷ model.buffer_name ∷ []} (ap g.C.Context.encoding made.context) made.buffer made.position _ c.write_to-outcome.result c.requires.1 c.requires.2 refl c.write_to-outcome.ensures
 
 pub returns-clause-stands : goal.returns-clause-stands
 returns-clause-stands g c =
     let made = c.new-collector.ensures in
-    let view = buffer_model c.new-collector.result in
+    let model = buffer_model c.new-collector.result in
     let fixed = c.write_to-outcome.ensures.kept.fixed in
     let same_name = made.same_buffer in
     let finished = c.finish.ensures.buffer in
-    fill_stands {targets = view.context_name ∷ view.buffer_name ∷ []} (ap g.C.Context.encoding made.context) made.buffer made.position c.write_to-outcome.result g.met.T.Layout.layout_laws (returns-clause-succeeds g c) (grind arith) c.write_to-outcome.ensures
+    fill_stands {targets = model.context_name ∷ model.buffer_name ∷ []} (ap g.C.Context.encoding made.context) made.buffer made.position c.write_to-outcome.result g.met.T.Layout.layout_laws (returns-clause-succeeds g c) (grind arith) c.write_to-outcome.ensures
