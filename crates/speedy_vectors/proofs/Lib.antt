@@ -1,5 +1,6 @@
 pub mod EachLemmas
 pub mod LineLemmas
+pub mod SplitLemmas
 pub mod AnswerLemmas
 pub mod RunLemmas
 pub mod StreamLemmas

@@ -6,6 +6,7 @@ ghost use Rattle.speedy_vectors.specs.declared.line.TypeName.{TypeName};
 ghost use Rattle.speedy_vectors.specs.Line.{space, order_text, name_text, IsHex, IsLine, IsBad};
 ghost use Rattle.speedy_vectors.specs.Split.{IsFreeOf, SplitsAt};
 
+use crate::split::split_at;
 use hex::FromHexError;
 use speedy::Error;
 use speedy::private::{ErrorKind, error_out_of_memory};
@@ -210,15 +211,6 @@ pub struct Line {
     pub bytes: Vec<u8>,
 }
 
-// The bytes before the first space, and those after it.
-fn split_at_space(text: &[u8]) -> Option<(&[u8], &[u8])>
-    ensures { MatchOption result (IsFreeOf space text.now)
-        (λ p. SplitsAt space text.now p.0.now p.1.now) }
-{
-    let at = text.iter().position(|byte| *byte == b' ')?;
-    Some((&text[..at], &text[at + 1..]))
-}
-
 // The order that a field names.
 fn order_of(field: &[u8]) -> Option<LineOrder>
     ensures { MatchOption result ((order : LineOrder) → field.now ≢ order_text order)
@@ -281,10 +273,10 @@ pub fn parse_line(alloc: Global, line: &[u8]) -> Result<Option<Line>, Error>
         (λ l. IsLine line.now l.order l.name l.bytes.items))
         (λ e. e ≡ error_of ErrorKind.OutOfMemory) }
 {
-    let Some((order, rest)) = split_at_space(line) else {
+    let Some((order, rest)) = split_at(line, b' ') else {
         return Ok(None);
     };
-    let Some((name, hex)) = split_at_space(rest) else {
+    let Some((name, hex)) = split_at(rest, b' ') else {
         return Ok(None);
     };
     let Some(order) = order_of(order) else {

@@ -11,6 +11,7 @@ pub mod answer;
 pub mod callers;
 pub mod line;
 pub mod run;
+mod split;
 #[cfg(test)]
 mod tests;
 #[cfg(test)]

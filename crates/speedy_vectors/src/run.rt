@@ -4,6 +4,7 @@ ghost use Rattle.speedy_vectors.specs.Split.{IsFreeOf, SplitsAt};
 ghost use Rattle.speedy_vectors.specs.Run.{line_feed, lines_of, Answering, Runs};
 
 use crate::answer::answer_line;
+use crate::split::split_at;
 use speedy::device::{Sink, Source};
 use speedy::private::error_out_of_range_length;
 use speedy::writable::WritingCollector;
@@ -48,7 +49,7 @@ fn answer_piece<W: Sink>(
         (lines_of (pending.new.items ++ more)) (W.sink output.old) (W.sink output.new) }
 {
     let mut rest = piece;
-    while let Some((line, after)) = split_at_line_feed(rest) {
+    while let Some((line, after)) = split_at(rest, b'\n') {
         answer_waiting(alloc, pending, line, output)?;
         rest = after;
     }
@@ -74,15 +75,6 @@ fn answer_waiting<W: Sink>(
     push_answer(alloc, pending, output)?;
     pending.clear();
     Ok(())
-}
-
-// The bytes before the first line feed, and those after it.
-fn split_at_line_feed(text: &[u8]) -> Option<(&[u8], &[u8])>
-    ensures { MatchOption result (IsFreeOf line_feed text.now)
-        (λ p. SplitsAt line_feed text.now p.0.now p.1.now) }
-{
-    let at = text.iter().position(|byte| *byte == b'\n')?;
-    Some((&text[..at], &text[at + 1..]))
 }
 
 // Answers a last line that has no line feed, if there is one, and flushes.

@@ -6,7 +6,7 @@ use Rattle.speedy_vectors.proofs.callers.streams.all_messages.Goals as goal
 pub loop-i-init : goal.loop-i-init
 loop-i-init g c =
     let made = c.in_ok-reader.ensures.made in
-    none_read (ap (map seen_message) c.new-messages.ensures.items) (ap (λ view. (g.S.Source.source view.source).tells) made) (ap (λ view. view.ring.bytes ++ (g.S.Source.source view.source).to_come) made)
+    none_read (ap (map seen_message) c.new-messages.ensures.items) (ap (λ model. (g.S.Source.source model.source).tells) made) (ap (λ model. model.ring.bytes ++ (g.S.Source.source model.source).to_come) made)
 
 pub loop-i-preserved : goal.loop-i-preserved
 loop-i-preserved g c =
