@@ -1,13 +1,12 @@
 -- That std's conversions between numbers and bytes are digits in base 256, as the functions of this crate call them.
-use Rattle.std.proofs.Common.{◌≡◌, ◌↔◌, Bool, false, true≢false, IsTrue, ℕ, zero, suc, ◌+◌, ◌-◌, ◌*◌, ◌/◌, ◌%◌, ◌^◌, ◌<◌, List, [], ◌∷◌, ◌++◌, length, reverse, slice_index, refl, sym, ap, ap₂, ◌∙◌, subst, subst₂, arith}
-use Rattle.std.proofs.Math.Nat.{pow-suc, div-div-eq-div-mul, div-one}
-use Rattle.std.proofs.lemmas.List.{reverse-append, length-reverse}
+use Rattle.std.proofs.Common.{◌≡◌, ◌↔◌, Bool, false, true≢false, IsTrue, ℕ, zero, suc, ◌+◌, ◌-◌, ◌*◌, ◌^◌, ◌<◌, List, [], ◌∷◌, length, reverse, slice_index, refl, sym, ap, ap₂, ◌∙◌, subst, arith}
+use Rattle.std.proofs.lemmas.List.{length-reverse}
 use mir.Val.{bits}
-use Rattle.std.specs.Int.{Width, byte_len, byte_worth, bytes_high_first, sum_through, from_le_bytes, from_be_bytes, to_be_bytes, swap_bytes}
+use Rattle.std.specs.Int.{Width, byte_len, byte_worth, sum_through, from_le_bytes, from_be_bytes, to_le_bytes, swap_bytes}
 use Rattle.speedy_base.specs.declared.endianness.Endianness.{Endianness}
 use Rattle.speedy_base.specs.declared.endianness.Endianness.TheVariants.{LittleEndian, BigEndian}
 use Rattle.speedy_base.specs.Digits.{little_number, number, little_digits, digits, AreBytes, SpellsNumber, swapped}
-use Rattle.speedy_base.specs.DigitsLemmas.{sum_first, sum_same, reverse-cons, little_number-append, byte_len-above, little_number-from_le_bytes, byte_at-is, to_le_bytes-little_digits, length-little_digits, SpellsNumber-digits, pow-byte_len}
+use Rattle.speedy_base.specs.DigitsLemmas.{sum_first, sum_same, reverse-cons, little_number-append, byte_len-above, little_number-from_le_bytes, to_le_bytes-little_digits, length-little_digits, AreBytes-little_digits, AreBytes-reverse, little_digits-little_number, SpellsNumber-digits, SpellsNumber-to_le_bytes, pow-byte_len}
 
 worth_is : (i b : ℕ) → byte_worth i b ≡ b * 256 ^ i
 worth_is zero b = omega arith
@@ -33,23 +32,6 @@ from_high_first (suc k) (b ∷ bs) e =
 pub little_number-from_be_bytes : (w : Width) (bytes : List ℕ) → length bytes ≡ byte_len w → from_be_bytes w bytes ≡ little_number (reverse bytes)
 little_number-from_be_bytes w bytes e = from_high_first (byte_len w - 1) bytes (e ∙ byte_len-above w)
 
--- the greatest digit, taken off
-little_digits-last : (k n : ℕ) → little_digits (suc k) n ≡ little_digits k n ++ (n / 256 ^ k % 256) ∷ []
-little_digits-last zero n = ap (λ (m : ℕ). m % 256 ∷ []) (sym (div-one n))
-little_digits-last (suc k) n =
-    ap (◌∷◌ (n % 256))
-    (little_digits-last k (n / 256)
-    ∙ ap (λ (m : ℕ). little_digits k (n / 256) ++ m % 256 ∷ []) (div-div-eq-div-mul n 256 (256 ^ k) ∙ ap (λ (m : ℕ). n / m) (let turned : 256 * 256 ^ k ≡ 256 ^ suc k = rw (pow-suc 256 k) (omega arith) in turned)))
-
-high_first_is : (k n : ℕ) → bytes_high_first k n ≡ reverse (little_digits k n)
-high_first_is zero n = refl
-high_first_is (suc k) n =
-    ap₂ ◌∷◌ (byte_at-is k n) (high_first_is k n)
-    ∙ sym (ap reverse (little_digits-last k n) ∙ reverse-append (little_digits k n) ((n / 256 ^ k % 256) ∷ []))
-
-pub to_be_bytes-little_digits : (w : Width) (n : ℕ) → to_be_bytes w n ≡ reverse (little_digits (byte_len w) n)
-to_be_bytes-little_digits w n = high_first_is (byte_len w) n
-
 -- a number that was read from a slice, byte by byte
 pub SpellsNumber-from_le_bytes : (w : Width) (order : Endianness) (n : ℕ) (bytes items : List ℕ) → order ≡ LittleEndian → items ≡ bytes
     → length bytes ≡ byte_len w → AreBytes bytes → n ≡ from_le_bytes w items → SpellsNumber (byte_len w) order n bytes
@@ -69,11 +51,19 @@ SpellsNumber-from_be_bytes w order n bytes items is same len are e = record {
   value_is = ap (λ (o : Endianness). number o bytes) is ∙ sym (e ∙ ap (from_be_bytes w) same ∙ little_number-from_be_bytes w bytes len);
 }
 
-pub SpellsNumber-to_be_bytes : (w : Width) (order : Endianness) (n : ℕ) (bytes : List ℕ) → order ≡ BigEndian → n < 2 ^ bits w
-    → bytes ≡ to_be_bytes w n → SpellsNumber (byte_len w) order n bytes
-unfolding digits
-SpellsNumber-to_be_bytes w order n bytes is l e =
-    subst₂ (λ (o : Endianness) (bs : List ℕ). SpellsNumber (byte_len w) o n bs) (sym is) (sym (e ∙ to_be_bytes-little_digits w n)) (SpellsNumber-digits (byte_len w) BigEndian n (subst (λ (m : ℕ). n < m) (pow-byte_len w) l))
+-- a number that was turned into the order, and then written least digit first
+pub SpellsNumber-turned : (w : Width) (order : Endianness) (n turned : ℕ) (bytes : List ℕ) → turned ≡ swapped order (byte_len w) n → n < 2 ^ bits w
+    → bytes ≡ to_le_bytes w turned → SpellsNumber (byte_len w) order n bytes
+unfolding digits number swapped
+SpellsNumber-turned w LittleEndian n turned bytes is l e = SpellsNumber-to_le_bytes w LittleEndian n bytes refl l (e ∙ ap (to_le_bytes w) is)
+SpellsNumber-turned w BigEndian n turned bytes is l e =
+    let width = byte_len w in
+    let low = little_digits width n in
+    let sized : length (reverse low) ≡ width = length-reverse low ∙ length-little_digits width n in
+    let same : little_digits width (little_number (reverse low)) ≡ reverse low =
+    ap (λ (k : ℕ). little_digits k (little_number (reverse low))) (sym sized) ∙ little_digits-little_number (reverse low) (AreBytes-reverse low (AreBytes-little_digits width n)) in
+    subst (SpellsNumber width BigEndian n) (sym (e ∙ (to_le_bytes-little_digits w turned ∙ (ap (little_digits width) is ∙ same))))
+    (SpellsNumber-digits width BigEndian n (subst (λ (m : ℕ). n < m) (pow-byte_len w) l))
 
 pub swapped-swap_bytes : (w : Width) (order : Endianness) (n : ℕ) → order ≡ BigEndian → swap_bytes w n ≡ swapped order (byte_len w) n
 unfolding swapped digits number

@@ -120,10 +120,9 @@ impl Endianness {
     pub fn bytes_of_u16(self, value: u16) -> [u8; 2]
         ensures { SpellsNumber 2 self value result }
     {
-        match self {
-            Endianness::LittleEndian => value.to_le_bytes(),
-            Endianness::BigEndian => value.to_be_bytes(),
-        }
+        let mut turned = value;
+        self.swap_u16(&mut turned);
+        turned.to_le_bytes()
     }
 
     /// The four bytes that spell a number in this order.
@@ -131,10 +130,9 @@ impl Endianness {
     pub fn bytes_of_u32(self, value: u32) -> [u8; 4]
         ensures { SpellsNumber 4 self value result }
     {
-        match self {
-            Endianness::LittleEndian => value.to_le_bytes(),
-            Endianness::BigEndian => value.to_be_bytes(),
-        }
+        let mut turned = value;
+        self.swap_u32(&mut turned);
+        turned.to_le_bytes()
     }
 
     /// The eight bytes that spell a number in this order.
@@ -142,10 +140,9 @@ impl Endianness {
     pub fn bytes_of_u64(self, value: u64) -> [u8; 8]
         ensures { SpellsNumber 8 self value result }
     {
-        match self {
-            Endianness::LittleEndian => value.to_le_bytes(),
-            Endianness::BigEndian => value.to_be_bytes(),
-        }
+        let mut turned = value;
+        self.swap_u64(&mut turned);
+        turned.to_le_bytes()
     }
 
     /// The sixteen bytes that spell a number in this order.
@@ -153,10 +150,9 @@ impl Endianness {
     pub fn bytes_of_u128(self, value: u128) -> [u8; 16]
         ensures { SpellsNumber 16 self value result }
     {
-        match self {
-            Endianness::LittleEndian => value.to_le_bytes(),
-            Endianness::BigEndian => value.to_be_bytes(),
-        }
+        let mut turned = value;
+        self.swap_u128(&mut turned);
+        turned.to_le_bytes()
     }
 
     /// Reverses the bytes of a number where the order is big, and leaves it as it is where it is little.

@@ -1,11 +1,7 @@
 use Rattle.std.specs.Int.{w128}
 use Rattle.std.proofs.Common.{arith}
-use Rattle.speedy_base.specs.DigitsLemmas.{SpellsNumber-to_le_bytes}
-use Rattle.speedy_base.proofs.Conversions.{SpellsNumber-to_be_bytes}
+use Rattle.speedy_base.proofs.Conversions.{SpellsNumber-turned}
 use Rattle.speedy_base.proofs.endianness.Endianness.bytes_of_u128.Goals as goal
 
-pub returns-in-LittleEndian : goal.returns-in-LittleEndian
-returns-in-LittleEndian c = SpellsNumber-to_le_bytes w128 _ _ _ c.in-LittleEndian.is (omega arith) c.to_le_bytes.ensures
-
-pub returns-in-BigEndian : goal.returns-in-BigEndian
-returns-in-BigEndian c = SpellsNumber-to_be_bytes w128 _ _ _ c.in-BigEndian.is (omega arith) c.to_be_bytes.ensures
+pub returns : goal.returns
+returns c = SpellsNumber-turned w128 _ _ _ _ c.swap_u128.ensures (omega arith) c.to_le_bytes.ensures
