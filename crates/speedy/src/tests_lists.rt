@@ -1,12 +1,14 @@
-//! Lists and arrays. Bytes are read a chunk at a time, wherever the last chunk ends.
+//! Lists and arrays. Bytes are read a stretch at a time, wherever the last one ends.
 use crate::asserting::{
-    assert_encoding, assert_encoding_in_types, assert_reads, assert_same, assert_written, followed,
-    make_text, make_vec, row,
+    assert_bytes, assert_encoding, assert_encoding_in_types, assert_ok, assert_reads, assert_same,
+    assert_written, followed, make_text, make_vec, row,
 };
+use crate::device::VecSink;
 use crate::endianness::Endianness;
-use crate::readable::BufferReader;
+use crate::readable::{BufferReader, Readable};
 use crate::reader::LendingReader;
-use crate::writable::Writable;
+use crate::writable::{Writable, WritingCollector};
+use crate::writer::Writer;
 use smallvec::SmallVec;
 use std::alloc::Global;
 use std::process::Abort;
@@ -199,4 +201,56 @@ fn a_count_that_no_buffer_holds_asks_for_no_room(rt: HostRuntime) {
     let mut reader = BufferReader::new(rt.alloc(), Endianness::LittleEndian, &[1, 2, 3]);
     assert!(rt; reader.read_vec::<u8>(usize::MAX).is_err());
     assert_same(&rt, reader.len(), 3);
+}
+
+/// So many numbers, each with other digits.
+fn make_wide(rt: &impl Abort, alloc: Global, count: usize) -> Vec<u128> {
+    let mut numbers = Vec::new(alloc);
+    let mut next = 0x0102_0304_0506_0708_090a_0b0c_0d0e_0f10_u128;
+    for _ in 0..count {
+        numbers.push(next).expect(rt, "room");
+        next = next.rotate_left(7) ^ 1;
+    }
+    numbers
+}
+
+/// What a sink took of the numbers, written one by one.
+fn write_each(rt: &impl Abort, alloc: Global, order: Endianness, numbers: &[u128]) -> Vec<u8> {
+    let mut sink = VecSink::new(alloc);
+    let mut writer = WritingCollector::new(alloc, order, &mut sink);
+    let count = u32::try_from(numbers.len()).expect(rt, "few numbers");
+    writer.write_u32(count).expect(rt, "room");
+    for number in numbers {
+        writer.write_u128(*number).expect(rt, "room");
+    }
+    sink.into_bytes()
+}
+
+/// Asserts that so many numbers are written and read, in each way, as one by one.
+fn assert_as_one_by_one(rt: &impl Abort, alloc: Global, order: Endianness, count: usize) {
+    let numbers = make_wide(rt, alloc, count);
+    let bytes = write_each(rt, alloc, order, numbers.as_slice());
+    let written = numbers
+        .write_to_vec_with_ctx(alloc, order)
+        .expect(rt, "a vector");
+    assert_bytes(rt, written.as_slice(), bytes.as_slice());
+    let mut sink = VecSink::new(alloc);
+    let outcome = numbers.write_to_stream_with_ctx(alloc, order, &mut sink);
+    assert_ok(rt, outcome, ());
+    assert_bytes(rt, sink.bytes(), bytes.as_slice());
+    assert_reads(rt, alloc, order, &numbers, bytes.as_slice(), bytes.len());
+    let mut source = bytes.as_slice();
+    let outcome = Vec::<u128>::read_from_stream_unbuffered_with_ctx(alloc, order, &mut source);
+    assert!(rt; outcome.expect(rt, "a vector") == numbers);
+    let mut source = bytes.as_slice();
+    let outcome = Vec::<u128>::read_from_stream_buffered_with_ctx(alloc, order, &mut source);
+    assert!(rt; outcome.expect(rt, "a vector") == numbers);
+}
+
+#[test]
+fn vectors_of_wide_numbers_are_those_written_one_by_one(rt: HostRuntime) {
+    for count in [63, 64, 65] {
+        assert_as_one_by_one(&rt, rt.alloc(), Endianness::LittleEndian, count);
+        assert_as_one_by_one(&rt, rt.alloc(), Endianness::BigEndian, count);
+    }
 }

@@ -134,15 +134,29 @@ impl Sink for Tally {
     }
 }
 
-#[test]
-fn no_form_over_a_sink_flushes_it(rt: HostRuntime) {
-    let alloc = rt.alloc();
-    let mut sink = Tally {
+fn make_tally() -> Tally {
+    Tally {
         pushes: 0,
         flushes: 0,
         settled: true,
         faults: Faults::none(),
-    };
+    }
+}
+
+#[test]
+fn a_list_of_numbers_is_pushed_by_stretches(rt: HostRuntime) {
+    let alloc = rt.alloc();
+    let numbers = vec![in alloc; 7_u16; 513].expect(&rt, "a vector");
+    let mut sink = make_tally();
+    let outcome = Writable::<LittleEndian>::write_to_stream(&numbers, alloc, &mut sink);
+    assert_ok(&rt, outcome, ());
+    assert_same(&rt, sink.pushes, 3);
+}
+
+#[test]
+fn no_form_over_a_sink_flushes_it(rt: HostRuntime) {
+    let alloc = rt.alloc();
+    let mut sink = make_tally();
     let outcome = Writable::<LittleEndian>::write_to_stream(&(), alloc, &mut sink);
     assert_ok(&rt, outcome, ());
     assert_same(&rt, (sink.pushes, sink.flushes), (0, 0));

@@ -254,6 +254,62 @@ fn a_long_vector_is_read_in_whatever_pieces_it_comes(rt: HostRuntime) {
     assert_long_vector(&rt, rt.alloc(), 1);
 }
 
+/// Asserts that a vector of 513 numbers is read of a source that gives so many bytes a pull, and answers how many pulls
+/// the unbuffered form made.
+fn assert_numbers_in_pieces(rt: &impl Abort, alloc: Global, most: usize) -> usize {
+    let mut bytes = vec![in alloc; 7; 1_039].expect(rt, "a buffer");
+    bytes[..4].copy_from_slice(&[1, 2, 0, 0]);
+    let numbers = vec![in alloc; 0x0707_u16; 513].expect(rt, "a vector");
+    let mut source = make_pieces(&bytes, most, None);
+    let outcome = <Vec<u16> as Readable<LittleEndian>>::read_from_stream_unbuffered(
+        alloc,
+        &mut source,
+    );
+    assert!(rt; outcome.expect(rt, "a vector") == numbers);
+    assert_same(rt, source.left.len(), 9);
+    let pulls = source.pulls;
+    let mut source = make_pieces(&bytes, most, None);
+    let outcome = <Vec<u16> as Readable<LittleEndian>>::read_from_stream_buffered(
+        alloc,
+        &mut source,
+    );
+    assert!(rt; outcome.expect(rt, "a vector") == numbers);
+    pulls
+}
+
+#[test]
+fn a_list_of_numbers_is_pulled_by_stretches(rt: HostRuntime) {
+    assert_same(
+        &rt,
+        assert_numbers_in_pieces(&rt, rt.alloc(), usize::MAX),
+        2,
+    );
+    for most in [1, 2, 3, 7] {
+        assert_numbers_in_pieces(&rt, rt.alloc(), most);
+    }
+}
+
+/// Asserts that each form over a source says that the bytes ended.
+fn assert_ends<'a, T: Readable<'a, LittleEndian>>(rt: &impl Abort, alloc: Global, bytes: &[u8]) {
+    let mut source = bytes;
+    let outcome = T::read_from_stream_unbuffered(alloc, &mut source);
+    assert_same(rt, outcome.err().map(|error| error.is_eof()), Some(true));
+    let mut source = bytes;
+    let outcome = T::read_from_stream_buffered(alloc, &mut source);
+    assert_same(rt, outcome.err().map(|error| error.is_eof()), Some(true));
+}
+
+#[test]
+fn a_hostile_count_ends_where_the_bytes_do(rt: HostRuntime) {
+    let alloc = rt.alloc();
+    assert_ends::<Vec<u8>>(&rt, alloc, &[255; 4]);
+    assert_ends::<Vec<u128>>(&rt, alloc, &[255; 4]);
+    // 3,000 items, and a part of one.
+    let bytes = vec![in alloc; 255; 48_009].expect(&rt, "a buffer");
+    assert_ends::<Vec<u128>>(&rt, alloc, &bytes);
+    assert_ends::<Vec<Option<u8>>>(&rt, alloc, &[255, 255, 255, 255, 1, 7]);
+}
+
 #[test]
 fn nothing_is_read_without_a_call(rt: HostRuntime) {
     let alloc = rt.alloc();

@@ -2,3 +2,4 @@ pub mod VarintCode
 pub mod WalkLemmas
 pub mod ViewLemmas
 pub mod VarintForms
+pub mod FixedNumberLemmas

@@ -3,6 +3,7 @@ pub mod Laws
 pub mod Codes
 pub mod Sequences
 pub mod Numbers
+pub mod FixedNumbers
 pub mod NonZero
 pub mod Owned
 pub mod Tuples

@@ -1,7 +1,7 @@
 -- Lists: so many items one after the other, and counted lists.
 use Rattle.std.specs.Prelude.{◌≡◌, ℕ, zero, suc, ◌*◌, ◌≤◌, List, [], ◌∷◌, ◌++◌, length, Bool, true, false, IsTrue, refl}
 use Rattle.std.proofs.Common.{sym, ◌∙◌, ap, subst, arith}
-use Rattle.std.proofs.lemmas.List.{length-append}
+use Rattle.std.proofs.lemmas.List.{append_assoc, append-nil, length-append}
 use Rattle.speedy_base.specs.Encoding.{Encoding}
 use Rattle.speedy_layout.specs.Format.{Format, Each}
 use Rattle.speedy_layout.specs.Laws.{Laws, Laws-less}
@@ -31,6 +31,26 @@ list_parts vs = (length vs, vs)
 -- README, `{length: u32, values: [T]}`: the number of items in four digits, then the items
 unfoldable pub list : {V : Type 0} → Encoding → Format V → Format (List V)
 list encoding F = sequence list_parts (unsigned_number 4 encoding) (record F.asks { memory = true }) (λ n. vector n F)
+
+-- items after others
+pub each_append : {V : Type 0} (spells : V → List ℕ → Type 0) (vs ws : List V) (s t : List ℕ) → Each spells vs s → Each spells ws t → Each spells (vs ++ ws) (s ++ t)
+each_append spells [] ws s t h k = subst (λ b. Each spells ws b) (sym (ap (λ x. x ++ t) h)) k
+each_append spells (v ∷ vs) ws s t h k = record {
+  front = h.front;
+  back = h.back ++ t;
+  whole_is = ap (λ x. x ++ t) h.whole_is ∙ append_assoc h.front h.back t;
+  first_is = h.first_is;
+  second_is = each_append spells vs ws h.back t h.second_is k;
+}
+
+-- and one item
+pub each_more : {V : Type 0} (spells : V → List ℕ → Type 0) (vs : List V) (v : V) (s t : List ℕ) → Each spells vs s → spells v t → Each spells (vs ++ v ∷ []) (s ++ t)
+each_more spells vs v s t h k = each_append spells vs (v ∷ []) s t h (record { front = t; back = []; whole_is = sym (append-nil t); first_is = k; second_is = refl })
+
+-- what is so of each item in one way is so in another
+pub each_as : {V : Type 0} {R S : V → List ℕ → Type 0} → ((v : V) (b : List ℕ) → R v b → S v b) → (vs : List V) (b : List ℕ) → Each R vs b → Each S vs b
+each_as f [] b h = h
+each_as f (v ∷ vs) b h = record { front = h.front; back = h.back; whole_is = h.whole_is; first_is = f v h.front h.first_is; second_is = each_as f vs h.back h.second_is }
 
 module _ {V : Type 0} {strict : Bool} {least : ℕ} {F : Format V} (laws : Laws strict least F) where
   -- lists of one length decode item by item

@@ -3,6 +3,7 @@
 
 pub mod addresses;
 pub mod cows;
+pub mod fixed_numbers;
 pub mod flags;
 pub mod laws;
 pub mod layout;

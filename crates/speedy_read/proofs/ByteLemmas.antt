@@ -1,8 +1,9 @@
 -- Bytes that are read or skipped a chunk at a time.
-use Rattle.std.specs.Prelude.{◌≡◌, ℕ, ◌+◌, ◌-◌, ◌<◌, ◌≤◌, List, ◌++◌, length, take, drop, replicate, Bool, Ok, Err, Result, IsErrAnd, refl}
+use Rattle.std.specs.Prelude.{◌≡◌, ℕ, ◌+◌, ◌-◌, ◌<◌, ◌≤◌, List, [], ◌++◌, length, take, drop, replicate, Bool, false, Ok, Err, Result, IsErrAnd, OnOk, is_err, refl}
 use Rattle.std.proofs.Common.{sym, ◌∙◌, ap, ap₂, subst, arith, inl, inr}
 use Rattle.std.proofs.lemmas.Bool.{cases_lt}
-use Rattle.std.proofs.lemmas.List.{length-append, length-take-le, length-replicate, take-append-drop}
+use Rattle.std.proofs.lemmas.List.{append-nil, drop_all, length-append, length-drop, length-take-le, length-replicate, take_all, take_at, take-append-drop}
+use borrow.Rule.Slice.PartMut.{put_mid, post_of}
 use Rattle.std.proofs.Math.Seq.{take-append_seam}
 use Rattle.speedy_base.specs.declared.error.Error.{Error}
 use Rattle.speedy_base.specs.Digits.{SpellsNumber, AreBytes}
@@ -20,6 +21,32 @@ use Rattle.speedy_read.specs.Codes.{Covers, refused_covered}
 -- the front of a chunk that was filled
 pub front_of : (n : ℕ) (xs ys : List ℕ) → length xs ≡ n → take n (xs ++ ys) ≡ xs
 front_of n xs ys e = subst (λ (m : ℕ). take m (xs ++ ys) ≡ xs) e (take-append_seam xs ys)
+
+-- what lies behind a list
+pub behind : (bytes zeros slice : List ℕ) (start : ℕ) → slice ≡ bytes ++ zeros → start ≡ length bytes → length (take (length slice - start) (drop start slice)) ≡ length zeros
+behind bytes zeros slice start is at =
+    let whole : length slice ≡ length bytes + length zeros = ap length is ∙ length-append bytes zeros in
+    let left = length-drop start slice in
+    length-take-le (length slice - start) (drop start slice) (omega (arith, left)) ∙ omega (arith, whole, at)
+
+-- what is put behind a list, where zeros stood, in a slice of a vector of so many items
+pub filled_behind : (bytes zeros items slice output : List ℕ) (start len : ℕ) → items ≡ bytes ++ zeros → slice ≡ items → start ≡ length bytes → length slice ≡ len → length output ≡ length zeros
+    → let put : List ℕ = put_mid start (length slice - start) slice output in take len (put ++ drop (length put) items) ≡ bytes ++ output
+filled_behind bytes zeros items slice output start len is same at all sized =
+    let here : slice ≡ bytes ++ zeros = same ∙ is in
+    let put = put_mid start (length slice - start) slice output in
+    let whole : length slice ≡ length bytes + length zeros = ap length here ∙ length-append bytes zeros in
+    let front : take start slice ≡ bytes = ap (take start) here ∙ take_at bytes zeros start (sym at) in
+    let nothing : post_of start (length slice - start) slice ≡ [] = drop_all (length slice - start) (drop start slice) (omega (arith, length-drop start slice)) in
+    let put_is : put ≡ bytes ++ output = ap₂ ◌++◌ front (ap (λ l. output ++ l) nothing ∙ append-nil output) in
+    let long : length put ≡ len = ap length put_is ∙ (length-append bytes output ∙ omega (arith, sized, whole, all)) in
+    let rest : drop (length put) items ≡ [] = drop_all (length put) items (omega (arith, long, all, ap length same)) in
+    ap (take len) (ap (λ l. put ++ l) rest ∙ append-nil put) ∙ (take_all len put (omega (arith, long)) ∙ put_is)
+
+-- what holds where a call succeeded
+pub from_ok : {A E T : Type 0} (r : Result A E) → is_err r ≡ false → OnOk r T → T
+from_ok (Ok x) e h = h
+from_ok (Err x) e h = absurd (cc)
 
 -- so many bytes were taken so far
 abbrev pub SkippedSoFar : ℕ → ReaderState → ReaderState → Type 0

@@ -1,5 +1,5 @@
 -- Reads of items, one after another.
-use Rattle.std.specs.Prelude.{map, if◌then◌else◌, is_ok, is_err, ◌≡◌, ℕ, ◌*◌, ◌-◌, ◌^◌, ◌<◌, List, [], ◌∷◌, ◌++◌, length, Bool, false, IsTrue, Result, Ok, Err, IsErrAnd, refl}
+use Rattle.std.specs.Prelude.{map, is_err, ◌≡◌, ℕ, ◌*◌, ◌-◌, ◌^◌, ◌<◌, List, [], ◌∷◌, ◌++◌, length, Bool, false, IsTrue, OnOk, Result, Ok, Err, IsErrAnd, refl}
 use Rattle.std.proofs.Common.{sym, ◌∙◌, ap, subst, arith, inl, inr}
 use Rattle.std.proofs.lemmas.List.{map-append, append_assoc, append-nil}
 use Rattle.speedy_base.specs.declared.error.ErrorKind.TheVariants as kinds
@@ -8,30 +8,19 @@ use Rattle.speedy_base.specs.Error.{error_of}
 use Rattle.speedy_base.specs.Encoding.{Encoding}
 use Rattle.speedy_layout.specs.Format.{Format, Each}
 use Rattle.speedy_layout.specs.Laws.{Laws}
-use Rattle.speedy_layout.specs.Lists.{repeat, vector, vector_length, vector_laws, list, list_parts, vector_asks}
+use Rattle.speedy_layout.specs.Lists.{each_more, repeat, vector, vector_length, vector_laws, list, list_parts, vector_asks}
 use Rattle.speedy_layout.specs.Owned.{owned_content}
 use Rattle.speedy_layout.specs.Numbers.{unsigned_number}
 use Rattle.speedy_layout.specs.Sequences.{across}
 use Rattle.speedy_read.specs.Reading.{ReaderState, Kept, Reads, IsEnd}
 use Rattle.speedy_read.specs.ReadingLemmas.{fronts_nest, Kept-same, Kept-after, IsTold-after, part_refused, ends_early, ReadSoFar, more_so_far, all_so_far, Reads-passed}
 use Rattle.speedy_read.specs.Sequences.{Composes, sequence_composes}
+use Rattle.speedy_read.proofs.ByteLemmas.{from_ok}
 use Rattle.speedy_read.proofs.OwnedLemmas.{memory_refused}
 
--- a list of items and one item more
-each_more : {V : Type 0} (spells : V → List ℕ → Type 0) (vs : List V) (v : V) (s t : List ℕ) → Each spells vs s → spells v t → Each spells (vs ++ v ∷ []) (s ++ t)
-each_more spells [] v s t h k = record { front = t; back = []; whole_is = ap (λ x. x ++ t) h ∙ sym (append-nil t); first_is = k; second_is = refl }
-each_more spells (w ∷ vs) v s t h k = record {
-  front = h.front;
-  back = h.back ++ t;
-  whole_is = ap (λ x. x ++ t) h.whole_is ∙ append_assoc h.front h.back t;
-  first_is = h.first_is;
-  second_is = each_more spells vs v h.back t h.second_is k;
-}
-
--- what is seen of the items after a push that succeeded
-pub seen_pushed : {T E X V : Type 0} (seen : X → V) (r : Result T E) (xs zs : List X) (x : X) → is_err r ≡ false → zs ≡ (if is_ok r then xs ++ x ∷ [] else xs) → map seen zs ≡ map seen xs ++ seen x ∷ []
-seen_pushed seen (Ok t) xs zs x h e = ap (λ ys. map seen ys) e ∙ map-append seen xs (x ∷ [])
-seen_pushed seen (Err d) xs zs x h e = absurd (cc)
+-- what is seen of the items and one item more, which was added
+pub seen_added : {A E X V : Type 0} (seen : X → V) (r : Result A E) (xs zs : List X) (x : X) → is_err r ≡ false → OnOk r (zs ≡ xs ++ x ∷ []) → map seen zs ≡ map seen xs ++ seen x ∷ []
+seen_added seen r xs zs x went added = ap (map seen) (from_ok r went added) ∙ map-append seen xs (x ∷ [])
 
 module _ {V : Type 0} {strict : Bool} {least : ℕ} {L : Format V} (laws : Laws strict least L) where
   -- where more items are spelled than were read, the next one is spelled by what is left

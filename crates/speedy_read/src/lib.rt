@@ -24,6 +24,7 @@ pub mod readable;
 pub mod reader;
 pub mod sets;
 pub mod stream_reader;
+mod stretches;
 pub mod texts;
 pub mod tuples;
 pub mod varint;

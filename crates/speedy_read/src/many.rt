@@ -1,11 +1,9 @@
-//! Values that are read one after another, and what is made of them; bytes, which are read a chunk at a time.
+//! Values that are read one after another, and what is made of them.
 ghost use Rattle.std.specs.Prelude.{◌≡◌, ℕ, ⊤, [], List, IsSome, map, MatchResult, true, false};
 ghost use Rattle.std.specs.Cow.{cow_slice_items};
 ghost use Rattle.std.specs.Option.{MatchOption};
-ghost use Rattle.speedy_base.specs.Digits.{AreBytes};
 ghost use Rattle.speedy_base.specs.Error.{error_of};
 ghost use Rattle.speedy_layout.specs.Lists.{vector};
-ghost use Rattle.speedy_layout.specs.Numbers.{unsigned_number};
 ghost use Rattle.speedy_read.specs.Collections.{gatherer, Collects};
 ghost use Rattle.speedy_read.specs.Lending.{many_items};
 ghost use Rattle.speedy_read.specs.Reading.{Reads};
@@ -13,6 +11,7 @@ ghost use Rattle.speedy_read.specs.Reading.{Reads};
 use crate::collections::{FromItems, collect_items};
 use crate::readable::ReadFrom;
 use crate::reader::LendingReader;
+use crate::stretches::push_in_steps;
 use speedy_base::context::Context;
 use speedy_base::error::{ErrorKind, error_out_of_memory};
 use std::alloc::Global;
@@ -188,9 +187,9 @@ fn read_each<W: Drop, T: ReadFrom<L, C>, L: AsSlice<u8> + Drop, C: Context, R: L
         (R.state reader.old) (R.state reader.new) }
 {
     let mut items = vec_for::<T, L, C, R>(reader, T::minimum_bytes_needed(), length)?;
-    for _i in 0..length {
+    for i in 0..length {
         let item = T::read_from(reader)?;
-        if items.push(item).is_err() {
+        if push_in_steps(&mut items, item, length - i).is_err() {
             return Err(error_out_of_memory());
         }
     }
@@ -217,37 +216,4 @@ pub(crate) fn vec_for<T, L: AsSlice<u8> + Drop, C: Context, R: LendingReader<L, 
         Ok(items) => Ok(items),
         Err(_) => Err(error_out_of_memory()),
     }
-}
-
-// Reads so many bytes, a chunk at a time. The count may be any, so no more room is asked for than for what was read,
-// but where the reader says that so many are there.
-pub(crate) fn read_chunks<L: AsSlice<u8> + Drop, C: Context, R: LendingReader<L, C>>(
-    reader: &mut R,
-    length: usize,
-) -> Result<Vec<u8>, C::Error>
-    ensures { Reads C.Error.from_gives C.Error.eof (λ v. v.items)
-        (vector length (unsigned_number 1 (R.state reader.old).encoding)) result
-        (R.state reader.old) (R.state reader.new) }
-{
-    let mut bytes = vec_for::<u8, L, C, R>(reader, 1, length)?;
-    let mut chunk = [0_u8; 512];
-    let mut left = length;
-    while left > 0 {
-        let size = left.min(chunk.len());
-        reader.read_bytes(&mut chunk[..size])?;
-        if bytes.extend_from_slice(&chunk[..size]).is_err() {
-            return Err(error_out_of_memory());
-        }
-        left -= size;
-    }
-    Ok(in_range(bytes))
-}
-
-// What a proof knows of the bytes is their range, which the contents of a buffer don't show.
-#[inline]
-fn in_range(bytes: Vec<u8>) -> Vec<u8>
-    ensures same { result.items ≡ bytes.items }
-    ensures range { AreBytes result.items }
-{
-    bytes
 }

@@ -1,8 +1,9 @@
 //! How numbers are read.
 use crate::lent::lent_in_range;
-use crate::many::{AsBytes, FromLent, Many, read_chunks};
+use crate::many::{AsBytes, FromLent, Many};
 use crate::readable::{ReadFrom, ReadMany};
 use crate::reader::LendingReader;
+use crate::stretches::{read_chunks, read_numbers};
 use speedy_base::context::Context;
 use speedy_base::error::{error_out_of_memory, error_too_big_usize_for_this_architecture};
 use std::convert::AsSlice;
@@ -19,7 +20,7 @@ impl<L: AsSlice<u8> + Drop, C: Context> ReadFrom<L, C> for u8 {
     }
 }
 
-// Bytes are taken at once where the reader lends them, and else a chunk at a time.
+// Bytes are taken at once where the reader lends them, and else a stretch at a time.
 impl<L: AsSlice<u8> + Drop, C: Context> ReadMany<L, C> for u8 {
     fn read_many_lent<W: FromLent<L, u8>, R: LendingReader<L, C>>(
         reader: &mut R,
@@ -51,7 +52,15 @@ impl<L: AsSlice<u8> + Drop, C: Context> ReadFrom<L, C> for u16 {
     }
 }
 
-impl<L: AsSlice<u8> + Drop, C: Context> ReadMany<L, C> for u16 {}
+impl<L: AsSlice<u8> + Drop, C: Context> ReadMany<L, C> for u16 {
+    /// Reads stretches of digits.
+    fn read_many_lent<W: FromLent<L, u16>, R: LendingReader<L, C>>(
+        reader: &mut R,
+        length: usize,
+    ) -> Result<Many<W, u16>, C::Error> {
+        read_numbers::<W, u16, L, C, R>(reader, length)
+    }
+}
 
 impl<L: AsSlice<u8> + Drop, C: Context> ReadFrom<L, C> for u32 {
     #[inline]
@@ -65,7 +74,15 @@ impl<L: AsSlice<u8> + Drop, C: Context> ReadFrom<L, C> for u32 {
     }
 }
 
-impl<L: AsSlice<u8> + Drop, C: Context> ReadMany<L, C> for u32 {}
+impl<L: AsSlice<u8> + Drop, C: Context> ReadMany<L, C> for u32 {
+    /// Reads stretches of digits.
+    fn read_many_lent<W: FromLent<L, u32>, R: LendingReader<L, C>>(
+        reader: &mut R,
+        length: usize,
+    ) -> Result<Many<W, u32>, C::Error> {
+        read_numbers::<W, u32, L, C, R>(reader, length)
+    }
+}
 
 impl<L: AsSlice<u8> + Drop, C: Context> ReadFrom<L, C> for u64 {
     #[inline]
@@ -79,7 +96,15 @@ impl<L: AsSlice<u8> + Drop, C: Context> ReadFrom<L, C> for u64 {
     }
 }
 
-impl<L: AsSlice<u8> + Drop, C: Context> ReadMany<L, C> for u64 {}
+impl<L: AsSlice<u8> + Drop, C: Context> ReadMany<L, C> for u64 {
+    /// Reads stretches of digits.
+    fn read_many_lent<W: FromLent<L, u64>, R: LendingReader<L, C>>(
+        reader: &mut R,
+        length: usize,
+    ) -> Result<Many<W, u64>, C::Error> {
+        read_numbers::<W, u64, L, C, R>(reader, length)
+    }
+}
 
 impl<L: AsSlice<u8> + Drop, C: Context> ReadFrom<L, C> for u128 {
     #[inline]
@@ -93,7 +118,15 @@ impl<L: AsSlice<u8> + Drop, C: Context> ReadFrom<L, C> for u128 {
     }
 }
 
-impl<L: AsSlice<u8> + Drop, C: Context> ReadMany<L, C> for u128 {}
+impl<L: AsSlice<u8> + Drop, C: Context> ReadMany<L, C> for u128 {
+    /// Reads stretches of digits.
+    fn read_many_lent<W: FromLent<L, u128>, R: LendingReader<L, C>>(
+        reader: &mut R,
+        length: usize,
+    ) -> Result<Many<W, u128>, C::Error> {
+        read_numbers::<W, u128, L, C, R>(reader, length)
+    }
+}
 
 impl<L: AsSlice<u8> + Drop, C: Context> ReadFrom<L, C> for i8 {
     #[inline]
@@ -107,7 +140,15 @@ impl<L: AsSlice<u8> + Drop, C: Context> ReadFrom<L, C> for i8 {
     }
 }
 
-impl<L: AsSlice<u8> + Drop, C: Context> ReadMany<L, C> for i8 {}
+impl<L: AsSlice<u8> + Drop, C: Context> ReadMany<L, C> for i8 {
+    /// Reads stretches of digits.
+    fn read_many_lent<W: FromLent<L, i8>, R: LendingReader<L, C>>(
+        reader: &mut R,
+        length: usize,
+    ) -> Result<Many<W, i8>, C::Error> {
+        read_numbers::<W, i8, L, C, R>(reader, length)
+    }
+}
 
 impl<L: AsSlice<u8> + Drop, C: Context> ReadFrom<L, C> for i16 {
     #[inline]
@@ -121,7 +162,15 @@ impl<L: AsSlice<u8> + Drop, C: Context> ReadFrom<L, C> for i16 {
     }
 }
 
-impl<L: AsSlice<u8> + Drop, C: Context> ReadMany<L, C> for i16 {}
+impl<L: AsSlice<u8> + Drop, C: Context> ReadMany<L, C> for i16 {
+    /// Reads stretches of digits.
+    fn read_many_lent<W: FromLent<L, i16>, R: LendingReader<L, C>>(
+        reader: &mut R,
+        length: usize,
+    ) -> Result<Many<W, i16>, C::Error> {
+        read_numbers::<W, i16, L, C, R>(reader, length)
+    }
+}
 
 impl<L: AsSlice<u8> + Drop, C: Context> ReadFrom<L, C> for i32 {
     #[inline]
@@ -135,7 +184,15 @@ impl<L: AsSlice<u8> + Drop, C: Context> ReadFrom<L, C> for i32 {
     }
 }
 
-impl<L: AsSlice<u8> + Drop, C: Context> ReadMany<L, C> for i32 {}
+impl<L: AsSlice<u8> + Drop, C: Context> ReadMany<L, C> for i32 {
+    /// Reads stretches of digits.
+    fn read_many_lent<W: FromLent<L, i32>, R: LendingReader<L, C>>(
+        reader: &mut R,
+        length: usize,
+    ) -> Result<Many<W, i32>, C::Error> {
+        read_numbers::<W, i32, L, C, R>(reader, length)
+    }
+}
 
 impl<L: AsSlice<u8> + Drop, C: Context> ReadFrom<L, C> for i64 {
     #[inline]
@@ -149,7 +206,15 @@ impl<L: AsSlice<u8> + Drop, C: Context> ReadFrom<L, C> for i64 {
     }
 }
 
-impl<L: AsSlice<u8> + Drop, C: Context> ReadMany<L, C> for i64 {}
+impl<L: AsSlice<u8> + Drop, C: Context> ReadMany<L, C> for i64 {
+    /// Reads stretches of digits.
+    fn read_many_lent<W: FromLent<L, i64>, R: LendingReader<L, C>>(
+        reader: &mut R,
+        length: usize,
+    ) -> Result<Many<W, i64>, C::Error> {
+        read_numbers::<W, i64, L, C, R>(reader, length)
+    }
+}
 
 impl<L: AsSlice<u8> + Drop, C: Context> ReadFrom<L, C> for i128 {
     #[inline]
@@ -163,7 +228,15 @@ impl<L: AsSlice<u8> + Drop, C: Context> ReadFrom<L, C> for i128 {
     }
 }
 
-impl<L: AsSlice<u8> + Drop, C: Context> ReadMany<L, C> for i128 {}
+impl<L: AsSlice<u8> + Drop, C: Context> ReadMany<L, C> for i128 {
+    /// Reads stretches of digits.
+    fn read_many_lent<W: FromLent<L, i128>, R: LendingReader<L, C>>(
+        reader: &mut R,
+        length: usize,
+    ) -> Result<Many<W, i128>, C::Error> {
+        read_numbers::<W, i128, L, C, R>(reader, length)
+    }
+}
 
 impl<L: AsSlice<u8> + Drop, C: Context> ReadFrom<L, C> for usize {
     #[inline]

@@ -10,10 +10,14 @@
 pub mod answer;
 pub mod callers;
 pub mod line;
+#[cfg(test)]
+mod plain16;
 pub mod run;
 mod split;
 #[cfg(test)]
 mod tests;
+#[cfg(test)]
+mod tests_bulk;
 #[cfg(test)]
 mod tests_callers;
 #[cfg(test)]

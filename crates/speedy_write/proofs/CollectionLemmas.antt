@@ -1,6 +1,6 @@
 -- The items of a collection are written one after the other, and make a write of the collection.
 use Rattle.std.specs.Prelude.{◌≡◌, ℕ, List, [], ◌∷◌, ◌++◌, length, map, Bool, true, false, Option, Some, None, Result, Ok, Err, MatchResult, IsErrAnd, refl}
-use Rattle.std.proofs.Common.{sym, ap, subst, inl, inr}
+use Rattle.std.proofs.Common.{sym, ap, subst}
 use Rattle.std.proofs.iter.Next.{Yields-more}
 use Rattle.std.proofs.iter.Yields.{gives_left, gives_Drains, listed}
 use Rattle.std.proofs.lemmas.List.{length-map}
@@ -10,7 +10,7 @@ use Rattle.speedy_base.specs.declared.error.ErrorKind.{ErrorKind}
 use Rattle.speedy_base.specs.declared.error.Error.{Error}
 use Rattle.speedy_base.specs.Encoding.{Encoding}
 use Rattle.speedy_layout.specs.Codes.{coding}
-use Rattle.speedy_layout.specs.Format.{Format, Parts, Each}
+use Rattle.speedy_layout.specs.Format.{Format}
 use Rattle.speedy_layout.specs.GatheredLemmas.{gathered_writes, gathered_form, gathered_form_length}
 use Rattle.speedy_layout.specs.Gathering.{IsGathering, hashed_items, items_of, gathered}
 use Rattle.speedy_layout.specs.Laws.{Laws}
@@ -19,10 +19,10 @@ use Rattle.speedy_layout.specs.Owned.{owned_content, borrowed_content}
 use Rattle.speedy_layout.specs.Sequences.{sequence}
 use Rattle.speedy_layout.specs.Tuples.{pair, pair_laws}
 use Rattle.speedy_write.specs.Collections.{WritesItems}
-use Rattle.speedy_write.specs.Sequences.{Writes-as, is_sequence, first_refused}
+use Rattle.speedy_write.specs.Sequences.{Writes-as}
 use Rattle.speedy_base.specs.Error.{passed_on}
 use Rattle.speedy_write.specs.Writing.{WriterState, Writes, WritesEach}
-use Rattle.speedy_write.proofs.ListLemmas.{Each-append, Each-parts, next_refused}
+use Rattle.speedy_write.proofs.ListLemmas.{first_items_refused, next_refused}
 
 -- ---- item by item
 
@@ -44,30 +44,6 @@ module _ {E U S A V : Type 0} {gives : Error → E → Type 0} {becomes : U → 
       })
 
 -- ---- the items that were walked, among all
-
-module _ {V : Type 0} (R : V → List ℕ → Type 0) (n : ℕ) (vs more : List V) (b : List ℕ) where
-  -- some items, and those after them
-  abbrev Two : Type 0
-  Two = Parts (λ b. (length vs ≡ n) × Each R vs b) (λ b. (length more ≡ length more) × Each R more b) b
-
-  Two-each : Two → Each R (vs ++ more) b
-  Two-each h = Each-append R vs more b (record { front = h.front; back = h.back; whole_is = h.whole_is; first_is = h.first_is.1; second_is = h.second_is.1 })
-
-  Each-two : length vs ≡ n → Each R (vs ++ more) b → Two
-  Each-two l h = let p = Each-parts R vs more b h in record { front = p.front; back = p.back; whole_is = p.whole_is; first_is = (l, p.first_is); second_is = (refl, p.second_is) }
-
-module _ {E V : Type 0} {gives : Error → E → Type 0} {e : E} {old new : WriterState} {appended : List ℕ → Type 0} (F : Encoding → Format V) (n : ℕ) (vs more : List V) where
-  two_refused : Writes gives (λ encoding. repeat n (F encoding)) vs (Err e) old new appended → Writes gives (λ encoding. pair (repeat n (F encoding)) (repeat (length more) (F encoding))) (vs, more) (Err e) old new appended
-  two_refused w = first_refused is_sequence refl refl w
-
-  -- where the first items are refused, all are
-  first_items_refused : length vs ≡ n → Writes gives (λ encoding. repeat n (F encoding)) vs (Err e) old new appended → Writes gives (λ encoding. repeat (length (vs ++ more)) (F encoding)) (vs ++ more) (Err e) old new appended
-  unfolding repeat sequence
-  first_items_refused l w =
-      Writes-as (λ kind k. elim k [ inl y ↦ y | inr y ↦ y.1 ])
-      (λ b k. (refl, Two-each (F old.encoding).writes n vs more b k))
-      (λ b k. (b, Each-two (F old.encoding).writes n vs more b l k.1, refl))
-      (λ b k. (b, Each-two (F old.encoding).spells n vs more b l k.1)) (two_refused w)
 
 module _ {E S A V : Type 0} {gives : Error → E → Type 0} {steps : S → Option A → S → Type 0} {seen : A → V} {F : Encoding → Format V} {items : S} {shown : List V} {old new : WriterState} {appended : List ℕ → Type 0} where
   all_shown : (result : Result (Unit {0}) E) → AlwaysYields steps seen items shown → WritesItems (λ s r. r ≡ s) steps seen gives F items result old new appended → Writes gives (λ encoding. repeat (length shown) (F encoding)) shown result old new appended

@@ -1,15 +1,18 @@
 -- Items are written one after the other.
-use Rattle.std.specs.Prelude.{◌≡◌, ℕ, suc, ◌+◌, ◌<◌, List, [], ◌∷◌, ◌++◌, length, map, take, drop, Result, Ok, Err, IsErrAnd, refl}
-use Rattle.std.proofs.Common.{sym, ◌∙◌, ap, subst, inl, inr}
+use Rattle.std.specs.Prelude.{◌≡◌, ℕ, suc, ◌+◌, ◌*◌, ◌<◌, List, [], ◌∷◌, ◌++◌, length, map, take, drop, Result, Ok, Err, IsErrAnd, refl}
+use Rattle.std.proofs.Common.{sym, ◌∙◌, ap, ap₂, subst, inl, inr}
 use Rattle.std.proofs.Math.ListN.{get_or}
 use Rattle.std.proofs.Math.Seq.{drop-cons}
 use Rattle.std.proofs.lemmas.List.{append_assoc, append-nil, length-map, map-append, map-id, take_more, take-append-drop}
 use Rattle.speedy_base.specs.declared.error.Error.{Error}
+use Rattle.speedy_base.specs.declared.endianness.Endianness.{Endianness}
 use Rattle.speedy_base.specs.Digits.{AreBytes}
+use Rattle.speedy_base.specs.Error.{passed_on}
 use Rattle.speedy_base.specs.Encoding.{Encoding}
+use Rattle.speedy_layout.specs.FixedNumbers.{IsFixed, spelled_in, each_length}
 use Rattle.speedy_layout.specs.Format.{Format, Parts, Each}
 use Rattle.speedy_layout.specs.Laws.{Laws}
-use Rattle.speedy_layout.specs.Lists.{repeat, repeat_laws}
+use Rattle.speedy_layout.specs.Lists.{each_append, each_as, repeat, repeat_laws}
 use Rattle.speedy_layout.specs.Numbers.{unsigned_number, unsigned_number_laws}
 use Rattle.speedy_layout.specs.Sequences.{sequence}
 use Rattle.speedy_layout.specs.Texts.{each_byte}
@@ -19,14 +22,7 @@ use Rattle.speedy_write.specs.Sequences.{Kept-same, Kept-after, Put-as, Put-noth
 
 module _ {V : Type 0} (R : V → List ℕ → Type 0) where
   pub Each-append : (xs ys : List V) (b : List ℕ) → Parts (Each R xs) (Each R ys) b → Each R (xs ++ ys) b
-  Each-append [] ys b p = subst (Each R ys) (sym (p.whole_is ∙ ap (λ x. x ++ p.back) p.first_is)) p.second_is
-  Each-append (x ∷ xs) ys b p = record {
-    front = p.first_is.front;
-    back = p.first_is.back ++ p.back;
-    whole_is = p.whole_is ∙ (ap (λ z. z ++ p.back) p.first_is.whole_is ∙ append_assoc p.first_is.front p.first_is.back p.back);
-    first_is = p.first_is.first_is;
-    second_is = Each-append xs ys (p.first_is.back ++ p.back) (record { front = p.first_is.back; back = p.back; whole_is = refl; first_is = p.first_is.second_is; second_is = p.second_is });
-  }
+  Each-append xs ys b p = subst (Each R (xs ++ ys)) (sym p.whole_is) (each_append R xs ys p.front p.back p.first_is p.second_is)
 
   pub Each-parts : (xs ys : List V) (b : List ℕ) → Each R (xs ++ ys) b → Parts (Each R xs) (Each R ys) b
   Each-parts [] ys b h = record { front = []; back = b; whole_is = refl; first_is = refl; second_is = h }
@@ -117,6 +113,18 @@ module _ {E : Type 0} {gives : Error → E → Type 0} {A V : Type 0} {F : Encod
       (λ b k. (length-map (xs ++ x ∷ ys) seen, subst (λ (us : List V). Each R us b) (sym parts) (Three-each R n vs (seen x) rest b k)))
       (λ b k. (b, turned R b k.1, refl)) (λ b k. (b, turned (F old.encoding).spells b k.1)) (three_refused laws passed h w ys)
 
+-- items are written after others
+module _ {E : Type 0} {gives : Error → E → Type 0} {A V : Type 0} (F : Encoding → Format V) {old mid new : WriterState} {front back whole : List ℕ → Type 0} (join : (a b : List ℕ) → front a → back b → whole (a ++ b)) (seen : A → V) (xs ys : List A) where
+  pub more_written : {done : Unit {0}} → WritesEach gives F seen xs (Ok tt) old mid front → WritesEach gives F seen ys (Ok done) mid new back → WritesEach gives F seen (xs ++ ys) (Ok tt) old new whole
+  unfolding repeat
+  more_written h w =
+      let R = (F old.encoding).writes in
+      let all = Put-as (Each-append R (map seen xs) (map seen ys)) (Put-both join (Put-as (λ b k. k.1) h.answer) (Put-as (λ b k. k.1) (Writes-at h.kept w).answer)) in
+      record {
+        kept = Kept-after h.kept w.kept;
+        answer = Put-as (λ b k. (length-map (xs ++ ys) seen, subst (λ (us : List V). Each R us b) (sym (map-append seen xs ys)) k)) all;
+      }
+
 -- the same of the items of a list that stand before an index, and of the one that stands there
 module _ {E : Type 0} {gives : Error → E → Type 0} {A V : Type 0} {F : Encoding → Format V} {x : A} {old mid new : WriterState} {front back whole : List ℕ → Type 0} (join : (a b : List ℕ) → front a → back b → whole (a ++ b)) (seen : A → V) (items : List A) (i : ℕ) (within : i < length items) (is : x ≡ get_or items i x) where
   pub one_more_written : {done : Unit {0}} → WritesEach gives F seen (take i items) (Ok tt) old mid front → Writes gives F (seen x) (Ok done) mid new back → WritesEach gives F seen (take (i + 1) items) (Ok tt) old new whole
@@ -125,6 +133,90 @@ module _ {E : Type 0} {gives : Error → E → Type 0} {A V : Type 0} {F : Encod
   pub items_refused : {least : ℕ} {e : E} {result : Result (Unit {0}) E} → ((encoding : Encoding) → Laws encoding.strict least (F encoding)) → IsErrAnd result (λ r. r ≡ e)
       → WritesEach gives F seen (take i items) (Ok tt) old mid front → Writes gives F (seen x) (Err e) mid new back → WritesEach gives F seen items result old new whole
   items_refused {result = result} laws passed h w = subst (λ (us : List A). WritesEach gives F seen us result old new whole) (all_items items i within is) (next_refused join seen (take i items) x laws passed h w (drop (suc i) items))
+
+-- ---- some items, and others after them
+
+module _ {V : Type 0} (R : V → List ℕ → Type 0) (n : ℕ) (vs more : List V) (b : List ℕ) where
+  -- some items, and those after them
+  abbrev Two : Type 0
+  Two = Parts (λ b. (length vs ≡ n) × Each R vs b) (λ b. (length more ≡ length more) × Each R more b) b
+
+  Two-each : Two → Each R (vs ++ more) b
+  Two-each h = Each-append R vs more b (record { front = h.front; back = h.back; whole_is = h.whole_is; first_is = h.first_is.1; second_is = h.second_is.1 })
+
+  Each-two : length vs ≡ n → Each R (vs ++ more) b → Two
+  Each-two l h = let p = Each-parts R vs more b h in record { front = p.front; back = p.back; whole_is = p.whole_is; first_is = (l, p.first_is); second_is = (refl, p.second_is) }
+
+module _ {E V : Type 0} {gives : Error → E → Type 0} {e : E} {old new : WriterState} {appended : List ℕ → Type 0} (F : Encoding → Format V) (n : ℕ) (vs more : List V) where
+  two_refused : Writes gives (λ encoding. repeat n (F encoding)) vs (Err e) old new appended → Writes gives (λ encoding. pair (repeat n (F encoding)) (repeat (length more) (F encoding))) (vs, more) (Err e) old new appended
+  two_refused w = first_refused is_sequence refl refl w
+
+  -- where the first items are refused, all are
+  pub first_items_refused : length vs ≡ n → Writes gives (λ encoding. repeat n (F encoding)) vs (Err e) old new appended → Writes gives (λ encoding. repeat (length (vs ++ more)) (F encoding)) (vs ++ more) (Err e) old new appended
+  unfolding repeat sequence
+  first_items_refused l w =
+      Writes-as (λ kind k. elim k [ inl y ↦ y | inr y ↦ y.1 ])
+      (λ b k. (refl, Two-each (F old.encoding).writes n vs more b k))
+      (λ b k. (b, Each-two (F old.encoding).writes n vs more b l k.1, refl))
+      (λ b k. (b, Each-two (F old.encoding).spells n vs more b l k.1)) (two_refused w)
+
+-- some items are written, others after them are refused, and so are all
+module _ {E : Type 0} {gives : Error → E → Type 0} {A V : Type 0} {F : Encoding → Format V} {old mid new : WriterState} {front back whole : List ℕ → Type 0} (join : (a b : List ℕ) → front a → back b → whole (a ++ b)) (seen : A → V) (xs ys more : List A) {e : E} where
+  both_refused : {least : ℕ} → ((encoding : Encoding) → Laws encoding.strict least (F encoding)) → WritesEach gives F seen xs (Ok tt) old mid front → WritesEach gives F seen ys (Err e) mid new back
+      → let rest : List V = map seen ys ++ map seen more in Writes gives (λ encoding. pair (repeat (length xs) (F encoding)) (repeat (length rest) (F encoding))) (map seen xs, rest) (Err e) old new whole
+  both_refused laws h w =
+      second_written is_sequence refl (λ encoding. repeat_laws (laws encoding) (length xs)) join h (first_items_refused F (length ys) (map seen ys) (map seen more) (length-map ys seen) w)
+
+  pub later_items_refused : {least : ℕ} {result : Result (Unit {0}) E} → ((encoding : Encoding) → Laws encoding.strict least (F encoding)) → IsErrAnd result (λ r. r ≡ e)
+      → WritesEach gives F seen xs (Ok tt) old mid front → WritesEach gives F seen ys (Err e) mid new back → WritesEach gives F seen (xs ++ (ys ++ more)) result old new whole
+  unfolding repeat sequence
+  later_items_refused {result = result} laws passed h w =
+      let n = length xs in
+      let vs = map seen xs in
+      let rest = map seen ys ++ map seen more in
+      let all = map seen (xs ++ (ys ++ more)) in
+      let R = (F old.encoding).writes in
+      let parts : all ≡ vs ++ rest = map-append seen xs (ys ++ more) ∙ ap (λ us. vs ++ us) (map-append seen ys more) in
+      let turned : (S : V → List ℕ → Type 0) (b : List ℕ) → Each S all b → Two S n vs rest b = λ S b k. Each-two S n vs rest b (length-map xs seen) (subst (λ (us : List V). Each S us b) parts k) in
+      let refused : WritesEach gives F seen (xs ++ (ys ++ more)) (Err e) old new whole =
+      Writes-as (λ kind k. elim k [ inl y ↦ y | inr y ↦ y.1 ])
+      (λ b k. (length-map (xs ++ (ys ++ more)) seen, subst (λ (us : List V). Each R us b) (sym parts) (Two-each R n vs rest b k)))
+      (λ b k. (b, turned R b k.1, refl)) (λ b k. (b, turned (F old.encoding).spells b k.1)) (both_refused laws h w) in
+      subst (λ (r : Result (Unit {0}) E). WritesEach gives F seen (xs ++ (ys ++ more)) r old new whole) (passed_on result e passed) refused
+
+-- ---- numbers, by stretches of their digits
+
+-- a stretch is cut off the rest
+pub cut_off : {A : Type 0} {items some more : List A} (rest done : List A) (n : ℕ) → some ≡ take n rest → more ≡ drop n rest → items ≡ done ++ rest → items ≡ done ++ (some ++ more)
+cut_off rest done n front back is = is ∙ ap (λ us. done ++ us) (sym (ap₂ ◌++◌ front back ∙ take-append-drop n rest))
+
+module _ {A V : Type 0} {F : Encoding → Format V} {least : ℕ} (laws : (encoding : Encoding) → Laws encoding.strict least (F encoding)) (fixed : IsFixed least F) (seen : A → V) where
+  -- the digits of numbers are a written form of them
+  digits_written : (encoding : Encoding) (xs : List A) (b : List ℕ) → Each (spelled_in F encoding.order) (map seen xs) b → (repeat (length xs) (F encoding)).writes (map seen xs) b
+  unfolding repeat
+  digits_written encoding xs b h = (length-map xs seen, each_as (fixed.writes encoding) (map seen xs) b h)
+
+  -- which has so many bytes
+  pub digits_sized : (order : Endianness) (xs : List A) (b : List ℕ) (size width : ℕ) → Each (spelled_in F order) (map seen xs) b → size ≡ length xs * width → width ≡ least → length b ≡ size
+  digits_sized order xs b size width h is same =
+      each_length fixed order (map seen xs) b h ∙ (ap (λ n. n * least) (length-map xs seen) ∙ (ap (λ w. length xs * w) (sym same) ∙ sym is))
+
+  -- and so they are written as the numbers are
+  pub stretch_is_written : {E : Type 0} {gives : Error → E → Type 0} {result : Result (Unit {0}) E} {old new : WriterState} {appended : List ℕ → Type 0} {order : Endianness} (xs : List A) {b : List ℕ} → order ≡ old.encoding.order
+      → Each (spelled_in F order) (map seen xs) b → WritesBytes gives b result old new appended → WritesEach gives F seen xs result old new appended
+  stretch_is_written {old = old} xs {b} same h w =
+      form_written (λ e. repeat_laws (laws e) (length xs)) (digits_written old.encoding xs b (subst (λ (o : Endianness). Each (spelled_in F o) (map seen xs) b) same h)) w
+
+  module _ {E : Type 0} {gives : Error → E → Type 0} {old mid new : WriterState} {front back whole : List ℕ → Type 0} {order : Endianness} (join : (a b : List ℕ) → front a → back b → whole (a ++ b)) (done some : List A) {b : List ℕ} (same : order ≡ mid.encoding.order)
+      (digits : Each (spelled_in F order) (map seen some) b) (h : WritesEach gives F seen done (Ok tt) old mid front) where
+    -- one stretch more is written
+    pub stretch_written : {x : Unit {0}} → WritesBytes gives b (Ok x) mid new back → WritesEach gives F seen (done ++ some) (Ok tt) old new whole
+    stretch_written w = more_written F join seen done some h (stretch_is_written some same digits w)
+
+    -- where one is refused, all are
+    pub stretch_refused : {e : E} {result : Result (Unit {0}) E} {items : List A} (more : List A) → items ≡ done ++ (some ++ more) → IsErrAnd result (λ r. r ≡ e) → WritesBytes gives b (Err e) mid new back → WritesEach gives F seen items result old new whole
+    stretch_refused {result = result} more is passed w =
+        subst (λ (us : List A). WritesEach gives F seen us result old new whole) (sym is) (later_items_refused join seen done some more laws passed h (stretch_is_written some same digits w))
 
 -- bytes are written at once as they are item by item
 pub byte_items_written : {E : Type 0} {gives : Error → E → Type 0} {items : List ℕ} {result : Result (Unit {0}) E} {old new : WriterState} {appended : List ℕ → Type 0} → AreBytes items → WritesBytes gives items result old new appended → WritesEach gives (unsigned_number 1) (λ n. n) items result old new appended

@@ -1,5 +1,5 @@
 -- What a write does.
-use Rattle.std.specs.Prelude.{◌≡◌, ◌≢◌, ℕ, ℤ, ◌-◌, ◌≤◌, List, ◌++◌, length, map, Bool, IsTrue, ◌⊎◌, ◌↔◌, Option, Some, None, Result, MatchResult, IfErr}
+use Rattle.std.specs.Prelude.{◌≡◌, ◌≢◌, ℕ, ℤ, ◌-◌, ◌≤◌, List, ◌++◌, length, map, Bool, IsTrue, ◌⊎◌, ◌↔◌, Option, Some, None, MatchOption, Result, MatchResult, IfErr}
 use Rattle.std.specs.Borrow.{GName}
 use Rattle.std.specs.Int.{Width}
 use Rattle.speedy_base.specs.declared.error.ErrorKind.{ErrorKind}
@@ -122,6 +122,12 @@ module _ {E : Type 0} (gives : Error → E → Type 0) where
   RefusesFull result old new =
       IfErr result (λ e. IsOfFault gives old.fixed.tells_faults e old.faults new.faults
       ⊎ ((new.faults ≡ old.faults) × gives (error_of old.fixed.full) e))
+
+  -- What a writer answers that counts bytes and keeps none: as it would the write of any so many of them. Or it answers
+  -- nothing, and stays as it was.
+  abbrev pub CountsBytes : ℕ → Option (Result (Unit {0}) E) → Type 0 → WriterState → WriterState → (List ℕ → Type 0) → Type 0
+  CountsBytes size counted unchanged old new appended =
+      MatchOption counted unchanged (λ result. (bytes : List ℕ) → length bytes ≡ size → WritesBytes bytes result old new appended)
 
 -- what a writer says of its space is right
 abbrev pub IsRight : Option Bool → ℕ → Option ℕ → Type 0

@@ -285,6 +285,15 @@ impl<'a, C: Context> Writer<C> for SizeCalculatorCollector<'a, C> {
         Ok(())
     }
 
+    #[inline]
+    fn count_bytes(&mut self, size: usize) -> Option<Result<(), C::Error>> {
+        if size > usize::MAX - self.size {
+            return Some(Err(error_out_of_range_length()));
+        }
+        self.size += size;
+        Some(Ok(()))
+    }
+
     #[inline(always)]
     fn context(&self) -> &C {
         &*self.context

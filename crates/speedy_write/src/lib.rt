@@ -15,6 +15,7 @@ pub mod owned;
 pub mod private;
 pub mod ranges;
 pub mod sets;
+mod stretches;
 pub mod texts;
 pub mod tuples;
 pub mod varint;

@@ -1,6 +1,7 @@
 //! How numbers are written.
 ghost use Rattle.std.specs.Prelude.{◌<◌};
 
+use crate::stretches::write_numbers;
 use crate::writable::Writable;
 use crate::writer::Writer;
 use speedy_base::context::Context;
@@ -23,12 +24,22 @@ impl<C: Context> Writable<C> for u16 {
     fn write_to<W: Writer<C>>(&self, writer: &mut W) -> Result<(), C::Error> {
         writer.write_u16(*self)
     }
+
+    /// Writes the numbers by stretches of their digits.
+    fn write_many<W: Writer<C>>(items: &[u16], writer: &mut W) -> Result<(), C::Error> {
+        write_numbers(items, writer)
+    }
 }
 
 impl<C: Context> Writable<C> for u32 {
     #[inline(always)]
     fn write_to<W: Writer<C>>(&self, writer: &mut W) -> Result<(), C::Error> {
         writer.write_u32(*self)
+    }
+
+    /// Writes the numbers by stretches of their digits.
+    fn write_many<W: Writer<C>>(items: &[u32], writer: &mut W) -> Result<(), C::Error> {
+        write_numbers(items, writer)
     }
 }
 
@@ -37,12 +48,22 @@ impl<C: Context> Writable<C> for u64 {
     fn write_to<W: Writer<C>>(&self, writer: &mut W) -> Result<(), C::Error> {
         writer.write_u64(*self)
     }
+
+    /// Writes the numbers by stretches of their digits.
+    fn write_many<W: Writer<C>>(items: &[u64], writer: &mut W) -> Result<(), C::Error> {
+        write_numbers(items, writer)
+    }
 }
 
 impl<C: Context> Writable<C> for u128 {
     #[inline(always)]
     fn write_to<W: Writer<C>>(&self, writer: &mut W) -> Result<(), C::Error> {
         writer.write_u128(*self)
+    }
+
+    /// Writes the numbers by stretches of their digits.
+    fn write_many<W: Writer<C>>(items: &[u128], writer: &mut W) -> Result<(), C::Error> {
+        write_numbers(items, writer)
     }
 }
 
@@ -51,12 +72,22 @@ impl<C: Context> Writable<C> for i8 {
     fn write_to<W: Writer<C>>(&self, writer: &mut W) -> Result<(), C::Error> {
         writer.write_i8(*self)
     }
+
+    /// Writes the numbers by stretches of their digits.
+    fn write_many<W: Writer<C>>(items: &[i8], writer: &mut W) -> Result<(), C::Error> {
+        write_numbers(items, writer)
+    }
 }
 
 impl<C: Context> Writable<C> for i16 {
     #[inline(always)]
     fn write_to<W: Writer<C>>(&self, writer: &mut W) -> Result<(), C::Error> {
         writer.write_i16(*self)
+    }
+
+    /// Writes the numbers by stretches of their digits.
+    fn write_many<W: Writer<C>>(items: &[i16], writer: &mut W) -> Result<(), C::Error> {
+        write_numbers(items, writer)
     }
 }
 
@@ -65,6 +96,11 @@ impl<C: Context> Writable<C> for i32 {
     fn write_to<W: Writer<C>>(&self, writer: &mut W) -> Result<(), C::Error> {
         writer.write_i32(*self)
     }
+
+    /// Writes the numbers by stretches of their digits.
+    fn write_many<W: Writer<C>>(items: &[i32], writer: &mut W) -> Result<(), C::Error> {
+        write_numbers(items, writer)
+    }
 }
 
 impl<C: Context> Writable<C> for i64 {
@@ -72,12 +108,22 @@ impl<C: Context> Writable<C> for i64 {
     fn write_to<W: Writer<C>>(&self, writer: &mut W) -> Result<(), C::Error> {
         writer.write_i64(*self)
     }
+
+    /// Writes the numbers by stretches of their digits.
+    fn write_many<W: Writer<C>>(items: &[i64], writer: &mut W) -> Result<(), C::Error> {
+        write_numbers(items, writer)
+    }
 }
 
 impl<C: Context> Writable<C> for i128 {
     #[inline(always)]
     fn write_to<W: Writer<C>>(&self, writer: &mut W) -> Result<(), C::Error> {
         writer.write_i128(*self)
+    }
+
+    /// Writes the numbers by stretches of their digits.
+    fn write_many<W: Writer<C>>(items: &[i128], writer: &mut W) -> Result<(), C::Error> {
+        write_numbers(items, writer)
     }
 }
 

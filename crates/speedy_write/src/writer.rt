@@ -5,7 +5,7 @@ ghost use Rattle.std.specs.Iterator.{IsFiniteIterable};
 ghost use Rattle.speedy_layout.specs.Varint.{varint};
 ghost use Rattle.std.specs.Int.{w8, w16, w32, w64, w128};
 ghost use Rattle.speedy_write.specs.Collections.{WritesItems};
-ghost use Rattle.speedy_write.specs.Writing.{WriterState, Writes, WritesEach, WritesBytes, WritesNumber, WritesSigned, RefusesFull, IsRight};
+ghost use Rattle.speedy_write.specs.Writing.{WriterState, Writes, WritesEach, WritesBytes, WritesNumber, WritesSigned, RefusesFull, CountsBytes, IsRight};
 
 use crate::writable::Writable;
 use speedy_base::context::Context;
@@ -34,6 +34,15 @@ pub trait Writer<C: Context> {
         ensures writes { WritesBytes C.Error.from_gives slice.now result
             (state self.old) (state self.new) (λ b. appends self.old b self.new) }
         ensures full { RefusesFull C.Error.from_gives result (state self.old) (state self.new) };
+
+    /// Counts so many bytes, where the writer counts them and keeps none. This body says `None`, and does nothing.
+    #[inline(always)]
+    fn count_bytes(&mut self, _size: usize) -> Option<Result<(), C::Error>>
+        ensures { CountsBytes C.Error.from_gives _size result (self.new ≡ self.old)
+            (state self.old) (state self.new) (λ b. appends self.old b self.new) }
+    {
+        None
+    }
 
     /// The context that numbers are written under.
     fn context(&self) -> &C

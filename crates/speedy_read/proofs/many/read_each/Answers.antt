@@ -1,7 +1,7 @@
 use Rattle.std.proofs.Common.{◌<◌, length, map, sym, ◌∙◌, ap, refl, arith}
 use Rattle.std.proofs.lemmas.List.{length_push}
 use Rattle.speedy_read.specs.ReadingLemmas.{Kept-same, Kept-after, none_so_far}
-use Rattle.speedy_read.proofs.ListLemmas.{seen_pushed, item_more, got_items, refused_item, refused_room}
+use Rattle.speedy_read.proofs.ListLemmas.{seen_added, item_more, got_items, refused_item, refused_room}
 use Rattle.speedy_read.proofs.many.read_each.Goals as goal
 
 pub loop-i-init : goal.loop-i-init
@@ -10,7 +10,7 @@ loop-i-init g c = rw c.in_ok-items.ensures (refl, none_so_far refl)
 pub loop-i-preserved : goal.loop-i-preserved
 loop-i-preserved g c =
     let so_far = c.loop-i.invariant.1 in
-    let items = seen_pushed g.T.Layout.seen c.push.result _ _ c.in_ok-item.item (sym c.if-is_err.ensures.value) c.push.ensures.items in (
+    let items = seen_added g.T.Layout.seen c.push_in_steps.result _ _ c.in_ok-item.item (sym c.if-is_err.ensures.value) c.push_in_steps.ensures in (
       ap length items ∙ (length_push (map g.T.Layout.seen c.loop-i.items.items) (g.T.Layout.seen c.in_ok-item.item) ∙ omega (arith, c.loop-i.invariant.0)),
       item_more _ _ so_far (rw so_far.kept.encoding at c.in_ok-item.ensures) items,
     )

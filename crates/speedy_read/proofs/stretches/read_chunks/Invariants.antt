@@ -1,10 +1,10 @@
 use Rattle.std.proofs.Common.{◌≡◌, ◌-◌, ◌≤◌, length}
 use Rattle.speedy_read.proofs.ByteLemmas.{BytesSoFar}
-use Rattle.speedy_read.proofs.many.read_chunks.Given as goal
+use Rattle.speedy_read.proofs.stretches.read_chunks.Given as goal
 
 abbrev pub invariant-loop-left : goal.invariant-loop-left
 invariant-loop-left g l =
-    (l.left ≤ l.length) × (length l.chunk ≡ 512) × (length l.bytes.items ≡ l.length - l.left) × BytesSoFar l.bytes.items (g.R.LendingReader.state l.fn.reader) (g.R.LendingReader.state l.reader)
+    (l.left ≤ l.length) × (length l.bytes.items ≡ l.length - l.left) × BytesSoFar l.bytes.items (g.R.LendingReader.state l.fn.reader) (g.R.LendingReader.state l.reader)
 
 abbrev pub decreases-loop-left : goal.decreases-loop-left
 decreases-loop-left g l = l.left

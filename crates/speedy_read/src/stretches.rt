@@ -1,0 +1,179 @@
+//! Numbers and bytes of which many are read: a stretch at a time, in bounded steps of room.
+ghost use Rattle.std.specs.Prelude.{◌≡◌, ◌*◌, ◌<◌, ◌≤◌, ◌++◌, ◌∷◌, [], ℕ, List, length, map, replicate, IfOk, OnOk};
+ghost use Rattle.speedy_base.specs.Digits.{AreBytes};
+ghost use Rattle.speedy_layout.specs.FixedNumbers.{spelled_in};
+ghost use Rattle.speedy_layout.specs.Format.{Each};
+ghost use Rattle.speedy_layout.specs.Lists.{vector};
+ghost use Rattle.speedy_layout.specs.Numbers.{unsigned_number};
+ghost use Rattle.speedy_read.specs.Lending.{many_items};
+ghost use Rattle.speedy_read.specs.Reading.{Reads};
+
+use crate::many::{Many, vec_for};
+use crate::reader::{EndOfInput, LendingReader};
+use speedy_base::context::Context;
+use speedy_base::endianness::Endianness;
+use speedy_base::error::{error_end_of_input, error_out_of_memory};
+use speedy_layout::fixed_numbers::{FixedNumber, append_each};
+use std::alloc::{AllocError, Global};
+use std::convert::AsSlice;
+
+/// How much room a vector asks for at a time where nobody says that its items are there, in items.
+const STEP: usize = 1024;
+
+// Adds an item. Where there is no room for it, as many as are still to read, but no more than a step, get some.
+#[inline]
+pub(crate) fn push_in_steps<T>(items: &mut Vec<T>, item: T, left: usize) -> Result<(), AllocError>
+where
+    T: Drop,
+    ensures { OnOk result (items.new.items ≡ items.old.items ++ item ∷ []) }
+{
+    if items.len() == items.capacity() {
+        items.reserve_exact(left.min(STEP))?;
+    }
+    match items.push(item) {
+        Ok(()) => Ok(()),
+        Err(_) => Err(AllocError),
+    }
+}
+
+// Reads so many numbers. Those that the reader lends until it is used again are taken at once.
+pub(crate) fn read_numbers<
+    W: Drop,
+    T: FixedNumber + Drop,
+    L: AsSlice<u8> + Drop,
+    C: Context,
+    R: LendingReader<L, C>,
+>(reader: &mut R, count: usize) -> Result<Many<W, T>, C::Error>
+    ensures { (shown : W → List T) → Reads C.Error.from_gives C.Error.eof
+        (λ many. map T.seen (many_items shown many))
+        (vector count (T.format (R.state reader.old).encoding)) result
+        (R.state reader.old) (R.state reader.new) }
+{
+    // Numbers of more bytes than a `usize` counts are in no input.
+    let Some(size) = count.checked_mul(T::size()) else {
+        return Err(error_end_of_input());
+    };
+    let order = reader.endianness();
+    let alloc = reader.alloc();
+    match reader.read_bytes_borrowed_from_reader(size) {
+        Some(Ok(digits)) => match numbers_of(alloc, order, digits, count) {
+            Ok(numbers) => return Ok(Many::Owned(numbers)),
+            Err(_) => return Err(error_out_of_memory()),
+        },
+        Some(Err(EndOfInput {})) => return Err(error_end_of_input()),
+        None => {}
+    }
+    // A few numbers need no long stretch, which costs more to make than they cost to read.
+    let numbers = if size <= 64 {
+        read_stretches(reader, count, &mut [0; 64])?
+    } else {
+        read_stretches(reader, count, &mut [0; 4096])?
+    };
+    Ok(Many::Owned(numbers))
+}
+
+// The numbers that these bytes spell, so many.
+fn numbers_of<T: FixedNumber + Drop>(
+    alloc: Global,
+    order: Endianness,
+    digits: &[u8],
+    count: usize,
+) -> Result<Vec<T>, AllocError>
+    requires { length digits.now ≡ count * T.least }
+    ensures { IfOk result (λ v. Each (spelled_in T.format order) (map T.seen v.items) digits.now) }
+{
+    let mut numbers = Vec::with_capacity(alloc, count)?;
+    append_each(&mut numbers, order, digits)?;
+    Ok(numbers)
+}
+
+// Reads so many numbers, as many at a time as the stretch has room for.
+#[inline]
+fn read_stretches<T: FixedNumber + Drop, L: AsSlice<u8> + Drop, C: Context, R: LendingReader<L, C>>(
+    reader: &mut R,
+    count: usize,
+    stretch: &mut [u8],
+) -> Result<Vec<T>, C::Error>
+    requires { T.least ≤ length stretch.old }
+    ensures { Reads C.Error.from_gives C.Error.eof (λ v. map T.seen v.items)
+        (vector count (T.format (R.state reader.old).encoding)) result
+        (R.state reader.old) (R.state reader.new) }
+{
+    let mut numbers = vec_for::<T, L, C, R>(reader, T::size(), count)?;
+    let most = STEP.min(stretch.len() / T::size());
+    let mut left = count;
+    while left > 0 {
+        let some = left.min(most);
+        let digits = &mut stretch[..some * T::size()];
+        reader.read_bytes(digits)?;
+        if append_in_steps(&mut numbers, reader.endianness(), digits, left).is_err() {
+            return Err(error_out_of_memory());
+        }
+        left -= some;
+    }
+    Ok(numbers)
+}
+
+// Appends the numbers that these bytes spell. Where there is no room for them, as many as are still to read, but no
+// more than a step, get some.
+fn append_in_steps<T: FixedNumber + Drop>(
+    numbers: &mut Vec<T>,
+    order: Endianness,
+    digits: &[u8],
+    left: usize,
+) -> Result<(), AllocError>
+    requires { (count : ℕ) × (length digits.now ≡ count * T.least) }
+    ensures { OnOk result ((more : List T) × (numbers.new.items ≡ numbers.old.items ++ more)
+        × Each (spelled_in T.format order) (map T.seen more) digits.now) }
+{
+    if numbers.capacity() - numbers.len() < digits.len() / T::size() {
+        numbers.reserve_exact(left.min(STEP))?;
+    }
+    append_each(numbers, order, digits)
+}
+
+// Reads so many bytes. The count may be any, so no more room is asked for than a step ahead of what was read, but where
+// the reader says that so many are there.
+pub(crate) fn read_chunks<L: AsSlice<u8> + Drop, C: Context, R: LendingReader<L, C>>(
+    reader: &mut R,
+    length: usize,
+) -> Result<Vec<u8>, C::Error>
+    ensures { Reads C.Error.from_gives C.Error.eof (λ v. v.items)
+        (vector length (unsigned_number 1 (R.state reader.old).encoding)) result
+        (R.state reader.old) (R.state reader.new) }
+{
+    let mut bytes = vec_for::<u8, L, C, R>(reader, 1, length)?;
+    let mut left = length;
+    while left > 0 {
+        let start = length - left;
+        let Ok(size) = open_stretch(&mut bytes, left) else {
+            return Err(error_out_of_memory());
+        };
+        reader.read_bytes(&mut bytes.as_mut_slice()[start..])?;
+        left -= size;
+    }
+    Ok(in_range(bytes))
+}
+
+// Adds zeros for as many bytes as there is room for, at most so many. Where there is no room, a step of it is asked for.
+fn open_stretch(bytes: &mut Vec<u8>, left: usize) -> Result<usize, AllocError>
+    requires { 0 < left }
+    ensures { IfOk result (λ size. (0 < size) × (size ≤ left)
+        × (bytes.new.items ≡ bytes.old.items ++ replicate size 0)) }
+{
+    if bytes.len() == bytes.capacity() {
+        bytes.reserve_exact(left.min(STEP))?;
+    }
+    let size = left.min(bytes.capacity() - bytes.len());
+    bytes.resize(bytes.len() + size, 0)?;
+    Ok(size)
+}
+
+// What a proof knows of the bytes is their range, which the contents of a buffer don't show.
+#[inline]
+fn in_range(bytes: Vec<u8>) -> Vec<u8>
+    ensures same { result.items ≡ bytes.items }
+    ensures range { AreBytes result.items }
+{
+    bytes
+}

@@ -1,0 +1,40 @@
+//! A number as a type of one's own, which is read and written item by item: what bulk reads and writes are compared with.
+ghost use Rattle.std.specs.Prelude.{ℕ};
+ghost use Rattle.speedy.specs.Numbers.{unsigned_number, unsigned_number_laws};
+
+use speedy::{Context, Layout, LendingReader, ReadFrom, ReadMany, Writable, Writer};
+use std::convert::AsSlice;
+
+/// A number that lies as a `u16` does.
+#[derive(Clone, Copy, Debug, PartialEq, Drop)]
+pub struct Plain16(pub u16);
+
+impl Layout for Plain16 {
+    ghost Seen = { ℕ };
+
+    ghost seen = { λ x. x.0 };
+
+    ghost format = { unsigned_number 2 };
+
+    ghost least = { 2 };
+
+    ghost layout_laws = { unsigned_number_laws 2 };
+}
+
+impl<L: AsSlice<u8> + Drop, C: Context> ReadFrom<L, C> for Plain16 {
+    fn read_from<R: LendingReader<L, C>>(reader: &mut R) -> Result<Plain16, C::Error> {
+        Ok(Plain16(reader.read_u16()?))
+    }
+
+    fn minimum_bytes_needed() -> usize {
+        2
+    }
+}
+
+impl<L: AsSlice<u8> + Drop, C: Context> ReadMany<L, C> for Plain16 {}
+
+impl<C: Context> Writable<C> for Plain16 {
+    fn write_to<W: Writer<C>>(&self, writer: &mut W) -> Result<(), C::Error> {
+        writer.write_u16(self.0)
+    }
+}
