@@ -17,6 +17,7 @@ pub use Rattle.speedy_layout.specs.Codes
 pub use Rattle.speedy_layout.specs.IndexMaps
 pub use Rattle.speedy_layout.specs.StdMaps
 pub use Rattle.speedy_layout.specs.StdSets
+pub use Rattle.speedy_layout.specs.FixedNumbers
 pub use Rattle.speedy_layout.specs.Flags
 pub use Rattle.speedy_layout.specs.Format
 pub use Rattle.speedy_layout.specs.GatheredLemmas
@@ -55,12 +56,14 @@ pub use Rattle.speedy_read.specs.RoundTrip
 pub use Rattle.speedy_read.specs.Sequences as ReadSequences
 pub use Rattle.speedy_read.specs.StreamModel
 pub use Rattle.speedy_read.specs.Streams
+pub use Rattle.speedy_read.specs.UntilEnd
 pub use Rattle.speedy_read.specs.WaysOfReading
 pub use Rattle.speedy_write.specs.Codes as WriteCodes
 pub use Rattle.speedy_write.specs.Collections as WriteCollections
 pub use Rattle.speedy_write.specs.CollectorLemmas
 pub use Rattle.speedy_write.specs.CollectorModels
 pub use Rattle.speedy_write.specs.Collectors
+pub use Rattle.speedy_write.specs.Lengths
 pub use Rattle.speedy_write.specs.Pushing
 pub use Rattle.speedy_write.specs.Sequences as WriteSequences
 pub use Rattle.speedy_write.specs.WaysOfWriting

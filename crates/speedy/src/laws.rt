@@ -4,6 +4,6 @@ pub use speedy_layout::laws::{
     one_written_form, spelled_is_written, written_form_alone, written_is_shortest,
 };
 pub use speedy_read::laws::{
-    copied_is_answered, written_is_answered, written_is_read, written_is_streamed,
-    written_items_are_read,
+    copied_is_answered, until_end_is_decided, until_end_of_cow_is_decided, written_is_answered,
+    written_is_read, written_is_streamed, written_items_are_read, written_length_is_read,
 };

@@ -12,6 +12,8 @@ pub mod ext;
 pub mod laws;
 pub mod private;
 #[cfg(test)]
+mod probes;
+#[cfg(test)]
 mod round_trips;
 #[cfg(test)]
 mod tests_addresses;
@@ -31,6 +33,8 @@ mod tests_flags;
 mod tests_laws;
 #[cfg(test)]
 mod tests_leaves;
+#[cfg(test)]
+mod tests_lengths;
 #[cfg(test)]
 mod tests_lent;
 #[cfg(test)]
@@ -62,6 +66,8 @@ mod tests_texts;
 #[cfg(test)]
 mod tests_tuples;
 #[cfg(test)]
+mod tests_until_end;
+#[cfg(test)]
 mod tests_varint;
 #[cfg(test)]
 mod tests_views;
@@ -76,6 +82,7 @@ pub use context::{
 pub use endianness::Endianness;
 pub use error::{Error, IsEof};
 pub use layout::Layout;
+pub use many::ItemByItem;
 pub use readable::{ReadFrom, ReadMany, Readable, ReadableOwned};
 pub use reader::{LendingReader, Reader};
 pub use same_key::SameKey;

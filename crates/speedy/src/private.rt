@@ -9,5 +9,12 @@ pub use speedy_base::error::{
 };
 pub use speedy_layout::varint::VarInt64;
 pub use speedy_layout::view_items::ZeroCopyable;
-pub use speedy_read::private::{cow_bytes_to_cow_str, vec_to_string};
-pub use speedy_write::private::write_length;
+pub use speedy_read::private::{
+    IntoLength, are_lengths_the_same, cow_bytes_to_cow_str, read_constant, read_length,
+    read_length_u7, read_length_u8, read_length_u16, read_length_u32, read_length_u64,
+    read_length_u64_varint, vec_to_string,
+};
+pub use speedy_write::private::{
+    write_length, write_length_u7, write_length_u8, write_length_u16, write_length_u32,
+    write_length_u64, write_length_u64_varint,
+};

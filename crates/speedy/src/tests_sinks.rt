@@ -154,6 +154,16 @@ fn a_list_of_numbers_is_pushed_by_stretches(rt: HostRuntime) {
 }
 
 #[test]
+fn short_parts_are_pushed_together(rt: HostRuntime) {
+    let alloc = rt.alloc();
+    let pairs = vec![in alloc; (1_u64, 2_u64); 40].expect(&rt, "a vector");
+    let mut sink = make_tally();
+    let outcome = Writable::<LittleEndian>::write_to_stream(&pairs, alloc, &mut sink);
+    assert_ok(&rt, outcome, ());
+    assert_same(&rt, sink.pushes, 3);
+}
+
+#[test]
 fn no_form_over_a_sink_flushes_it(rt: HostRuntime) {
     let alloc = rt.alloc();
     let mut sink = make_tally();

@@ -19,7 +19,7 @@ use std::{fs, io};
 /// Bytes that come so many a pull at most. After so many pulls one fails with an error of the system, and then they come
 /// again.
 #[derive(Drop)]
-struct Pieces<'a> {
+pub(crate) struct Pieces<'a> {
     left: &'a [u8],
     most: usize,
     pulls_before_fault: Option<usize>,
@@ -34,7 +34,11 @@ const INTERRUPTED: i32 = 4;
 
 const CODES: [i32; 2] = [INTERRUPTED, 104];
 
-fn make_pieces<'a>(left: &'a [u8], most: usize, pulls_before_fault: Option<usize>) -> Pieces<'a> {
+pub(crate) fn make_pieces<'a>(
+    left: &'a [u8],
+    most: usize,
+    pulls_before_fault: Option<usize>,
+) -> Pieces<'a> {
     Pieces {
         left,
         most,

@@ -1,12 +1,13 @@
 -- That std's conversions between numbers and bytes are digits in base 256, as the functions of this crate call them.
-use Rattle.std.proofs.Common.{◌≡◌, ◌↔◌, Bool, false, true≢false, IsTrue, ℕ, zero, suc, ◌+◌, ◌-◌, ◌*◌, ◌^◌, ◌<◌, List, [], ◌∷◌, length, reverse, slice_index, refl, sym, ap, ap₂, ◌∙◌, subst, arith}
-use Rattle.std.proofs.lemmas.List.{length-reverse}
+use Rattle.std.proofs.Common.{◌≡◌, ◌↔◌, Bool, false, true≢false, IsTrue, ℕ, zero, suc, ◌+◌, ◌-◌, ◌*◌, ◌^◌, ◌<◌, List, [], ◌∷◌, length, reverse, slice_index, refl, sym, ap, ap₂, ◌∙◌, subst, arith, ◌++◌, drop}
+use Rattle.std.proofs.lemmas.List.{append-nil, drop_all, length-append, length-drop, reverse-append, length-reverse, take_at}
+use borrow.Rule.Slice.PartMut.{put_mid, post_of}
 use mir.Val.{bits}
 use Rattle.std.specs.Int.{Width, byte_len, byte_worth, sum_through, from_le_bytes, from_be_bytes, to_le_bytes, swap_bytes}
 use Rattle.speedy_base.specs.declared.endianness.Endianness.{Endianness}
 use Rattle.speedy_base.specs.declared.endianness.Endianness.TheVariants.{LittleEndian, BigEndian}
 use Rattle.speedy_base.specs.Digits.{little_number, number, little_digits, digits, AreBytes, SpellsNumber, swapped}
-use Rattle.speedy_base.specs.DigitsLemmas.{sum_first, sum_same, reverse-cons, little_number-append, byte_len-above, little_number-from_le_bytes, to_le_bytes-little_digits, length-little_digits, AreBytes-little_digits, AreBytes-reverse, little_digits-little_number, SpellsNumber-digits, SpellsNumber-to_le_bytes, pow-byte_len}
+use Rattle.speedy_base.specs.DigitsLemmas.{sum_first, sum_same, reverse-cons, little_number-append, byte_len-above, little_number-from_le_bytes, to_le_bytes-little_digits, length-little_digits, AreBytes-little_digits, AreBytes-append, AreBytes-reverse, little_digits-little_number, SpellsNumber-digits, SpellsNumber-to_le_bytes, pow-byte_len}
 
 worth_is : (i b : ℕ) → byte_worth i b ≡ b * 256 ^ i
 worth_is zero b = omega arith
@@ -64,6 +65,42 @@ SpellsNumber-turned w BigEndian n turned bytes is l e =
     ap (λ (k : ℕ). little_digits k (little_number (reverse low))) (sym sized) ∙ little_digits-little_number (reverse low) (AreBytes-reverse low (AreBytes-little_digits width n)) in
     subst (SpellsNumber width BigEndian n) (sym (e ∙ (to_le_bytes-little_digits w turned ∙ (ap (little_digits width) is ∙ same))))
     (SpellsNumber-digits width BigEndian n (subst (λ (m : ℕ). n < m) (pow-byte_len w) l))
+
+-- what is put into either half of a list
+pub halves_put : (a zeros b : List ℕ) → length a ≡ 8 → length zeros ≡ 8 → put_mid 8 8 (a ++ zeros) b ≡ a ++ b
+halves_put a zeros b front back =
+    let whole = length-append a zeros in
+    let rest : post_of 8 8 (a ++ zeros) ≡ [] = drop_all 8 (drop 8 (a ++ zeros)) (omega (arith, length-drop 8 (a ++ zeros), whole, front, back)) in
+    ap₂ (λ x y. x ++ (b ++ y)) (take_at a zeros 8 front) rest ∙ ap (λ y. a ++ y) (append-nil b)
+
+-- the digits of a number are those of its halves, the lower first under little and the higher under big
+pub SpellsNumber-low_first : (half n low high : ℕ) (order : Endianness) (xs ys : List ℕ) → order ≡ LittleEndian → SpellsNumber half order low xs → SpellsNumber half order high ys
+    → n ≡ low + 256 ^ half * high → SpellsNumber (half + half) order n (xs ++ ys)
+unfolding number
+SpellsNumber-low_first half n low high order xs ys is h k e =
+    let a = subst (λ (o : Endianness). SpellsNumber half o low xs) is h in
+    let b = subst (λ (o : Endianness). SpellsNumber half o high ys) is k in
+    let value : little_number (xs ++ ys) ≡ n = little_number-append xs ys ∙ (ap₂ ◌+◌ a.value_is (ap₂ (λ w m. 256 ^ w * m) a.width_is b.value_is) ∙ sym e) in
+    subst (λ (o : Endianness). SpellsNumber (half + half) o n (xs ++ ys)) (sym is) (record {
+      width_is = length-append xs ys ∙ ap₂ ◌+◌ a.width_is b.width_is;
+      are_bytes = AreBytes-append xs ys a.are_bytes b.are_bytes;
+      value_is = value;
+    })
+
+pub SpellsNumber-high_first : (half n low high : ℕ) (order : Endianness) (xs ys : List ℕ) → order ≡ BigEndian → SpellsNumber half order high xs → SpellsNumber half order low ys
+    → n ≡ low + 256 ^ half * high → SpellsNumber (half + half) order n (xs ++ ys)
+unfolding number
+SpellsNumber-high_first half n low high order xs ys is h k e =
+    let a = subst (λ (o : Endianness). SpellsNumber half o high xs) is h in
+    let b = subst (λ (o : Endianness). SpellsNumber half o low ys) is k in
+    let value : little_number (reverse (xs ++ ys)) ≡ n =
+    ap little_number (reverse-append xs ys) ∙ (little_number-append (reverse ys) (reverse xs)
+    ∙ (ap₂ ◌+◌ b.value_is (ap₂ (λ w m. 256 ^ w * m) (length-reverse ys ∙ b.width_is) a.value_is) ∙ sym e)) in
+    subst (λ (o : Endianness). SpellsNumber (half + half) o n (xs ++ ys)) (sym is) (record {
+      width_is = length-append xs ys ∙ ap₂ ◌+◌ a.width_is b.width_is;
+      are_bytes = AreBytes-append xs ys a.are_bytes b.are_bytes;
+      value_is = value;
+    })
 
 pub swapped-swap_bytes : (w : Width) (order : Endianness) (n : ℕ) → order ≡ BigEndian → swap_bytes w n ≡ swapped order (byte_len w) n
 unfolding swapped digits number

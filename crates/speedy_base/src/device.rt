@@ -74,6 +74,7 @@ impl Source for &[u8] {
     ghost source = { λ s. bytes_source s.now };
 
     /// Moves as many bytes as are left, or as there is room for.
+    #[inline(always)]
     fn pull(&mut self, output: &mut [u8]) -> Result<usize, io::Error>
         ensures pulls { Pulls result (bytes_source self.old.now) (bytes_source self.new.now)
             output.new }
@@ -83,8 +84,15 @@ impl Source for &[u8] {
         ensures rest { IfOk result (λ n. self.new.now ≡ drop n self.old.now) }
     {
         let all: &[u8] = *self;
-        let count = all.len().min(output.len());
-        output[..count].copy_from_slice(&all[..count]);
+        let wanted = output.len();
+        // As a rule the bytes are there: then the compiler knows how many it copies wherever the caller does.
+        if wanted <= all.len() {
+            output.copy_from_slice(&all[..wanted]);
+            *self = &all[wanted..];
+            return Ok(wanted);
+        }
+        let count = all.len();
+        output[..count].copy_from_slice(all);
         *self = &all[count..];
         Ok(count)
     }
@@ -128,6 +136,7 @@ impl Sink for VecSink {
     ghost sink = { vec_sink_state };
 
     /// Takes all of `bytes`, or none of them where there is no memory for them.
+    #[inline]
     fn push(&mut self, bytes: &[u8]) -> Result<usize, io::Error>
         ensures pushes { Pushes result (vec_sink_state self.old) (vec_sink_state self.new)
             bytes.now }

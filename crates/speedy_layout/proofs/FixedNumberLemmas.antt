@@ -1,8 +1,8 @@
 -- Numbers of a fixed number of bytes, one after another.
 use Rattle.std.specs.Prelude.{◌≡◌, ℕ, zero, suc, ◌+◌, ◌-◌, ◌*◌, ◌<◌, ◌≤◌, List, [], ◌∷◌, ◌++◌, length, map, take, Result, Ok, Err, MatchResult, OnOk, refl}
-use Rattle.std.proofs.Common.{sym, ◌∙◌, ap, ap₂, subst, subst₂, arith}
+use Rattle.std.proofs.Common.{drop, sym, ◌∙◌, ap, ap₂, subst, subst₂, arith}
 use Rattle.std.proofs.Math.ListN.{get_or, set}
-use Rattle.std.proofs.lemmas.List.{append_assoc, length-append, length-take-le, map-append, take_all, take_at, take_more}
+use Rattle.std.proofs.lemmas.List.{append_assoc, length-append, length-take-le, map-append, take_all, take_at, take_more, take_more_set}
 use borrow.Rule.Slice.PartMut.{put_mid, post_of}
 use denote.Ref.{Bor}
 use denote.Param.Members.{Mut, Called}
@@ -22,6 +22,12 @@ room_for_one width (suc i) (suc n) l = let less = room_for_one width i n (omega 
 pub room_ahead : (width at i n size room : ℕ) → i < n → at ≡ i * width → size ≡ width → room ≡ n * width → at + size ≤ room
 room_ahead width at i n size room l is same all = let fits = room_for_one width i n l in omega (arith, fits, is, same, all)
 
+take_parts : {X : Type 0} (n m : ℕ) (xs : List X) → take (n + m) xs ≡ take n xs ++ take m (drop n xs)
+take_parts zero m xs = let same : 0 + m ≡ m = omega arith in ap (λ k. take k xs) same
+take_parts (suc n) zero [] = let same : suc n + 0 ≡ suc n = omega arith in ap (λ k. take k []) same
+take_parts (suc n) (suc m) [] = let same : suc n + suc m ≡ suc (n + suc m) = omega arith in ap (λ k. take k []) same
+take_parts (suc n) m (x ∷ xs) = let same : suc n + m ≡ suc (n + m) = omega arith in ap (λ k. take k (x ∷ xs)) same ∙ ap (λ ys. x ∷ ys) (take_parts n m xs)
+
 pub one_more_times : (width i at size : ℕ) → at ≡ i * width → size ≡ width → at + size ≡ (i + 1) * width
 one_more_times width i at size is same = let next : i + 1 ≡ suc i = omega arith in ap₂ ◌+◌ is same ∙ (let turned : i * width + width ≡ suc i * width = omega arith in turned ∙ ap (λ (n : ℕ). n * width) (sym next))
 
@@ -40,6 +46,16 @@ module _ {A V : Type 0} (S : V → List ℕ → Type 0) (seen : A → V) where
   one_more xs i {x} before digits within is put h =
       let items : map seen (take (i + 1) xs) ≡ map seen (take i xs) ++ seen x ∷ [] = ap (map seen) (take_more xs i x within ∙ ap (λ y. take i xs ++ y ∷ []) (sym is)) ∙ map-append seen (take i xs) (x ∷ []) in
       subst (λ (vs : List V). Each S vs (before ++ digits)) (sym items) (each_more S (map seen (take i xs)) (seen x) before digits h put)
+
+  -- which is taken of the bytes behind the first ones, into the next place
+  pub one_more_taken : (xs : List A) (i at size : ℕ) (bytes : List ℕ) {y : A} → i < length xs → S (seen y) (take (at + size - at) (drop at bytes)) → Each S (map seen (take i xs)) (take at bytes)
+      → Each S (map seen (take (i + 1) (set xs i y))) (take (at + size) bytes)
+  one_more_taken xs i at size bytes {y} within taken h =
+      let digits = take (at + size - at) (drop at bytes) in
+      let items : map seen (take (i + 1) (set xs i y)) ≡ map seen (take i xs) ++ seen y ∷ [] = ap (map seen) (take_more_set xs i y within) ∙ map-append seen (take i xs) (y ∷ []) in
+      let count : at + size - at ≡ size = omega arith in
+      let whole : take (at + size) bytes ≡ take at bytes ++ digits = take_parts at size bytes ∙ ap (λ n. take at bytes ++ take n (drop at bytes)) (sym count) in
+      subst₂ (λ (vs : List V) (b : List ℕ). Each S vs b) (sym items) (sym whole) (each_more S (map seen (take i xs)) (seen y) (take at bytes) digits h taken)
 
   -- which is put behind the first ones
   pub one_more_put : (xs : List A) (i width : ℕ) {x : A} (at : ℕ) (output digits : List ℕ) → i < length xs → x ≡ get_or xs i x → at + width ≤ length output → length digits ≡ width

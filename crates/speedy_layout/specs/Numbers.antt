@@ -29,6 +29,10 @@ FitsUsize n = n ≤ 2 ^ 64 - 1
 abbrev pub usize_number : Encoding → Format ℕ
 usize_number encoding = subset encoding FitsUsize kinds.OutOfRangeUsize (unsigned_number 8 encoding)
 
+-- numbers of so many digits that are at most so great; greater ones are refused as lengths
+abbrev pub length_number : ℕ → ℕ → Encoding → Format ℕ
+length_number width greatest encoding = subset encoding (λ n. n ≤ greatest) kinds.OutOfRangeLength (unsigned_number width encoding)
+
 -- fronts of one length are one front
 pub same_fronts : (s t r q : List ℕ) → length s ≡ length t → s ++ r ≡ t ++ q → (s ≡ t) × (r ≡ q)
 same_fronts s t r q l e = (
@@ -60,3 +64,6 @@ signed_number_laws w encoding =
 
 pub usize_number_laws : (encoding : Encoding) → Laws encoding.strict 8 (usize_number encoding)
 usize_number_laws encoding = subset_laws encoding FitsUsize kinds.OutOfRangeUsize tt (unsigned_number_laws 8 encoding)
+
+pub length_number_laws : (width greatest : ℕ) (encoding : Encoding) → Laws encoding.strict width (length_number width greatest encoding)
+length_number_laws width greatest encoding = subset_laws encoding (λ n. n ≤ greatest) kinds.OutOfRangeLength tt (unsigned_number_laws width encoding)

@@ -2,14 +2,15 @@
 use Rattle.std.specs.Prelude.{◌≡◌, ℕ, List, [], ◌∷◌, ◌++◌, length, Bool, true, refl}
 use Rattle.std.proofs.Common.{sym, ◌∙◌, ap, arith}
 use Rattle.std.specs.Str.{IsUtf8}
+use Rattle.speedy_base.specs.declared.error.ErrorKind.{ErrorKind}
 use Rattle.speedy_base.specs.declared.error.ErrorKind.TheVariants as kinds
 use Rattle.speedy_base.specs.declared.endianness.Endianness.{Endianness}
 use Rattle.speedy_base.specs.Digits.{SpellsNumber, AreBytes}
 use Rattle.speedy_base.specs.DigitsLemmas.{SpellsNumber-one_byte, SpellsNumber-is_one_byte}
 use Rattle.speedy_base.specs.Encoding.{Encoding}
-use Rattle.speedy_layout.specs.Format.{asks_nothing, Format, plain_format, Each}
+use Rattle.speedy_layout.specs.Format.{asks_nothing, Format, plain_format, Each, IsOwnKind}
 use Rattle.speedy_layout.specs.Laws.{Laws, Laws-less, plain_laws}
-use Rattle.speedy_layout.specs.Codes.{subset, subset_laws, coding}
+use Rattle.speedy_layout.specs.Codes.{subset, subset_laws, coding, coding_laws, exact_code, exact_is_code}
 use Rattle.speedy_layout.specs.Numbers.{unsigned_number, unsigned_number_laws, same_fronts}
 use Rattle.speedy_layout.specs.Owned.{owned_content, owned_content_laws}
 use Rattle.speedy_layout.specs.Sequences.{AsksAtMost, asks_same, sequence, sequence_laws}
@@ -21,6 +22,15 @@ raw_bytes n = plain_format (λ v bytes. (v ≡ bytes) × (length bytes ≡ n))
 -- so many bytes, whatever they are
 unfoldable pub any_bytes : ℕ → Format (Unit {0})
 any_bytes n = plain_format (λ _ bytes. length bytes ≡ n)
+
+-- the refusal of other bytes than these, which it holds
+abbrev pub IsExpected : List ℕ → ErrorKind → Type 0
+IsExpected bytes (kinds.ExpectedConstant constant) = constant.now ≡ bytes
+IsExpected bytes _ = ⊥
+
+-- just these bytes; others of their number are refused
+unfoldable pub constant_bytes : Encoding → List ℕ → Format (List ℕ)
+constant_bytes encoding constant = coding encoding (exact_code (λ u v. (u ≡ v) × (v ≡ constant)) (IsExpected constant)) (raw_bytes (length constant))
 
 -- a text of so many bytes; others are refused
 unfoldable pub text_of_length : Encoding → ℕ → Format (List ℕ)
@@ -41,6 +51,16 @@ raw_bytes_laws n =
     (λ v w s t r q h k e. let same = same_fronts s t r q (h.1 ∙ sym k.1) e in (h.0 ∙ (same.0 ∙ sym k.0), same.0, same.1))
     (λ v b h. let l = h.1 in omega arith)
     (λ v b c h k. sym h.0 ∙ k.0)
+
+expected_own : (constant : List ℕ) (kind : ErrorKind) → IsExpected constant kind → IsOwnKind kind
+expected_own constant (kinds.ExpectedConstant c) h = tt
+expected_own constant _ h = absurd h
+
+pub constant_bytes_laws : (encoding : Encoding) (constant : List ℕ) → Laws encoding.strict (length constant) (constant_bytes encoding constant)
+unfolding constant_bytes
+constant_bytes_laws encoding constant =
+    let laws = raw_bytes_laws (length constant) in
+    coding_laws encoding laws (exact_is_code (expected_own constant) (λ u v w h k. sym h.0 ∙ k.0) (λ u w v h k. h.0 ∙ sym k.0) laws)
 
 pub text_of_length_laws : (encoding : Encoding) (n : ℕ) → Laws encoding.strict n (text_of_length encoding n)
 unfolding text_of_length

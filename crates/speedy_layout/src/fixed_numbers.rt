@@ -14,6 +14,9 @@ pub trait FixedNumber: Layout + Copy {
     fn size() -> usize
         ensures { result ≡ Self.least };
 
+    /// The number 0.
+    fn zero() -> Self;
+
     /// The number that these bytes spell.
     fn taken(order: Endianness, bytes: &[u8]) -> Self
         requires { length bytes.now ≡ Self.least }
@@ -32,6 +35,11 @@ impl FixedNumber for i8 {
     #[inline(always)]
     fn size() -> usize {
         1
+    }
+
+    #[inline(always)]
+    fn zero() -> i8 {
+        0
     }
 
     #[inline(always)]
@@ -54,6 +62,11 @@ impl FixedNumber for u16 {
     }
 
     #[inline(always)]
+    fn zero() -> u16 {
+        0
+    }
+
+    #[inline(always)]
     fn taken(order: Endianness, bytes: &[u8]) -> u16 {
         order.read_u16(bytes)
     }
@@ -70,6 +83,11 @@ impl FixedNumber for u32 {
     #[inline(always)]
     fn size() -> usize {
         4
+    }
+
+    #[inline(always)]
+    fn zero() -> u32 {
+        0
     }
 
     #[inline(always)]
@@ -92,6 +110,11 @@ impl FixedNumber for u64 {
     }
 
     #[inline(always)]
+    fn zero() -> u64 {
+        0
+    }
+
+    #[inline(always)]
     fn taken(order: Endianness, bytes: &[u8]) -> u64 {
         order.read_u64(bytes)
     }
@@ -108,6 +131,11 @@ impl FixedNumber for u128 {
     #[inline(always)]
     fn size() -> usize {
         16
+    }
+
+    #[inline(always)]
+    fn zero() -> u128 {
+        0
     }
 
     #[inline(always)]
@@ -130,6 +158,11 @@ impl FixedNumber for i16 {
     }
 
     #[inline(always)]
+    fn zero() -> i16 {
+        0
+    }
+
+    #[inline(always)]
     fn taken(order: Endianness, bytes: &[u8]) -> i16 {
         order.read_i16(bytes)
     }
@@ -146,6 +179,11 @@ impl FixedNumber for i32 {
     #[inline(always)]
     fn size() -> usize {
         4
+    }
+
+    #[inline(always)]
+    fn zero() -> i32 {
+        0
     }
 
     #[inline(always)]
@@ -168,6 +206,11 @@ impl FixedNumber for i64 {
     }
 
     #[inline(always)]
+    fn zero() -> i64 {
+        0
+    }
+
+    #[inline(always)]
     fn taken(order: Endianness, bytes: &[u8]) -> i64 {
         order.read_i64(bytes)
     }
@@ -184,6 +227,11 @@ impl FixedNumber for i128 {
     #[inline(always)]
     fn size() -> usize {
         16
+    }
+
+    #[inline(always)]
+    fn zero() -> i128 {
+        0
     }
 
     #[inline(always)]
@@ -229,6 +277,20 @@ pub fn append_each<T: FixedNumber>(
             .chunks_exact(T::size())
             .map(|digits| T::taken(order, digits)),
     )
+}
+
+/// Takes the number that these bytes spell into each place, one after another. The bytes are those of as many numbers.
+#[inline]
+pub fn take_each<T: FixedNumber>(places: &mut [T], order: Endianness, bytes: &[u8])
+    requires { length bytes.now ≡ length places.old * T.least }
+    ensures { Each (spelled_in T.format order) (map T.seen places.new) bytes.now }
+{
+    let mut at = 0;
+    for place in places.iter_mut() {
+        let end = at + T::size();
+        *place = T::taken(order, &bytes[at..end]);
+        at = end;
+    }
 }
 
 /// Each of the numbers has digits in the order. It does nothing: what it puts is not read.

@@ -4,6 +4,7 @@ pub mod OwnedLemmas
 pub mod ListLemmas
 pub mod ByteLemmas
 pub mod StretchLemmas
+pub mod FlagLemmas
 pub mod TextLemmas
 pub mod VarintLemmas
 pub mod AddressLemmas
@@ -14,3 +15,6 @@ pub mod LentLemmas
 pub mod ViewLemmas
 pub mod OwnedReaderLemmas
 pub mod StreamLemmas
+pub mod UntilEndLemmas
+pub mod UntilEndLaws
+pub mod ConstantLemmas

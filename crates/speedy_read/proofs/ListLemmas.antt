@@ -24,7 +24,7 @@ seen_added seen r xs zs x went added = ap (map seen) (from_ok r went added) ∙ 
 
 module _ {V : Type 0} {strict : Bool} {least : ℕ} {L : Format V} (laws : Laws strict least L) where
   -- where more items are spelled than were read, the next one is spelled by what is left
-  next_item : (vs ws : List V) (s t r q : List ℕ) → length vs < length ws → Each L.spells vs s → Each L.spells ws t → s ++ r ≡ t ++ q → (w : V) × (front rest : List ℕ) × (r ≡ front ++ rest) × L.spells w front
+  pub next_item : (vs ws : List V) (s t r q : List ℕ) → length vs < length ws → Each L.spells vs s → Each L.spells ws t → s ++ r ≡ t ++ q → (w : V) × (front rest : List ℕ) × (r ≡ front ++ rest) × L.spells w front
   next_item vs [] s t r q l h k e = absurd (omega arith)
   next_item [] (w ∷ ws) s t r q l h k e =
       (w, k.front, k.back ++ q, ap (λ x. x ++ r) (sym h) ∙ (e ∙ (ap (λ x. x ++ q) k.whole_is ∙ append_assoc k.front k.back q)), k.first_is)

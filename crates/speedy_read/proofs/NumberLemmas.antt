@@ -12,7 +12,7 @@ use Rattle.speedy_layout.specs.Numbers.{unsigned_number, signed_number}
 use Rattle.speedy_layout.specs.Texts.{raw_bytes}
 use Rattle.speedy_layout.specs.Sequences.{asks_same}
 use Rattle.speedy_read.specs.Reading.{ReaderState, Reads, Peeks}
-use Rattle.speedy_read.specs.Codes.{Covers, refused_covered, got_covered, ahead_covered}
+use Rattle.speedy_read.specs.Codes.{Covers, refused_covered, peek_refused_covered, got_covered, ahead_covered}
 
 -- a number is read as its bytes
 pub bytes_cover_digits : (width : ℕ) (encoding : Encoding) → Covers (raw_bytes width) (unsigned_number width encoding)
@@ -55,6 +55,15 @@ module _ {E : Type 0} {gives : Error → E → Type 0} {eof : E → Bool} {old n
       let same = is ∙ ap (λ (encoding : Encoding). encoding.order) r.kept.encoding in
       got_covered (λ s h. number_stands width old.encoding n bytes s (subst (λ (o : Endianness). SpellsNumber width o n bytes) same spelled) h) r
 
+  -- and so is a number that is peeked
+  pub number_not_peeked : (width : ℕ) {A B : Type 0} {seen : A → List ℕ} {seen' : B → ℕ} {e : E} {result : Result B E} → IsErrAnd result (λ x. x ≡ e) → Peeks gives eof seen (raw_bytes width) (Err e) old new → Peeks gives eof seen' (unsigned_number width old.encoding) result old new
+  number_not_peeked width passed r = peek_refused_covered (bytes_cover_digits width old.encoding) passed r
+
+  pub number_peeked : {width n : ℕ} {order : Endianness} {bytes : List ℕ} {A : Type 0} {x : A} → Peeks gives eof (λ _. bytes) (raw_bytes width) (Ok x) old new → order ≡ new.encoding.order → SpellsNumber width order n bytes → Peeks gives eof (λ m. m) (unsigned_number width old.encoding) (Ok n) old new
+  number_peeked {width = width} {n = n} {bytes = bytes} r is spelled =
+      let same = is ∙ ap (λ (encoding : Encoding). encoding.order) r.kept.encoding in
+      ahead_covered (λ s h. number_stands width old.encoding n bytes s (subst (λ (o : Endianness). SpellsNumber width o n bytes) same spelled) h) r
+
   -- one byte that was read or peeked is the number
   pub byte_read : {b : ℕ} {bytes : List ℕ} {A : Type 0} {x : A} → b ≡ get_or bytes 0 0 → b < 256 → Reads gives eof (λ _. bytes) (raw_bytes 1) (Ok x) old new → Reads gives eof (λ m. m) (unsigned_number 1 old.encoding) (Ok b) old new
   byte_read {b = b} {bytes = bytes} value range r = got_covered (λ s h. byte_stands old.encoding b bytes s value range h) r
@@ -70,3 +79,11 @@ module _ {E : Type 0} {gives : Error → E → Type 0} {eof : E → Bool} {old n
   pub signed_read : (w : Width) {n : ℕ} {z : ℤ} → Reads gives eof (λ m. m) (unsigned_number (byte_len w) old.encoding) (Ok n) old new → z ≡ cast_signed w n → Reads gives eof (λ y. y) (signed_number w old.encoding) (Ok (cast_signed w (cast_unsigned w z))) old new
   unfolding unsigned_number signed_number
   signed_read w {n = n} {z = z} r e = got_covered (λ s h. SpellsSigned-answered w old.encoding.order n z s e h) r
+
+  -- and so is a signed number that is peeked
+  pub signed_not_peeked : (w : Width) {e : E} {result : Result ℤ E} → IsErrAnd result (λ x. x ≡ e) → Peeks gives eof (λ n. n) (unsigned_number (byte_len w) old.encoding) (Err e) old new → Peeks gives eof (λ z. z) (signed_number w old.encoding) result old new
+  signed_not_peeked w passed r = peek_refused_covered (digits_cover_signed w old.encoding) passed r
+
+  pub signed_peeked : (w : Width) {n : ℕ} {z : ℤ} → Peeks gives eof (λ m. m) (unsigned_number (byte_len w) old.encoding) (Ok n) old new → z ≡ cast_signed w n → Peeks gives eof (λ y. y) (signed_number w old.encoding) (Ok (cast_signed w (cast_unsigned w z))) old new
+  unfolding unsigned_number signed_number
+  signed_peeked w {n = n} {z = z} r e = ahead_covered (λ s h. SpellsSigned-answered w old.encoding.order n z s e h) r

@@ -1,9 +1,10 @@
 -- Numbers that are read by stretches of their digits, or at once of bytes that are lent.
-use Rattle.std.specs.Prelude.{◌≡◌, ℕ, zero, suc, ◌+◌, ◌-◌, ◌*◌, ◌/◌, ◌^◌, ◌<◌, ◌≤◌, List, ◌++◌, length, map, Bool, true, Option, Some, Result, Ok, Err, IsErrAnd, refl}
+use Rattle.std.specs.Prelude.{◌≡◌, ℕ, zero, suc, ◌+◌, ◌-◌, ◌*◌, ◌/◌, ◌^◌, ◌<◌, ◌≤◌, List, ◌++◌, length, map, take, Bool, true, Option, Some, None, Result, Ok, Err, IsErrAnd, refl}
 use Rattle.std.proofs.Common.{sym, ◌∙◌, ap, subst, subst₂, arith, inl, inr}
 use Rattle.std.proofs.Math.Nat.{le-div_iff_mul-le}
 use Rattle.std.proofs.lemmas.Bool.{cases_lt}
-use Rattle.std.proofs.lemmas.List.{length-map, map-append}
+use Rattle.std.proofs.lemmas.List.{append_assoc, length-append, length-map, length-take-le, map-append, take_at}
+use borrow.Rule.Slice.PartMut.{put_mid, post_of}
 use Rattle.speedy_base.specs.declared.error.ErrorKind.TheVariants as kinds
 use Rattle.speedy_base.specs.declared.error.Error.{Error}
 use Rattle.speedy_base.specs.declared.endianness.Endianness.{Endianness}
@@ -100,6 +101,13 @@ module _ {V A : Type 0} {F : Encoding → Format V} {least : ℕ} (fixed : IsFix
   count_of_digits order more bytes n h l =
       same_count fixed.has_bytes (length more) n (ap (λ m. m * least) (sym (length-map more seen)) ∙ (sym (each_length fixed order (map seen more) bytes h) ∙ l))
 
+-- what is put behind the first values
+pub put_behind : {A : Type 0} (xs new : List A) (at some : ℕ) → at ≤ length xs → length new ≡ some → take (at + some) (put_mid at (at + some - at) xs new) ≡ take at xs ++ new
+put_behind xs new at some within sized =
+    let rest = post_of at (at + some - at) xs in
+    let whole : length (take at xs ++ new) ≡ at + some = length-append (take at xs) new ∙ (let l = length-take-le at xs within in omega (arith, l, sized)) in
+    ap (take (at + some)) (sym (append_assoc (take at xs) new rest)) ∙ take_at (take at xs ++ new) rest (at + some) whole
+
 -- ---- bytes that are lent until the reader is used again
 
 -- the one error that ends them is no device's
@@ -114,6 +122,10 @@ pub lent_is : {X A : Type 0} {shown : A → List ℕ} (size : ℕ) {old new : Re
     → Reads (ends_alone {E = X}) (λ _. true) shown (raw_bytes size) result old new
 lent_is {X = X} {A = A} {shown = shown} size {old = old} {new = new} result is same h =
     subst (λ (r : Result A X). Reads (ends_alone {E = X}) (λ _. true) shown (raw_bytes size) r old new) same (subst (λ (o : Option (Result A X)). LendsUntilUsed shown size o old new) is h)
+
+-- where nothing was lent, the reader is as it was
+pub none_lent : {X A : Type 0} (shown : A → List ℕ) (size : ℕ) {old new : ReaderState} {lent : Option (Result A X)} → lent ≡ None → LendsUntilUsed shown size lent old new → new ≡ old
+none_lent {X = X} {A = A} shown size {old = old} {new = new} is h = subst (λ (o : Option (Result A X)). LendsUntilUsed shown size o old new) is h
 
 -- so many bytes were lent
 pub lent_length : {X A : Type 0} {shown : A → List ℕ} (size : ℕ) {old new : ReaderState} {x : A} → Reads (ends_alone {E = X}) (λ _. true) shown (raw_bytes size) (Ok x) old new → length (shown x) ≡ size

@@ -4,7 +4,7 @@ use Rattle.std.proofs.Common.{sym, ◌∙◌, ap, ap₂, subst, arith, inl, inr}
 use Rattle.std.proofs.lemmas.List.{append-nil, length-take-le, take_all, length-append, take-append-drop}
 use Rattle.speedy_base.specs.declared.error.Error.{Error}
 use Rattle.speedy_base.specs.declared.error.ErrorKind.TheVariants as kinds
-use Rattle.speedy_base.specs.Digits.{AreBytes, SpellsNumber}
+use Rattle.speedy_base.specs.Digits.{AreBytes, SpellsNumber, number}
 use Rattle.speedy_base.specs.DigitsLemmas.{SpellsNumber-is_one_byte}
 use Rattle.speedy_base.specs.Encoding.{Encoding}
 use Rattle.speedy_layout.specs.Codes.{ReadsWider, coding, Accepts-exact, Accepts-demanded}
@@ -28,6 +28,20 @@ reads_wider {n = n} {tail = tail} parts not_fewest = record { code = ((length ta
 -- a first byte and its digits are read one after the other
 prefixed_composes : (encoding : Encoding) → Composes (first_byte encoding) (λ p. unsigned_number p.0 (low_first encoding)) (prefixed_digits encoding) (λ p n. (p, n))
 prefixed_composes encoding = sequence_composes (λ p. p) (prefixed_asks encoding) (λ u w s h. refl)
+
+-- a byte below 128 holds a number by itself
+short_parts : (first : ℕ) → first < 128 → VarintParts first [] first
+unfolding number
+short_parts first short = record {
+  low = first;
+  rest = 0;
+  first_is = record { at_most_eight = omega arith; low_is_below = short; byte_is = omega arith };
+  tail_is = record { width_is = refl; are_bytes = tt; value_is = refl };
+  value_is = omega arith;
+}
+
+short_fewest : (first : ℕ) → first < 128 → IsFewest 0 first
+short_fewest first short = record { at_most_eight = omega arith; enough = omega (arith, short); no_shorter = λ j l. absurd (omega arith) }
 
 module _ {E : Type 0} {gives : Error → E → Type 0} {eof : E → Bool} (encoding : Encoding) {old : ReaderState} where
   -- where the first byte is refused, the integer is
@@ -68,6 +82,14 @@ module _ {E : Type 0} {gives : Error → E → Type 0} {eof : E → Bool} (encod
   unfolding varint
   varint_answered {n = n} {seen = seen} {x = x} parts fewest one size r =
       code_read encoding varint_code {seen' = λ (n : ℕ). n} parts.value_is (λ strict. varint-chosen n parts (fewest strict)) (prefixed_read parts one size r)
+
+  -- a first byte that says that none follows is the integer
+  pub short_answered : {mid : ReaderState} {first : ℕ} → first < 128 → Reads gives eof (λ n. n) (unsigned_number 1 encoding) (Ok first) old mid → Reads gives eof (λ n. n) (varint encoding) (Ok first) old mid
+  unfolding varint unsigned_number short_parts
+  short_answered {first = first} short one =
+      let parts = short_parts first short in
+      let stands : (s : List ℕ) → (unsigned_number 1 encoding).spells first s → (prefixed_digits encoding).spells ((0, first), 0) s = λ s h. subst ((prefixed_digits encoding).spells ((0, first), 0)) (sym (SpellsNumber-is_one_byte encoding.order first s h)) (prefixed-spelled encoding 0 first 0 first [] parts.first_is parts.tail_is) in
+      code_read encoding varint_code {seen = λ (p : (ℕ × ℕ) × ℕ). p} {seen' = λ (n : ℕ). n} parts.value_is (λ strict. varint-chosen first parts (short_fewest first short)) (got_covered stands one)
 
   -- and are refused where one is demanded and they are not
   pub varint_not_written : {mid new : ReaderState} {first n : ℕ} {A : Type 0} {seen : A → List ℕ} {x : A} {e : E} → VarintParts first (seen x) n → IsTrue encoding.strict → (IsFewest (length (seen x)) n → ⊥) → gives (error_of kinds.NotWrittenForm) e → Reads gives eof (λ n. n) (unsigned_number 1 encoding) (Ok first) old mid → (size : ℕ) → Reads gives eof seen (raw_bytes size) (Ok x) mid new → Reads gives eof (λ n. n) (varint encoding) (Err e) old new

@@ -12,3 +12,4 @@ pub mod Lending
 pub mod RoundTrip
 pub mod Collections
 pub mod WaysOfReading
+pub mod UntilEnd

@@ -138,6 +138,13 @@ module _ {E : Type 0} (gives : Error → E → Type 0) (eof : E → Bool) where
     pub kept : KeptByPeek old new
     pub answer : MatchResult result (λ x. Ahead (L.spells (seen x)) old new) (λ e. PeekWants gives e old new ⊎ (Excused gives L.asks.memory e old new ⊎ Refused L e old new))
 
+  -- a peek of a number of so many digits, and of a signed one of a width
+  abbrev pub PeeksUnsigned : ℕ → Result ℕ E → ReaderState → ReaderState → Type 0
+  PeeksUnsigned width result old new = Peeks (λ n. n) (unsigned_number width old.encoding) result old new
+
+  abbrev pub PeeksSigned : Width → Result ℤ E → ReaderState → ReaderState → Type 0
+  PeeksSigned w result old new = Peeks (λ z. z) (signed_number w old.encoding) result old new
+
   -- What a read answers that lends its bytes. Where the reader lends, it answers, refuses and takes as a read of so
   -- many bytes does, and what is lent shows the bytes that were taken. A reader that lends nothing answers nothing and
   -- takes nothing; so does one whose loans show nothing.

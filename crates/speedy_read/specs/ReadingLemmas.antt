@@ -91,7 +91,7 @@ pub input_ended : {E : Type 0} (gives : Error → E → Type 0) (eof : E → Boo
 input_ended gives eof by_device e g h = ((kinds.UnexpectedEndOfInput, tt, g), h)
 
 -- what excuses a part that is read from `mid` on, before which no call failed, excuses the whole
-excused_after : {E : Type 0} (gives : Error → E → Type 0) (takes more : Bool) (e : E) (old mid new : ReaderState) → mid.fixed ≡ old.fixed
+pub excused_after : {E : Type 0} (gives : Error → E → Type 0) (takes more : Bool) (e : E) (old mid new : ReaderState) → mid.fixed ≡ old.fixed
     → mid.faults ≡ old.faults → (IsTrue takes → IsTrue more) → Excused gives takes e mid new → Excused gives more e old new
 excused_after gives takes more e old mid new same clean f (inl (g, inl t, none)) = inl (g, inl (f t), none ∙ clean)
 excused_after gives takes more e old mid new same clean f (inl (g, inr t, none)) = inl (g, inr (subst (λ (kind : ReaderKind). IsTrue kind.asks_memory) same t), none ∙ clean)

@@ -1,4 +1,5 @@
 //! How addresses are read.
+use crate::many::ItemByItem;
 use crate::readable::{ReadFrom, ReadMany};
 use crate::reader::LendingReader;
 use speedy_base::context::Context;
@@ -20,7 +21,9 @@ impl<L: AsSlice<u8> + Drop, C: Context> ReadFrom<L, C> for Ipv4Addr {
     }
 }
 
-impl<L: AsSlice<u8> + Drop, C: Context> ReadMany<L, C> for Ipv4Addr {}
+impl<L: AsSlice<u8> + Drop, C: Context> ReadMany<L, C> for Ipv4Addr {
+    type Strategy = ItemByItem;
+}
 
 impl<L: AsSlice<u8> + Drop, C: Context> ReadFrom<L, C> for Ipv6Addr {
     #[inline]
@@ -35,7 +38,9 @@ impl<L: AsSlice<u8> + Drop, C: Context> ReadFrom<L, C> for Ipv6Addr {
     }
 }
 
-impl<L: AsSlice<u8> + Drop, C: Context> ReadMany<L, C> for Ipv6Addr {}
+impl<L: AsSlice<u8> + Drop, C: Context> ReadMany<L, C> for Ipv6Addr {
+    type Strategy = ItemByItem;
+}
 
 impl<L: AsSlice<u8> + Drop, C: Context> ReadFrom<L, C> for IpAddr {
     #[inline]
@@ -60,4 +65,6 @@ impl<L: AsSlice<u8> + Drop, C: Context> ReadFrom<L, C> for IpAddr {
     }
 }
 
-impl<L: AsSlice<u8> + Drop, C: Context> ReadMany<L, C> for IpAddr {}
+impl<L: AsSlice<u8> + Drop, C: Context> ReadMany<L, C> for IpAddr {
+    type Strategy = ItemByItem;
+}

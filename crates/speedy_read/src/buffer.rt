@@ -2,20 +2,22 @@
 ghost use Rattle.std.specs.Prelude.{ℕ};
 ghost use Rattle.speedy_read.specs.WaysOfReading.{AnswersBuffer};
 
-use crate::readable::{ReadMany, Readable};
+use crate::buffer_reader::BufferReader;
+use crate::readable::ReadFrom;
 use speedy_base::context::Context;
+use speedy_base::error::error_input_buffer_is_too_small;
 use std::alloc::Global;
 use std::convert::AsSlice;
 
 /// Bytes that lend parts of themselves: `&'a [u8]`.
 ///
 /// A function that is generic in what it reads names its bytes by a type parameter, as `L: Buffer<C>` and
-/// `T: ReadMany<L, C>`, and no lifetime.
+/// `T: ReadFrom<L, C>`, and no lifetime.
 pub trait Buffer<C: Context>: AsSlice<u8> + Drop + Sized {
     /// The value that a front of the bytes spells under the context, and how many bytes spell it.
     ///
     /// Bytes that are fewer than the type's least size are refused with `InputBufferIsTooSmall` and the count 0.
-    fn read_with_length<T: ReadMany<Self, C>>(
+    fn read_with_length<T: ReadFrom<Self, C>>(
         self,
         alloc: Global,
         context: C,
@@ -26,7 +28,7 @@ pub trait Buffer<C: Context>: AsSlice<u8> + Drop + Sized {
     /// The value that a front of the bytes spells under the context.
     ///
     /// Bytes that are fewer than the type's least size are refused with `InputBufferIsTooSmall`.
-    final fn read_front<T: ReadMany<Self, C>>(
+    final fn read_front<T: ReadFrom<Self, C>>(
         self,
         alloc: Global,
         context: C,
@@ -39,11 +41,17 @@ pub trait Buffer<C: Context>: AsSlice<u8> + Drop + Sized {
 }
 
 impl<'a, C: Context> Buffer<C> for &'a [u8] {
-    fn read_with_length<T: ReadMany<&'a [u8], C>>(
+    fn read_with_length<T: ReadFrom<&'a [u8], C>>(
         self,
         alloc: Global,
         context: C,
     ) -> (Result<T, C::Error>, usize) {
-        <T as Readable<'a, C>>::read_with_length_from_buffer_with_ctx(alloc, context, self)
+        let least = T::minimum_bytes_needed();
+        if self.len() < least {
+            return (Err(error_input_buffer_is_too_small(self.len(), least)), 0);
+        }
+        let mut reader = BufferReader::new(alloc, context, self);
+        let result = T::read_from(&mut reader);
+        (result, self.len() - reader.len())
     }
 }

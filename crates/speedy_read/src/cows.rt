@@ -1,6 +1,7 @@
 //! How what owns its content or borrows it is read.
 ghost use Rattle.std.specs.Prelude.{◌≡◌};
 
+use crate::many::ItemByItem;
 use crate::private::cow_bytes_to_cow_str;
 use crate::readable::{ReadFrom, ReadMany};
 use crate::reader::LendingReader;
@@ -22,7 +23,9 @@ impl<'a, L: AsSlice<u8> + Drop, C: Context, T: ReadFrom<L, C>> ReadFrom<L, C> fo
     }
 }
 
-impl<'a, L: AsSlice<u8> + Drop, C: Context, T: ReadFrom<L, C>> ReadMany<L, C> for Cow<'a, T> {}
+impl<'a, L: AsSlice<u8> + Drop, C: Context, T: ReadFrom<L, C>> ReadMany<L, C> for Cow<'a, T> {
+    type Strategy = ItemByItem;
+}
 
 // Bytes point into those that the reader lends; other items are owned.
 impl<'a, C: Context, T: ReadMany<&'a [u8], C> + 'a> ReadFrom<&'a [u8], C> for CowSlice<'a, T> {
@@ -42,7 +45,9 @@ impl<'a, C: Context, T: ReadMany<&'a [u8], C> + 'a> ReadFrom<&'a [u8], C> for Co
     }
 }
 
-impl<'a, C: Context, T: ReadMany<&'a [u8], C> + 'a> ReadMany<&'a [u8], C> for CowSlice<'a, T> {}
+impl<'a, C: Context, T: ReadMany<&'a [u8], C> + 'a> ReadMany<&'a [u8], C> for CowSlice<'a, T> {
+    type Strategy = ItemByItem;
+}
 
 // It points into the bytes that the reader lends, and is owned where it lends nothing.
 impl<'a, C: Context> ReadFrom<&'a [u8], C> for CowStr<'a> {
@@ -61,4 +66,6 @@ impl<'a, C: Context> ReadFrom<&'a [u8], C> for CowStr<'a> {
     }
 }
 
-impl<'a, C: Context> ReadMany<&'a [u8], C> for CowStr<'a> {}
+impl<'a, C: Context> ReadMany<&'a [u8], C> for CowStr<'a> {
+    type Strategy = ItemByItem;
+}

@@ -1,8 +1,10 @@
 //! How flags, and values that a flag chooses, are read.
 ghost use Rattle.std.specs.Prelude.{◌+◌};
 
+use crate::many::ItemByItem;
 use crate::readable::{ReadFrom, ReadMany};
 use crate::reader::LendingReader;
+use crate::stretches::Flags;
 use speedy_base::context::Context;
 use speedy_base::error::error_not_written_form;
 use std::convert::AsSlice;
@@ -24,7 +26,9 @@ impl<L: AsSlice<u8> + Drop, C: Context> ReadFrom<L, C> for bool {
     }
 }
 
-impl<L: AsSlice<u8> + Drop, C: Context> ReadMany<L, C> for bool {}
+impl<L: AsSlice<u8> + Drop, C: Context> ReadMany<L, C> for bool {
+    type Strategy = Flags;
+}
 
 impl<L: AsSlice<u8> + Drop, C: Context, T: ReadFrom<L, C>> ReadFrom<L, C> for Option<T> {
     #[inline]
@@ -43,7 +47,9 @@ impl<L: AsSlice<u8> + Drop, C: Context, T: ReadFrom<L, C>> ReadFrom<L, C> for Op
     }
 }
 
-impl<L: AsSlice<u8> + Drop, C: Context, T: ReadFrom<L, C>> ReadMany<L, C> for Option<T> {}
+impl<L: AsSlice<u8> + Drop, C: Context, T: ReadFrom<L, C>> ReadMany<L, C> for Option<T> {
+    type Strategy = ItemByItem;
+}
 
 impl<L: AsSlice<u8> + Drop, C: Context, T: ReadFrom<L, C>, U: ReadFrom<L, C>> ReadFrom<L, C>
     for Result<T, U> {
@@ -66,4 +72,6 @@ impl<L: AsSlice<u8> + Drop, C: Context, T: ReadFrom<L, C>, U: ReadFrom<L, C>> Re
 }
 
 impl<L: AsSlice<u8> + Drop, C: Context, T: ReadFrom<L, C>, U: ReadFrom<L, C>> ReadMany<L, C>
-    for Result<T, U> {}
+    for Result<T, U> {
+    type Strategy = ItemByItem;
+}

@@ -1,6 +1,7 @@
 //! How characters, byte orders, durations and UUIDs are read.
 ghost use Rattle.speedy_read.specs.Reading.{Reads};
 
+use crate::many::ItemByItem;
 use crate::readable::{ReadFrom, ReadMany};
 use crate::reader::LendingReader;
 use speedy_base::context::Context;
@@ -29,7 +30,9 @@ impl<L: AsSlice<u8> + Drop, C: Context> ReadFrom<L, C> for char {
     }
 }
 
-impl<L: AsSlice<u8> + Drop, C: Context> ReadMany<L, C> for char {}
+impl<L: AsSlice<u8> + Drop, C: Context> ReadMany<L, C> for char {
+    type Strategy = ItemByItem;
+}
 
 impl<L: AsSlice<u8> + Drop, C: Context> ReadFrom<L, C> for Endianness {
     #[inline]
@@ -47,7 +50,9 @@ impl<L: AsSlice<u8> + Drop, C: Context> ReadFrom<L, C> for Endianness {
     }
 }
 
-impl<L: AsSlice<u8> + Drop, C: Context> ReadMany<L, C> for Endianness {}
+impl<L: AsSlice<u8> + Drop, C: Context> ReadMany<L, C> for Endianness {
+    type Strategy = ItemByItem;
+}
 
 impl<L: AsSlice<u8> + Drop, C: Context> ReadFrom<L, C> for Duration {
     /// Reads seconds and nanoseconds. Nanoseconds of a second and more carry into the seconds, unless the context
@@ -72,7 +77,9 @@ impl<L: AsSlice<u8> + Drop, C: Context> ReadFrom<L, C> for Duration {
     }
 }
 
-impl<L: AsSlice<u8> + Drop, C: Context> ReadMany<L, C> for Duration {}
+impl<L: AsSlice<u8> + Drop, C: Context> ReadMany<L, C> for Duration {
+    type Strategy = ItemByItem;
+}
 
 impl<L: AsSlice<u8> + Drop, C: Context> ReadFrom<L, C> for Uuid {
     #[inline]
@@ -88,4 +95,6 @@ impl<L: AsSlice<u8> + Drop, C: Context> ReadFrom<L, C> for Uuid {
     }
 }
 
-impl<L: AsSlice<u8> + Drop, C: Context> ReadMany<L, C> for Uuid {}
+impl<L: AsSlice<u8> + Drop, C: Context> ReadMany<L, C> for Uuid {
+    type Strategy = ItemByItem;
+}

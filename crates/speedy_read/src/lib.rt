@@ -27,5 +27,6 @@ pub mod stream_reader;
 mod stretches;
 pub mod texts;
 pub mod tuples;
+mod until_end;
 pub mod varint;
 pub mod views;

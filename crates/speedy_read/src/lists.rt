@@ -5,13 +5,15 @@ ghost use Rattle.speedy_layout.specs.Numbers.{unsigned_number};
 ghost use Rattle.speedy_read.specs.Reading.{Reads, RefusesUnsized};
 
 use crate::lent::lent_in_range;
+use crate::many::{Fills, ItemByItem, Places, Strategy};
 use crate::readable::{ReadFrom, ReadMany};
-use crate::reader::LendingReader;
+use crate::reader::{LendingReader, ends_before};
 use smallvec::SmallVec;
 use speedy_base::context::Context;
-use speedy_base::error::{ErrorKind, error_unsized};
+use speedy_base::error::{ErrorKind, error_end_of_input, error_unsized};
 use speedy_layout::layout::Layout;
 use std::alloc::Global;
+use std::array;
 use std::boxed::BoxedSlice;
 use std::convert::AsSlice;
 use std::default::MadeWith;
@@ -29,7 +31,9 @@ impl<L: AsSlice<u8> + Drop, C: Context, T: ReadMany<L, C>> ReadFrom<L, C> for Ve
     }
 }
 
-impl<L: AsSlice<u8> + Drop, C: Context, T: ReadMany<L, C>> ReadMany<L, C> for Vec<T> {}
+impl<L: AsSlice<u8> + Drop, C: Context, T: ReadMany<L, C>> ReadMany<L, C> for Vec<T> {
+    type Strategy = ItemByItem;
+}
 
 impl<L: AsSlice<u8> + Drop, C: Context, T: ReadMany<L, C>> ReadFrom<L, C> for BoxedSlice<T> {
     #[inline]
@@ -44,7 +48,9 @@ impl<L: AsSlice<u8> + Drop, C: Context, T: ReadMany<L, C>> ReadFrom<L, C> for Bo
     }
 }
 
-impl<L: AsSlice<u8> + Drop, C: Context, T: ReadMany<L, C>> ReadMany<L, C> for BoxedSlice<T> {}
+impl<L: AsSlice<u8> + Drop, C: Context, T: ReadMany<L, C>> ReadMany<L, C> for BoxedSlice<T> {
+    type Strategy = ItemByItem;
+}
 
 impl<
     L: AsSlice<u8> + Drop,
@@ -69,13 +75,21 @@ impl<
     C: Context,
     T: ReadMany<L, C> + MadeWith<Global>,
     const N: usize,
-> ReadMany<L, C> for SmallVec<T, N> {}
+> ReadMany<L, C> for SmallVec<T, N> {
+    type Strategy = ItemByItem;
+}
 
 impl<L: AsSlice<u8> + Drop, C: Context, T: ReadMany<L, C>, const N: usize> ReadFrom<L, C>
     for [T; N] {
     #[inline]
     fn read_from<R: LendingReader<L, C>>(reader: &mut R) -> Result<[T; N], C::Error> {
-        let items = reader.read_vec(N)?;
+        if ends_before::<L, C, R>(reader, T::minimum_bytes_needed(), N) {
+            return Err(error_end_of_input());
+        }
+        if let Some(array) = <T::Strategy as Strategy<L, C, T>>::read_places::<[T; N], R>(reader) {
+            return array;
+        }
+        let items = T::read_many(reader, N)?;
         match <[T; N]>::try_from(items) {
             Ok(array) => Ok(array),
             Err(_) => unreachable!(),
@@ -89,7 +103,29 @@ impl<L: AsSlice<u8> + Drop, C: Context, T: ReadMany<L, C>, const N: usize> ReadF
 }
 
 impl<L: AsSlice<u8> + Drop, C: Context, T: ReadMany<L, C>, const N: usize> ReadMany<L, C>
-    for [T; N] {}
+    for [T; N] {
+    type Strategy = ItemByItem;
+}
+
+impl<L: AsSlice<u8> + Drop, C: Context, T: ReadFrom<L, C>, const N: usize> Places<L, C, T>
+    for [T; N] {
+    ghost shown = { λ a. a };
+
+    ghost count = { N };
+
+    #[inline]
+    fn begun<F: Fills<L, C, T>>() -> [T; N] {
+        array::from_fn(|_i| F::first())
+    }
+
+    #[inline]
+    fn fill<F: Fills<L, C, T>, R: LendingReader<L, C>>(
+        &mut self,
+        reader: &mut R,
+    ) -> Result<(), C::Error> {
+        F::fill::<R>(reader, self.as_mut_slice())
+    }
+}
 
 // They are lent by the reader.
 impl<'a, C: Context> ReadFrom<&'a [u8], C> for &'a [u8] {
@@ -122,7 +158,9 @@ impl<'a, C: Context> ReadFrom<&'a [u8], C> for &'a [u8] {
     }
 }
 
-impl<'a, C: Context> ReadMany<&'a [u8], C> for &'a [u8] {}
+impl<'a, C: Context> ReadMany<&'a [u8], C> for &'a [u8] {
+    type Strategy = ItemByItem;
+}
 
 // They are lent by the reader, with no count before them.
 impl<'a, C: Context, const N: usize> ReadFrom<&'a [u8], C> for &'a [u8; N] {
@@ -157,4 +195,6 @@ impl<'a, C: Context, const N: usize> ReadFrom<&'a [u8], C> for &'a [u8; N] {
     }
 }
 
-impl<'a, C: Context, const N: usize> ReadMany<&'a [u8], C> for &'a [u8; N] {}
+impl<'a, C: Context, const N: usize> ReadMany<&'a [u8], C> for &'a [u8; N] {
+    type Strategy = ItemByItem;
+}

@@ -1,5 +1,5 @@
 //! Values that are read one after another, and what is made of them.
-ghost use Rattle.std.specs.Prelude.{◌≡◌, ℕ, ⊤, [], List, IsSome, map, MatchResult, true, false};
+ghost use Rattle.std.specs.Prelude.{◌≡◌, ℕ, ⊤, [], List, IsSome, length as count_of, map, MatchResult, true, false};
 ghost use Rattle.std.specs.Cow.{cow_slice_items};
 ghost use Rattle.std.specs.Option.{MatchOption};
 ghost use Rattle.speedy_base.specs.Error.{error_of};
@@ -18,25 +18,87 @@ use std::alloc::Global;
 use std::borrow::CowSlice;
 use std::convert::AsSlice;
 
-/// What types that are read implement besides, for several values at once.
-///
-/// The body serves each type. One that is read faster in bulk has a body of its own.
-pub trait ReadMany<L: AsSlice<u8> + Drop, C: Context>: ReadFrom<L, C> {
-    /// Reads so many values, one after another.
-    ///
-    /// This body reads each by itself. Bytes have a body of their own, which takes them at once where the reader
-    /// lends them, and makes what is asked for of those.
-    fn read_many_lent<W: FromLent<L, Self>, R: LendingReader<L, C>>(
+/// How the values of a type are read several at a time.
+pub trait Strategy<L: AsSlice<u8> + Drop, C: Context, T: ReadFrom<L, C>> {
+    /// Reads so many values, one after another, and makes what is asked for of lent bytes, or a vector.
+    fn read_many_lent<W: FromLent<L, T>, R: LendingReader<L, C>>(
         reader: &mut R,
         length: usize,
-    ) -> Result<Many<W, Self>, C::Error>
+    ) -> Result<Many<W, T>, C::Error>
         ensures { Reads C.Error.from_gives C.Error.eof
-            (λ many. map Self.seen (many_items W.shown many))
-            (vector length (Self.format (R.state reader.old).encoding)) result
-            (R.state reader.old) (R.state reader.new) }
-    {
-        read_each::<W, Self, L, C, R>(reader, length)
+            (λ many. map T.seen (many_items W.shown many))
+            (vector length (T.format (R.state reader.old).encoding)) result
+            (R.state reader.old) (R.state reader.new) };
+
+    /// Reads as many values as there are places, into these, without a vector; `None` where that cannot be, and then
+    /// nothing is read.
+    fn read_places<P: Places<L, C, T>, R: LendingReader<L, C>>(
+        reader: &mut R,
+    ) -> Option<Result<P, C::Error>>
+        ensures { MatchOption result (R.state reader.new ≡ R.state reader.old) (λ read.
+            Reads C.Error.from_gives C.Error.eof (λ p. map T.seen (P.shown p))
+            (vector P.count (T.format (R.state reader.old).encoding)) read
+            (R.state reader.old) (R.state reader.new)) };
+}
+
+/// Each value by itself. This serves any type.
+pub struct ItemByItem {}
+
+impl<L: AsSlice<u8> + Drop, C: Context, T: ReadFrom<L, C>> Strategy<L, C, T> for ItemByItem {
+    fn read_many_lent<W: FromLent<L, T>, R: LendingReader<L, C>>(
+        reader: &mut R,
+        length: usize,
+    ) -> Result<Many<W, T>, C::Error> {
+        read_each::<W, T, L, C, R>(reader, length)
     }
+
+    #[inline(always)]
+    fn read_places<P: Places<L, C, T>, R: LendingReader<L, C>>(
+        _reader: &mut R,
+    ) -> Option<Result<P, C::Error>> {
+        None
+    }
+}
+
+/// Places for values that are read one after another: an array.
+pub trait Places<L: AsSlice<u8> + Drop, C: Context, T: ReadFrom<L, C>>: Sized + Drop {
+    /// The values in the places.
+    ghost shown: { Self → List T };
+
+    /// How many places there are.
+    ghost count: { ℕ };
+
+    /// All places have the value that the type begins with.
+    fn begun<F: Fills<L, C, T>>() -> Self
+        ensures { count_of (shown result) ≡ count };
+
+    /// Reads a value into each place. After a refusal nothing is said of them.
+    fn fill<F: Fills<L, C, T>, R: LendingReader<L, C>>(
+        &mut self,
+        reader: &mut R,
+    ) -> Result<(), C::Error>
+        requires { count_of (shown self.old) ≡ count }
+        ensures { Reads C.Error.from_gives C.Error.eof (λ _. map T.seen (shown self.new))
+            (vector count (T.format (R.state reader.old).encoding)) result
+            (R.state reader.old) (R.state reader.new) };
+}
+
+/// How places are filled with values of a type.
+pub trait Fills<L: AsSlice<u8> + Drop, C: Context, T: ReadFrom<L, C>> {
+    /// The value that places begin with.
+    fn first() -> T;
+
+    /// Reads a value into each place. After a refusal nothing is said of them.
+    fn fill<R: LendingReader<L, C>>(reader: &mut R, places: &mut [T]) -> Result<(), C::Error>
+        ensures { Reads C.Error.from_gives C.Error.eof (λ _. map T.seen places.new)
+            (vector (count_of places.old) (T.format (R.state reader.old).encoding)) result
+            (R.state reader.old) (R.state reader.new) };
+}
+
+/// What types that are read implement besides, for several values at once.
+pub trait ReadMany<L: AsSlice<u8> + Drop, C: Context>: ReadFrom<L, C> {
+    /// How several of its values are read: [`ItemByItem`] for a type of one's own.
+    type Strategy: Strategy<L, C, Self>;
 
     /// Reads so many values, one after another, into a vector.
     #[inline]
@@ -61,7 +123,7 @@ pub trait ReadMany<L: AsSlice<u8> + Drop, C: Context>: ReadFrom<L, C> {
             (vector length (Self.format (R.state reader.old).encoding)) result
             (R.state reader.old) (R.state reader.new) }
     {
-        match Self::read_many_lent::<W, R>(reader, length) {
+        match <Self::Strategy as Strategy<L, C, Self>>::read_many_lent::<W, R>(reader, length) {
             Ok(Many::Made(made)) => Ok(made),
             Ok(Many::Owned(values)) => Ok(W::from_values(values)),
             Err(error) => Err(error),
@@ -177,10 +239,13 @@ pub enum Many<W, T> {
 // Reads so many values, each by itself. It stands outside the trait, so that it is proved once for all types. What
 // `W` shows is left open, since a function that is told would ask more of an array than its impl knows.
 #[inline]
-fn read_each<W: Drop, T: ReadFrom<L, C>, L: AsSlice<u8> + Drop, C: Context, R: LendingReader<L, C>>(
-    reader: &mut R,
-    length: usize,
-) -> Result<Many<W, T>, C::Error>
+pub(crate) fn read_each<
+    W: Drop,
+    T: ReadFrom<L, C>,
+    L: AsSlice<u8> + Drop,
+    C: Context,
+    R: LendingReader<L, C>,
+>(reader: &mut R, length: usize) -> Result<Many<W, T>, C::Error>
     ensures { (shown : W → List T) → Reads C.Error.from_gives C.Error.eof
         (λ many. map T.seen (many_items shown many))
         (vector length (T.format (R.state reader.old).encoding)) result

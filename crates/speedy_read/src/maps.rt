@@ -1,4 +1,5 @@
 //! How maps are read.
+use crate::many::ItemByItem;
 use crate::readable::{ReadFrom, ReadMany};
 use crate::reader::LendingReader;
 use indexmap::IndexMap;
@@ -31,7 +32,9 @@ impl<
     C: Context,
     K: ReadFrom<L, C> + SameKey + Ord,
     V: ReadFrom<L, C>,
-> ReadMany<L, C> for BTreeMap<K, V> {}
+> ReadMany<L, C> for BTreeMap<K, V> {
+    type Strategy = ItemByItem;
+}
 
 impl<
     L: AsSlice<u8> + Drop,
@@ -58,7 +61,9 @@ impl<
     K: ReadFrom<L, C> + SameKey + Hash,
     V: ReadFrom<L, C>,
     S: BuildHasher + Default + Drop,
-> ReadMany<L, C> for HashMap<K, V, S> {}
+> ReadMany<L, C> for HashMap<K, V, S> {
+    type Strategy = ItemByItem;
+}
 
 impl<
     L: AsSlice<u8> + Drop,
@@ -85,4 +90,6 @@ impl<
     K: ReadFrom<L, C> + SameKey + Hash,
     V: ReadFrom<L, C>,
     S: BuildHasher + Default + Drop,
-> ReadMany<L, C> for IndexMap<K, V, S> {}
+> ReadMany<L, C> for IndexMap<K, V, S> {
+    type Strategy = ItemByItem;
+}

@@ -1,4 +1,5 @@
 //! How numbers that are not 0 are read.
+use crate::many::ItemByItem;
 use crate::readable::{ReadFrom, ReadMany};
 use crate::reader::LendingReader;
 use speedy_base::context::Context;
@@ -23,7 +24,9 @@ impl<L: AsSlice<u8> + Drop, C: Context> ReadFrom<L, C> for NonZeroU8 {
     }
 }
 
-impl<L: AsSlice<u8> + Drop, C: Context> ReadMany<L, C> for NonZeroU8 {}
+impl<L: AsSlice<u8> + Drop, C: Context> ReadMany<L, C> for NonZeroU8 {
+    type Strategy = ItemByItem;
+}
 
 impl<L: AsSlice<u8> + Drop, C: Context> ReadFrom<L, C> for NonZeroU16 {
     #[inline]
@@ -40,7 +43,9 @@ impl<L: AsSlice<u8> + Drop, C: Context> ReadFrom<L, C> for NonZeroU16 {
     }
 }
 
-impl<L: AsSlice<u8> + Drop, C: Context> ReadMany<L, C> for NonZeroU16 {}
+impl<L: AsSlice<u8> + Drop, C: Context> ReadMany<L, C> for NonZeroU16 {
+    type Strategy = ItemByItem;
+}
 
 impl<L: AsSlice<u8> + Drop, C: Context> ReadFrom<L, C> for NonZeroU32 {
     #[inline]
@@ -57,7 +62,9 @@ impl<L: AsSlice<u8> + Drop, C: Context> ReadFrom<L, C> for NonZeroU32 {
     }
 }
 
-impl<L: AsSlice<u8> + Drop, C: Context> ReadMany<L, C> for NonZeroU32 {}
+impl<L: AsSlice<u8> + Drop, C: Context> ReadMany<L, C> for NonZeroU32 {
+    type Strategy = ItemByItem;
+}
 
 impl<L: AsSlice<u8> + Drop, C: Context> ReadFrom<L, C> for NonZeroU64 {
     #[inline]
@@ -74,7 +81,9 @@ impl<L: AsSlice<u8> + Drop, C: Context> ReadFrom<L, C> for NonZeroU64 {
     }
 }
 
-impl<L: AsSlice<u8> + Drop, C: Context> ReadMany<L, C> for NonZeroU64 {}
+impl<L: AsSlice<u8> + Drop, C: Context> ReadMany<L, C> for NonZeroU64 {
+    type Strategy = ItemByItem;
+}
 
 impl<L: AsSlice<u8> + Drop, C: Context> ReadFrom<L, C> for NonZeroI8 {
     #[inline]
@@ -91,7 +100,9 @@ impl<L: AsSlice<u8> + Drop, C: Context> ReadFrom<L, C> for NonZeroI8 {
     }
 }
 
-impl<L: AsSlice<u8> + Drop, C: Context> ReadMany<L, C> for NonZeroI8 {}
+impl<L: AsSlice<u8> + Drop, C: Context> ReadMany<L, C> for NonZeroI8 {
+    type Strategy = ItemByItem;
+}
 
 impl<L: AsSlice<u8> + Drop, C: Context> ReadFrom<L, C> for NonZeroI16 {
     #[inline]
@@ -108,7 +119,9 @@ impl<L: AsSlice<u8> + Drop, C: Context> ReadFrom<L, C> for NonZeroI16 {
     }
 }
 
-impl<L: AsSlice<u8> + Drop, C: Context> ReadMany<L, C> for NonZeroI16 {}
+impl<L: AsSlice<u8> + Drop, C: Context> ReadMany<L, C> for NonZeroI16 {
+    type Strategy = ItemByItem;
+}
 
 impl<L: AsSlice<u8> + Drop, C: Context> ReadFrom<L, C> for NonZeroI32 {
     #[inline]
@@ -125,7 +138,9 @@ impl<L: AsSlice<u8> + Drop, C: Context> ReadFrom<L, C> for NonZeroI32 {
     }
 }
 
-impl<L: AsSlice<u8> + Drop, C: Context> ReadMany<L, C> for NonZeroI32 {}
+impl<L: AsSlice<u8> + Drop, C: Context> ReadMany<L, C> for NonZeroI32 {
+    type Strategy = ItemByItem;
+}
 
 impl<L: AsSlice<u8> + Drop, C: Context> ReadFrom<L, C> for NonZeroI64 {
     #[inline]
@@ -142,4 +157,6 @@ impl<L: AsSlice<u8> + Drop, C: Context> ReadFrom<L, C> for NonZeroI64 {
     }
 }
 
-impl<L: AsSlice<u8> + Drop, C: Context> ReadMany<L, C> for NonZeroI64 {}
+impl<L: AsSlice<u8> + Drop, C: Context> ReadMany<L, C> for NonZeroI64 {
+    type Strategy = ItemByItem;
+}

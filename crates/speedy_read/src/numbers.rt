@@ -1,11 +1,10 @@
 //! How numbers are read.
-use crate::lent::lent_in_range;
-use crate::many::{AsBytes, FromLent, Many};
+use crate::many::ItemByItem;
 use crate::readable::{ReadFrom, ReadMany};
 use crate::reader::LendingReader;
-use crate::stretches::{read_chunks, read_numbers};
+use crate::stretches::{Bytes, Numbers};
 use speedy_base::context::Context;
-use speedy_base::error::{error_out_of_memory, error_too_big_usize_for_this_architecture};
+use speedy_base::error::error_too_big_usize_for_this_architecture;
 use std::convert::AsSlice;
 
 impl<L: AsSlice<u8> + Drop, C: Context> ReadFrom<L, C> for u8 {
@@ -20,24 +19,8 @@ impl<L: AsSlice<u8> + Drop, C: Context> ReadFrom<L, C> for u8 {
     }
 }
 
-// Bytes are taken at once where the reader lends them, and else a stretch at a time.
 impl<L: AsSlice<u8> + Drop, C: Context> ReadMany<L, C> for u8 {
-    fn read_many_lent<W: FromLent<L, u8>, R: LendingReader<L, C>>(
-        reader: &mut R,
-        length: usize,
-    ) -> Result<Many<W, u8>, C::Error> {
-        match reader.read_bytes_borrowed(length) {
-            Some(Ok(bytes)) => {
-                lent_in_range(&bytes);
-                match W::from_lent::<AsBytes>(bytes, reader.alloc()) {
-                    Some(made) => Ok(Many::Made(made)),
-                    None => Err(error_out_of_memory()),
-                }
-            }
-            Some(Err(error)) => Err(error),
-            None => Ok(Many::Owned(read_chunks::<L, C, R>(reader, length)?)),
-        }
-    }
+    type Strategy = Bytes;
 }
 
 impl<L: AsSlice<u8> + Drop, C: Context> ReadFrom<L, C> for u16 {
@@ -53,13 +36,7 @@ impl<L: AsSlice<u8> + Drop, C: Context> ReadFrom<L, C> for u16 {
 }
 
 impl<L: AsSlice<u8> + Drop, C: Context> ReadMany<L, C> for u16 {
-    /// Reads stretches of digits.
-    fn read_many_lent<W: FromLent<L, u16>, R: LendingReader<L, C>>(
-        reader: &mut R,
-        length: usize,
-    ) -> Result<Many<W, u16>, C::Error> {
-        read_numbers::<W, u16, L, C, R>(reader, length)
-    }
+    type Strategy = Numbers;
 }
 
 impl<L: AsSlice<u8> + Drop, C: Context> ReadFrom<L, C> for u32 {
@@ -75,13 +52,7 @@ impl<L: AsSlice<u8> + Drop, C: Context> ReadFrom<L, C> for u32 {
 }
 
 impl<L: AsSlice<u8> + Drop, C: Context> ReadMany<L, C> for u32 {
-    /// Reads stretches of digits.
-    fn read_many_lent<W: FromLent<L, u32>, R: LendingReader<L, C>>(
-        reader: &mut R,
-        length: usize,
-    ) -> Result<Many<W, u32>, C::Error> {
-        read_numbers::<W, u32, L, C, R>(reader, length)
-    }
+    type Strategy = Numbers;
 }
 
 impl<L: AsSlice<u8> + Drop, C: Context> ReadFrom<L, C> for u64 {
@@ -97,13 +68,7 @@ impl<L: AsSlice<u8> + Drop, C: Context> ReadFrom<L, C> for u64 {
 }
 
 impl<L: AsSlice<u8> + Drop, C: Context> ReadMany<L, C> for u64 {
-    /// Reads stretches of digits.
-    fn read_many_lent<W: FromLent<L, u64>, R: LendingReader<L, C>>(
-        reader: &mut R,
-        length: usize,
-    ) -> Result<Many<W, u64>, C::Error> {
-        read_numbers::<W, u64, L, C, R>(reader, length)
-    }
+    type Strategy = Numbers;
 }
 
 impl<L: AsSlice<u8> + Drop, C: Context> ReadFrom<L, C> for u128 {
@@ -119,13 +84,7 @@ impl<L: AsSlice<u8> + Drop, C: Context> ReadFrom<L, C> for u128 {
 }
 
 impl<L: AsSlice<u8> + Drop, C: Context> ReadMany<L, C> for u128 {
-    /// Reads stretches of digits.
-    fn read_many_lent<W: FromLent<L, u128>, R: LendingReader<L, C>>(
-        reader: &mut R,
-        length: usize,
-    ) -> Result<Many<W, u128>, C::Error> {
-        read_numbers::<W, u128, L, C, R>(reader, length)
-    }
+    type Strategy = Numbers;
 }
 
 impl<L: AsSlice<u8> + Drop, C: Context> ReadFrom<L, C> for i8 {
@@ -141,13 +100,7 @@ impl<L: AsSlice<u8> + Drop, C: Context> ReadFrom<L, C> for i8 {
 }
 
 impl<L: AsSlice<u8> + Drop, C: Context> ReadMany<L, C> for i8 {
-    /// Reads stretches of digits.
-    fn read_many_lent<W: FromLent<L, i8>, R: LendingReader<L, C>>(
-        reader: &mut R,
-        length: usize,
-    ) -> Result<Many<W, i8>, C::Error> {
-        read_numbers::<W, i8, L, C, R>(reader, length)
-    }
+    type Strategy = Numbers;
 }
 
 impl<L: AsSlice<u8> + Drop, C: Context> ReadFrom<L, C> for i16 {
@@ -163,13 +116,7 @@ impl<L: AsSlice<u8> + Drop, C: Context> ReadFrom<L, C> for i16 {
 }
 
 impl<L: AsSlice<u8> + Drop, C: Context> ReadMany<L, C> for i16 {
-    /// Reads stretches of digits.
-    fn read_many_lent<W: FromLent<L, i16>, R: LendingReader<L, C>>(
-        reader: &mut R,
-        length: usize,
-    ) -> Result<Many<W, i16>, C::Error> {
-        read_numbers::<W, i16, L, C, R>(reader, length)
-    }
+    type Strategy = Numbers;
 }
 
 impl<L: AsSlice<u8> + Drop, C: Context> ReadFrom<L, C> for i32 {
@@ -185,13 +132,7 @@ impl<L: AsSlice<u8> + Drop, C: Context> ReadFrom<L, C> for i32 {
 }
 
 impl<L: AsSlice<u8> + Drop, C: Context> ReadMany<L, C> for i32 {
-    /// Reads stretches of digits.
-    fn read_many_lent<W: FromLent<L, i32>, R: LendingReader<L, C>>(
-        reader: &mut R,
-        length: usize,
-    ) -> Result<Many<W, i32>, C::Error> {
-        read_numbers::<W, i32, L, C, R>(reader, length)
-    }
+    type Strategy = Numbers;
 }
 
 impl<L: AsSlice<u8> + Drop, C: Context> ReadFrom<L, C> for i64 {
@@ -207,13 +148,7 @@ impl<L: AsSlice<u8> + Drop, C: Context> ReadFrom<L, C> for i64 {
 }
 
 impl<L: AsSlice<u8> + Drop, C: Context> ReadMany<L, C> for i64 {
-    /// Reads stretches of digits.
-    fn read_many_lent<W: FromLent<L, i64>, R: LendingReader<L, C>>(
-        reader: &mut R,
-        length: usize,
-    ) -> Result<Many<W, i64>, C::Error> {
-        read_numbers::<W, i64, L, C, R>(reader, length)
-    }
+    type Strategy = Numbers;
 }
 
 impl<L: AsSlice<u8> + Drop, C: Context> ReadFrom<L, C> for i128 {
@@ -229,13 +164,7 @@ impl<L: AsSlice<u8> + Drop, C: Context> ReadFrom<L, C> for i128 {
 }
 
 impl<L: AsSlice<u8> + Drop, C: Context> ReadMany<L, C> for i128 {
-    /// Reads stretches of digits.
-    fn read_many_lent<W: FromLent<L, i128>, R: LendingReader<L, C>>(
-        reader: &mut R,
-        length: usize,
-    ) -> Result<Many<W, i128>, C::Error> {
-        read_numbers::<W, i128, L, C, R>(reader, length)
-    }
+    type Strategy = Numbers;
 }
 
 impl<L: AsSlice<u8> + Drop, C: Context> ReadFrom<L, C> for usize {
@@ -253,4 +182,6 @@ impl<L: AsSlice<u8> + Drop, C: Context> ReadFrom<L, C> for usize {
     }
 }
 
-impl<L: AsSlice<u8> + Drop, C: Context> ReadMany<L, C> for usize {}
+impl<L: AsSlice<u8> + Drop, C: Context> ReadMany<L, C> for usize {
+    type Strategy = ItemByItem;
+}

@@ -1,4 +1,5 @@
 //! How what owns its content is read.
+use crate::many::ItemByItem;
 use crate::readable::{ReadFrom, ReadMany};
 use crate::reader::LendingReader;
 use speedy_base::context::Context;
@@ -21,4 +22,6 @@ impl<L: AsSlice<u8> + Drop, C: Context, T: ReadFrom<L, C>> ReadFrom<L, C> for Bo
     }
 }
 
-impl<L: AsSlice<u8> + Drop, C: Context, T: ReadFrom<L, C>> ReadMany<L, C> for Box<T> {}
+impl<L: AsSlice<u8> + Drop, C: Context, T: ReadFrom<L, C>> ReadMany<L, C> for Box<T> {
+    type Strategy = ItemByItem;
+}

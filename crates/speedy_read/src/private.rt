@@ -1,12 +1,22 @@
 //! What reading runs beside readers.
-ghost use Rattle.std.specs.Prelude.{◌≡◌, MatchResult};
+ghost use Rattle.std.specs.Prelude.{◌≡◌, [], ℕ, ◌↔◌, IsTrue, IsOk, MatchResult};
 ghost use Rattle.std.specs.String.{string_bytes};
 ghost use Rattle.std.specs.Cow.{cow_slice_items, cow_str_bytes};
 ghost use Rattle.std.specs.Str.{IsUtf8};
 ghost use Rattle.speedy_base.specs.Error.{error_of};
+ghost use Rattle.speedy_layout.specs.Numbers.{length_number};
+ghost use Rattle.speedy_layout.specs.Texts.{constant_bytes};
+ghost use Rattle.speedy_layout.specs.Varint.{varint};
+ghost use Rattle.speedy_read.specs.Reading.{Reads, ReadsUnsigned};
 
-use speedy_base::error::{Error, ErrorKind, error_invalid_str_utf8, error_invalid_string_utf8};
+use crate::reader::LendingReader;
+use speedy_base::context::Context;
+use speedy_base::error::{
+    Error, ErrorKind, error_expected_constant, error_invalid_str_utf8, error_invalid_string_utf8,
+    error_out_of_range_length,
+};
 use std::borrow::{CowSlice, CowStr};
+use std::convert::AsSlice;
 
 /// The text whose UTF-8 the bytes are, without a copy, or a refusal with `InvalidUtf8`.
 #[inline]
@@ -44,4 +54,197 @@ pub(crate) fn bytes_to_str<E: From<Error>>(bytes: &[u8]) -> Result<&str, E>
         Ok(shown) => Ok(shown),
         Err(_) => Err(error_invalid_str_utf8()),
     }
+}
+
+/// A length that is a `u32`.
+#[inline]
+pub fn read_length<L: AsSlice<u8> + Drop, C: Context, R: LendingReader<L, C>>(
+    reader: &mut R,
+) -> Result<usize, C::Error>
+    ensures { ReadsUnsigned C.Error.from_gives C.Error.eof 4 result
+        (R.state reader.old) (R.state reader.new) }
+{
+    read_length_u32(reader)
+}
+
+// The greatest length of seven bits.
+const U7_MAX: u8 = 127;
+
+/// A length that is a byte of at most 127. Others are refused as `OutOfRangeLength`.
+#[inline]
+pub fn read_length_u7<L: AsSlice<u8> + Drop, C: Context, R: LendingReader<L, C>>(
+    reader: &mut R,
+) -> Result<usize, C::Error>
+    ensures { let length = length_number 1 127 (R.state reader.old).encoding in
+        Reads C.Error.from_gives C.Error.eof (λ n. n) length result
+        (R.state reader.old) (R.state reader.new) }
+{
+    let length = reader.read_u8()?;
+    if length > U7_MAX {
+        return Err(error_out_of_range_length());
+    }
+    Ok(usize::from(length))
+}
+
+/// A length that is a `u8`.
+#[inline]
+pub fn read_length_u8<L: AsSlice<u8> + Drop, C: Context, R: LendingReader<L, C>>(
+    reader: &mut R,
+) -> Result<usize, C::Error>
+    ensures { ReadsUnsigned C.Error.from_gives C.Error.eof 1 result
+        (R.state reader.old) (R.state reader.new) }
+{
+    Ok(usize::from(reader.read_u8()?))
+}
+
+/// A length that is a `u16`, in the context's order.
+#[inline]
+pub fn read_length_u16<L: AsSlice<u8> + Drop, C: Context, R: LendingReader<L, C>>(
+    reader: &mut R,
+) -> Result<usize, C::Error>
+    ensures { ReadsUnsigned C.Error.from_gives C.Error.eof 2 result
+        (R.state reader.old) (R.state reader.new) }
+{
+    Ok(usize::from(reader.read_u16()?))
+}
+
+/// A length that is a `u32`, in the context's order.
+#[inline]
+pub fn read_length_u32<L: AsSlice<u8> + Drop, C: Context, R: LendingReader<L, C>>(
+    reader: &mut R,
+) -> Result<usize, C::Error>
+    ensures { ReadsUnsigned C.Error.from_gives C.Error.eof 4 result
+        (R.state reader.old) (R.state reader.new) }
+{
+    Ok(reader.read_u32()? as usize)
+}
+
+/// A length that is a `u64`, in the context's order. A `usize` has 64 bits, so that none is past it.
+#[inline]
+pub fn read_length_u64<L: AsSlice<u8> + Drop, C: Context, R: LendingReader<L, C>>(
+    reader: &mut R,
+) -> Result<usize, C::Error>
+    ensures { ReadsUnsigned C.Error.from_gives C.Error.eof 8 result
+        (R.state reader.old) (R.state reader.new) }
+{
+    Ok(reader.read_u64()? as usize)
+}
+
+/// A length that is an integer of variable length. A `usize` has 64 bits, so that none is past it.
+#[inline]
+pub fn read_length_u64_varint<L: AsSlice<u8> + Drop, C: Context, R: LendingReader<L, C>>(
+    reader: &mut R,
+) -> Result<usize, C::Error>
+    ensures { Reads C.Error.from_gives C.Error.eof (λ n. n) (varint (R.state reader.old).encoding) result
+        (R.state reader.old) (R.state reader.new) }
+{
+    Ok(reader.read_u64_varint()? as usize)
+}
+
+/// Takes just these bytes. Others of their number are refused as `ExpectedConstant`, fewer as an end of input.
+///
+/// All of them are read, a piece at a time, before they are refused. No memory is asked for, and of no bytes none is read.
+pub fn read_constant<L: AsSlice<u8> + Drop, C: Context, R: LendingReader<L, C>>(
+    reader: &mut R,
+    constant: &'static [u8],
+) -> Result<(), C::Error>
+    ensures reads { let format = constant_bytes (R.state reader.old).encoding constant.now in
+        Reads C.Error.from_gives C.Error.eof (λ _. constant.now) format result
+        (R.state reader.old) (R.state reader.new) }
+    ensures nothing { constant.now ≡ [] →
+        IsOk result × (R.state reader.new ≡ R.state reader.old) }
+{
+    let mut piece = [0u8; 64];
+    let mut at = 0;
+    let mut same = true;
+    while at < constant.len() {
+        let size = (constant.len() - at).min(piece.len());
+        reader.read_bytes(&mut piece[..size])?;
+        same = are_still_the_same(same, &piece[..size], &constant[at..at + size]);
+        at += size;
+    }
+    if !same {
+        return Err(error_expected_constant(constant));
+    }
+    Ok(())
+}
+
+// Whether these bytes are the same too.
+#[inline]
+fn are_still_the_same(so_far: bool, bytes: &[u8], expected: &[u8]) -> bool
+    ensures { IsTrue result ↔ (IsTrue so_far × (bytes.now ≡ expected.now)) }
+{
+    so_far && *bytes == *expected
+}
+
+/// What a length may be given as: a number that a `usize` holds, or a reference to one.
+pub trait IntoLength {
+    /// The number.
+    ghost number: { Self → ℕ };
+
+    /// The length as a `usize`.
+    fn into_length(self) -> usize
+        ensures { result ≡ number self };
+}
+
+impl IntoLength for usize {
+    ghost number = { λ n. n };
+
+    #[inline]
+    fn into_length(self) -> usize {
+        self
+    }
+}
+
+impl IntoLength for u32 {
+    ghost number = { λ n. n };
+
+    #[inline]
+    fn into_length(self) -> usize {
+        self as usize
+    }
+}
+
+impl IntoLength for u16 {
+    ghost number = { λ n. n };
+
+    #[inline]
+    fn into_length(self) -> usize {
+        usize::from(self)
+    }
+}
+
+impl IntoLength for u8 {
+    ghost number = { λ n. n };
+
+    #[inline]
+    fn into_length(self) -> usize {
+        usize::from(self)
+    }
+}
+
+impl<'a, T: IntoLength + Copy> IntoLength for &'a T {
+    ghost number = { λ r. T.number r.now };
+
+    #[inline]
+    fn into_length(self) -> usize {
+        (*self).into_length()
+    }
+}
+
+impl<'a, T: IntoLength + Copy> IntoLength for &'a mut T {
+    ghost number = { λ r. T.number r.now };
+
+    #[inline]
+    fn into_length(self) -> usize {
+        (*self).into_length()
+    }
+}
+
+/// Whether both lengths are equal.
+#[inline]
+pub fn are_lengths_the_same<T: IntoLength>(lhs: usize, rhs: T) -> bool
+    ensures { IsTrue result ↔ (lhs ≡ T.number rhs) }
+{
+    lhs == rhs.into_length()
 }

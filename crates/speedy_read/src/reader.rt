@@ -1,6 +1,7 @@
 //! What every reader does.
-ghost use Rattle.std.specs.Prelude.{◌≡◌, ℕ, ◌<◌, ◌≤◌, ◌*◌, ◌-◌, ◌^◌, ◌⊎◌, ◌↔◌, IsTrue, slice_index, length, length as count, map, Bool, Option, Some, false, IsOk, IsErrAnd};
+ghost use Rattle.std.specs.Prelude.{◌≡◌, ℕ, ◌<◌, ◌≤◌, ◌*◌, ◌-◌, ◌^◌, ◌⊎◌, ◌↔◌, IsTrue, slice_index, List, length, length as count, map, Bool, Option, Some, false, IsOk, IsErrAnd};
 ghost use Rattle.std.specs.Borrow.{sem, Lends};
+ghost use Rattle.std.specs.Global.{Vec};
 ghost use Rattle.std.specs.Io.BufRead.{Rests};
 ghost use Rattle.std.specs.Int.{w8, w16, w32, w64, w128};
 ghost use Rattle.std.specs.String.{string_bytes};
@@ -10,7 +11,8 @@ ghost use Rattle.speedy_layout.specs.Numbers.{unsigned_number};
 ghost use Rattle.speedy_layout.specs.Lists.{vector};
 ghost use Rattle.speedy_layout.specs.Varint.{varint};
 ghost use Rattle.speedy_read.specs.Collections.{gatherer, Collects};
-ghost use Rattle.speedy_read.specs.Reading.{ReaderState, Reads, ReadsUnsigned, ReadsSigned, Peeks, IsRight, LendsBytes, LendsAll, LendsUntilUsed};
+ghost use Rattle.speedy_read.specs.UntilEnd.{ReadsUntilEnd};
+ghost use Rattle.speedy_read.specs.Reading.{ReaderState, Reads, ReadsUnsigned, ReadsSigned, Peeks, PeeksUnsigned, PeeksSigned, IsRight, LendsBytes, LendsAll, LendsUntilUsed};
 
 use crate::collections::FromItems;
 use crate::lent::Nothing;
@@ -18,6 +20,7 @@ use crate::many::FromLent;
 use crate::owned_reader::OwnedReader;
 use crate::private::vec_to_string;
 use crate::readable::{ReadFrom, ReadMany};
+use crate::until_end::gather_until_end;
 use speedy_base::context::Context;
 use speedy_base::endianness::Endianness;
 use speedy_base::error::{ErrorKind, error_end_of_input, error_not_written_form};
@@ -235,6 +238,95 @@ pub trait LendingReader<L: AsSlice<u8> + Drop, C: Context> {
         Ok(byte_of(&bytes))
     }
 
+    /// The next 2 bytes as a number in the context's order, which are not taken.
+    #[inline]
+    final fn peek_u16(&mut self) -> Result<u16, C::Error>
+        ensures { PeeksUnsigned C.Error.from_gives C.Error.eof 2 result
+            (state self.old) (state self.new) }
+    {
+        let mut ahead = [0u8; 2];
+        self.peek_bytes(&mut ahead)?;
+        Ok(self.endianness().read_u16(&ahead))
+    }
+
+    /// The next 4 bytes as a number in the context's order, which are not taken.
+    #[inline]
+    final fn peek_u32(&mut self) -> Result<u32, C::Error>
+        ensures { PeeksUnsigned C.Error.from_gives C.Error.eof 4 result
+            (state self.old) (state self.new) }
+    {
+        let mut ahead = [0u8; 4];
+        self.peek_bytes(&mut ahead)?;
+        Ok(self.endianness().read_u32(&ahead))
+    }
+
+    /// The next 8 bytes as a number in the context's order, which are not taken.
+    #[inline]
+    final fn peek_u64(&mut self) -> Result<u64, C::Error>
+        ensures { PeeksUnsigned C.Error.from_gives C.Error.eof 8 result
+            (state self.old) (state self.new) }
+    {
+        let mut ahead = [0u8; 8];
+        self.peek_bytes(&mut ahead)?;
+        Ok(self.endianness().read_u64(&ahead))
+    }
+
+    /// The next 16 bytes as a number in the context's order, which are not taken.
+    #[inline]
+    final fn peek_u128(&mut self) -> Result<u128, C::Error>
+        ensures { PeeksUnsigned C.Error.from_gives C.Error.eof 16 result
+            (state self.old) (state self.new) }
+    {
+        let mut ahead = [0u8; 16];
+        self.peek_bytes(&mut ahead)?;
+        Ok(self.endianness().read_u128(&ahead))
+    }
+
+    /// The next byte as a signed number, which is not taken.
+    #[inline]
+    final fn peek_i8(&mut self) -> Result<i8, C::Error>
+        ensures { PeeksSigned C.Error.from_gives C.Error.eof w8 result
+            (state self.old) (state self.new) }
+    {
+        Ok(self.peek_u8()?.cast_signed())
+    }
+
+    /// The next 2 bytes as a signed number in the context's order, which are not taken.
+    #[inline]
+    final fn peek_i16(&mut self) -> Result<i16, C::Error>
+        ensures { PeeksSigned C.Error.from_gives C.Error.eof w16 result
+            (state self.old) (state self.new) }
+    {
+        Ok(self.peek_u16()?.cast_signed())
+    }
+
+    /// The next 4 bytes as a signed number in the context's order, which are not taken.
+    #[inline]
+    final fn peek_i32(&mut self) -> Result<i32, C::Error>
+        ensures { PeeksSigned C.Error.from_gives C.Error.eof w32 result
+            (state self.old) (state self.new) }
+    {
+        Ok(self.peek_u32()?.cast_signed())
+    }
+
+    /// The next 8 bytes as a signed number in the context's order, which are not taken.
+    #[inline]
+    final fn peek_i64(&mut self) -> Result<i64, C::Error>
+        ensures { PeeksSigned C.Error.from_gives C.Error.eof w64 result
+            (state self.old) (state self.new) }
+    {
+        Ok(self.peek_u64()?.cast_signed())
+    }
+
+    /// The next 16 bytes as a signed number in the context's order, which are not taken.
+    #[inline]
+    final fn peek_i128(&mut self) -> Result<i128, C::Error>
+        ensures { PeeksSigned C.Error.from_gives C.Error.eof w128 result
+            (state self.old) (state self.new) }
+    {
+        Ok(self.peek_u128()?.cast_signed())
+    }
+
     /// The next integer of variable length, which is spelled alike in both orders. A longer spelling than
     /// the number needs is read too, unless the context demands the written form.
     #[inline]
@@ -243,6 +335,10 @@ pub trait LendingReader<L: AsSlice<u8> + Drop, C: Context> {
             result (state self.old) (state self.new) }
     {
         let first = self.read_u8()?;
+        // Most numbers are short: no byte follows, and there is no shorter spelling.
+        if first < 128 {
+            return Ok(u64::from(first));
+        }
         let mut bytes = [0u8; 8];
         let rest = &mut bytes[..VarInt64::length_of(first)];
         self.read_bytes(rest)?;
@@ -373,6 +469,56 @@ pub trait LendingReader<L: AsSlice<u8> + Drop, C: Context> {
         <(K, V) as ReadMany<L, C>>::collect_many(self, length)
     }
 
+    /// Values until the bytes end, at most so many.
+    ///
+    /// Values are read until one is refused with an error that says that the input ended (`is_eof`): that is the end, and
+    /// no error. A value cut short at the end is left out; every other refusal is the answer. One value more than are
+    /// allowed is refused as `OutOfRangeLength`. A device whose failed call answers `UnexpectedEof` ends the values too.
+    #[inline]
+    final fn read_vec_until_eof<T: ReadFrom<L, C>>(
+        &mut self,
+        greatest: usize,
+    ) -> Result<Vec<T>, C::Error>
+    where
+        Self: Sized,
+        ensures { let gathers : List T → Vec T → Type 0 = λ items v. v.items ≡ items in
+            ReadsUntilEnd C.Error.from_gives C.Error.eof T.seen gathers
+            (T.format (state self.old).encoding) greatest result (state self.old) (state self.new) }
+    {
+        gather_until_end::<Vec<T>, T, L, C, Self>(self, greatest)
+    }
+
+    /// What [`read_vec_until_eof`](Self::read_vec_until_eof) answers, as a cow or what else they go into, which owns
+    /// them.
+    #[inline]
+    final fn read_cow_until_eof<W: FromLent<L, T>, T: ReadFrom<L, C>>(
+        &mut self,
+        greatest: usize,
+    ) -> Result<W, C::Error>
+    where
+        Self: Sized,
+        ensures { let gathers : List T → W → Type 0 = λ items w. W.shown w ≡ items in
+            ReadsUntilEnd C.Error.from_gives C.Error.eof T.seen gathers
+            (T.format (state self.old).encoding) greatest result (state self.old) (state self.new) }
+    {
+        Ok(W::from_values(self.read_vec_until_eof(greatest)?))
+    }
+
+    /// What the values gather to that [`read_vec_until_eof`](Self::read_vec_until_eof) answers. Those that are read are
+    /// counted, not those that differ.
+    #[inline]
+    final fn read_collection_until_eof<F: FromItems<T>, T: ReadFrom<L, C>>(
+        &mut self,
+        greatest: usize,
+    ) -> Result<F, C::Error>
+    where
+        Self: Sized,
+        ensures { ReadsUntilEnd C.Error.from_gives C.Error.eof T.seen F.gathers
+            (T.format (state self.old).encoding) greatest result (state self.old) (state self.new) }
+    {
+        gather_until_end::<F, T, L, C, Self>(self, greatest)
+    }
+
     /// A text of so many bytes, which are refused with `InvalidUtf8` where they are none.
     #[inline]
     final fn read_string(&mut self, length: usize) -> Result<String, C::Error>
@@ -412,7 +558,7 @@ fn byte_of(bytes: &[u8; 1]) -> u8
 }
 
 // Whether it is known before any is read that fewer bytes are to come than so many items have at least.
-fn ends_before<L: AsSlice<u8> + Drop, C: Context, R: LendingReader<L, C>>(
+pub(crate) fn ends_before<L: AsSlice<u8> + Drop, C: Context, R: LendingReader<L, C>>(
     reader: &R,
     least: usize,
     length: usize,

@@ -1,4 +1,5 @@
 //! How sets are read.
+use crate::many::ItemByItem;
 use crate::readable::{ReadFrom, ReadMany};
 use crate::reader::LendingReader;
 use indexmap::IndexSet;
@@ -23,7 +24,9 @@ impl<L: AsSlice<u8> + Drop, C: Context, T: ReadMany<L, C> + SameKey + Ord> ReadF
 }
 
 impl<L: AsSlice<u8> + Drop, C: Context, T: ReadMany<L, C> + SameKey + Ord> ReadMany<L, C>
-    for BTreeSet<T> {}
+    for BTreeSet<T> {
+    type Strategy = ItemByItem;
+}
 
 impl<
     L: AsSlice<u8> + Drop,
@@ -48,7 +51,9 @@ impl<
     C: Context,
     T: ReadMany<L, C> + SameKey + Hash,
     S: BuildHasher + Default + Drop,
-> ReadMany<L, C> for HashSet<T, S> {}
+> ReadMany<L, C> for HashSet<T, S> {
+    type Strategy = ItemByItem;
+}
 
 impl<
     L: AsSlice<u8> + Drop,
@@ -73,4 +78,6 @@ impl<
     C: Context,
     T: ReadMany<L, C> + SameKey + Hash,
     S: BuildHasher + Default + Drop,
-> ReadMany<L, C> for IndexSet<T, S> {}
+> ReadMany<L, C> for IndexSet<T, S> {
+    type Strategy = ItemByItem;
+}

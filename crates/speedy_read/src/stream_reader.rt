@@ -98,8 +98,24 @@ fn first_ring(alloc: Global, is_buffering: bool) -> Result<CircularBuffer, Alloc
     CircularBuffer::with_capacity(alloc, capacity)
 }
 
-// Pulls until the output is full, and says whether it is.
+// Pulls until the output is full, and says whether it is. One call does as a rule.
+#[inline(always)]
 fn fill_list<S: Source>(source: &mut S, output: &mut [u8]) -> Result<bool, io::Error>
+    ensures { FillsList output.new result (S.source source.old) (S.source source.new) }
+{
+    let first = source.pull(output)?;
+    if first == output.len() {
+        return Ok(true);
+    }
+    if first == 0 {
+        return Ok(false);
+    }
+    fill_rest(source, &mut output[first..])
+}
+
+// The same, by as many calls as it takes.
+#[inline(never)]
+fn fill_rest<S: Source>(source: &mut S, output: &mut [u8]) -> Result<bool, io::Error>
     ensures { FillsList output.new result (S.source source.old) (S.source source.new) }
 {
     let mut filled = 0;
@@ -194,6 +210,22 @@ impl<'s, S: Source, C: Context> StreamReader<'s, S, C> {
         }
     }
 
+    // Reads some bytes straight from the source: nothing is held of it.
+    #[inline(always)]
+    fn read_straight(&mut self, output: &mut [u8]) -> Result<(), C::Error>
+        requires nothing_held { self.old.ring.bytes ≡ [] }
+        requires some { 0 < length output.old }
+        ensures { Reads C.Error.from_gives C.Error.eof (λ _. output.new)
+            (raw_bytes (length output.old)) result
+            (stream_state S.source C.encoding self.old) (stream_state S.source C.encoding self.new) }
+    {
+        match fill_list(self.source, output) {
+            Ok(true) => Ok(()),
+            Ok(false) => Err(error_end_of_stream(self.alloc)),
+            Err(error) => Err(Error::from_io_error(self.alloc, error).into()),
+        }
+    }
+
     // Reads more than the ring holds.
     #[inline(never)]
     fn read_more(&mut self, output: &mut [u8]) -> Result<(), C::Error>
@@ -232,6 +264,9 @@ impl<'s, 'b, C: Context, S: Source> LendingReader<&'b [u8], C> for StreamReader<
         if output.len() <= self.ring.len() {
             self.ring.consume_into(output);
             return Ok(());
+        }
+        if !self.is_buffering && self.ring.is_empty() {
+            return self.read_straight(output);
         }
         self.read_more(output)
     }

@@ -1,24 +1,171 @@
 //! Numbers and bytes of which many are read: a stretch at a time, in bounded steps of room.
-ghost use Rattle.std.specs.Prelude.{◌≡◌, ◌*◌, ◌<◌, ◌≤◌, ◌++◌, ◌∷◌, [], ℕ, List, length, map, replicate, IfOk, OnOk};
+ghost use Rattle.std.specs.Prelude.{◌≡◌, ◌*◌, ◌<◌, ◌≤◌, ◌++◌, ◌∷◌, [], ℕ, List, length, map, replicate, false, not, nat_eq, IfOk, OnOk, MatchResult};
 ghost use Rattle.speedy_base.specs.Digits.{AreBytes};
+ghost use Rattle.speedy_base.specs.Error.{error_of};
 ghost use Rattle.speedy_layout.specs.FixedNumbers.{spelled_in};
+ghost use Rattle.speedy_layout.specs.Flags.{flag};
 ghost use Rattle.speedy_layout.specs.Format.{Each};
 ghost use Rattle.speedy_layout.specs.Lists.{vector};
 ghost use Rattle.speedy_layout.specs.Numbers.{unsigned_number};
 ghost use Rattle.speedy_read.specs.Lending.{many_items};
 ghost use Rattle.speedy_read.specs.Reading.{Reads};
 
-use crate::many::{Many, vec_for};
+use crate::lent::lent_in_range;
+use crate::many::{AsBytes, Fills, FromLent, Many, Places, Strategy, read_each, vec_for};
+use crate::readable::ReadFrom;
 use crate::reader::{EndOfInput, LendingReader};
 use speedy_base::context::Context;
 use speedy_base::endianness::Endianness;
-use speedy_base::error::{error_end_of_input, error_out_of_memory};
-use speedy_layout::fixed_numbers::{FixedNumber, append_each};
+use speedy_base::error::{Error, ErrorKind, error_end_of_input, error_out_of_memory};
+use speedy_layout::fixed_numbers::{FixedNumber, append_each, take_each};
 use std::alloc::{AllocError, Global};
 use std::convert::AsSlice;
 
 /// How much room a vector asks for at a time where nobody says that its items are there, in items.
 const STEP: usize = 1024;
+
+/// Numbers: stretches of digits, or all that the reader lends.
+pub struct Numbers {}
+
+impl<L: AsSlice<u8> + Drop, C: Context, T: FixedNumber + ReadFrom<L, C> + Drop> Strategy<L, C, T>
+    for Numbers {
+    fn read_many_lent<W: FromLent<L, T>, R: LendingReader<L, C>>(
+        reader: &mut R,
+        length: usize,
+    ) -> Result<Many<W, T>, C::Error> {
+        read_numbers::<W, T, L, C, R>(reader, length)
+    }
+
+    fn read_places<P: Places<L, C, T>, R: LendingReader<L, C>>(
+        reader: &mut R,
+    ) -> Option<Result<P, C::Error>> {
+        let mut places = P::begun::<Numbers>();
+        match places.fill::<Numbers, R>(reader) {
+            Ok(()) => Some(Ok(places)),
+            Err(error) => Some(Err(error)),
+        }
+    }
+}
+
+impl<L: AsSlice<u8> + Drop, C: Context, T: FixedNumber + ReadFrom<L, C> + Drop> Fills<L, C, T>
+    for Numbers {
+    #[inline(always)]
+    fn first() -> T {
+        T::zero()
+    }
+
+    fn fill<R: LendingReader<L, C>>(reader: &mut R, places: &mut [T]) -> Result<(), C::Error> {
+        fill_numbers::<T, L, C, R>(reader, places)
+    }
+}
+
+/// Bytes: all that the reader lends, or stretches.
+pub struct Bytes {}
+
+impl<L: AsSlice<u8> + Drop, C: Context> Strategy<L, C, u8> for Bytes {
+    fn read_many_lent<W: FromLent<L, u8>, R: LendingReader<L, C>>(
+        reader: &mut R,
+        length: usize,
+    ) -> Result<Many<W, u8>, C::Error> {
+        match reader.read_bytes_borrowed(length) {
+            Some(Ok(bytes)) => {
+                lent_in_range(&bytes);
+                match W::from_lent::<AsBytes>(bytes, reader.alloc()) {
+                    Some(made) => Ok(Many::Made(made)),
+                    None => Err(error_out_of_memory()),
+                }
+            }
+            Some(Err(error)) => Err(error),
+            None => Ok(Many::Owned(read_chunks::<L, C, R>(reader, length)?)),
+        }
+    }
+
+    fn read_places<P: Places<L, C, u8>, R: LendingReader<L, C>>(
+        reader: &mut R,
+    ) -> Option<Result<P, C::Error>> {
+        let mut places = P::begun::<Bytes>();
+        match places.fill::<Bytes, R>(reader) {
+            Ok(()) => Some(Ok(places)),
+            Err(error) => Some(Err(error)),
+        }
+    }
+}
+
+impl<L: AsSlice<u8> + Drop, C: Context> Fills<L, C, u8> for Bytes {
+    #[inline(always)]
+    fn first() -> u8 {
+        0
+    }
+
+    fn fill<R: LendingReader<L, C>>(reader: &mut R, places: &mut [u8]) -> Result<(), C::Error> {
+        reader.read_bytes(places)?;
+        are_in_range(places);
+        Ok(())
+    }
+}
+
+/// Flags: any byte is one, but where the written form is demanded.
+pub struct Flags {}
+
+impl<L: AsSlice<u8> + Drop, C: Context> Strategy<L, C, bool> for Flags {
+    fn read_many_lent<W: FromLent<L, bool>, R: LendingReader<L, C>>(
+        reader: &mut R,
+        length: usize,
+    ) -> Result<Many<W, bool>, C::Error> {
+        if reader.demands_written_form() {
+            read_each::<W, bool, L, C, R>(reader, length)
+        } else {
+            Ok(Many::Owned(read_flags::<L, C, R>(reader, length)?))
+        }
+    }
+
+    #[inline(always)]
+    fn read_places<P: Places<L, C, bool>, R: LendingReader<L, C>>(
+        _reader: &mut R,
+    ) -> Option<Result<P, C::Error>> {
+        None
+    }
+}
+
+// Reads so many flags, which any bytes are. Those that the reader lends until it is used again are taken at once.
+fn read_flags<L: AsSlice<u8> + Drop, C: Context, R: LendingReader<L, C>>(
+    reader: &mut R,
+    length: usize,
+) -> Result<Vec<bool>, C::Error>
+    requires { (R.state reader.old).encoding.strict ≡ false }
+    ensures { Reads C.Error.from_gives C.Error.eof (λ v. v.items)
+        (vector length (flag (R.state reader.old).encoding)) result
+        (R.state reader.old) (R.state reader.new) }
+{
+    let alloc = reader.alloc();
+    match reader.read_bytes_borrowed_from_reader(length) {
+        Some(Ok(bytes)) => flags_of(alloc, bytes),
+        Some(Err(EndOfInput {})) => Err(error_end_of_input()),
+        None => {
+            let bytes = read_chunks::<L, C, R>(reader, length)?;
+            flags_of(alloc, &bytes)
+        }
+    }
+}
+
+// The flags that these bytes are.
+fn flags_of<E: From<Error>>(alloc: Global, bytes: &[u8]) -> Result<Vec<bool>, E>
+    ensures flags { MatchResult result (λ v. v.items ≡ map (λ n. not (nat_eq n 0)) bytes.now)
+        (E.from_gives (error_of ErrorKind.OutOfMemory)) }
+    ensures range { AreBytes bytes.now }
+{
+    are_in_range(bytes);
+    match bytes.iter().map(|byte| *byte != 0).collect(alloc) {
+        Ok(flags) => Ok(flags),
+        Err(_) => Err(error_out_of_memory()),
+    }
+}
+
+// What a proof knows of the bytes is their range, which the contents of an output don't show.
+#[inline(always)]
+fn are_in_range(_bytes: &[u8])
+    ensures { AreBytes _bytes.now }
+{}
 
 // Adds an item. Where there is no room for it, as many as are still to read, but no more than a step, get some.
 #[inline]
@@ -28,7 +175,7 @@ where
     ensures { OnOk result (items.new.items ≡ items.old.items ++ item ∷ []) }
 {
     if items.len() == items.capacity() {
-        items.reserve_exact(left.min(STEP))?;
+        items.reserve(left.min(STEP))?;
     }
     match items.push(item) {
         Ok(()) => Ok(()),
@@ -70,6 +217,60 @@ pub(crate) fn read_numbers<
         read_stretches(reader, count, &mut [0; 4096])?
     };
     Ok(Many::Owned(numbers))
+}
+
+// Reads a number into each place. Those that the reader lends until it is used again are taken at once.
+pub(crate) fn fill_numbers<
+    T: FixedNumber + Drop,
+    L: AsSlice<u8> + Drop,
+    C: Context,
+    R: LendingReader<L, C>,
+>(reader: &mut R, places: &mut [T]) -> Result<(), C::Error>
+    ensures { Reads C.Error.from_gives C.Error.eof (λ _. map T.seen places.new)
+        (vector (length places.old) (T.format (R.state reader.old).encoding)) result
+        (R.state reader.old) (R.state reader.new) }
+{
+    let Some(size) = places.len().checked_mul(T::size()) else {
+        return Err(error_end_of_input());
+    };
+    let order = reader.endianness();
+    match reader.read_bytes_borrowed_from_reader(size) {
+        Some(Ok(digits)) => {
+            take_each(places, order, digits);
+            return Ok(());
+        }
+        Some(Err(EndOfInput {})) => return Err(error_end_of_input()),
+        None => {}
+    }
+    if size <= 64 {
+        fill_stretches(reader, places, &mut [0; 64])
+    } else {
+        fill_stretches(reader, places, &mut [0; 4096])
+    }
+}
+
+// Reads a number into each place, as many at a time as the stretch has room for.
+#[inline]
+fn fill_stretches<T: FixedNumber + Drop, L: AsSlice<u8> + Drop, C: Context, R: LendingReader<L, C>>(
+    reader: &mut R,
+    places: &mut [T],
+    stretch: &mut [u8],
+) -> Result<(), C::Error>
+    requires { T.least ≤ length stretch.old }
+    ensures { Reads C.Error.from_gives C.Error.eof (λ _. map T.seen places.new)
+        (vector (length places.old) (T.format (R.state reader.old).encoding)) result
+        (R.state reader.old) (R.state reader.new) }
+{
+    let most = stretch.len() / T::size();
+    let mut at = 0;
+    while at < places.len() {
+        let some = most.min(places.len() - at);
+        let digits = &mut stretch[..some * T::size()];
+        reader.read_bytes(digits)?;
+        take_each(&mut places[at..at + some], reader.endianness(), digits);
+        at += some;
+    }
+    Ok(())
 }
 
 // The numbers that these bytes spell, so many.
@@ -127,7 +328,7 @@ fn append_in_steps<T: FixedNumber + Drop>(
         × Each (spelled_in T.format order) (map T.seen more) digits.now) }
 {
     if numbers.capacity() - numbers.len() < digits.len() / T::size() {
-        numbers.reserve_exact(left.min(STEP))?;
+        numbers.reserve(left.min(STEP))?;
     }
     append_each(numbers, order, digits)
 }
@@ -162,7 +363,7 @@ fn open_stretch(bytes: &mut Vec<u8>, left: usize) -> Result<usize, AllocError>
         × (bytes.new.items ≡ bytes.old.items ++ replicate size 0)) }
 {
     if bytes.len() == bytes.capacity() {
-        bytes.reserve_exact(left.min(STEP))?;
+        bytes.reserve(left.min(STEP))?;
     }
     let size = left.min(bytes.capacity() - bytes.len());
     bytes.resize(bytes.len() + size, 0)?;

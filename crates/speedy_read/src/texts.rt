@@ -3,6 +3,7 @@ ghost use Rattle.std.specs.Prelude.{◌≡◌};
 ghost use Rattle.speedy_layout.specs.Numbers.{unsigned_number};
 ghost use Rattle.speedy_read.specs.Reading.{Reads, RefusesUnsized};
 
+use crate::many::ItemByItem;
 use crate::private::bytes_to_str;
 use crate::readable::{ReadFrom, ReadMany};
 use crate::reader::LendingReader;
@@ -25,7 +26,9 @@ impl<L: AsSlice<u8> + Drop, C: Context> ReadFrom<L, C> for String {
     }
 }
 
-impl<L: AsSlice<u8> + Drop, C: Context> ReadMany<L, C> for String {}
+impl<L: AsSlice<u8> + Drop, C: Context> ReadMany<L, C> for String {
+    type Strategy = ItemByItem;
+}
 
 impl<L: AsSlice<u8> + Drop, C: Context> ReadFrom<L, C> for BoxedStr {
     #[inline]
@@ -40,7 +43,9 @@ impl<L: AsSlice<u8> + Drop, C: Context> ReadFrom<L, C> for BoxedStr {
     }
 }
 
-impl<L: AsSlice<u8> + Drop, C: Context> ReadMany<L, C> for BoxedStr {}
+impl<L: AsSlice<u8> + Drop, C: Context> ReadMany<L, C> for BoxedStr {
+    type Strategy = ItemByItem;
+}
 
 // It points into the bytes that the reader lends.
 impl<'a, C: Context> ReadFrom<&'a [u8], C> for &'a str {
@@ -69,4 +74,6 @@ impl<'a, C: Context> ReadFrom<&'a [u8], C> for &'a str {
     }
 }
 
-impl<'a, C: Context> ReadMany<&'a [u8], C> for &'a str {}
+impl<'a, C: Context> ReadMany<&'a [u8], C> for &'a str {
+    type Strategy = ItemByItem;
+}

@@ -2,6 +2,7 @@
 //! of the others.
 ghost use Rattle.std.specs.Prelude.{◌+◌};
 
+use crate::many::ItemByItem;
 use crate::readable::{ReadFrom, ReadMany};
 use crate::reader::LendingReader;
 use speedy_base::context::Context;
@@ -19,7 +20,9 @@ impl<L: AsSlice<u8> + Drop, C: Context> ReadFrom<L, C> for () {
     }
 }
 
-impl<L: AsSlice<u8> + Drop, C: Context> ReadMany<L, C> for () {}
+impl<L: AsSlice<u8> + Drop, C: Context> ReadMany<L, C> for () {
+    type Strategy = ItemByItem;
+}
 
 impl<L: AsSlice<u8> + Drop, C: Context, T0: ReadFrom<L, C>> ReadFrom<L, C> for (T0,) {
     #[inline]
@@ -34,7 +37,9 @@ impl<L: AsSlice<u8> + Drop, C: Context, T0: ReadFrom<L, C>> ReadFrom<L, C> for (
     }
 }
 
-impl<L: AsSlice<u8> + Drop, C: Context, T0: ReadFrom<L, C>> ReadMany<L, C> for (T0,) {}
+impl<L: AsSlice<u8> + Drop, C: Context, T0: ReadFrom<L, C>> ReadMany<L, C> for (T0,) {
+    type Strategy = ItemByItem;
+}
 
 impl<L: AsSlice<u8> + Drop, C: Context, T0: ReadFrom<L, C>, T1: ReadFrom<L, C>> ReadFrom<L, C>
     for (T0, T1) {
@@ -52,7 +57,9 @@ impl<L: AsSlice<u8> + Drop, C: Context, T0: ReadFrom<L, C>, T1: ReadFrom<L, C>> 
 }
 
 impl<L: AsSlice<u8> + Drop, C: Context, T0: ReadFrom<L, C>, T1: ReadFrom<L, C>> ReadMany<L, C>
-    for (T0, T1) {}
+    for (T0, T1) {
+    type Strategy = ItemByItem;
+}
 
 impl<
     L: AsSlice<u8> + Drop,
@@ -79,7 +86,9 @@ impl<
     T0: ReadFrom<L, C>,
     T1: ReadFrom<L, C>,
     T2: ReadFrom<L, C>,
-> ReadMany<L, C> for (T0, T1, T2) {}
+> ReadMany<L, C> for (T0, T1, T2) {
+    type Strategy = ItemByItem;
+}
 
 impl<
     L: AsSlice<u8> + Drop,
@@ -108,7 +117,9 @@ impl<
     T1: ReadFrom<L, C>,
     T2: ReadFrom<L, C>,
     T3: ReadFrom<L, C>,
-> ReadMany<L, C> for (T0, T1, T2, T3) {}
+> ReadMany<L, C> for (T0, T1, T2, T3) {
+    type Strategy = ItemByItem;
+}
 
 impl<
     L: AsSlice<u8> + Drop,
@@ -139,7 +150,9 @@ impl<
     T2: ReadFrom<L, C>,
     T3: ReadFrom<L, C>,
     T4: ReadFrom<L, C>,
-> ReadMany<L, C> for (T0, T1, T2, T3, T4) {}
+> ReadMany<L, C> for (T0, T1, T2, T3, T4) {
+    type Strategy = ItemByItem;
+}
 
 impl<
     L: AsSlice<u8> + Drop,
@@ -172,7 +185,9 @@ impl<
     T3: ReadFrom<L, C>,
     T4: ReadFrom<L, C>,
     T5: ReadFrom<L, C>,
-> ReadMany<L, C> for (T0, T1, T2, T3, T4, T5) {}
+> ReadMany<L, C> for (T0, T1, T2, T3, T4, T5) {
+    type Strategy = ItemByItem;
+}
 
 impl<
     L: AsSlice<u8> + Drop,
@@ -207,7 +222,9 @@ impl<
     T4: ReadFrom<L, C>,
     T5: ReadFrom<L, C>,
     T6: ReadFrom<L, C>,
-> ReadMany<L, C> for (T0, T1, T2, T3, T4, T5, T6) {}
+> ReadMany<L, C> for (T0, T1, T2, T3, T4, T5, T6) {
+    type Strategy = ItemByItem;
+}
 
 impl<
     L: AsSlice<u8> + Drop,
@@ -246,7 +263,9 @@ impl<
     T5: ReadFrom<L, C>,
     T6: ReadFrom<L, C>,
     T7: ReadFrom<L, C>,
-> ReadMany<L, C> for (T0, T1, T2, T3, T4, T5, T6, T7) {}
+> ReadMany<L, C> for (T0, T1, T2, T3, T4, T5, T6, T7) {
+    type Strategy = ItemByItem;
+}
 
 impl<
     L: AsSlice<u8> + Drop,
@@ -287,7 +306,9 @@ impl<
     T6: ReadFrom<L, C>,
     T7: ReadFrom<L, C>,
     T8: ReadFrom<L, C>,
-> ReadMany<L, C> for (T0, T1, T2, T3, T4, T5, T6, T7, T8) {}
+> ReadMany<L, C> for (T0, T1, T2, T3, T4, T5, T6, T7, T8) {
+    type Strategy = ItemByItem;
+}
 
 impl<
     L: AsSlice<u8> + Drop,
@@ -330,7 +351,9 @@ impl<
     T7: ReadFrom<L, C>,
     T8: ReadFrom<L, C>,
     T9: ReadFrom<L, C>,
-> ReadMany<L, C> for (T0, T1, T2, T3, T4, T5, T6, T7, T8, T9) {}
+> ReadMany<L, C> for (T0, T1, T2, T3, T4, T5, T6, T7, T8, T9) {
+    type Strategy = ItemByItem;
+}
 
 impl<
     L: AsSlice<u8> + Drop,
@@ -375,4 +398,6 @@ impl<
     T8: ReadFrom<L, C>,
     T9: ReadFrom<L, C>,
     T10: ReadFrom<L, C>,
-> ReadMany<L, C> for (T0, T1, T2, T3, T4, T5, T6, T7, T8, T9, T10) {}
+> ReadMany<L, C> for (T0, T1, T2, T3, T4, T5, T6, T7, T8, T9, T10) {
+    type Strategy = ItemByItem;
+}

@@ -1,4 +1,5 @@
 //! How integers of variable length are read.
+use crate::many::ItemByItem;
 use crate::readable::{ReadFrom, ReadMany};
 use crate::reader::LendingReader;
 use speedy_base::context::Context;
@@ -17,4 +18,6 @@ impl<L: AsSlice<u8> + Drop, C: Context> ReadFrom<L, C> for VarInt64 {
     }
 }
 
-impl<L: AsSlice<u8> + Drop, C: Context> ReadMany<L, C> for VarInt64 {}
+impl<L: AsSlice<u8> + Drop, C: Context> ReadMany<L, C> for VarInt64 {
+    type Strategy = ItemByItem;
+}

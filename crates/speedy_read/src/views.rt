@@ -7,6 +7,7 @@ ghost use Rattle.speedy_layout.specs.Numbers.{unsigned_number};
 ghost use Rattle.speedy_read.specs.Reading.{Reads, RefusesUnsized};
 
 use crate::lent::lent_in_range;
+use crate::many::ItemByItem;
 use crate::readable::{ReadFrom, ReadMany};
 use crate::reader::LendingReader;
 use speedy_base::context::Context;
@@ -49,7 +50,9 @@ impl<'a, C: Context, T: ZeroCopyable<C>> ReadFrom<&'a [u8], C> for SliceView<'a,
     }
 }
 
-impl<'a, C: Context, T: ZeroCopyable<C>> ReadMany<&'a [u8], C> for SliceView<'a, T> {}
+impl<'a, C: Context, T: ZeroCopyable<C>> ReadMany<&'a [u8], C> for SliceView<'a, T> {
+    type Strategy = ItemByItem;
+}
 
 impl<'a, C: Context, T: ZeroCopyable<C>, const N: usize> ReadFrom<&'a [u8], C>
     for ArrayView<'a, T, N> {
@@ -93,7 +96,9 @@ impl<'a, C: Context, T: ZeroCopyable<C>, const N: usize> ReadFrom<&'a [u8], C>
 }
 
 impl<'a, C: Context, T: ZeroCopyable<C>, const N: usize> ReadMany<&'a [u8], C>
-    for ArrayView<'a, T, N> {}
+    for ArrayView<'a, T, N> {
+    type Strategy = ItemByItem;
+}
 
 // What a proof knows of a context without a lifetime, it is told here for readers that lend for one.
 #[inline]

@@ -1,5 +1,6 @@
 //! Callers that stand on `speedy` alone, with the contracts and the proofs that a user writes.
 pub mod files;
+pub mod headers;
 pub mod memory;
 pub mod own_types;
 pub mod readme;

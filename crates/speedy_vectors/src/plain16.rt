@@ -2,7 +2,7 @@
 ghost use Rattle.std.specs.Prelude.{ℕ};
 ghost use Rattle.speedy.specs.Numbers.{unsigned_number, unsigned_number_laws};
 
-use speedy::{Context, Layout, LendingReader, ReadFrom, ReadMany, Writable, Writer};
+use speedy::{Context, ItemByItem, Layout, LendingReader, ReadFrom, ReadMany, Writable, Writer};
 use std::convert::AsSlice;
 
 /// A number that lies as a `u16` does.
@@ -31,7 +31,9 @@ impl<L: AsSlice<u8> + Drop, C: Context> ReadFrom<L, C> for Plain16 {
     }
 }
 
-impl<L: AsSlice<u8> + Drop, C: Context> ReadMany<L, C> for Plain16 {}
+impl<L: AsSlice<u8> + Drop, C: Context> ReadMany<L, C> for Plain16 {
+    type Strategy = ItemByItem;
+}
 
 impl<C: Context> Writable<C> for Plain16 {
     fn write_to<W: Writer<C>>(&self, writer: &mut W) -> Result<(), C::Error> {

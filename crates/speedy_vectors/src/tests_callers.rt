@@ -1,6 +1,7 @@
 //! What the callers of `CALLING.md` and of the README answer.
+use crate::callers::headers::Header;
 use crate::callers::own_types::{Entry, Labelled, Mark};
-use crate::callers::{memory, readme, streams};
+use crate::callers::{headers, memory, readme, streams};
 use speedy::private::get_error_kind;
 use speedy::readable::BufferReader;
 use speedy::{Endianness, Error, IsEof, LendingReader, LittleEndian, Readable, Reader, Writable};
@@ -140,4 +141,32 @@ fn a_record_points_into_what_it_is_read_from(rt: HostRuntime) {
     assert_refused(&rt, alloc, outcome, "UnexpectedEndOfInput");
     let outcome = <Entry as Readable<LittleEndian>>::read_from_buffer_copying_data(alloc, &bytes);
     assert_refused(&rt, alloc, outcome, "Unsized");
+}
+
+#[test]
+fn a_header_is_read_as_it_was_written(rt: HostRuntime) {
+    let alloc = rt.alloc();
+    let header = Header {
+        version: 2,
+        length: 300,
+    };
+    let bytes = Writable::<LittleEndian>::write_to_vec(&header, alloc).expect(&rt, "bytes");
+    assert!(rt; bytes.as_slice() == [b'R', b'E', b'C', b'1', 2, 0, 0x81, 0x2c].as_slice());
+    let again = <Header as Readable<LittleEndian>>::read_from_buffer(alloc, &bytes);
+    assert!(rt; again.expect(&rt, "a header") == header);
+    let other = [b'R', b'E', b'C', b'2', 2, 0, 5];
+    let outcome = <Header as Readable<LittleEndian>>::read_from_buffer(alloc, &other);
+    let kind = "ExpectedConstant { constant: [82, 69, 67, 49] }";
+    assert_refused(&rt, alloc, outcome, kind);
+}
+
+#[test]
+fn a_log_is_read_without_a_record_that_was_cut_short(rt: HostRuntime) {
+    let alloc = rt.alloc();
+    let bytes = [1, 0, 2, 0, 0, 0, b'H', b'i', 2, 0, 5, 0, 0, 0, b'H'];
+    let records = headers::read_log(alloc, &bytes, 9).expect(&rt, "records");
+    assert!(rt; records.len() == 1);
+    assert_message(&rt, &records[0], 1, "Hi");
+    let outcome = headers::read_log(alloc, &bytes, 0);
+    assert_refused(&rt, alloc, outcome, "OutOfRangeLength");
 }

@@ -1,5 +1,7 @@
 pub mod CollectionLemmas
+pub mod CountLemmas
 pub mod FillLemmas
+pub mod GatheringLemmas
 pub mod ListLemmas
 pub mod NonZeroLemmas
 pub mod NumberLemmas

@@ -1,5 +1,5 @@
 -- Writes of bytes make writes of numbers, and these make writes of signed numbers, at each width.
-use Rattle.std.specs.Prelude.{◌≡◌, ℕ, ℤ, ◌^◌, ◌≤◌, List, Result, Err, refl}
+use Rattle.std.specs.Prelude.{◌≡◌, ℕ, ℤ, ◌^◌, ◌≤◌, ◌<◌, List, Bool, Result, Err, refl}
 use Rattle.std.proofs.Common.{subst, sym, ap, ◌∙◌, arith, inr, inl}
 use mir.ValLaws.{to_z-of_z}
 use Rattle.std.specs.Int.{Width, byte_len, cast_unsigned, cast_signed}
@@ -9,9 +9,14 @@ use Rattle.speedy_base.specs.declared.error.Error.{Error}
 use Rattle.speedy_base.specs.declared.endianness.Endianness.{Endianness}
 use Rattle.speedy_base.specs.Digits.{SpellsNumber}
 use Rattle.speedy_base.specs.DigitsLemmas.{SpellsNumber-below}
+use Rattle.speedy_base.specs.Encoding.{Encoding}
 use Rattle.speedy_base.specs.Error.{error_of}
-use Rattle.speedy_layout.specs.Numbers.{unsigned_number, unsigned_number_laws, signed_number}
-use Rattle.speedy_write.specs.Writing.{WriterState, WritesBytes, WritesNumber, WritesSigned}
+use Rattle.speedy_layout.specs.Codes.{coding, subset_is_code, Accepts-exact_means}
+use Rattle.speedy_layout.specs.Format.{Format}
+use Rattle.speedy_layout.specs.Laws.{Laws}
+use Rattle.speedy_layout.specs.Numbers.{unsigned_number, unsigned_number_laws, signed_number, length_number, length_number_laws}
+use Rattle.speedy_write.specs.Codes.{number_code_written}
+use Rattle.speedy_write.specs.Writing.{WriterState, Writes, WritesBytes, WritesNumber, WritesSigned}
 use Rattle.speedy_write.specs.Sequences.{Kept-same, Writes-as, form_written}
 
 module _ {E : Type 0} {gives : Error → E → Type 0} {result : Result (Unit {0}) E} {old new : WriterState} {appended : List ℕ → Type 0} where
@@ -32,15 +37,27 @@ module _ {E : Type 0} {gives : Error → E → Type 0} {result : Result (Unit {0
   pub signed_value_written : {z : ℤ} (w : Width) → FitsSigned w z → WritesSigned gives w (cast_signed w (cast_unsigned w z)) result old new appended → WritesSigned gives w z result old new appended
   signed_value_written {z = z} w range h = subst (λ (y : ℤ). WritesSigned gives w y result old new appended) (to_z-of_z w z range) h
 
--- a number past its width is refused before anything is written
-pub too_long_refused : {E : Type 0} {gives : Error → E → Type 0} {n : ℕ} {e : E} {old : WriterState} {appended : List ℕ → Type 0} → 2 ^ 32 ≤ n → gives (error_of kinds.OutOfRangeLength) e → WritesNumber gives 4 n (Err e) old old appended
+-- a value that no bytes spell is refused before anything is written
+pub unspelled_refused : {E V : Type 0} {gives : Error → E → Type 0} {F : Encoding → Format V} {v : V} {e : E} {old : WriterState} {appended : List ℕ → Type 0} {strict : Bool} {least : ℕ} → Laws strict least (F old.encoding) → ((b : List ℕ) → (F old.encoding).spells v b → ⊥) → gives (error_of kinds.OutOfRangeLength) e → Writes gives F v (Err e) old old appended
+unspelled_refused {v = v} {old = old} laws unspelled given = record {
+  kept = Kept-same old;
+  answer = record {
+    beginning = λ b h. absurd (unspelled b (laws.written_spells v b h));
+    because = inr (record { no_fault = refl; no_fit = λ b h _. unspelled b (laws.written_spells v b h); no_spelling = λ _ b h. unspelled b h; kind = inr (inl given) });
+  };
+}
+
+-- a number past its width is
+pub too_long_refused : {E : Type 0} {gives : Error → E → Type 0} (width : ℕ) {n : ℕ} {e : E} {old : WriterState} {appended : List ℕ → Type 0} → 256 ^ width ≤ n → gives (error_of kinds.OutOfRangeLength) e → WritesNumber gives width n (Err e) old old appended
 unfolding unsigned_number
-too_long_refused {n = n} {old = old} long given =
-    let unspelled : (b : List ℕ) → SpellsNumber 4 old.encoding.order n b → ⊥ = λ b h. let below = SpellsNumber-below 4 old.encoding.order n b h in omega arith in
-    record {
-      kept = Kept-same old;
-      answer = record {
-        beginning = λ b h. absurd (unspelled b h);
-        because = inr (record { no_fault = refl; no_fit = λ b h _. unspelled b h; no_spelling = λ _ b h. unspelled b h; kind = inr (inl given) });
-      };
-    }
+too_long_refused width {n = n} {old = old} long given = unspelled_refused (unsigned_number_laws width old.encoding) (λ b h. let below = SpellsNumber-below width old.encoding.order n b h in omega arith) given
+
+-- a length of at most so many is written as the number is
+pub length_written : {E : Type 0} {gives : Error → E → Type 0} (width greatest : ℕ) {n : ℕ} {result : Result (Unit {0}) E} {old new : WriterState} {appended : List ℕ → Type 0} → n ≤ greatest → WritesNumber gives width n result old new appended → Writes gives (length_number width greatest) n result old new appended
+length_written width greatest within w = number_code_written width (λ encoding. subset_is_code (λ n. n ≤ greatest) kinds.OutOfRangeLength tt (unsigned_number_laws width encoding)) (refl, within) w
+
+-- and a longer one is refused
+pub past_greatest_refused : {E : Type 0} {gives : Error → E → Type 0} (width greatest : ℕ) {n : ℕ} {e : E} {old : WriterState} {appended : List ℕ → Type 0} → greatest < n → gives (error_of kinds.OutOfRangeLength) e → Writes gives (length_number width greatest) n (Err e) old old appended
+unfolding coding
+past_greatest_refused width greatest {old = old} past given =
+    unspelled_refused {F = length_number width greatest} (length_number_laws width greatest old.encoding) (λ b h. let means = Accepts-exact_means old.encoding.strict _ _ _ _ h.stands in let same = means.0 in let within = means.1 in omega arith) given

@@ -57,6 +57,13 @@ put_in_front {old = old} {A = A} {s = s} {q = q} start same h =
     let end : q ≡ length s = let e = h.end_is in omega arith in
     h.after_is ∙ (ap (λ (p : ℕ). take p A ++ (s ++ drop q A)) start ∙ (ap (λ n. s ++ drop n A) end ∙ ap (λ (A : List ℕ). s ++ drop (length s) A) same))
 
+-- what is appended to a list
+pub vec_nothing : (xs : List ℕ) → xs ≡ xs ++ []
+vec_nothing xs = sym (append-nil xs)
+
+pub vec_additive : {ys zs : List ℕ} (xs s t : List ℕ) → ys ≡ xs ++ s → zs ≡ ys ++ t → zs ≡ xs ++ (s ++ t)
+vec_additive xs s t h k = k ∙ (ap (λ (l : List ℕ). l ++ t) h ∙ append_assoc xs s t)
+
 pub size_nothing : (n : ℕ) → SizeAppends n [] n
 size_nothing n = omega arith
 

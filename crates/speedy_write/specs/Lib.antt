@@ -1,9 +1,12 @@
 pub mod Writing
 pub mod WaysOfWriting
 pub mod Collectors
+pub mod Counting
 pub mod CollectorLemmas
 pub mod CollectorModels
+pub mod Gathering
 pub mod Sequences
 pub mod Codes
 pub mod Collections
 pub mod Pushing
+pub mod Lengths

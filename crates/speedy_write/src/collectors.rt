@@ -1,10 +1,10 @@
 //! The writers that the ways of writing need: one into a buffer, one into a sink, and one that only counts.
-ghost use Rattle.std.specs.Prelude.{◌≡◌, ◌-◌, ◌^◌, ◌≤◌, [], ◌∷◌, length, Some, None, IsOk, IfErr, OnErr, nat_le, refl};
+ghost use Rattle.std.specs.Prelude.{◌≡◌, ◌+◌, ◌-◌, ◌^◌, ◌≤◌, [], ◌∷◌, ◌++◌, length, vec_len, vec_capacity, Some, None, IsOk, IfErr, OnErr, IsSome, nat_le, refl};
 ghost use Rattle.speedy_base.specs.FailedCalls.{IsErrorOf, IsOfFailedCall};
-ghost use Rattle.speedy_write.specs.Writing.{WritesBytes, RefusesFull};
+ghost use Rattle.speedy_write.specs.Writing.{WritesBytes, RefusesFull, CountsBytes};
 ghost use Rattle.speedy_write.specs.Pushing.{PushesAll};
 ghost use Rattle.speedy_write.specs.Collectors.{buffer_state, BufferAppends, size_state, SizeAppends, sink_state, Takes};
-ghost use Rattle.speedy_write.specs.CollectorLemmas.{buffer_nothing, buffer_additive, size_nothing, size_additive, sink_nothing, sink_additive};
+ghost use Rattle.speedy_write.specs.CollectorLemmas.{buffer_nothing, buffer_additive, vec_nothing, vec_additive, size_nothing, size_additive, sink_nothing, sink_additive};
 
 use crate::writer::Writer;
 use speedy_base::context::Context;
@@ -110,6 +110,99 @@ impl<'a, C: Context> Writer<C> for BufferCollector<'a, C> {
     }
 }
 
+/// Writes behind the bytes of a vector, into room that it has.
+#[derive(Drop)]
+pub struct VecCollector<'a, C> {
+    context: &'a mut C,
+    bytes: &'a mut Vec<u8>,
+    // How many bytes may still be written.
+    room: usize,
+    ghost has_room: { vec_len bytes.now + room ≤ vec_capacity bytes.now },
+}
+
+impl<'a, C> VecCollector<'a, C> {
+    ghost use Rattle.speedy_write.specs.CollectorModels.{vec_model};
+
+    /// Has so much room ahead.
+    #[inline]
+    pub fn new(context: &'a mut C, bytes: &'a mut Vec<u8>, room: usize) -> VecCollector<'a, C>
+        requires { vec_len bytes.old + room ≤ vec_capacity bytes.old }
+        ensures same_context { (vec_model result).context_name ≡ context.entry.ghost_name }
+        ensures context { (vec_model result).context ≡ context.old }
+        ensures same_bytes { (vec_model result).bytes_name ≡ bytes.entry.ghost_name }
+        ensures bytes { (vec_model result).bytes ≡ bytes.old.items }
+        ensures room { (vec_model result).room ≡ room }
+    {
+        VecCollector {
+            context,
+            bytes,
+            room,
+        }
+    }
+
+    /// Gives the context and the vector back, and says how much room is left.
+    #[inline]
+    pub fn finish(self) -> usize
+        ensures room { result ≡ (vec_model self.entry).room }
+        ensures context { self.exit.0.now ≡ (vec_model self.entry).context }
+        ensures bytes { self.exit.1.0.now.items ≡ (vec_model self.entry).bytes }
+    {
+        self.room
+    }
+}
+
+impl<'a, C: Context> Writer<C> for VecCollector<'a, C> {
+    ghost at = { λ w. w.context.now };
+
+    ghost with_context = { λ w c. record w { context = record w.context { now = c } } };
+
+    ghost state = { λ w. buffer_state (C.encoding w.context.now)
+        (w.context.ghost_name ∷ w.bytes.ghost_name ∷ []) w.room };
+
+    ghost appends = { λ a s b. b.bytes.now.items ≡ a.bytes.now.items ++ s };
+
+    ghost can_write = { λ w n. Some (nat_le n w.room) };
+
+    ghost encoding_at = { λ w. refl };
+
+    ghost state_with = { λ w c. refl };
+
+    ghost nothing = { λ w. vec_nothing w.bytes.now.items };
+
+    ghost additive = { λ a b c s t h k. vec_additive a.bytes.now.items s t h k };
+
+    ghost appends_with = { λ a b s c h. (h, h) };
+
+    #[inline]
+    fn write_bytes(&mut self, slice: &[u8]) -> Result<(), C::Error> {
+        if slice.len() > self.room {
+            return Err(error_end_of_output_buffer());
+        }
+        match self.bytes.extend_from_slice(slice) {
+            Ok(()) => {
+                self.room -= slice.len();
+                Ok(())
+            }
+            Err(_) => unreachable!(),
+        }
+    }
+
+    #[inline(always)]
+    fn context(&self) -> &C {
+        &*self.context
+    }
+
+    #[inline(always)]
+    fn context_mut(&mut self) -> &mut C {
+        &mut *self.context
+    }
+
+    #[inline(always)]
+    fn can_write_at_least(&self, size: usize) -> Option<bool> {
+        Some(size <= self.room)
+    }
+}
+
 /// Pushes to a sink, each piece as it comes. Who wants fewer pushes puts a buffer in front of the sink.
 #[derive(Drop)]
 pub struct WritingCollector<'s, S, C> {
@@ -211,7 +304,11 @@ pub(crate) fn error_of_failed_call<E: From<Error>>(alloc: Global, error: io::Err
 
 // Pushes all the bytes, in as many calls as it takes.
 #[inline]
-fn push_all<S: Sink, E: From<Error>>(alloc: Global, bytes: &[u8], sink: &mut S) -> Result<(), E>
+pub(crate) fn push_all<S: Sink, E: From<Error>>(
+    alloc: Global,
+    bytes: &[u8],
+    sink: &mut S,
+) -> Result<(), E>
     ensures pushes { PushesAll E.from_gives bytes.now result (S.sink sink.old) (S.sink sink.new) }
     ensures nothing { bytes.now ≡ [] → IsOk result × (sink.new ≡ sink.old) }
 {
@@ -285,8 +382,14 @@ impl<'a, C: Context> Writer<C> for SizeCalculatorCollector<'a, C> {
         Ok(())
     }
 
+    /// Adds so many bytes at once.
     #[inline]
-    fn count_bytes(&mut self, size: usize) -> Option<Result<(), C::Error>> {
+    fn count_bytes(&mut self, size: usize) -> Option<Result<(), C::Error>>
+        ensures counts { let writer = ⟦<SizeCalculatorCollector<'a, C> as Writer<C>>⟧ in
+            CountsBytes C.Error.from_gives size result (self.new ≡ self.old)
+            (writer.state self.old) (writer.state self.new) (λ b. writer.appends self.old b self.new) }
+        ensures answers { IsSome result }
+    {
         if size > usize::MAX - self.size {
             return Some(Err(error_out_of_range_length()));
         }

@@ -4,8 +4,10 @@
 pub mod addresses;
 mod collections;
 pub mod collectors;
+mod counting;
 pub mod cows;
 pub mod flags;
+mod gathering;
 pub mod leaves;
 pub mod lists;
 pub mod maps;

@@ -1,7 +1,10 @@
 //! What writing runs beside writers.
 ghost use Rattle.std.specs.Prelude.{◌≡◌, ◌^◌, ◌<◌, ◌≤◌, IsErrAnd};
 ghost use Rattle.speedy_base.specs.Error.{error_of};
-ghost use Rattle.speedy_write.specs.Writing.{WritesNumber, RefusesFull};
+ghost use Rattle.speedy_layout.specs.Numbers.{unsigned_number, length_number};
+ghost use Rattle.speedy_layout.specs.Varint.{varint};
+ghost use Rattle.speedy_write.specs.Lengths.{WritesLength};
+ghost use Rattle.speedy_write.specs.Writing.{Writes, WritesNumber, RefusesFull};
 
 use crate::writer::Writer;
 use speedy_base::context::Context;
@@ -21,4 +24,92 @@ pub fn write_length<C: Context, W: Writer<C>>(length: usize, writer: &mut W) -> 
         Ok(length) => writer.write_u32(length),
         Err(_) => Err(error_out_of_range_length()),
     }
+}
+
+// The greatest lengths of 7, 8 and 16 bits.
+const U7_MAX: usize = 127;
+
+const U8_MAX: usize = 255;
+
+const U16_MAX: usize = 65535;
+
+/// Writes a length as a byte of at most 127. A longer one is refused as `OutOfRangeLength` before anything is written.
+#[inline]
+pub fn write_length_u7<C: Context, W: Writer<C>>(
+    length: usize,
+    writer: &mut W,
+) -> Result<(), C::Error>
+    ensures { WritesLength C.Error.from_gives (length_number 1 127) (2 ^ 7) length result (writer.new ≡ writer.old)
+        (W.state writer.old) (W.state writer.new) (λ b. W.appends writer.old b writer.new) }
+{
+    if length > U7_MAX {
+        return Err(error_out_of_range_length());
+    }
+    writer.write_u8(length as u8)
+}
+
+/// Writes a length as a `u8`. A longer one is refused as `OutOfRangeLength` before anything is written.
+#[inline]
+pub fn write_length_u8<C: Context, W: Writer<C>>(
+    length: usize,
+    writer: &mut W,
+) -> Result<(), C::Error>
+    ensures { WritesLength C.Error.from_gives (unsigned_number 1) (2 ^ 8) length result (writer.new ≡ writer.old)
+        (W.state writer.old) (W.state writer.new) (λ b. W.appends writer.old b writer.new) }
+{
+    if length > U8_MAX {
+        return Err(error_out_of_range_length());
+    }
+    writer.write_u8(length as u8)
+}
+
+/// Writes a length as a `u16`. A longer one is refused as `OutOfRangeLength` before anything is written.
+#[inline]
+pub fn write_length_u16<C: Context, W: Writer<C>>(
+    length: usize,
+    writer: &mut W,
+) -> Result<(), C::Error>
+    ensures { WritesLength C.Error.from_gives (unsigned_number 2) (2 ^ 16) length result (writer.new ≡ writer.old)
+        (W.state writer.old) (W.state writer.new) (λ b. W.appends writer.old b writer.new) }
+{
+    if length > U16_MAX {
+        return Err(error_out_of_range_length());
+    }
+    writer.write_u16(length as u16)
+}
+
+/// Writes a length as a `u32`, as [`write_length`] does.
+#[inline]
+pub fn write_length_u32<C: Context, W: Writer<C>>(
+    length: usize,
+    writer: &mut W,
+) -> Result<(), C::Error>
+    ensures { WritesLength C.Error.from_gives (unsigned_number 4) (2 ^ 32) length result (writer.new ≡ writer.old)
+        (W.state writer.old) (W.state writer.new) (λ b. W.appends writer.old b writer.new) }
+{
+    write_length(length, writer)
+}
+
+/// Writes a length as a `u64`. None is past it.
+#[inline]
+pub fn write_length_u64<C: Context, W: Writer<C>>(
+    length: usize,
+    writer: &mut W,
+) -> Result<(), C::Error>
+    ensures { WritesLength C.Error.from_gives (unsigned_number 8) (2 ^ 64) length result (writer.new ≡ writer.old)
+        (W.state writer.old) (W.state writer.new) (λ b. W.appends writer.old b writer.new) }
+{
+    writer.write_u64(length as u64)
+}
+
+/// Writes a length as an integer of variable length, in as few bytes as hold it. None is past it.
+#[inline]
+pub fn write_length_u64_varint<C: Context, W: Writer<C>>(
+    length: usize,
+    writer: &mut W,
+) -> Result<(), C::Error>
+    ensures { WritesLength C.Error.from_gives varint (2 ^ 64) length result (writer.new ≡ writer.old)
+        (W.state writer.old) (W.state writer.new) (λ b. W.appends writer.old b writer.new) }
+{
+    writer.write_u64_varint(length as u64)
 }

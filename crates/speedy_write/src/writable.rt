@@ -1,19 +1,24 @@
 //! What can be written, and the ways of writing it.
-ghost use Rattle.std.specs.Prelude.{◌≡◌, ◌≤◌, ◌⊎◌, ℕ, List, length, vec_len, IsTrue, MatchResult, IsOk, IfErr, OnOk};
+ghost use Rattle.std.specs.Prelude.{◌≡◌, ◌≤◌, ◌⊎◌, ℕ, List, length, IsTrue, MatchResult, IsOk, IfErr, OnOk};
 ghost use Rattle.std.specs.declared.io.Error.{Error as StdIoError};
 ghost use Rattle.speedy_base.specs.Error.{error_of};
 ghost use Rattle.speedy_base.specs.Encoding.{plain_encoding};
 ghost use Rattle.speedy_base.specs.FailedCalls.{IsErrorOf};
 ghost use Rattle.speedy_write.specs.Writing.{Writes, WritesEach};
-ghost use Rattle.speedy_write.specs.WaysOfWriting.{Needs, Stands, WritesToBuffer, WritesToVec, WritesToStream, WritesAndFlushes, WritesToFile};
+ghost use Rattle.speedy_write.specs.WaysOfWriting.{Needs, IsShortest, Stands, WritesToBuffer, WritesToVec, WritesToStream, WritesAndFlushes, WritesToFile};
 
-use crate::collectors::error_of_failed_call;
+use crate::collectors::{VecCollector, error_of_failed_call};
 pub use crate::collectors::{BufferCollector, SizeCalculatorCollector, WritingCollector};
+use crate::counting::CountingCollector;
+use crate::gathering::GatheringCollector;
 use crate::writer::Writer;
 use speedy_base::context::{Context, PlainContext};
 use speedy_base::device::{Counted, Sink};
 use speedy_base::endianness::Endianness;
-use speedy_base::error::{Error, ErrorKind, error_out_of_memory, error_output_buffer_is_too_small};
+use speedy_base::error::{
+    Error, ErrorKind, error_out_of_memory, error_out_of_range_length,
+    error_output_buffer_is_too_small,
+};
 use speedy_layout::Layout;
 use std::alloc::Global;
 use std::fs;
@@ -45,16 +50,19 @@ pub trait Writable<C: Context>: Layout {
         Ok(())
     }
 
-    /// How many bytes the value needs. A sum past `usize::MAX` is refused as `OutOfRangeLength`.
+    /// How many bytes the value needs. `usize::MAX` bytes and more are refused as `OutOfRangeLength`.
     fn bytes_needed(&self, context: &mut C) -> Result<usize, C::Error>
         ensures encoding { C.encoding context.new ≡ C.encoding context.old }
         ensures needs { let format = Self.format (C.encoding context.old) in
             Needs C.Error.from_gives format (Self.seen self.now) result }
     {
-        let mut counter = SizeCalculatorCollector::new(context);
+        let mut counter = CountingCollector::new(context);
         let outcome = self.write_to(&mut counter);
         let size = counter.finish();
         outcome?;
+        if size == usize::MAX {
+            return Err(error_out_of_range_length());
+        }
         Ok(size)
     }
 
@@ -138,9 +146,7 @@ pub trait Writable<C: Context>: Layout {
             WritesToVec C.Error.from_gives format (Self.seen self.now) (λ vec. vec.items) result }
     {
         let needed = self.bytes_needed(context)?;
-        let mut bytes = zeroed(alloc, needed)?;
-        fill(self, context, bytes.as_mut_slice())?;
-        Ok(bytes)
+        fill_vec(self, alloc, context, needed)
     }
 
     /// Writes the value to a sink, in the little byte order. The sink is not flushed.
@@ -157,8 +163,8 @@ pub trait Writable<C: Context>: Layout {
 
     /// Writes the value to a sink, as the context says. The sink is not flushed.
     ///
-    /// Each part of the value is pushed as it comes. Memory is asked for where a push fails, for its error.
-    #[inline]
+    /// Short parts of the value are gathered, and pushed 256 bytes at a time; longer ones are pushed as they are. Memory
+    /// is asked for where a push fails, for its error.
     final fn write_to_stream_with_ctx<S: Sink>(
         &self,
         alloc: Global,
@@ -169,10 +175,18 @@ pub trait Writable<C: Context>: Layout {
             WritesToStream C.Error.from_gives format (Self.seen self.now) result
             (S.sink sink.old) (S.sink sink.new) }
     {
-        let mut collector = WritingCollector::new(alloc, context, sink);
-        let outcome = self.write_to(&mut collector);
-        collector.into_sink();
-        outcome
+        let mut collector = GatheringCollector::new(alloc, context, sink);
+        match self.write_to(&mut collector) {
+            Ok(()) => {
+                let outcome = collector.push_waiting();
+                collector.into_sink();
+                outcome
+            }
+            Err(error) => {
+                collector.into_sink();
+                Err(error)
+            }
+        }
     }
 
     /// Writes the value to a file, in the little byte order. The file is made or emptied, and flushed at the end.
@@ -270,13 +284,28 @@ fn fill<C: Context, T: Writable<C>>(
     outcome
 }
 
-// So many zeros.
-fn zeroed<E: From<Error>>(alloc: Global, length: usize) -> Result<Vec<u8>, E>
-    ensures { MatchResult result (λ vec. vec_len vec ≡ length)
-        (λ e. E.from_gives (error_of ErrorKind.OutOfMemory) e) }
+// Writes a value to a vector that is requested once, with room for so many bytes, in which the value fits.
+fn fill_vec<C: Context, T: Writable<C>>(
+    value: &T,
+    alloc: Global,
+    context: &mut C,
+    room: usize,
+) -> Result<Vec<u8>, C::Error>
+    requires { let format = T.format (C.encoding context.old) in
+        ((bytes : List ℕ) × format.writes (T.seen value.now) bytes × (length bytes ≤ room)) }
+    ensures encoding { C.encoding context.new ≡ C.encoding context.old }
+    ensures fills { let format = T.format (C.encoding context.old) in
+        MatchResult result (λ vec. IsShortest format (T.seen value.now) vec.items)
+        (C.Error.from_gives (error_of ErrorKind.OutOfMemory)) }
 {
-    match vec![in alloc; 0; length] {
-        Ok(bytes) => Ok(bytes),
-        Err(_) => Err(error_out_of_memory()),
+    let Ok(mut bytes) = Vec::with_capacity(alloc, room) else {
+        return Err(error_out_of_memory());
+    };
+    let mut collector = VecCollector::new(context, &mut bytes, room);
+    let outcome = value.write_to(&mut collector);
+    collector.finish();
+    match outcome {
+        Ok(()) => Ok(bytes),
+        Err(_) => unreachable!(),
     }
 }

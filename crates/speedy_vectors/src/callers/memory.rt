@@ -6,8 +6,8 @@ ghost use Rattle.speedy.specs.WaysOfReading.{Counts};
 
 use speedy::laws::{written_form_alone, written_is_answered, written_items_are_read};
 use speedy::{
-    Buffer, Context, Endianness, Error, Layout, LendingReader, ReadMany, Readable, ReadableOwned,
-    StrictLittleEndian, Writable,
+    Buffer, Context, Endianness, Error, Layout, LendingReader, ReadFrom, ReadMany, Readable,
+    ReadableOwned, StrictLittleEndian, Writable,
 };
 use std::alloc::Global;
 use std::convert::AsSlice;
@@ -54,7 +54,7 @@ pub fn again_owned<T: Writable<Endianness> + ReadableOwned<Endianness>>(
 }
 
 /// Reads a value of any type from bytes that a type names.
-pub fn load<L: Buffer<Endianness>, T: ReadMany<L, Endianness>>(
+pub fn load<L: Buffer<Endianness>, T: ReadFrom<L, Endianness>>(
     alloc: Global,
     order: Endianness,
     bytes: L,

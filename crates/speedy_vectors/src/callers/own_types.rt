@@ -10,7 +10,7 @@ ghost use Rattle.speedy.specs.Tuples.{pair, pair_laws};
 ghost use Rattle.speedy.specs.declared.error.ErrorKind.TheVariants.{InvalidEnumVariant};
 
 use speedy::private::error_invalid_enum_variant;
-use speedy::{Context, Layout, LendingReader, ReadFrom, ReadMany, Writable, Writer};
+use speedy::{Context, ItemByItem, Layout, LendingReader, ReadFrom, ReadMany, Writable, Writer};
 use std::borrow::CowSlice;
 use std::convert::AsSlice;
 
@@ -45,7 +45,9 @@ impl<L: AsSlice<u8> + Drop, C: Context> ReadFrom<L, C> for Mark {
     }
 }
 
-impl<L: AsSlice<u8> + Drop, C: Context> ReadMany<L, C> for Mark {}
+impl<L: AsSlice<u8> + Drop, C: Context> ReadMany<L, C> for Mark {
+    type Strategy = ItemByItem;
+}
 
 impl<C: Context> Writable<C> for Mark {
     fn write_to<W: Writer<C>>(&self, writer: &mut W) -> Result<(), C::Error> {
@@ -84,7 +86,9 @@ impl<L: AsSlice<u8> + Drop, C: Context, T: ReadFrom<L, C>> ReadFrom<L, C> for La
     }
 }
 
-impl<L: AsSlice<u8> + Drop, C: Context, T: ReadFrom<L, C>> ReadMany<L, C> for Labelled<T> {}
+impl<L: AsSlice<u8> + Drop, C: Context, T: ReadFrom<L, C>> ReadMany<L, C> for Labelled<T> {
+    type Strategy = ItemByItem;
+}
 
 impl<C: Context, T: Writable<C>> Writable<C> for Labelled<T> {
     fn write_to<W: Writer<C>>(&self, writer: &mut W) -> Result<(), C::Error> {
@@ -127,4 +131,6 @@ impl<'a, C: Context> ReadFrom<&'a [u8], C> for Entry<'a> {
     }
 }
 
-impl<'a, C: Context> ReadMany<&'a [u8], C> for Entry<'a> {}
+impl<'a, C: Context> ReadMany<&'a [u8], C> for Entry<'a> {
+    type Strategy = ItemByItem;
+}

@@ -1,4 +1,4 @@
-use Rattle.std.proofs.Common.{◌∙◌, ℕ, ap, arith, length, refl, replicate, sym}
+use Rattle.std.proofs.Common.{◌≡◌, ◌∙◌, ◌-◌, ℕ, ap, arith, length, refl, replicate, sym}
 use Rattle.std.proofs.lemmas.List.{length-append, length-replicate}
 use Rattle.speedy_read.specs.ReadingLemmas.{Kept-same, none_so_far}
 use Rattle.speedy_read.proofs.ByteLemmas.{behind, filled_behind, more_bytes, all_bytes, bytes_refused}
@@ -13,10 +13,11 @@ loop-left-preserved g c =
     let bytes = c.loop-left.bytes.items in
     let zeros = replicate c.in-Ok.size 0 in
     let slice = c.as_mut_slice.result.now in
-    let at = sym c.loop-left.invariant.1 in
+    let start = c.args.length - c.loop-left.left in
+    let at : start ≡ length bytes = sym c.loop-left.invariant.1 in
     let room = c.in-Ok.ensures in
-    let sized = c.read_bytes.auto.output ∙ behind bytes zeros slice _ (c.as_mut_slice.ensures.value ∙ room.2) at in
-    let filled = filled_behind bytes zeros c.open_stretch.new.bytes.items slice c.read_bytes.new.output _ _ room.2 c.as_mut_slice.ensures.value at c.as_mut_slice.ensures.len sized in (
+    let sized : length c.read_bytes.new.output ≡ length zeros = c.read_bytes.auto.output ∙ behind bytes zeros slice start (c.as_mut_slice.ensures.value ∙ room.2) at in
+    let filled = filled_behind bytes zeros c.open_stretch.new.bytes.items slice c.read_bytes.new.output start _ room.2 c.as_mut_slice.ensures.value at c.as_mut_slice.ensures.len sized in (
       omega arith,
       ap length filled ∙ (length-append bytes c.read_bytes.new.output ∙ omega (arith, at, sized, length-replicate {A = ℕ} c.in-Ok.size 0, c.loop-left.invariant.0, room.1)),
       more_bytes _ _ _ c.loop-left.invariant.2 c.in_ok-read_bytes.ensures filled,

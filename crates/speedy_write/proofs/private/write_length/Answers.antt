@@ -4,8 +4,8 @@ use Rattle.speedy_write.proofs.private.write_length.Goals as goal
 
 pub returns-in-Err-clause-writes : goal.returns-in-Err-clause-writes
 returns-in-Err-clause-writes g c =
-    let long : 2 ^ 32 ≤ c.args.length = let h = c.in-Err.ensures in omega arith in
-    too_long_refused long c.error_out_of_range_length.ensures
+    let long : 256 ^ 4 ≤ c.args.length = let h = c.in-Err.ensures in omega arith in
+    too_long_refused 4 long c.error_out_of_range_length.ensures
 
 pub returns-in-Ok-clause-writes : goal.returns-in-Ok-clause-writes
 returns-in-Ok-clause-writes g c =

@@ -1,7 +1,11 @@
-use Rattle.std.specs.Int.{w128}
 use Rattle.std.proofs.Common.{arith}
-use Rattle.speedy_base.proofs.Conversions.{SpellsNumber-turned}
+use Rattle.speedy_base.proofs.Conversions.{SpellsNumber-low_first, SpellsNumber-high_first}
 use Rattle.speedy_base.proofs.endianness.Endianness.bytes_of_u128.Goals as goal
 
-pub returns : goal.returns
-returns c = SpellsNumber-turned w128 _ _ _ _ c.swap_u128.ensures (omega arith) c.to_le_bytes.ensures
+pub returns-in-LittleEndian : goal.returns-in-LittleEndian
+returns-in-LittleEndian c =
+    rw c.joined.ensures (SpellsNumber-low_first 8 _ _ _ _ _ _ c.in-LittleEndian.is c.bytes_of_u64-low.ensures c.bytes_of_u64-high.ensures (omega arith))
+
+pub returns-in-BigEndian : goal.returns-in-BigEndian
+returns-in-BigEndian c =
+    rw c.joined-in-BigEndian.ensures (SpellsNumber-high_first 8 _ _ _ _ _ _ c.in-BigEndian.is c.bytes_of_u64-high.ensures c.bytes_of_u64-low.ensures (omega arith))

@@ -1,0 +1,143 @@
+-- What a clean read until the end answers is decided by the bytes.
+use Rattle.std.specs.Prelude.{◌≡◌, ◌≢◌, ℕ, ◌<◌, ◌≤◌, List, [], ◌∷◌, ◌++◌, length, map, Bool, IsTrue, ◌⊎◌, Result, Ok, Err, MatchResult, refl}
+use Rattle.std.proofs.Common.{sym, ◌∙◌, ap, subst, arith, inl, inr}
+use Rattle.std.proofs.lemmas.Bool.{cases_lt}
+use Rattle.std.proofs.lemmas.List.{append_assoc, append-nil, length-append, length-map}
+use Rattle.speedy_base.specs.declared.error.ErrorKind.TheVariants as kinds
+use Rattle.speedy_base.specs.declared.error.Error.{Error}
+use Rattle.speedy_base.specs.Encoding.{Encoding}
+use Rattle.speedy_base.specs.Error.{error_of, IsNamed}
+use Rattle.speedy_layout.specs.Format.{Format, Each}
+use Rattle.speedy_layout.specs.Laws.{Laws}
+use Rattle.speedy_layout.specs.Lists.{each_decodes}
+use Rattle.speedy_read.specs.Reading.{ReaderState}
+use Rattle.speedy_read.specs.UntilEnd.{Begin, UntilEndIsDecided, CleanUntilEnd}
+use Rattle.speedy_read.proofs.ListLemmas.{next_item}
+
+module _ {V : Type 0} {strict : Bool} {least : ℕ} {L : Format V} (laws : Laws strict least L) where
+  -- a front of a longer spelling begins with none
+  no_front_of_front : (v w : V) (front more s rest : List ℕ) → L.spells v (front ++ more) → more ≢ [] → front ≡ s ++ rest → L.spells w s → ⊥
+  no_front_of_front v w front [] s rest h some is k = some refl
+  no_front_of_front v w front (x ∷ more) s rest h some is k =
+      let all : List ℕ = x ∷ more in
+      let joined : s ++ (rest ++ all) ≡ (front ++ all) ++ [] = sym (append_assoc s rest all) ∙ (ap (λ b. b ++ all) (sym is) ∙ sym (append-nil (front ++ all))) in
+      let same = laws.decodes w v s (front ++ all) (rest ++ all) [] k h joined in
+      let a = ap length same.1 ∙ length-append front all in
+      let b = ap length is ∙ length-append s rest in
+      omega arith
+
+  module _ {old : ReaderState} (vs : List V) (bytes tail : List ℕ) (are : Each L.spells vs bytes) (whole_is : old.to_come ≡ bytes ++ tail) where
+    -- where fewer values stand in front, one more stands behind them
+    fewer_in_front : (us : List V) (b : Begin L us old) → IsTrue old.fixed.tells → length us < length vs → (w : V) × (front rest : List ℕ) × (b.rest ≡ front ++ rest) × L.spells w front
+    fewer_in_front us b told l = next_item laws us vs b.front bytes b.rest tail l b.front_is are (sym (b.stands told) ∙ whole_is)
+
+    -- where more do, one stands in the tail
+    more_in_front : (us : List V) (b : Begin L us old) → IsTrue old.fixed.tells → length vs < length us → (w : V) × (front rest : List ℕ) × (tail ≡ front ++ rest) × L.spells w front
+    more_in_front us b told l = next_item laws vs us bytes b.front tail b.rest l are b.front_is (sym whole_is ∙ b.stands told)
+
+    as_many : (us : List V) (b : Begin L us old) → IsTrue old.fixed.tells → length us ≡ length vs → (us ≡ vs) × (b.rest ≡ tail)
+    as_many us b told l = let same = each_decodes laws us vs b.front bytes b.rest tail l b.front_is are (sym (b.stands told) ∙ whole_is) in (same.0, same.2)
+
+  module _ {E T F : Type 0} {gives : Error → E → Type 0} {eof : E → Bool} {seen : T → V} {gathers : List T → F → Type 0} {greatest : ℕ} {old new : ReaderState} (vs : List V) (bytes tail : List ℕ) (are : Each L.spells vs bytes) (whole_is : old.to_come ≡ bytes ++ tail) where
+    pub cut_is_read : (v : V) (more : List ℕ) {result : Result F E} → L.spells v (tail ++ more) → more ≢ [] → length vs ≤ greatest → CleanUntilEnd gives eof seen gathers L greatest result old new
+        → MatchResult result (λ whole. (items : List T) × (map seen items ≡ vs) × gathers items whole) (gives (error_of kinds.OutOfMemory))
+    cut_is_read v more {result = Ok whole} spelled some within c =
+        let got = c.read.answer in
+        let us = map seen got.items in
+        elim got.ended [
+          | inr x ↦ absurd (c.clean x.2.0)
+          | inl x ↦
+              let ends = x.1 c.told in
+              elim (cases_lt (length us) (length vs)) [
+                | inl l ↦ (let w = fewer_in_front vs bytes tail are whole_is us got.begin c.told.tells l in absurd (ends.no_front w.0 w.1 w.2 w.3 w.4))
+                | inr l ↦ elim (cases_lt (length vs) (length us)) [
+                  | inl m ↦ (let w = more_in_front vs bytes tail are whole_is us got.begin c.told.tells m in absurd (no_front_of_front v w.0 tail more w.1 w.2 spelled some w.3 w.4))
+                  | inr m ↦ (got.items, (as_many vs bytes tail are whole_is us got.begin c.told.tells (omega arith)).0, got.gathered)
+                ]
+              ]
+        ]
+    cut_is_read v more {result = Err e} spelled some within c =
+        elim c.read.answer [
+          | inl x ↦ elim x [ inl y ↦ y.0 | inr y ↦ absurd (c.clean y.0) ]
+          | inr x ↦ elim x [
+            | inl y ↦
+                let l = length-map y.items seen in
+                let w = more_in_front vs bytes tail are whole_is (map seen y.items) y.begin c.told.tells (let m = y.more in omega arith) in
+                absurd (no_front_of_front v w.0 tail more w.1 w.2 spelled some w.3 w.4)
+            | inr y ↦
+                let us = map seen y.items in
+                let un = y.because c.told in
+                elim (cases_lt (length us) (length vs)) [
+                  | inl l ↦ (let w = fewer_in_front vs bytes tail are whole_is us y.begin c.told.tells l in absurd (un.no_front w.0 w.1 w.2 w.3 w.4))
+                  | inr l ↦ elim (cases_lt (length vs) (length us)) [
+                    | inl m ↦ (let w = more_in_front vs bytes tail are whole_is us y.begin c.told.tells m in absurd (no_front_of_front v w.0 tail more w.1 w.2 spelled some w.3 w.4))
+                    | inr m ↦
+                        let rest_is = (as_many vs bytes tail are whole_is us y.begin c.told.tells (omega arith)).1 in
+                        let ends = un.too_short v more (subst (λ (b : List ℕ). L.spells v (b ++ more)) (sym rest_is) spelled) in
+                        let no_end = y.no_end in
+                        absurd (cc)
+                  ]
+                ]
+          ]
+        ]
+
+    pub too_many_refused : {result : Result F E} → greatest < length vs → CleanUntilEnd gives eof seen gathers L greatest result old new
+        → MatchResult result (λ _. ⊥) (λ e. gives (error_of kinds.OutOfRangeLength) e ⊎ gives (error_of kinds.OutOfMemory) e)
+    too_many_refused {result = Ok whole} past c =
+        let got = c.read.answer in
+        let l = length-map got.items seen in
+        elim got.ended [
+          | inr x ↦ c.clean x.2.0
+          | inl x ↦
+              let ends = x.1 c.told in
+              let w = fewer_in_front vs bytes tail are whole_is (map seen got.items) got.begin c.told.tells (let m = got.at_most in omega arith) in
+              ends.no_front w.0 w.1 w.2 w.3 w.4
+        ]
+    too_many_refused {result = Err e} past c =
+        elim c.read.answer [
+          | inl x ↦ elim x [ inl y ↦ inr y.0 | inr y ↦ absurd (c.clean y.0) ]
+          | inr x ↦ elim x [
+            | inl y ↦ inl y.kind
+            | inr y ↦
+                let l = length-map y.items seen in
+                let un = y.because c.told in
+                let w = fewer_in_front vs bytes tail are whole_is (map seen y.items) y.begin c.told.tells (let m = y.at_most in omega arith) in
+                absurd (un.no_front w.0 w.1 w.2 w.3 w.4)
+          ]
+        ]
+
+    pub fault_refused : {result : Result F E} → L.malformed tail → length vs ≤ greatest → CleanUntilEnd gives eof seen gathers L greatest result old new
+        → MatchResult result (λ _. ⊥) (λ e. IsNamed gives L.names e ⊎ gives (error_of kinds.OutOfMemory) e)
+    fault_refused {result = Ok whole} bad within c =
+        let got = c.read.answer in
+        let us = map seen got.items in
+        elim got.ended [
+          | inr x ↦ c.clean x.2.0
+          | inl x ↦
+              let ends = x.1 c.told in
+              elim (cases_lt (length us) (length vs)) [
+                | inl l ↦ (let w = fewer_in_front vs bytes tail are whole_is us got.begin c.told.tells l in ends.no_front w.0 w.1 w.2 w.3 w.4)
+                | inr l ↦ elim (cases_lt (length vs) (length us)) [
+                  | inl m ↦ (let w = more_in_front vs bytes tail are whole_is us got.begin c.told.tells m in laws.malformed_unspelled w.0 w.1 w.2 (subst L.malformed w.3 bad) w.4)
+                  | inr m ↦ ends.not_malformed (subst L.malformed (sym (as_many vs bytes tail are whole_is us got.begin c.told.tells (omega arith)).1) bad)
+                ]
+              ]
+        ]
+    fault_refused {result = Err e} bad within c =
+        elim c.read.answer [
+          | inl x ↦ elim x [ inl y ↦ inr y.0 | inr y ↦ absurd (c.clean y.0) ]
+          | inr x ↦ elim x [
+            | inl y ↦
+                let l = length-map y.items seen in
+                let w = more_in_front vs bytes tail are whole_is (map seen y.items) y.begin c.told.tells (let m = y.more in omega arith) in
+                absurd (laws.malformed_unspelled w.0 w.1 w.2 (subst L.malformed w.3 bad) w.4)
+            | inr y ↦ inl y.kind
+          ]
+        ]
+
+pub until_end_is_decided : {E T F V : Type 0} (gives : Error → E → Type 0) (eof : E → Bool) (seen : T → V) (gathers : List T → F → Type 0) (least : ℕ) (format : Encoding → Format V) → ((encoding : Encoding) → Laws encoding.strict least (format encoding)) → UntilEndIsDecided gives eof seen gathers format
+until_end_is_decided gives eof seen gathers least format laws = record {
+  cut = λ {encoding} vs v bytes front more are spelled some within is c. cut_is_read (laws encoding) vs bytes front are is v more spelled some within c;
+  too_many = λ {encoding} vs bytes rest are past is c. too_many_refused (laws encoding) vs bytes rest are is past c;
+  at_fault = λ {encoding} vs bytes rest are bad within is c. fault_refused (laws encoding) vs bytes rest are is bad within c;
+}

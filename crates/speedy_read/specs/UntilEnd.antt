@@ -1,0 +1,113 @@
+-- Reads of items until the bytes end.
+use Rattle.std.specs.Prelude.{◌≡◌, ◌≢◌, ℕ, ◌+◌, ◌≤◌, ◌<◌, List, [], ◌++◌, length, map, Bool, true, false, IsTrue, ◌⊎◌, Option, MatchOption, Result, Err, Ok, IfOk, MatchResult}
+use Rattle.std.proofs.Common.{sym, ◌∙◌, subst}
+use Rattle.speedy_base.specs.declared.error.ErrorKind.TheVariants as kinds
+use Rattle.speedy_base.specs.declared.error.Error.{Error}
+use Rattle.speedy_base.specs.Error.{error_of, IsNamed}
+use Rattle.speedy_base.specs.Encoding.{Encoding}
+use Rattle.speedy_base.specs.FailedCalls.{HasGrown, IsOfFault}
+use Rattle.speedy_layout.specs.Format.{Format, Each}
+use Rattle.speedy_read.specs.Reading.{ReaderState, Kept, Excused, IsTold, Unspelled, Reads}
+
+-- the bytes begin with these values, one after another
+pub record Begin {V : Type 0} (L : Format V) (vs : List V) (old : ReaderState) : Type 0 where
+  pub front : List ℕ
+  pub rest : List ℕ
+  pub front_is : Each L.spells vs front
+  pub stands : IsTrue old.fixed.tells → old.to_come ≡ front ++ rest
+
+-- at the front of the bytes stands no value, and nothing that the type refuses
+pub record EndsBefore {V : Type 0} (L : Format V) (bytes : List ℕ) : Type 0 where
+  pub no_front : (v : V) (front rest : List ℕ) → bytes ≡ front ++ rest → L.spells v front → ⊥
+  pub not_malformed : L.malformed bytes → ⊥
+
+module _ {E : Type 0} (gives : Error → E → Type 0) (eof : E → Bool) where
+  -- no call of the device failed, and the bytes end before an item more; or a failed call stands for an end
+  abbrev pub Ended : {V : Type 0} → Format V → List ℕ → ReaderState → ReaderState → Type 0
+  Ended L rest old new =
+      ((new.faults ≡ old.faults) × (IsTold L old → EndsBefore L rest))
+      ⊎ ((e : E) × IsTrue (eof e) × IsOfFault gives old.fixed.tells_faults e old.faults new.faults)
+
+  module _ {T V : Type 0} (seen : T → V) (L : Format V) (greatest : ℕ) where
+    -- one item more than are allowed stands there
+    pub record TooMany (e : E) (old new : ReaderState) : Type 0 where
+      pub items : List T
+      pub more : length items ≡ greatest + 1
+      pub begin : Begin L (map seen items) old
+      pub no_fault : new.faults ≡ old.faults
+      pub kind : gives (error_of kinds.OutOfRangeLength) e
+
+    -- behind at most so many items stand bytes that are refused, and no end
+    pub record ItemRefused (e : E) (old new : ReaderState) : Type 0 where
+      pub items : List T
+      pub at_most : length items ≤ greatest
+      pub begin : Begin L (map seen items) old
+      pub no_fault : new.faults ≡ old.faults
+      pub no_end : eof e ≡ false
+      pub kind : IsNamed gives L.names e
+      pub because : IsTold L old → Unspelled gives eof L e begin.rest
+
+    -- why it is refused: want of memory, a failed call of the device that stands for no end, an item too many, or one
+    -- that is at fault
+    abbrev pub RefusesUntilEnd : E → ReaderState → ReaderState → Type 0
+    RefusesUntilEnd e old new = Excused gives true e old new ⊎ (TooMany e old new ⊎ ItemRefused e old new)
+
+  module _ {T F V : Type 0} (seen : T → V) (gathers : List T → F → Type 0) (L : Format V) (greatest : ℕ) where
+    -- at most so many items at the front of the bytes, one after another, and what they gather to
+    pub record GotUntilEnd (whole : F) (old new : ReaderState) : Type 0 where
+      pub items : List T
+      pub at_most : length items ≤ greatest
+      pub gathered : gathers items whole
+      pub begin : Begin L (map seen items) old
+      pub ended : Ended L begin.rest old new
+      -- nothing in front of the rest is still to come
+      pub taken : IsTrue old.fixed.tells → (lost : List ℕ) × (begin.rest ≡ lost ++ new.to_come)
+
+    -- A read of items until the bytes end, of at most so many. What is answered is gathered of all items in front of the
+    -- end.
+    pub record ReadsUntilEnd (result : Result F E) (old new : ReaderState) : Type 0 where
+      pub kept : Kept old new
+      pub answer : MatchResult result (λ whole. GotUntilEnd whole old new) (λ e. RefusesUntilEnd seen L greatest e old new)
+
+  -- A read of a value, or nothing where the bytes end before it.
+  abbrev pub ReadsUnlessEnd : {A V : Type 0} → (A → V) → Format V → Result (Option A) E → ReaderState → ReaderState → Type 0
+  ReadsUnlessEnd {A = A} seen L result old new =
+      MatchResult result
+      (λ next. MatchOption next
+      ((e : E) × IsTrue (eof e) × (let refused : Result A E = Err e in Reads gives eof seen L refused old new))
+      (λ x. let read : Result A E = Ok x in Reads gives eof seen L read old new))
+      (λ e. (eof e ≡ false) × (let refused : Result A E = Err e in Reads gives eof seen L refused old new))
+
+  module _ {T F V : Type 0} (seen : T → V) (gathers : List T → F → Type 0) (L : Format V) where
+    -- a read until the end, in which no call of the device failed, from a reader that tells its bytes
+    pub record CleanUntilEnd (greatest : ℕ) (result : Result F E) (old new : ReaderState) : Type 0 where
+      pub read : ReadsUntilEnd seen gathers L greatest result old new
+      pub told : IsTold L old
+      pub clean : HasGrown old.faults new.faults → ⊥
+
+  -- What a clean read until the end answers is decided by the bytes. It may want memory in place of any other answer.
+  pub record UntilEndIsDecided {T F V : Type 0} (seen : T → V) (gathers : List T → F → Type 0) (format : Encoding → Format V) : Type 0 where
+    -- at most so many values and then some first bytes of one, or none: the values
+    pub cut : {encoding : Encoding} (vs : List V) (v : V) (bytes front more : List ℕ) {greatest : ℕ} {result : Result F E} {old new : ReaderState}
+        → Each (format encoding).spells vs bytes → (format encoding).spells v (front ++ more) → more ≢ [] → length vs ≤ greatest
+        → old.to_come ≡ bytes ++ front → CleanUntilEnd seen gathers (format encoding) greatest result old new
+        → MatchResult result (λ whole. (items : List T) × (map seen items ≡ vs) × gathers items whole) (gives (error_of kinds.OutOfMemory))
+    -- more values than so many: a refusal
+    pub too_many : {encoding : Encoding} (vs : List V) (bytes rest : List ℕ) {greatest : ℕ} {result : Result F E} {old new : ReaderState}
+        → Each (format encoding).spells vs bytes → greatest < length vs
+        → old.to_come ≡ bytes ++ rest → CleanUntilEnd seen gathers (format encoding) greatest result old new
+        → MatchResult result (λ _. ⊥) (λ e. gives (error_of kinds.OutOfRangeLength) e ⊎ gives (error_of kinds.OutOfMemory) e)
+    -- at most so many values and then what the type refuses: a refusal that it names
+    pub at_fault : {encoding : Encoding} (vs : List V) (bytes rest : List ℕ) {greatest : ℕ} {result : Result F E} {old new : ReaderState}
+        → Each (format encoding).spells vs bytes → (format encoding).malformed rest → length vs ≤ greatest
+        → old.to_come ≡ bytes ++ rest → CleanUntilEnd seen gathers (format encoding) greatest result old new
+        → MatchResult result (λ _. ⊥) (λ e. IsNamed gives (format encoding).names e ⊎ gives (error_of kinds.OutOfMemory) e)
+
+-- what is answered stands at the front of bytes in memory
+pub front_until_end : {E T F V : Type 0} {gives : Error → E → Type 0} {eof : E → Bool} {seen : T → V} (shown : F → List T) {L : Format V} {greatest : ℕ} {result : Result F E} {old new : ReaderState} {bytes : List ℕ}
+    → IsTrue old.fixed.tells → old.to_come ≡ bytes → ReadsUntilEnd gives eof seen (λ items whole. shown whole ≡ items) L greatest result old new
+    → IfOk result (λ whole. (front : List ℕ) × (rest : List ℕ) × Each L.spells (map seen (shown whole)) front × (bytes ≡ front ++ rest))
+front_until_end {seen = seen} shown {L = L} {result = Ok whole} tells is r =
+    let got = r.answer in
+    (got.begin.front, got.begin.rest, subst (λ (items : List _). Each L.spells (map seen items) got.begin.front) (sym got.gathered) got.begin.front_is, sym is ∙ got.begin.stands tells)
+front_until_end shown {result = Err e} tells is r = tt

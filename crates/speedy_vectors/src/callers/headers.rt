@@ -1,0 +1,76 @@
+//! A fixed header: a magic number, a version, and a length.
+ghost use Rattle.std.specs.Prelude.{◌≡◌, ◌++◌, ℕ, List, codes, map, IfOk};
+ghost use Rattle.speedy.specs.Encoding.{plain_encoding};
+ghost use Rattle.speedy.specs.Format.{Each};
+ghost use Rattle.speedy.specs.Numbers.{unsigned_number, unsigned_number_laws};
+ghost use Rattle.speedy.specs.Texts.{constant_bytes, constant_bytes_laws};
+ghost use Rattle.speedy.specs.Tuples.{pair, pair_laws};
+ghost use Rattle.speedy.specs.Varint.{varint, varint_laws};
+
+use speedy::private::{read_constant, read_length_u64_varint, write_length_u64_varint};
+use speedy::readable::BufferReader;
+use speedy::{
+    Context, Endianness, Error, ItemByItem, Layout, LendingReader, LittleEndian, ReadFrom,
+    ReadMany, Writable, Writer,
+};
+use std::alloc::Global;
+use std::convert::AsSlice;
+
+/// What a header begins with.
+const MAGIC: &'static [u8] = b"REC1";
+
+/// What stands in front of a body: a magic number, the version of its layout, and the number of its bytes.
+#[derive(Debug, PartialEq, Drop)]
+pub struct Header {
+    pub version: u16,
+    pub length: usize,
+}
+
+impl Layout for Header {
+    ghost Seen = { List ℕ × (ℕ × ℕ) };
+
+    ghost seen = { λ header. (codes "REC1", (header.version, header.length)) };
+
+    ghost format = { λ f. pair (constant_bytes f (codes "REC1")) (pair (unsigned_number 2 f) (varint f)) };
+
+    ghost least = { 7 };
+
+    ghost layout_laws = { λ f. pair_laws (constant_bytes_laws f (codes "REC1"))
+        (pair_laws (unsigned_number_laws 2 f) (varint_laws f)) };
+}
+
+impl<L: AsSlice<u8> + Drop, C: Context> ReadFrom<L, C> for Header {
+    fn read_from<R: LendingReader<L, C>>(reader: &mut R) -> Result<Header, C::Error> {
+        read_constant(reader, MAGIC)?;
+        let version = reader.read_u16()?;
+        let length = read_length_u64_varint(reader)?;
+        Ok(Header { version, length })
+    }
+
+    fn minimum_bytes_needed() -> usize {
+        7
+    }
+}
+
+impl<L: AsSlice<u8> + Drop, C: Context> ReadMany<L, C> for Header {
+    type Strategy = ItemByItem;
+}
+
+impl<C: Context> Writable<C> for Header {
+    fn write_to<W: Writer<C>>(&self, writer: &mut W) -> Result<(), C::Error> {
+        writer.write_bytes(MAGIC)?;
+        writer.write_u16(self.version)?;
+        write_length_u64_varint(self.length, writer)
+    }
+}
+
+/// The records of a log, without a last one that was cut short.
+pub fn read_log(alloc: Global, bytes: &[u8], greatest: usize) -> Result<Vec<(u16, String)>, Error>
+    ensures { let layout = ⟦<(u16, String) as Layout>⟧ in
+        let format = layout.format (plain_encoding Endianness.LittleEndian) in
+        IfOk result (λ records. (front : List ℕ) × (rest : List ℕ)
+        × Each format.spells (map layout.seen records.items) front × (bytes.now ≡ front ++ rest)) }
+{
+    let mut reader = BufferReader::new(alloc, LittleEndian {}, bytes);
+    reader.read_vec_until_eof(greatest)
+}

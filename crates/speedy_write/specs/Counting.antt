@@ -1,0 +1,28 @@
+-- What a writer does that only counts.
+use Rattle.std.specs.Prelude.{◌≡◌, ℕ, ◌+◌, ◌-◌, ◌^◌, ◌≤◌, List, [], ◌++◌, length, min, None, true, false}
+use Rattle.std.specs.Borrow.{GName}
+use Rattle.std.proofs.Common.{arith, length-append}
+use Rattle.speedy_base.specs.declared.error.ErrorKind.TheVariants as kinds
+use Rattle.speedy_base.specs.MemoryDevices.{no_faults}
+use Rattle.speedy_base.specs.Encoding.{Encoding}
+use Rattle.speedy_write.specs.Writing.{WriterState}
+
+-- a collector that counts has no bound
+abbrev pub counting_state : Encoding → List GName → WriterState
+counting_state encoding targets = record {
+  fixed = record { tells = false; tells_faults = true; full = kinds.OutOfRangeLength; targets = targets };
+  encoding = encoding;
+  faults = no_faults;
+  space = None;
+  settled = true;
+}
+
+-- the sum grows by the number of bytes, and stays at `usize::MAX` once it is there
+abbrev pub CountAppends : ℕ → List ℕ → ℕ → Type 0
+CountAppends sum bytes after = after ≡ min (sum + length bytes) (2 ^ 64 - 1)
+
+pub count_nothing : (n : ℕ) → n ≤ 2 ^ 64 - 1 → CountAppends n [] n
+count_nothing n fits = omega arith
+
+pub count_additive : (a b c : ℕ) (s t : List ℕ) → CountAppends a s b → CountAppends b t c → CountAppends a (s ++ t) c
+count_additive a b c s t h k = omega (arith, length-append s t)

@@ -1,0 +1,96 @@
+//! The writer that only counts, for the ways of writing.
+ghost use Rattle.std.specs.Prelude.{◌≡◌, ◌∷◌, [], ◌^◌, ◌-◌, ◌≤◌, None, IsSome, refl};
+ghost use Rattle.speedy_write.specs.Counting.{counting_state, CountAppends, count_nothing, count_additive};
+ghost use Rattle.speedy_write.specs.Writing.{CountsBytes};
+
+use crate::writer::Writer;
+use speedy_base::context::Context;
+
+/// Adds up how many bytes are written, and keeps none of them.
+///
+/// The sum stays at `usize::MAX` once it is there. No write of bytes is refused, so a loop over many values has no way
+/// out in it, and a compiler may add for several of them at once.
+#[derive(Drop)]
+pub struct CountingCollector<'a, C> {
+    context: &'a mut C,
+    size: usize,
+    ghost in_range: { size ≤ 2 ^ 64 - 1 },
+}
+
+impl<'a, C> CountingCollector<'a, C> {
+    ghost use Rattle.speedy_write.specs.CollectorModels.{counting_model};
+
+    /// Starts at zero.
+    #[inline]
+    pub fn new(context: &'a mut C) -> CountingCollector<'a, C>
+        ensures same_context { (counting_model result).context_name ≡ context.entry.ghost_name }
+        ensures context { (counting_model result).context ≡ context.old }
+        ensures size { (counting_model result).size ≡ 0 }
+    {
+        CountingCollector { context, size: 0 }
+    }
+
+    /// Gives the context back, and says how many bytes were counted.
+    #[inline]
+    pub fn finish(self) -> usize
+        ensures context { self.exit.0.now ≡ (counting_model self.entry).context }
+        ensures size { result ≡ (counting_model self.entry).size }
+    {
+        self.size
+    }
+}
+
+impl<'a, C: Context> Writer<C> for CountingCollector<'a, C> {
+    ghost at = { λ w. w.context.now };
+
+    ghost with_context = { λ w c. record w { context = record w.context { now = c } } };
+
+    ghost state = { λ w. counting_state (C.encoding w.context.now) (w.context.ghost_name ∷ []) };
+
+    ghost appends = { λ a s b. CountAppends a.size s b.size };
+
+    ghost can_write = { λ w n. None };
+
+    ghost encoding_at = { λ w. refl };
+
+    ghost state_with = { λ w c. refl };
+
+    ghost nothing = { λ w. count_nothing w.size w.in_range };
+
+    ghost additive = { λ a b c s t h k. count_additive a.size b.size c.size s t h k };
+
+    ghost appends_with = { λ a b s c h. (h, h) };
+
+    #[inline(always)]
+    fn write_bytes(&mut self, slice: &[u8]) -> Result<(), C::Error> {
+        self.size = self.size.saturating_add(slice.len());
+        Ok(())
+    }
+
+    /// Adds so many bytes at once.
+    #[inline(always)]
+    fn count_bytes(&mut self, size: usize) -> Option<Result<(), C::Error>>
+        ensures counts { let writer = ⟦<CountingCollector<'a, C> as Writer<C>>⟧ in
+            CountsBytes C.Error.from_gives size result (self.new ≡ self.old)
+            (writer.state self.old) (writer.state self.new) (λ b. writer.appends self.old b self.new) }
+        ensures answers { IsSome result }
+    {
+        self.size = self.size.saturating_add(size);
+        Some(Ok(()))
+    }
+
+    #[inline(always)]
+    fn context(&self) -> &C {
+        &*self.context
+    }
+
+    #[inline(always)]
+    fn context_mut(&mut self) -> &mut C {
+        &mut *self.context
+    }
+
+    #[inline(always)]
+    fn can_write_at_least(&self, _size: usize) -> Option<bool> {
+        None
+    }
+}

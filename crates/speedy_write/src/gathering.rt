@@ -1,0 +1,199 @@
+//! A writer into a sink that gathers short writes and pushes them together.
+ghost use Rattle.std.specs.Prelude.{◌≡◌, ◌+◌, ◌≤◌, [], ◌++◌, length, None, IsTrue, refl};
+ghost use Rattle.speedy_write.specs.Collectors.{sink_state};
+ghost use Rattle.speedy_write.specs.Writing.{WritesBytes, RefusesFull};
+ghost use Rattle.speedy_write.specs.Gathering.{Gathers, PushesWaiting, gathers_nothing, gathers_additive};
+
+use crate::collectors::{error_of_failed_call, push_all};
+use crate::writer::Writer;
+use speedy_base::context::Context;
+use speedy_base::device::Sink;
+use speedy_base::error::Error;
+use std::alloc::Global;
+
+/// Bytes that wait to be pushed.
+#[derive(Drop)]
+pub struct Waiting {
+    // What waits lies from `start` to `end`.
+    bytes: [u8; 256],
+    start: usize,
+    end: usize,
+    ghost ordered: { start ≤ end },
+    ghost within: { end ≤ length bytes },
+}
+
+impl Waiting {
+    ghost use Rattle.speedy_write.specs.CollectorModels.{waiting};
+
+    // Nothing waits.
+    #[inline]
+    fn none() -> Waiting
+        ensures { waiting result ≡ [] }
+    {
+        Waiting {
+            bytes: [0; 256],
+            start: 0,
+            end: 0,
+        }
+    }
+
+    // Whether so many bytes more have room.
+    #[inline(always)]
+    fn has_room(&self, count: usize) -> bool
+        ensures { IsTrue result → self.now.end + count ≤ length self.now.bytes }
+    {
+        count <= self.bytes.len() - self.end
+    }
+
+    // Has these wait too.
+    #[inline(always)]
+    fn add(&mut self, slice: &[u8])
+        requires { self.old.end + length slice.now ≤ length self.old.bytes }
+        ensures { waiting self.new ≡ waiting self.old ++ slice.now }
+    {
+        let end = self.end + slice.len();
+        self.bytes[self.end..end].copy_from_slice(slice);
+        self.end = end;
+    }
+
+    // Pushes what waits.
+    fn push_to<S: Sink, E: From<Error>>(&mut self, alloc: Global, sink: &mut S) -> Result<(), E>
+        ensures { PushesWaiting E.from_gives result (waiting self.old) (waiting self.new)
+            (S.sink sink.old) (S.sink sink.new) }
+    {
+        while self.start < self.end {
+            match sink.push(&self.bytes[self.start..self.end]) {
+                Ok(count) => self.start += count,
+                Err(error) => return Err(error_of_failed_call(alloc, error)),
+            }
+        }
+        self.start = 0;
+        self.end = 0;
+        Ok(())
+    }
+}
+
+/// Pushes to a sink what is written, short writes together: 256 bytes at a time. What is longer is pushed as it is.
+///
+/// What was written last waits until [`push_waiting`](Self::push_waiting).
+#[derive(Drop)]
+pub struct GatheringCollector<'s, S, C> {
+    alloc: Global,
+    context: C,
+    sink: &'s mut S,
+    waiting: Waiting,
+}
+
+impl<'s, S, C: Drop> GatheringCollector<'s, S, C> {
+    ghost use Rattle.speedy_write.specs.CollectorModels.{gathering_model};
+
+    /// Goes on behind what the sink took. Memory is asked for where a push fails, for its error.
+    #[inline]
+    pub fn new(alloc: Global, context: C, sink: &'s mut S) -> GatheringCollector<'s, S, C>
+        ensures context { (gathering_model result).context ≡ context }
+        ensures same_sink { (gathering_model result).sink_name ≡ sink.entry.ghost_name }
+        ensures sink { (gathering_model result).sink ≡ sink.old }
+        ensures nothing_waits { (gathering_model result).waits ≡ [] }
+    {
+        GatheringCollector {
+            alloc,
+            context,
+            sink,
+            waiting: Waiting::none(),
+        }
+    }
+
+    /// The sink, with all that was pushed.
+    #[inline]
+    pub fn into_sink(self) -> &'s mut S
+        ensures same_sink { result.ghost_name ≡ (gathering_model self.entry).sink_name }
+        ensures sink { result.now ≡ (gathering_model self.entry).sink }
+    {
+        self.sink
+    }
+}
+
+impl<'s, S: Sink, C: Context> GatheringCollector<'s, S, C> {
+    ghost use Rattle.speedy_write.specs.CollectorModels.{gathering_model};
+
+    /// Pushes what waits. The error is that of a push that failed, which is not tried again.
+    #[inline]
+    pub fn push_waiting(&mut self) -> Result<(), C::Error>
+        ensures pushes { PushesWaiting C.Error.from_gives result
+            (gathering_model self.old).waits (gathering_model self.new).waits
+            (S.sink (gathering_model self.old).sink) (S.sink (gathering_model self.new).sink) }
+        ensures same_sink { (gathering_model self.new).sink_name ≡ (gathering_model self.old).sink_name }
+    {
+        self.waiting.push_to(self.alloc, &mut *self.sink)
+    }
+
+    // Writes bytes for which there is no room where others wait.
+    #[inline(never)]
+    fn write_past(&mut self, slice: &[u8]) -> Result<(), C::Error>
+        ensures { let writer = ⟦<GatheringCollector<'s, S, C> as Writer<C>>⟧ in
+            WritesBytes C.Error.from_gives slice.now result (writer.state self.old)
+            (writer.state self.new) (λ b. writer.appends self.old b self.new) }
+    {
+        self.waiting
+            .push_to::<S, C::Error>(self.alloc, &mut *self.sink)?;
+        if self.waiting.has_room(slice.len()) {
+            self.waiting.add(slice);
+            return Ok(());
+        }
+        push_all(self.alloc, slice, &mut *self.sink)
+    }
+}
+
+impl<'s, S: Sink, C: Context> Writer<C> for GatheringCollector<'s, S, C> {
+    ghost use Rattle.speedy_write.specs.CollectorModels.{gathering_model, waiting};
+
+    ghost at = { λ w. w.context };
+
+    ghost with_context = { λ w c. record w { context = c } };
+
+    ghost state = { λ w. sink_state (C.encoding w.context) w.sink.ghost_name (S.sink w.sink.now) };
+
+    ghost appends = { λ a s b. Gathers (S.sink a.sink.now) (waiting a.waiting) s (S.sink b.sink.now) (waiting b.waiting) };
+
+    ghost can_write = { λ w n. None };
+
+    ghost encoding_at = { λ w. refl };
+
+    ghost state_with = { λ w c. refl };
+
+    ghost nothing = { λ w. gathers_nothing (S.sink w.sink.now) (waiting w.waiting) };
+
+    ghost additive = { λ a b c s t h k. gathers_additive h k };
+
+    ghost appends_with = { λ a b s c h. (h, h) };
+
+    #[inline(always)]
+    fn write_bytes(&mut self, slice: &[u8]) -> Result<(), C::Error>
+        ensures writes { let writer = ⟦<GatheringCollector<'s, S, C> as Writer<C>>⟧ in
+            WritesBytes C.Error.from_gives slice.now result (writer.state self.old)
+            (writer.state self.new) (λ b. writer.appends self.old b self.new) }
+        ensures full { let writer = ⟦<GatheringCollector<'s, S, C> as Writer<C>>⟧ in
+            RefusesFull C.Error.from_gives result (writer.state self.old) (writer.state self.new) }
+    {
+        if self.waiting.has_room(slice.len()) {
+            self.waiting.add(slice);
+            return Ok(());
+        }
+        self.write_past(slice)
+    }
+
+    #[inline(always)]
+    fn context(&self) -> &C {
+        &self.context
+    }
+
+    #[inline(always)]
+    fn context_mut(&mut self) -> &mut C {
+        &mut self.context
+    }
+
+    #[inline(always)]
+    fn can_write_at_least(&self, _size: usize) -> Option<bool> {
+        None
+    }
+}
