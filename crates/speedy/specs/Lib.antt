@@ -46,6 +46,7 @@ pub use Rattle.speedy_layout.specs.Zigzag
 pub use Rattle.speedy_read.specs.Buffers
 pub use Rattle.speedy_read.specs.Codes as ReadCodes
 pub use Rattle.speedy_read.specs.Collections as ReadCollections
+pub use Rattle.speedy_read.specs.Counted as ReadCounted
 pub use Rattle.speedy_read.specs.CopyingModel
 pub use Rattle.speedy_read.specs.Flags as ReadFlags
 pub use Rattle.speedy_read.specs.Lending
@@ -63,6 +64,7 @@ pub use Rattle.speedy_write.specs.Collections as WriteCollections
 pub use Rattle.speedy_write.specs.CollectorLemmas
 pub use Rattle.speedy_write.specs.CollectorModels
 pub use Rattle.speedy_write.specs.Collectors
+pub use Rattle.speedy_write.specs.Counted as WriteCounted
 pub use Rattle.speedy_write.specs.Lengths
 pub use Rattle.speedy_write.specs.Pushing
 pub use Rattle.speedy_write.specs.Sequences as WriteSequences

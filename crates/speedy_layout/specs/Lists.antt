@@ -1,5 +1,5 @@
 -- Lists: so many items one after the other, and counted lists.
-use Rattle.std.specs.Prelude.{◌≡◌, ℕ, zero, suc, ◌*◌, ◌≤◌, List, [], ◌∷◌, ◌++◌, length, Bool, true, false, IsTrue, refl}
+use Rattle.std.specs.Prelude.{◌≡◌, ℕ, zero, suc, ◌+◌, ◌*◌, ◌≤◌, List, [], ◌∷◌, ◌++◌, length, Bool, true, false, IsTrue, refl}
 use Rattle.std.proofs.Common.{sym, ◌∙◌, ap, subst, arith}
 use Rattle.std.proofs.lemmas.List.{append_assoc, append-nil, length-append}
 use Rattle.speedy_base.specs.Encoding.{Encoding}
@@ -28,9 +28,13 @@ vector n F = owned_content (repeat n F)
 abbrev pub list_parts : {V : Type 0} → List V → ℕ × List V
 list_parts vs = (length vs, vs)
 
+-- a count, which is spelled as a format of numbers says, and then so many items
+abbrev pub counted_list : {V : Type 0} → Format ℕ → Format V → Format (List V)
+counted_list count F = sequence list_parts count (record F.asks { memory = true }) (λ n. vector n F)
+
 -- README, `{length: u32, values: [T]}`: the number of items in four digits, then the items
 unfoldable pub list : {V : Type 0} → Encoding → Format V → Format (List V)
-list encoding F = sequence list_parts (unsigned_number 4 encoding) (record F.asks { memory = true }) (λ n. vector n F)
+list encoding F = counted_list (unsigned_number 4 encoding) F
 
 -- items after others
 pub each_append : {V : Type 0} (spells : V → List ℕ → Type 0) (vs ws : List V) (s t : List ℕ) → Each spells vs s → Each spells ws t → Each spells (vs ++ ws) (s ++ t)
@@ -149,12 +153,16 @@ pub vector_asks : {V : Type 0} (F : Format V) (n : ℕ) → AsksAtMost (vector n
 unfolding vector owned_content repeat
 vector_asks F n = asks_same
 
+pub counted_list_laws : {V : Type 0} {strict : Bool} {width least : ℕ} {count : Format ℕ} {F : Format V} → Laws strict width count → Laws strict least F
+    → Laws strict width (counted_list count F)
+counted_list_laws {V = V} {width = width} {F = F} count laws =
+    Laws-less {n = width + 0} (omega arith)
+    (sequence_laws {n = width} {m = 0} count (λ n. Laws-less (omega arith) (vector_laws laws n)) (vector_asks F) (λ v w e. ap (λ (p : ℕ × List V). p.1) e))
+
 pub list_laws : {V : Type 0} {least : ℕ} {F : Format V} (encoding : Encoding) → Laws encoding.strict least F
     → Laws encoding.strict 4 (list encoding F)
 unfolding list
-list_laws {V = V} {F = F} encoding laws =
-    sequence_laws {n = 4} {m = 0} (unsigned_number_laws 4 encoding) (λ n. Laws-less (omega arith) (vector_laws laws n)) (vector_asks F)
-    (λ v w e. ap (λ (p : ℕ × List V). p.1) e)
+list_laws encoding laws = counted_list_laws (unsigned_number_laws 4 encoding) laws
 
 -- so many items are spelled
 pub vector_length : {V : Type 0} (n : ℕ) (F : Format V) (vs : List V) (bytes : List ℕ) → (vector n F).spells vs bytes → length vs ≡ n

@@ -1,5 +1,5 @@
 -- Bytes and texts. A text is seen as the bytes of its characters in UTF-8, which determine the characters, and are determined by them.
-use Rattle.std.specs.Prelude.{◌≡◌, ℕ, List, [], ◌∷◌, ◌++◌, length, Bool, true, refl}
+use Rattle.std.specs.Prelude.{◌≡◌, ℕ, ◌+◌, List, [], ◌∷◌, ◌++◌, length, Bool, true, refl}
 use Rattle.std.proofs.Common.{sym, ◌∙◌, ap, arith}
 use Rattle.std.specs.Str.{IsUtf8}
 use Rattle.speedy_base.specs.declared.error.ErrorKind.{ErrorKind}
@@ -40,9 +40,13 @@ text_of_length encoding n = owned_content (subset encoding IsUtf8 kinds.InvalidU
 abbrev pub text_parts : List ℕ → ℕ × List ℕ
 text_parts text = (length text, text)
 
+-- a number of bytes, which is spelled as a format of numbers says, and then a text of so many
+abbrev pub counted_text : Encoding → Format ℕ → Format (List ℕ)
+counted_text encoding count = sequence text_parts count (record asks_nothing { memory = true }) (text_of_length encoding)
+
 -- README, `{length: u32, bytes: [u8]}`: the number of bytes in four digits, then the UTF-8 bytes
 unfoldable pub text : Encoding → Format (List ℕ)
-text encoding = sequence text_parts (unsigned_number 4 encoding) (record asks_nothing { memory = true }) (text_of_length encoding)
+text encoding = counted_text encoding (unsigned_number 4 encoding)
 
 pub raw_bytes_laws : {strict : Bool} (n : ℕ) → Laws strict n (raw_bytes n)
 unfolding raw_bytes
@@ -70,11 +74,14 @@ pub text_asks : (encoding : Encoding) (n : ℕ) → AsksAtMost (text_of_length e
 unfolding text_of_length owned_content coding raw_bytes
 text_asks encoding n = asks_same
 
+pub counted_text_laws : (encoding : Encoding) {width : ℕ} {count : Format ℕ} → Laws encoding.strict width count → Laws encoding.strict width (counted_text encoding count)
+counted_text_laws encoding {width = width} count =
+    Laws-less {n = width + 0} (omega arith)
+    (sequence_laws {n = width} {m = 0} count (λ n. Laws-less (omega arith) (text_of_length_laws encoding n)) (text_asks encoding) (λ v w e. ap (λ (p : ℕ × List ℕ). p.1) e))
+
 pub text_laws : (encoding : Encoding) → Laws encoding.strict 4 (text encoding)
 unfolding text
-text_laws encoding =
-    sequence_laws {n = 4} {m = 0} (unsigned_number_laws 4 encoding) (λ n. Laws-less (omega arith) (text_of_length_laws encoding n)) (text_asks encoding)
-    (λ v w e. ap (λ (p : ℕ × List ℕ). p.1) e)
+text_laws encoding = counted_text_laws encoding (unsigned_number_laws 4 encoding)
 
 -- ---- bytes as numbers
 

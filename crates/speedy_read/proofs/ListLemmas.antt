@@ -8,13 +8,14 @@ use Rattle.speedy_base.specs.Error.{error_of}
 use Rattle.speedy_base.specs.Encoding.{Encoding}
 use Rattle.speedy_layout.specs.Format.{Format, Each}
 use Rattle.speedy_layout.specs.Laws.{Laws}
-use Rattle.speedy_layout.specs.Lists.{each_more, repeat, vector, vector_length, vector_laws, list, list_parts, vector_asks}
+use Rattle.speedy_layout.specs.Lists.{each_more, repeat, vector, vector_laws, list}
 use Rattle.speedy_layout.specs.Owned.{owned_content}
 use Rattle.speedy_layout.specs.Numbers.{unsigned_number}
 use Rattle.speedy_layout.specs.Sequences.{across}
 use Rattle.speedy_read.specs.Reading.{ReaderState, Kept, Reads, IsEnd}
 use Rattle.speedy_read.specs.ReadingLemmas.{fronts_nest, Kept-same, Kept-after, IsTold-after, part_refused, ends_early, ReadSoFar, more_so_far, all_so_far, Reads-passed}
-use Rattle.speedy_read.specs.Sequences.{Composes, sequence_composes}
+use Rattle.speedy_read.specs.Sequences.{Composes}
+use Rattle.speedy_read.specs.Counted.{counted_list_composes}
 use Rattle.speedy_read.proofs.ByteLemmas.{from_ok}
 use Rattle.speedy_read.proofs.OwnedLemmas.{memory_refused}
 
@@ -37,7 +38,7 @@ module _ {V : Type 0} {strict : Bool} {least : ℕ} {L : Format V} (laws : Laws 
   -- a list is read as its length, and then so many items
   pub list_composes : (encoding : Encoding) → Composes (unsigned_number 4 encoding) (λ n. vector n L) (list encoding L) (λ n vs. vs)
   unfolding list
-  list_composes encoding = sequence_composes list_parts (vector_asks L) (λ n vs s h. ap (λ (m : ℕ). let whole : ℕ × List V = (m, vs) in whole) (vector_length n L vs s h))
+  list_composes encoding = counted_list_composes (unsigned_number 4 encoding) L
 
   module _ {E : Type 0} {gives : Error → E → Type 0} {eof : E → Bool} {B : Type 0} {seen' : B → List V} (n : ℕ) {old : ReaderState} where
     -- fewer bytes are to come than so many items have at least

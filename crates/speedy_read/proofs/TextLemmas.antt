@@ -12,20 +12,19 @@ use Rattle.speedy_layout.specs.Numbers.{unsigned_number}
 use Rattle.speedy_layout.specs.Lists.{repeat, vector}
 use Rattle.speedy_layout.specs.Owned.{owned_content}
 use Rattle.speedy_layout.specs.Codes.{coding, subset, Accepts-exact_means}
-use Rattle.speedy_layout.specs.Texts.{raw_bytes, raw_bytes_laws, text_of_length, text, text_parts, text_asks, each_byte, each_byte_is}
+use Rattle.speedy_layout.specs.Texts.{raw_bytes, raw_bytes_laws, text_of_length, text, each_byte, each_byte_is}
 use Rattle.speedy_layout.specs.Utf8.{AreBytes-utf8}
 use Rattle.speedy_layout.specs.Sequences.{asks_same}
 use Rattle.speedy_read.specs.Reading.{ReaderState, Reads}
-use Rattle.speedy_read.specs.Sequences.{Composes, sequence_composes}
+use Rattle.speedy_read.specs.Sequences.{Composes}
+use Rattle.speedy_read.specs.Counted.{counted_text_composes}
 use Rattle.speedy_read.specs.Codes.{Covers, got_covered, exact_code_read, code_means_nothing}
 use Rattle.speedy_read.proofs.OwnedLemmas.{owned_read}
 
 -- a text is read as its length, and then a text of so many bytes
 pub text_composes : (encoding : Encoding) → Composes (unsigned_number 4 encoding) (text_of_length encoding) (text encoding) (λ n t. t)
-unfolding text text_of_length owned_content coding raw_bytes
-text_composes encoding = sequence_composes text_parts (text_asks encoding) (λ n t s h. ap (λ (m : ℕ). let whole : ℕ × List ℕ = (m, t) in whole) (length_is encoding n t s h)) where
-  length_is : (encoding : Encoding) (n : ℕ) (t s : List ℕ) → (text_of_length encoding n).spells t s → length t ≡ n
-  length_is encoding n t s h = let is = Accepts-exact_means encoding.strict _ _ _ _ h.stands in ap length (sym is.0 ∙ h.code_is.0) ∙ h.code_is.1
+unfolding text
+text_composes encoding = counted_text_composes encoding (unsigned_number 4 encoding)
 
 -- a text is read as its bytes
 pub bytes_cover_text : (n : ℕ) (encoding : Encoding) → Covers (vector n (unsigned_number 1 encoding)) (text_of_length encoding n)

@@ -1,6 +1,7 @@
 pub mod Reading
 pub mod ReadingLemmas
 pub mod Sequences
+pub mod Counted
 pub mod Codes
 pub mod Flags
 pub mod Buffers

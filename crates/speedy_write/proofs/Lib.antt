@@ -9,4 +9,3 @@ pub mod OptionLemmas
 pub mod OwnedLemmas
 pub mod PushLemmas
 pub mod StreamLemmas
-pub mod TextLemmas

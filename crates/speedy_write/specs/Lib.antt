@@ -10,3 +10,4 @@ pub mod Codes
 pub mod Collections
 pub mod Pushing
 pub mod Lengths
+pub mod Counted
