@@ -3,7 +3,7 @@
 //! A test ends where one of these does not hold. They answer nothing, so a test has no other way out than its end,
 //! which is what makes it quick to prove.
 use crate::collections::FromItems;
-use crate::context::{BigEndian, Context, LittleEndian, PlainContext, StrictLittleEndian};
+use crate::context::{BigEndian, Context, LittleEndian};
 use crate::endianness::Endianness;
 use crate::error::{Error, IsEof};
 use crate::layout::Layout;
@@ -100,20 +100,6 @@ pub(crate) fn assert_kind(rt: &impl Abort, alloc: Global, error: &Error, kind: &
     assert_same(rt, printed.as_str(), kind);
 }
 
-/// Asserts that in both orders the bytes are refused with the kind.
-pub(crate) fn assert_unreadable<'a, T: Readable<'a, Endianness>>(
-    rt: &impl Abort,
-    alloc: Global,
-    little: &'a [u8],
-    big: &'a [u8],
-    kind: &str,
-) {
-    let outcome = T::read_from_buffer_with_ctx(alloc, Endianness::LittleEndian, little);
-    assert_refused(rt, alloc, outcome, kind);
-    let outcome = T::read_from_buffer_with_ctx(alloc, Endianness::BigEndian, big);
-    assert_refused(rt, alloc, outcome, kind);
-}
-
 /// The spelling: all of the bytes but the last, which follows it.
 fn spelling_of<'a>(rt: &impl Abort, followed: &'a [u8]) -> &'a [u8] {
     let (_, spelling) = followed.split_last().expect(rt, "a byte that follows");
@@ -196,18 +182,6 @@ where
     assert_written_to_buffer(rt, alloc, context, value, followed);
 }
 
-/// Asserts that in both orders the value is written as all but the last of the bytes, in each way of writing.
-pub(crate) fn assert_written<T: Writable<Endianness>>(
-    rt: &impl Abort,
-    alloc: Global,
-    value: &T,
-    little: &[u8],
-    big: &[u8],
-) {
-    assert_written_under(rt, alloc, Endianness::LittleEndian, value, little);
-    assert_written_under(rt, alloc, Endianness::BigEndian, value, big);
-}
-
 /// Asserts that what was read of the bytes is the value.
 fn assert_value<T: PartialEq>(rt: &impl Abort, read: &T, value: &T, bytes: &[u8]) {
     assert!(rt; read == value, "another value is read of {bytes:?}");
@@ -283,23 +257,6 @@ where
     assert_written_again(rt, alloc, context, outcome, followed);
 }
 
-/// Asserts that a byte less than the spelling is refused: as a buffer that is too small where it is shorter than the
-/// least size, and otherwise as an early end.
-fn assert_shorter_refused<'a, C: Context + Copy, T: Readable<'a, C>>(
-    rt: &impl Abort,
-    alloc: Global,
-    context: C,
-    followed: &'a [u8],
-    least: usize,
-) {
-    let Some((_, shorter)) = spelling_of(rt, followed).split_last() else {
-        return;
-    };
-    let outcome = T::read_from_buffer_with_ctx(alloc, context, shorter);
-    let error = outcome.err().expect(rt, "a byte is missing");
-    assert_same(rt, error.is_eof(), least <= shorter.len());
-}
-
 /// Asserts that a byte less than the spelling is refused with the kind that it should be.
 fn assert_shorter_refused_by_kind<'a, T: Readable<'a, Endianness>>(
     rt: &impl Abort,
@@ -356,82 +313,4 @@ where
 {
     assert_encoding_under(rt, alloc, order, value, followed);
     assert_shorter_refused_by_kind::<T>(rt, alloc, order, followed, least);
-}
-
-/// Asserts the same of each of the contexts that are types, and of the ways that are given no context.
-pub(crate) fn assert_encoding_in_types<'a, T>(
-    rt: &impl Abort,
-    alloc: Global,
-    least: usize,
-    rows: &[(T, &'a [u8], &'a [u8])],
-)
-where
-    T: Readable<'a, LittleEndian> + Writable<LittleEndian>,
-    T: Readable<'a, BigEndian> + Writable<BigEndian> + PartialEq,
-{
-    for (value, little, big) in rows {
-        assert_encoding_under(rt, alloc, LittleEndian {}, value, little);
-        assert_encoding_under(rt, alloc, BigEndian {}, value, big);
-        assert_shorter_refused::<LittleEndian, T>(rt, alloc, LittleEndian {}, little, least);
-        assert_shorter_refused::<BigEndian, T>(rt, alloc, BigEndian {}, big, least);
-        assert_plain_writing::<LittleEndian, T>(rt, alloc, value, little);
-        assert_plain_reading::<LittleEndian, T>(rt, alloc, value, little);
-    }
-}
-
-/// Asserts that with no context the value is written as all but the last of the bytes.
-fn assert_plain_writing<C: PlainContext, T: Writable<C>>(
-    rt: &impl Abort,
-    alloc: Global,
-    value: &T,
-    followed: &[u8],
-)
-where
-    C::Error: Debug,
-{
-    let spelling = spelling_of(rt, followed);
-    let written = value.write_to_vec(alloc).expect(rt, "a vector");
-    assert_bytes(rt, written.as_slice(), spelling);
-    let mut buffer = make_buffer(rt, alloc, followed.len());
-    let outcome = value.write_to_buffer(buffer.as_mut_slice());
-    outcome.expect(rt, "a write");
-    assert_at_front(rt, buffer.as_slice(), spelling);
-}
-
-/// Asserts that with no context the value is read of all but the last of the bytes.
-fn assert_plain_reading<'a, C: PlainContext, T: Readable<'a, C> + PartialEq>(
-    rt: &impl Abort,
-    alloc: Global,
-    value: &T,
-    followed: &'a [u8],
-)
-where
-    C::Error: Debug,
-{
-    let read = T::read_from_buffer(alloc, followed).expect(rt, "a value");
-    assert_value(rt, &read, value, followed);
-    let (outcome, length) = T::read_with_length_from_buffer(alloc, followed);
-    let read = outcome.expect(rt, "a value");
-    assert_value(rt, &read, value, followed);
-    assert_same(rt, length, spelling_of(rt, followed).len());
-}
-
-/// Asserts that each value is read of the first bytes and written as the others, and that the first ones are refused
-/// where the written form is demanded.
-pub(crate) fn assert_other_spellings<'a, T>(
-    rt: &impl Abort,
-    alloc: Global,
-    rows: &[(T, &'a [u8], &'a [u8])],
-)
-where
-    T: Readable<'a, LittleEndian> + Writable<LittleEndian>,
-    T: Readable<'a, StrictLittleEndian> + PartialEq,
-{
-    for (value, spelled, written) in rows {
-        assert_spelled(rt, alloc, LittleEndian {}, value, spelled);
-        let outcome = T::read_from_buffer_with_ctx(alloc, LittleEndian {}, spelled);
-        assert_written_again(rt, alloc, LittleEndian {}, outcome, written);
-        let outcome = T::read_from_buffer_with_ctx(alloc, StrictLittleEndian {}, spelled);
-        assert_refused(rt, alloc, outcome, "NotWrittenForm");
-    }
 }

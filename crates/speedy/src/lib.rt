@@ -12,8 +12,6 @@ pub mod ext;
 pub mod laws;
 pub mod private;
 #[cfg(test)]
-mod probes;
-#[cfg(test)]
 mod round_trips;
 #[cfg(test)]
 mod tests_addresses;
@@ -22,27 +20,19 @@ mod tests_collections;
 #[cfg(test)]
 mod tests_cows;
 #[cfg(test)]
-mod tests_devices;
-#[cfg(test)]
 mod tests_endianness;
 #[cfg(test)]
 mod tests_errors;
 #[cfg(test)]
-mod tests_flags;
-#[cfg(test)]
 mod tests_laws;
 #[cfg(test)]
 mod tests_leaves;
-#[cfg(test)]
-mod tests_lengths;
 #[cfg(test)]
 mod tests_lent;
 #[cfg(test)]
 mod tests_lists;
 #[cfg(test)]
 mod tests_maps;
-#[cfg(test)]
-mod tests_non_zero;
 #[cfg(test)]
 mod tests_numbers;
 #[cfg(test)]
@@ -52,21 +42,9 @@ mod tests_ranges;
 #[cfg(test)]
 mod tests_readers;
 #[cfg(test)]
-mod tests_ring;
-#[cfg(test)]
-mod tests_sets;
-#[cfg(test)]
-mod tests_sinks;
-#[cfg(test)]
-mod tests_streams;
-#[cfg(test)]
-mod tests_strict;
-#[cfg(test)]
 mod tests_texts;
 #[cfg(test)]
 mod tests_tuples;
-#[cfg(test)]
-mod tests_until_end;
 #[cfg(test)]
 mod tests_varint;
 #[cfg(test)]

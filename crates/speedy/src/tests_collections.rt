@@ -1,16 +1,14 @@
 //! Items that a reader gathers without a count before them, and that a writer takes so.
-use crate::asserting::{
-    assert_bytes, assert_ok, assert_reads, assert_refused, assert_same, gather, make_vec,
-};
+use crate::asserting::{assert_bytes, assert_ok, assert_refused, assert_same, gather, make_vec};
 use crate::collections::FromItems;
 use crate::context::LittleEndian;
 use crate::readable::{BufferReader, ReadMany, Readable};
 use crate::reader::LendingReader;
-use crate::writable::{BufferCollector, Writable};
+use crate::writable::BufferCollector;
 use crate::writer::Writer;
-use indexmap::{IndexMap, IndexSet};
+use indexmap::IndexSet;
 use std::alloc::Global;
-use std::collections::{BTreeMap, BTreeSet, HashMap, HashSet};
+use std::collections::{BTreeMap, BTreeSet};
 use std::process::Abort;
 
 /// The items 2, 1 and 2, of two bytes each, and a byte that is no item.
@@ -36,9 +34,7 @@ fn assert_items<F: FromItems<u16> + PartialEq>(rt: &impl Abort, alloc: Global, g
 #[test]
 fn a_reader_gathers_so_many_items(rt: HostRuntime) {
     let alloc = rt.alloc();
-    assert_items(&rt, alloc, make_vec(&rt, alloc, &[2_u16, 1, 2]));
     assert_items::<BTreeSet<u16>>(&rt, alloc, gather(&rt, alloc, &[1, 2]));
-    assert_items::<HashSet<u16>>(&rt, alloc, gather(&rt, alloc, &[1, 2]));
     assert_items::<IndexSet<u16>>(&rt, alloc, gather(&rt, alloc, &[2, 1]));
 }
 
@@ -63,10 +59,7 @@ fn assert_pairs<F: FromItems<(u8, u8)> + PartialEq>(rt: &impl Abort, alloc: Glob
 #[test]
 fn a_reader_gathers_so_many_pairs(rt: HostRuntime) {
     let alloc = rt.alloc();
-    assert_pairs(&rt, alloc, make_vec(&rt, alloc, &[(2, 1), (1, 2), (2, 3)]));
     assert_pairs::<BTreeMap<u8, u8>>(&rt, alloc, gather(&rt, alloc, &[(1, 2), (2, 3)]));
-    assert_pairs::<HashMap<u8, u8>>(&rt, alloc, gather(&rt, alloc, &[(1, 2), (2, 3)]));
-    assert_pairs::<IndexMap<u8, u8>>(&rt, alloc, gather(&rt, alloc, &[(2, 3), (1, 2)]));
 }
 
 #[test]
@@ -99,7 +92,6 @@ const NO_KEY: [u8; 9] = [2, 0, 0, 0, 0, 0xd8, 0, 0, 7];
 #[test]
 fn the_first_fault_of_items_is_answered_before_their_end(rt: HostRuntime) {
     let alloc = rt.alloc();
-    assert_first_refusal::<Vec<char>>(&rt, alloc);
     assert_first_refusal::<BTreeSet<char>>(&rt, alloc);
     assert_first_fault_of_keys::<BTreeMap<char, u8>>(&rt, alloc);
 }
@@ -117,7 +109,6 @@ fn assert_list_faulty<'a, T: Readable<'a, LittleEndian>>(
 fn sets_and_maps_make_no_test_of_their_items_least_size(rt: HostRuntime) {
     let alloc = rt.alloc();
     assert_list_faulty::<BTreeSet<char>>(&rt, alloc, &NO_CHARACTER);
-    assert_list_faulty::<HashMap<char, u8>>(&rt, alloc, &NO_KEY);
     let outcome = <Vec<char> as Readable<LittleEndian>>::read_from_buffer(alloc, &NO_CHARACTER);
     assert_refused(&rt, alloc, outcome, "UnexpectedEndOfInput");
 }
@@ -127,18 +118,6 @@ fn assert_accepts<F: FromItems<u8>>(rt: &impl Abort, alloc: Global, rows: &[(u8,
     let gathered: F = gather(rt, alloc, &[1, 3]);
     for (item, accepts) in rows {
         assert_same(rt, gathered.accepts(item), *accepts);
-    }
-}
-
-/// Asserts the same of pairs with these keys.
-fn assert_accepts_keys<F: FromItems<(u8, bool)>>(
-    rt: &impl Abort,
-    alloc: Global,
-    rows: &[(u8, bool)],
-) {
-    let gathered: F = gather(rt, alloc, &[(1, true), (3, false)]);
-    for (key, accepts) in rows {
-        assert_same(rt, gathered.accepts(&(*key, true)), *accepts);
     }
 }
 
@@ -154,16 +133,7 @@ fn a_collection_tells_which_items_are_written_after_its_own(rt: HostRuntime) {
     let alloc = rt.alloc();
     assert_accepts::<Vec<u8>>(&rt, alloc, &IN_A_LIST);
     assert_accepts::<BTreeSet<u8>>(&rt, alloc, &ASCENDING);
-    assert_accepts::<HashSet<u8>>(&rt, alloc, &ONCE);
     assert_accepts::<IndexSet<u8>>(&rt, alloc, &ONCE);
-}
-
-#[test]
-fn a_map_tells_which_pairs_are_written_after_its_own(rt: HostRuntime) {
-    let alloc = rt.alloc();
-    assert_accepts_keys::<BTreeMap<u8, bool>>(&rt, alloc, &ASCENDING);
-    assert_accepts_keys::<HashMap<u8, bool>>(&rt, alloc, &ONCE);
-    assert_accepts_keys::<IndexMap<u8, bool>>(&rt, alloc, &ONCE);
 }
 
 /// Writes 1 and 2, which it is given, and then the pair of 3 and 4 and the item 5, which it is lent.
@@ -186,21 +156,4 @@ fn a_writer_takes_items_without_a_count(rt: HostRuntime) {
     assert_refused(&rt, rt.alloc(), outcome, "UnexpectedEndOfOutputBuffer");
     assert_same(&rt, writer.finish(), 9);
     assert_bytes(&rt, &buffer, &[1, 0, 2, 0, 3, 4, 0, 5, 0]);
-}
-
-#[test]
-fn pairs_spell_the_map_that_they_gather_to(rt: HostRuntime) {
-    let alloc = rt.alloc();
-    let context = LittleEndian {};
-    let pairs = make_vec(&rt, alloc, &[(7_u8, 1_u16), (6, 1), (7, 2)]);
-    let map: BTreeMap<u8, u16> = gather(&rt, alloc, &[(6, 1), (7, 2)]);
-    let bytes = pairs
-        .write_to_vec_with_ctx(alloc, context)
-        .expect(&rt, "bytes");
-    assert_reads(&rt, alloc, context, &map, &bytes, 13);
-    let bytes = map
-        .write_to_vec_with_ctx(alloc, context)
-        .expect(&rt, "bytes");
-    let pairs = make_vec(&rt, alloc, &[(6_u8, 1_u16), (7, 2)]);
-    assert_reads(&rt, alloc, context, &pairs, &bytes, 10);
 }

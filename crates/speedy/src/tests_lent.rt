@@ -1,17 +1,13 @@
 //! What is lent: borrowed values and cows, and readers that copy.
-use crate::asserting::{
-    assert_bytes, assert_kind, assert_ok, assert_ok_items, assert_refused, assert_same,
-};
+use crate::asserting::{assert_bytes, assert_ok, assert_ok_items, assert_refused, assert_same};
 use crate::context::LittleEndian;
 use crate::endianness::Endianness;
 use crate::error::Error;
-use crate::private::{cow_bytes_to_cow_str, get_error_kind};
+use crate::private::cow_bytes_to_cow_str;
 use crate::readable::{BufferReader, CopyingBufferReader, ReadMany, Readable, ReadableOwned};
 use crate::reader::{LendingReader, Reader};
-use crate::tests_streams::assert_read_of_streams;
 use std::alloc::Global;
 use std::borrow::{CowSlice, CowStr};
-use std::collections::BTreeMap;
 use std::convert::AsSlice;
 use std::process::Abort;
 
@@ -34,31 +30,6 @@ fn a_text_is_borrowed_where_it_is_lent(rt: HostRuntime) {
     );
     let outcome = <&str as Readable<LittleEndian>>::read_from_buffer(alloc, &[1, 0, 0, 0, 255]);
     assert_refused(&rt, alloc, outcome, "InvalidUtf8");
-}
-
-#[test]
-fn bytes_are_borrowed_where_they_are_lent(rt: HostRuntime) {
-    let alloc = rt.alloc();
-    let outcome = <&[u8] as Readable<LittleEndian>>::read_from_buffer(alloc, &HI);
-    assert_bytes(&rt, outcome.expect(&rt, "bytes"), &[72, 105]);
-    let outcome = <&[u8] as Readable<LittleEndian>>::read_from_buffer(alloc, &[3, 0, 0, 0, 1]);
-    assert_refused(&rt, alloc, outcome, "UnexpectedEndOfInput");
-    let outcome = <&[u8] as Readable<LittleEndian>>::read_from_buffer_copying_data(alloc, &HI);
-    assert_refused(&rt, alloc, outcome, "Unsized");
-    let outcome = <&[u8; 2] as Readable<LittleEndian>>::read_from_buffer(alloc, &[7, 8, 9]);
-    assert_bytes(&rt, outcome.expect(&rt, "bytes"), &[7, 8]);
-    let outcome = <&[u8; 4] as Readable<LittleEndian>>::read_from_buffer(alloc, &[1, 2, 3]);
-    assert_refused(
-        &rt,
-        alloc,
-        outcome,
-        "InputBufferIsTooSmall { actual_size: 3, expected_size: 4 }",
-    );
-    let four = [1, 2, 3, 4];
-    let outcome = <&[u8; 4] as Readable<LittleEndian>>::read_from_buffer(alloc, &four);
-    assert_bytes(&rt, outcome.expect(&rt, "bytes"), &four);
-    let outcome = <&[u8; 4] as Readable<LittleEndian>>::read_from_buffer_copying_data(alloc, &four);
-    assert_refused(&rt, alloc, outcome, "Unsized");
 }
 
 /// Asserts that it borrows the bytes or not.
@@ -234,78 +205,6 @@ fn owned_values_are_read_from_any_reader(rt: HostRuntime) {
     assert_same(&rt, reader.finish(), 0);
 }
 
-/// Asserts that two outcomes are the same value, or are refused alike.
-fn assert_alike<T: PartialEq + Drop>(
-    rt: &impl Abort,
-    alloc: Global,
-    one: &Result<T, Error>,
-    other: &Result<T, Error>,
-) {
-    match (one, other) {
-        (Ok(one), Ok(other)) => assert!(rt; one == other, "another value"),
-        (Err(one), Err(other)) => {
-            let kind = format!(in alloc; "{:?}", get_error_kind(one)).expect(rt, "its kind");
-            assert_kind(rt, alloc, other, kind.as_str());
-        }
-        _ => assert!(rt; false, "one of them is refused"),
-    }
-}
-
-/// How many bytes the value is read of, if there is one. They are lent, copied and pulled from a source, and each way
-/// answers the same value, or refuses.
-fn count_alike<'a, T: Readable<'a, Endianness> + PartialEq>(
-    rt: &impl Abort,
-    alloc: Global,
-    order: Endianness,
-    bytes: &'a [u8],
-) -> Option<usize> {
-    let (lent, count) = T::read_with_length_from_buffer_with_ctx(alloc, order, bytes);
-    let (copied, copied_count) = T::read_with_length_from_buffer_copying_data_with_ctx(
-        alloc, order, bytes,
-    );
-    assert_alike(rt, alloc, &lent, &copied);
-    assert_same(rt, copied_count, count);
-    let value = lent.ok();
-    assert_read_of_streams(rt, alloc, order, bytes, value.as_ref(), count);
-    value.is_some().then_some(count)
-}
-
-/// Asserts that in both orders the bytes of each row are read alike in each way, and that in the little order a value is
-/// read of so many of them, if there is one.
-fn assert_read_alike<'a, T: Readable<'a, Endianness> + PartialEq>(
-    rt: &impl Abort,
-    alloc: Global,
-    rows: &[(&'a [u8], Option<usize>)],
-) {
-    for (bytes, read) in rows {
-        let count = count_alike::<T>(rt, alloc, Endianness::LittleEndian, bytes);
-        assert_same(rt, count, *read);
-        count_alike::<T>(rt, alloc, Endianness::BigEndian, bytes);
-    }
-}
-
-#[test]
-fn lists_are_read_alike_in_each_way(rt: HostRuntime) {
-    let alloc = rt.alloc();
-    let rows: [(&[u8], Option<usize>); 6] = [
-        (&[0, 0, 0, 0], Some(4)),
-        (&[2, 0, 0, 0, 7, 8, 9], Some(6)),
-        (&[0, 0, 0, 2, 7, 8, 9], None),
-        (&[3, 0, 0, 0, 7, 8], None),
-        (&[255, 255, 255, 255, 7], None),
-        (&[2, 0, 0], None),
-    ];
-    assert_read_alike::<Vec<u8>>(&rt, alloc, &rows);
-    let rows: [(&[u8], Option<usize>); 5] = [
-        (&[2, 0, 0, 0, 7, 1, 0, 0, 0, 1, 2, 6, 0, 0, 0, 0], Some(16)),
-        (&[0, 0, 0, 2, 7, 0, 0, 0, 1, 1, 2, 7, 0, 0, 0, 0], None),
-        (&[2, 0, 0, 0, 7, 0, 0, 0, 0, 6], None),
-        (&[1, 0, 0, 0, 7, 255, 255, 255, 127, 1, 2], None),
-        (&[255, 255, 255, 127, 8], None),
-    ];
-    assert_read_alike::<BTreeMap<u8, Vec<u16>>>(&rt, alloc, &rows);
-}
-
 #[test]
 fn the_ways_that_copy_answer_alike(rt: HostRuntime) {
     let alloc = rt.alloc();
@@ -315,12 +214,14 @@ fn the_ways_that_copy_answer_alike(rt: HostRuntime) {
     >>::read_with_length_from_buffer_copying_data(alloc, &bytes);
     assert_ok(&rt, outcome, 0x0201);
     assert_same(&rt, count, 2);
-    let outcome = <u16 as Readable<Endianness>>::read_from_buffer_copying_data_with_ctx(
-        alloc,
-        Endianness::BigEndian,
-        &bytes,
+    let big = Endianness::BigEndian;
+    let outcome = u16::read_from_buffer_copying_data_with_ctx(alloc, big, &bytes);
+    assert_ok(&rt, outcome, 0x0102);
+    let (outcome, count) = u16::read_with_length_from_buffer_copying_data_with_ctx(
+        alloc, big, &bytes,
     );
     assert_ok(&rt, outcome, 0x0102);
+    assert_same(&rt, count, 2);
 }
 
 #[test]

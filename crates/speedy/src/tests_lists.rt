@@ -1,29 +1,17 @@
 //! Lists and arrays. Bytes are read a stretch at a time, wherever the last one ends.
 use crate::asserting::{
-    assert_bytes, assert_encoding, assert_encoding_in_types, assert_ok, assert_reads, assert_same,
-    assert_written, followed, make_text, make_vec, row,
+    assert_bytes, assert_encoding, assert_ok, assert_ok_items, assert_reads, make_text, make_vec,
+    row,
 };
 use crate::device::VecSink;
 use crate::endianness::Endianness;
-use crate::readable::{BufferReader, Readable};
+use crate::readable::Readable;
 use crate::reader::LendingReader;
 use crate::writable::{Writable, WritingCollector};
 use crate::writer::Writer;
 use smallvec::SmallVec;
 use std::alloc::Global;
 use std::process::Abort;
-
-#[test]
-fn vectors_of_bytes_lie_after_their_counts(rt: HostRuntime) {
-    let alloc = rt.alloc();
-    let bytes = make_vec(&rt, alloc, &[10_u8, 11]);
-    assert_encoding(
-        &rt,
-        alloc,
-        4,
-        &[row!(bytes, [2, 0, 0, 0, 10, 11], [0, 0, 0, 2, 10, 11])],
-    );
-}
 
 /// The numbers from 0 to 2,999.
 fn make_many(rt: &impl Abort, alloc: Global) -> Vec<u16> {
@@ -69,61 +57,6 @@ fn vectors_of_short_numbers_lie_after_their_counts(rt: HostRuntime) {
         (many, &little, &big),
     ];
     assert_encoding(&rt, alloc, 4, &rows);
-    assert_encoding_in_types(&rt, alloc, 4, &rows);
-}
-
-#[test]
-fn vectors_of_vectors_lie_within_each_other(rt: HostRuntime) {
-    let alloc = rt.alloc();
-    let texts = vec![in alloc; make_text(&rt, alloc, "a"), String::new(alloc)];
-    let nested = vec![in alloc; texts.expect(&rt, "a vector"), Vec::new(alloc)];
-    assert_encoding(
-        &rt,
-        alloc,
-        4,
-        &[row!(
-            nested.expect(&rt, "a vector"),
-            [
-                2, 0, 0, 0, 2, 0, 0, 0, 1, 0, 0, 0, 97, 0, 0, 0, 0, 0, 0, 0, 0
-            ],
-            [
-                0, 0, 0, 2, 0, 0, 0, 2, 0, 0, 0, 1, 97, 0, 0, 0, 0, 0, 0, 0, 0
-            ]
-        )],
-    );
-}
-
-/// A vector of these items, of which four have room in the value itself.
-fn make_small(rt: &impl Abort, alloc: Global, items: &[u16]) -> SmallVec<u16, 4> {
-    SmallVec::from_slice(alloc, items).expect(rt, "a vector")
-}
-
-#[test]
-fn small_vectors_lie_after_their_counts_whatever_their_room(rt: HostRuntime) {
-    let alloc = rt.alloc();
-    assert_encoding(
-        &rt,
-        alloc,
-        4,
-        &[
-            row!(make_small(&rt, alloc, &[]), [0, 0, 0, 0], [0, 0, 0, 0]),
-            row!(
-                make_small(&rt, alloc, &[1, 2, 3]),
-                [3, 0, 0, 0, 1, 0, 2, 0, 3, 0],
-                [0, 0, 0, 3, 0, 1, 0, 2, 0, 3]
-            ),
-            row!(
-                make_small(&rt, alloc, &[1, 2, 3, 4]),
-                [4, 0, 0, 0, 1, 0, 2, 0, 3, 0, 4, 0],
-                [0, 0, 0, 4, 0, 1, 0, 2, 0, 3, 0, 4]
-            ),
-            row!(
-                make_small(&rt, alloc, &[1, 2, 3, 4, 5]),
-                [5, 0, 0, 0, 1, 0, 2, 0, 3, 0, 4, 0, 5, 0],
-                [0, 0, 0, 5, 0, 1, 0, 2, 0, 3, 0, 4, 0, 5]
-            ),
-        ],
-    );
 }
 
 #[test]
@@ -131,40 +64,21 @@ fn small_vectors_of_texts_lie_within_each_other(rt: HostRuntime) {
     let alloc = rt.alloc();
     let texts = vec![in alloc; make_text(&rt, alloc, "a"), String::new(alloc)];
     let small: SmallVec<String, 1> = SmallVec::from_vec(texts.expect(&rt, "a vector"));
-    assert_encoding(
-        &rt,
-        alloc,
-        4,
-        &[row!(
-            small,
-            [2, 0, 0, 0, 1, 0, 0, 0, 97, 0, 0, 0, 0],
-            [0, 0, 0, 2, 0, 0, 0, 1, 97, 0, 0, 0, 0]
-        )],
-    );
-}
-
-#[test]
-fn arrays_of_numbers_lie_item_after_item(rt: HostRuntime) {
-    let bytes: [u8; 32] = [
-        10, 11, 12, 13, 14, 15, 16, 17, 18, 19, 20, 21, 22, 23, 24, 25, 26, 27, 28, 29, 30, 31, 32,
-        33, 34, 35, 36, 37, 38, 39, 40, 41,
-    ];
-    let spelling = followed![
-        10, 11, 12, 13, 14, 15, 16, 17, 18, 19, 20, 21, 22, 23, 24, 25, 26, 27, 28, 29, 30, 31, 32,
-        33, 34, 35, 36, 37, 38, 39, 40, 41,
-    ];
-    assert_encoding(&rt, rt.alloc(), 32, &[(bytes, spelling, spelling)]);
+    let order = Endianness::BigEndian;
+    let bytes = [0, 0, 0, 2, 0, 0, 0, 1, 97, 0, 0, 0, 0];
+    assert_ok_items(&rt, small.write_to_vec_with_ctx(alloc, order), &bytes);
+    let read = SmallVec::<String, 1>::read_from_buffer_with_ctx(alloc, order, &bytes);
+    assert!(rt; read.expect(&rt, "a vector") == small);
 }
 
 #[test]
 fn slices_and_borrowed_texts_are_written_after_their_counts(rt: HostRuntime) {
+    let order = Endianness::BigEndian;
     let items = [10_u8, 11];
-    let little = followed![2, 0, 0, 0, 10, 11];
-    let big = followed![0, 0, 0, 2, 10, 11];
-    assert_written(&rt, rt.alloc(), &items.as_slice(), little, big);
-    let little = followed![5, 0, 0, 0, 72, 101, 108, 108, 111];
-    let big = followed![0, 0, 0, 5, 72, 101, 108, 108, 111];
-    assert_written(&rt, rt.alloc(), &"Hello", little, big);
+    let written = items.as_slice().write_to_vec_with_ctx(rt.alloc(), order);
+    assert_ok_items(&rt, written, &[0, 0, 0, 2, 10, 11]);
+    let written = "Hi".write_to_vec_with_ctx(rt.alloc(), order);
+    assert_ok_items(&rt, written, &[0, 0, 0, 2, 72, 105]);
 }
 
 /// So many bytes that count up from 0, again and again.
@@ -194,13 +108,6 @@ fn bytes_are_read_whole_whatever_their_number(rt: HostRuntime) {
     for count in [0, 1, 511, 512, 513, 1024, 1500] {
         assert_read_whole(&rt, rt.alloc(), Endianness::BigEndian, count);
     }
-}
-
-#[test]
-fn a_count_that_no_buffer_holds_asks_for_no_room(rt: HostRuntime) {
-    let mut reader = BufferReader::new(rt.alloc(), Endianness::LittleEndian, &[1, 2, 3]);
-    assert!(rt; reader.read_vec::<u8>(usize::MAX).is_err());
-    assert_same(&rt, reader.len(), 3);
 }
 
 /// So many numbers, each with other digits.

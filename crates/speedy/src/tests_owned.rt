@@ -1,30 +1,22 @@
-//! What owns or borrows its content lies as the content.
-use crate::asserting::{assert_encoding, assert_written, followed, make_vec, row};
-use std::boxed::BoxedSlice;
-
-#[test]
-fn boxes_lie_as_their_content(rt: HostRuntime) {
-    let alloc = rt.alloc();
-    let boxed = Box::new(alloc, 10_u8).expect(&rt, "a box");
-    assert_encoding(&rt, alloc, 1, &[row!(boxed, [10], [10])]);
-    let items: BoxedSlice<u8> = make_vec(&rt, alloc, &[10_u8, 11]).into_boxed_slice();
-    assert_encoding(
-        &rt,
-        alloc,
-        4,
-        &[row!(items, [2, 0, 0, 0, 10, 11], [0, 0, 0, 2, 10, 11])],
-    );
-}
+//! What borrows its content lies as the content.
+use crate::asserting::assert_ok_items;
+use crate::endianness::Endianness;
+use crate::writable::Writable;
 
 #[test]
 fn references_are_written_as_what_they_borrow(rt: HostRuntime) {
-    assert_written(&rt, rt.alloc(), &&2_u16, followed![2, 0], followed![0, 2]);
+    let order = Endianness::BigEndian;
     let mut number = 2_u16;
-    assert_written(
-        &rt,
+    let written = <&u16 as Writable<Endianness>>::write_to_vec_with_ctx(
+        &&number,
         rt.alloc(),
-        &&mut number,
-        followed![2, 0],
-        followed![0, 2],
+        order,
     );
+    assert_ok_items(&rt, written, &[0, 2]);
+    let written = <&mut u16 as Writable<Endianness>>::write_to_vec_with_ctx(
+        &&mut number,
+        rt.alloc(),
+        order,
+    );
+    assert_ok_items(&rt, written, &[0, 2]);
 }

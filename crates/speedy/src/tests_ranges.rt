@@ -1,5 +1,5 @@
 //! Ranges lie as their ends. One that is read can be walked: it has all of its numbers, both ends included.
-use crate::asserting::{assert_encoding, assert_same, followed};
+use crate::asserting::assert_same;
 use crate::context::{BigEndian, Context, LittleEndian};
 use crate::endianness::Endianness;
 use crate::readable::{BufferReader, ReadFrom, Readable};
@@ -8,14 +8,6 @@ use std::alloc::Global;
 use std::fmt::Debug;
 use std::ops::RangeInclusive;
 use std::process::Abort;
-
-#[test]
-fn ranges_lie_as_their_ends(rt: HostRuntime) {
-    let little = followed![10, 0, 11, 0];
-    let big = followed![0, 10, 0, 11];
-    assert_encoding(&rt, rt.alloc(), 4, &[(10_u16..11, little, big)]);
-    assert_encoding(&rt, rt.alloc(), 4, &[(10_u16..=11, little, big)]);
-}
 
 type Numbers = RangeInclusive<u16>;
 
@@ -87,18 +79,4 @@ fn ranges_of_a_reader_are_whole(rt: HostRuntime) {
     let alloc = rt.alloc();
     assert_read_by_reader(&rt, alloc, BigEndian {}, &BIG);
     assert_read_by_reader(&rt, alloc, Endianness::LittleEndian, &LITTLE);
-}
-
-#[test]
-fn ranges_yield_their_numbers_wherever_they_end(rt: HostRuntime) {
-    for (bytes, numbers) in [
-        ([7, 0, 7, 0], &[7][..]),
-        ([3, 0, 1, 0], &[][..]),
-        ([254, 255, 255, 255], &[65534, 65535][..]),
-    ] {
-        let mut reader = BufferReader::new(rt.alloc(), Endianness::LittleEndian, &bytes);
-        let range: Numbers = reader.read_value().expect(&rt, "a range");
-        assert_same(&rt, range.is_empty(), numbers.is_empty());
-        assert_yields(&rt, rt.alloc(), range, numbers);
-    }
 }

@@ -119,20 +119,6 @@ fn a_buffer_below_the_least_size_is_refused(rt: HostRuntime) {
 }
 
 #[test]
-fn a_count_alone_is_refused(rt: HostRuntime) {
-    let endless = [255, 255, 255, 255];
-    let outcome = <Vec<u8> as Readable<LittleEndian>>::read_from_buffer(rt.alloc(), &endless);
-    assert_refused(&rt, rt.alloc(), outcome, "UnexpectedEndOfInput");
-}
-
-#[test]
-fn bytes_that_are_no_text_are_refused(rt: HostRuntime) {
-    let no_text = [1, 0, 0, 0, 255];
-    let outcome = <String as Readable<LittleEndian>>::read_from_buffer(rt.alloc(), &no_text);
-    assert_refused(&rt, rt.alloc(), outcome, "InvalidUtf8");
-}
-
-#[test]
 fn bytes_become_a_text(rt: HostRuntime) {
     let bytes = vec![in rt.alloc(); 72, 105].expect(&rt, "a vector");
     let outcome: Result<String, Error> = vec_to_string(bytes);

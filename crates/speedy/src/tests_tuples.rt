@@ -1,17 +1,14 @@
 //! Tuples lie part by part. The bytes come from outside.
-use crate::asserting::{assert_encoding, followed, row};
+use crate::asserting::assert_ok_items;
+use crate::endianness::Endianness;
+use crate::writable::Writable;
 
 /// Bytes that count up from 0.
-const COUNTED: &[u8] = followed![
+const COUNTED: [u8; 60] = [
     0, 1, 2, 3, 4, 5, 6, 7, 8, 9, 10, 11, 12, 13, 14, 15, 16, 17, 18, 19, 20, 21, 22, 23, 24, 25,
     26, 27, 28, 29, 30, 31, 32, 33, 34, 35, 36, 37, 38, 39, 40, 41, 42, 43, 44, 45, 46, 47, 48, 49,
     50, 51, 52, 53, 54, 55, 56, 57, 58, 59,
 ];
-
-#[test]
-fn a_tuple_of_one_part_lies_as_it(rt: HostRuntime) {
-    assert_encoding(&rt, rt.alloc(), 2, &[row!((10_u16,), [10, 0], [0, 10])]);
-}
 
 // A tuple of each size from 4 on, whose parts are counted from 0.
 #[test]
@@ -31,22 +28,6 @@ fn long_tuples_lie_part_by_part(rt: HostRuntime) {
         49_u8, 50_u8, 51_u8, 52_u8, 53_u8, 54_u8, 55_u8, 56_u8, 57_u8, 58_u8, 59_u8,
     );
     let all = (four, five, six, seven, eight, nine, ten, eleven);
-    assert_encoding(&rt, rt.alloc(), 60, &[(all, COUNTED, COUNTED)]);
-}
-
-#[test]
-fn tuples_and_options_lie_within_each_other(rt: HostRuntime) {
-    let alloc = rt.alloc();
-    let bytes = vec![in alloc; 3_u8].expect(&rt, "a vector");
-    let nested = (7_u8, Some((2_u16, bytes)));
-    assert_encoding(
-        &rt,
-        alloc,
-        2,
-        &[row!(
-            nested,
-            [7, 1, 2, 0, 1, 0, 0, 0, 3],
-            [7, 1, 0, 2, 0, 0, 0, 1, 3]
-        )],
-    );
+    let written = all.write_to_vec_with_ctx(rt.alloc(), Endianness::BigEndian);
+    assert_ok_items(&rt, written, &COUNTED);
 }

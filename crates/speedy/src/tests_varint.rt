@@ -1,15 +1,11 @@
 //! Integers of variable length: how they are spelled, longer spellings, and peeks.
-use crate::asserting::{
-    assert_bytes, assert_encoding, assert_ok, assert_ok_items, assert_refused, assert_same,
-    followed,
-};
+use crate::asserting::{assert_bytes, assert_ok, assert_refused, assert_same, followed};
 use crate::endianness::Endianness;
 use crate::private::VarInt64;
-use crate::readable::{BufferReader, Readable};
+use crate::readable::BufferReader;
 use crate::reader::{LendingReader, Reader};
-use crate::writable::{BufferCollector, Writable};
+use crate::writable::BufferCollector;
 use crate::writer::Writer;
-use std::alloc::Global;
 use std::process::Abort;
 
 /// Numbers, each with what is written of it.
@@ -49,14 +45,6 @@ const WRITTEN: [(u64, &[u8]); 18] = [
     ),
 ];
 
-/// Longer spellings than a number needs, each with the number and with what is written of it.
-pub(crate) const LONGER: [(&[u8], u64, &[u8]); 4] = [
-    (&[0x80, 0x00], 0, &[0x00]),
-    (&[0xfe, 1, 0, 0, 0, 0, 0, 0], 1, &[0x01]),
-    (&[0xff, 1, 0, 0, 0, 0, 0, 0, 0], 1, &[0x01]),
-    (&[0xc0, 0x02, 0x01], 0x102, &[0x81, 0x02]),
-];
-
 /// Asserts that the number is written as these bytes.
 fn assert_written_as(rt: &impl Abort, number: u64, spelling: &[u8]) {
     let (bytes, count) = VarInt64::from(number).encode();
@@ -86,41 +74,6 @@ fn assert_become_each_other(rt: &impl Abort, rows: &[(u64, &[u8])]) {
 #[test]
 fn numbers_become_bytes_and_come_back(rt: HostRuntime) {
     assert_become_each_other(&rt, &WRITTEN);
-}
-
-/// Asserts that each number lies as its bytes in both orders.
-fn assert_lie_alike(rt: &impl Abort, alloc: Global, rows: &[(u64, &'static [u8])]) {
-    for (number, followed) in rows {
-        assert_encoding(
-            rt,
-            alloc,
-            1,
-            &[(VarInt64::from(*number), followed, followed)],
-        );
-    }
-}
-
-#[test]
-fn integers_of_variable_length_lie_alike_in_both_orders(rt: HostRuntime) {
-    assert_lie_alike(&rt, rt.alloc(), &WRITTEN);
-}
-
-#[test]
-fn longer_spellings_are_read_and_written_short(rt: HostRuntime) {
-    let order = Endianness::BigEndian;
-    for (bytes, number, spelling) in LONGER {
-        assert_spells(&rt, bytes, number, false);
-        let (outcome, count) = VarInt64::read_with_length_from_buffer_with_ctx(
-            rt.alloc(),
-            order,
-            bytes,
-        );
-        let value = outcome.expect(&rt, "a number");
-        assert_same(&rt, u64::from(value), number);
-        assert_same(&rt, count, bytes.len());
-        let written = value.write_to_vec_with_ctx(rt.alloc(), order);
-        assert_ok_items(&rt, written, spelling);
-    }
 }
 
 #[test]
@@ -165,19 +118,6 @@ fn a_peek_answers_what_the_read_does(rt: HostRuntime) {
     assert_same(&rt, reader.len(), 3);
     assert_ok(&rt, reader.read_u64_varint(), 16383);
     assert_same(&rt, reader.len(), 1);
-}
-
-#[test]
-fn a_peek_is_refused_as_the_read_is(rt: HostRuntime) {
-    let alloc = rt.alloc();
-    // A first byte alone that wants two more, and none at all.
-    for bytes in [&[0xc0][..], &[][..]] {
-        let mut reader = BufferReader::new(alloc, Endianness::LittleEndian, bytes);
-        assert_refused(&rt, alloc, reader.peek_u64_varint(), "UnexpectedEndOfInput");
-        assert_refused(&rt, alloc, reader.peek_u64_varint(), "UnexpectedEndOfInput");
-        assert_same(&rt, reader.len(), bytes.len());
-        assert_refused(&rt, alloc, reader.read_u64_varint(), "UnexpectedEndOfInput");
-    }
 }
 
 #[test]

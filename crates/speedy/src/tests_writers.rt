@@ -3,6 +3,8 @@ use crate::asserting::{assert_bytes, assert_ok, assert_refused, assert_same};
 use crate::context::{BigEndian, Context, LittleEndian};
 use crate::endianness::Endianness;
 use crate::private::write_length;
+use crate::readable::BufferReader;
+use crate::reader::LendingReader;
 use crate::writable::{BufferCollector, SizeCalculatorCollector, Writable};
 use crate::writer::Writer;
 use std::process::Abort;
@@ -34,6 +36,34 @@ fn write_values(rt: &impl Abort, writer: &mut impl Writer<Endianness>) {
         (),
     );
     assert_ok(rt, 8_u16.write_to(writer), ());
+}
+
+/// Writes a number of each type that is not written elsewhere.
+fn write_other_numbers(rt: &impl Abort, writer: &mut impl Writer<Endianness>) {
+    assert_ok(rt, writer.write_u64(1), ());
+    assert_ok(rt, writer.write_i8(-2), ());
+    assert_ok(rt, writer.write_i16(-3), ());
+    assert_ok(rt, writer.write_i32(-4), ());
+    assert_ok(rt, writer.write_i64(-5), ());
+    assert_ok(rt, writer.write_i128(-6), ());
+}
+
+#[test]
+fn numbers_of_each_type_are_written(rt: HostRuntime) {
+    let mut context = Endianness::BigEndian;
+    let mut buffer = [9; 40];
+    let mut writer = BufferCollector::new(&mut context, &mut buffer);
+    write_other_numbers(&rt, &mut writer);
+    assert_same(&rt, writer.finish(), 39);
+    let expected = [
+        0, 0, 0, 0, 0, 0, 0, 1, 254, 255, 253, 255, 255, 255, 252, 255, 255, 255, 255, 255, 255,
+        255, 251, 255, 255, 255, 255, 255, 255, 255, 255, 255, 255, 255, 255, 255, 255, 255, 250,
+        9,
+    ];
+    assert_bytes(&rt, &buffer, &expected);
+    let mut reader = BufferReader::new(rt.alloc(), Endianness::BigEndian, &buffer[8..]);
+    assert_ok(&rt, reader.read_i8(), -2);
+    assert_ok(&rt, reader.read_i16(), -3);
 }
 
 /// Writes 10, and a vector of 11 alone, in the other order.
@@ -71,26 +101,6 @@ fn a_writer_says_how_much_fits(rt: HostRuntime) {
     assert_same(&rt, writer.can_write_at_least(25), Some(false));
 }
 
-/// Writes 1 as one byte and 2 and 3 as two, and 4 as two in the other order.
-fn write_in_both_orders(rt: &impl Abort, writer: &mut impl Writer<Endianness>) {
-    assert_ok(rt, writer.write_value(&1_u8), ());
-    assert_ok(rt, writer.write_slice(&[2_u16, 3]), ());
-    *writer.context_mut() = Endianness::BigEndian;
-    assert_ok(rt, writer.write_value(&4_u16), ());
-}
-
-#[test]
-fn a_full_buffer_takes_no_byte(rt: HostRuntime) {
-    let mut context = Endianness::LittleEndian;
-    let mut buffer = [9; 7];
-    let mut writer = BufferCollector::new(&mut context, &mut buffer);
-    write_in_both_orders(&rt, &mut writer);
-    let outcome = writer.write_u8(5);
-    assert_refused(&rt, rt.alloc(), outcome, "UnexpectedEndOfOutputBuffer");
-    assert_same(&rt, writer.finish(), 7);
-    assert_bytes(&rt, &buffer, &[1, 2, 0, 3, 0, 0, 4]);
-}
-
 #[test]
 fn a_counter_says_how_much_fits(rt: HostRuntime) {
     let mut context = Endianness::BigEndian;
@@ -120,15 +130,6 @@ fn a_buffer_is_written_at_its_front(rt: HostRuntime) {
     let outcome = 0x0102_u16.write_to_buffer_with_ctx(BigEndian {}, &mut buffer);
     assert_ok(&rt, outcome, ());
     assert_bytes(&rt, &buffer, &[1, 2, 0, 0, 9, 9, 9, 9]);
-}
-
-#[test]
-fn a_buffer_that_is_too_short_is_not_written(rt: HostRuntime) {
-    let mut short = [9; 3];
-    let outcome = 5_u32.write_to_buffer_with_ctx_mut(&mut Endianness::LittleEndian, &mut short);
-    let kind = "OutputBufferIsTooSmall { actual_size: 3, expected_size: 4 }";
-    assert_refused(&rt, rt.alloc(), outcome, kind);
-    assert_bytes(&rt, &short, &[9, 9, 9]);
 }
 
 #[test]

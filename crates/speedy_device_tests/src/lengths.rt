@@ -1,18 +1,18 @@
 //! Lengths of each width, constants, and peeks of numbers, by each reader.
 use crate::asserting::{assert_bytes, assert_ok, assert_refused, assert_same};
-use crate::endianness::Endianness;
-use crate::error::{Error, IsEof};
-use crate::private::{
+use crate::probes::{Probe, read_by_each};
+use speedy::endianness::Endianness;
+use speedy::error::{Error, IsEof};
+use speedy::private::{
     are_lengths_the_same, read_constant, read_length, read_length_u7, read_length_u8,
     read_length_u16, read_length_u32, read_length_u64, read_length_u64_varint, write_length,
     write_length_u7, write_length_u8, write_length_u16, write_length_u32, write_length_u64,
     write_length_u64_varint,
 };
-use crate::probes::{Probe, read_by_each};
-use crate::readable::BufferReader;
-use crate::reader::LendingReader;
-use crate::writable::BufferCollector;
-use crate::writer::Writer;
+use speedy::readable::BufferReader;
+use speedy::reader::LendingReader;
+use speedy::writable::BufferCollector;
+use speedy::writer::Writer;
 use std::alloc::Global;
 use std::convert::AsSlice;
 use std::process::Abort;
@@ -112,6 +112,7 @@ fn lengths_are_read_as_they_were_written(rt: HostRuntime) {
         let mut writer = BufferCollector::new(&mut context, &mut buffer);
         assert_ok(&rt, write_as(width, length, &mut writer), ());
         let count = writer.finish();
+        assert!(rt; count <= 9);
         let (_, spelling) = bytes.split_last().expect(&rt, "a byte that follows");
         assert_bytes(&rt, &buffer[..count], spelling);
         read_by_each(&rt, rt.alloc(), big, bytes, &ReadLength { width, length });

@@ -1,12 +1,12 @@
 //! Reads until the bytes end: what is an end, and what a fault.
 use crate::asserting::{assert_refused, assert_same};
-use crate::context::StrictLittleEndian;
-use crate::endianness::Endianness;
-use crate::error::Error;
-use crate::private::{VarInt64, get_error_kind, read_length_u64_varint};
 use crate::probes::{Probe, read_by_each};
-use crate::readable::{BufferReader, StreamReader};
-use crate::reader::LendingReader;
+use speedy::context::StrictLittleEndian;
+use speedy::endianness::Endianness;
+use speedy::error::Error;
+use speedy::private::{VarInt64, get_error_kind, read_length_u64_varint};
+use speedy::readable::{BufferReader, StreamReader};
+use speedy::reader::LendingReader;
 use std::alloc::Global;
 use std::borrow::CowSlice;
 use std::collections::BTreeSet;

@@ -1,16 +1,13 @@
 //! Reading from sources and files: what is answered, and what the source has left.
 ghost use Rattle.std.specs.Prelude.{[], false};
 
-use crate::asserting::{
-    assert_bytes, assert_kind, assert_ok, assert_ok_items, assert_refused, assert_same,
-};
-use crate::context::LittleEndian;
-use crate::device::{Faults, Source};
-use crate::endianness::Endianness;
-use crate::error::{Error, ErrorKind, IsEof, get_error_kind};
-use crate::readable::{Readable, StreamReader};
-use crate::reader::LendingReader;
-use crate::tests_devices::{FakeFiles, FileCall, FileCalls};
+use crate::asserting::{assert_bytes, assert_kind, assert_ok, assert_refused, assert_same};
+use crate::devices::{FakeFiles, FileCall, FileCalls};
+use speedy::context::LittleEndian;
+use speedy::device::{Faults, Source};
+use speedy::error::{Error, ErrorKind, IsEof, get_error_kind};
+use speedy::readable::{Readable, StreamReader};
+use speedy::reader::LendingReader;
 use std::alloc::Global;
 use std::collections::BTreeSet;
 use std::process::Abort;
@@ -91,7 +88,7 @@ fn assert_fault<T: Drop>(rt: &impl Abort, outcome: Result<T, Error>, code: i32) 
     let error = outcome.err().expect(rt, "it is refused");
     let found = match get_error_kind(&error) {
         ErrorKind::IoError(inner) => inner.raw_os_error(),
-        _ => None,
+        _ => None
     };
     assert_same(rt, found, Some(code));
     assert_same(rt, error.is_eof(), false);
@@ -110,16 +107,6 @@ fn an_unbuffered_form_takes_just_its_value(rt: HostRuntime) {
 }
 
 #[test]
-fn a_buffered_form_reads_ahead(rt: HostRuntime) {
-    let alloc = rt.alloc();
-    let mut source: &[u8] = &[2, 0, 3, 0];
-    let outcome = <u16 as Readable<LittleEndian>>::read_from_stream_buffered(alloc, &mut source);
-    assert_ok(&rt, outcome, 2);
-    let outcome = <u16 as Readable<LittleEndian>>::read_from_stream_buffered(alloc, &mut source);
-    assert_refused(&rt, alloc, outcome, "UnexpectedEndOfInput");
-}
-
-#[test]
 fn a_buffered_reader_keeps_what_it_read_ahead(rt: HostRuntime) {
     let alloc = rt.alloc();
     let bytes = vec![in alloc; 7; 20_000].expect(&rt, "a buffer");
@@ -129,6 +116,16 @@ fn a_buffered_reader_keeps_what_it_read_ahead(rt: HostRuntime) {
     assert_same(&rt, reader.can_read_at_least(8_191), Some(true));
     assert_same(&rt, reader.can_read_at_least(8_192), None);
     assert_same(&rt, reader.into_source().len(), 11_808);
+}
+
+#[test]
+fn a_buffered_form_reads_ahead(rt: HostRuntime) {
+    let alloc = rt.alloc();
+    let mut source: &[u8] = &[2, 0, 3, 0];
+    let outcome = <u16 as Readable<LittleEndian>>::read_from_stream_buffered(alloc, &mut source);
+    assert_ok(&rt, outcome, 2);
+    let outcome = <u16 as Readable<LittleEndian>>::read_from_stream_buffered(alloc, &mut source);
+    assert_refused(&rt, alloc, outcome, "UnexpectedEndOfInput");
 }
 
 #[test]
@@ -143,21 +140,6 @@ fn a_long_read_empties_the_ring_and_takes_no_more(rt: HostRuntime) {
     assert_same(&rt, reader.can_read_at_least(1), None);
     assert_same(&rt, reader.into_source().len(), 9_999);
     assert_bytes(&rt, output.as_slice(), &bytes[..10_000]);
-}
-
-#[test]
-fn a_peek_takes_nothing_and_pulls_what_lacks(rt: HostRuntime) {
-    let alloc = rt.alloc();
-    let mut source: &[u8] = &[1, 2, 3, 4, 5];
-    let mut reader = make_reader(&rt, alloc, &mut source, false);
-    assert_ok(&rt, reader.peek_u8(), 1);
-    let mut pair = [0; 2];
-    assert_ok(&rt, reader.peek_bytes(&mut pair), ());
-    assert_bytes(&rt, &pair, &[1, 2]);
-    assert_ok(&rt, reader.read_u8(), 1);
-    assert_ok(&rt, reader.skip_bytes(1), ());
-    assert_ok(&rt, reader.read_owned_value::<u16>(), 0x0403);
-    assert_bytes(&rt, reader.into_source(), &[5]);
 }
 
 #[test]
@@ -178,19 +160,6 @@ fn an_option_comes_a_byte_a_pull(rt: HostRuntime) {
 }
 
 #[test]
-fn an_early_end_is_said_as_it_was_met(rt: HostRuntime) {
-    let alloc = rt.alloc();
-    let mut source: &[u8] = &[1];
-    let outcome = <u16 as Readable<LittleEndian>>::read_from_stream_buffered(alloc, &mut source);
-    assert_refused(&rt, alloc, outcome, "UnexpectedEndOfInput");
-    let mut source: &[u8] = &[1];
-    let outcome = <u16 as Readable<LittleEndian>>::read_from_stream_unbuffered(alloc, &mut source);
-    let error = outcome.err().expect(&rt, "it is refused");
-    assert_same(&rt, device_kind(&error), Some(io::ErrorKind::UnexpectedEof));
-    assert!(rt; error.is_eof());
-}
-
-#[test]
 fn what_borrows_is_refused_by_a_stream(rt: HostRuntime) {
     let alloc = rt.alloc();
     let mut source: &[u8] = &[2, 0, 0, 0, 72, 105];
@@ -200,33 +169,6 @@ fn what_borrows_is_refused_by_a_stream(rt: HostRuntime) {
     let mut source: &[u8] = &[2, 0, 0, 0, 72, 105];
     let outcome = <&str as Readable<LittleEndian>>::read_from_stream_buffered(alloc, &mut source);
     assert_refused(&rt, alloc, outcome, "Unsized");
-}
-
-#[test]
-fn a_peeked_integer_is_read_next(rt: HostRuntime) {
-    let mut source = make_pieces(&[0xBF, 0xFF], 1, None);
-    let mut reader = make_reader(&rt, rt.alloc(), &mut source, true);
-    assert_ok(&rt, reader.peek_u64_varint(), 16_383);
-    assert_ok(&rt, reader.peek_u64_varint(), 16_383);
-    assert_ok(&rt, reader.read_u64_varint(), 16_383);
-}
-
-#[test]
-fn items_are_read_until_one_is_refused(rt: HostRuntime) {
-    let alloc = rt.alloc();
-    let bytes = [2, 0, 0, 0, 0, 0xD8, 0, 0];
-    let mut source: &[u8] = &bytes;
-    let outcome = <Vec<char> as Readable<LittleEndian>>::read_from_stream_unbuffered(
-        alloc,
-        &mut source,
-    );
-    assert_refused(&rt, alloc, outcome, "InvalidChar");
-    let mut source: &[u8] = &bytes;
-    let outcome = <Vec<char> as Readable<LittleEndian>>::read_from_stream_buffered(
-        alloc,
-        &mut source,
-    );
-    assert_refused(&rt, alloc, outcome, "InvalidChar");
 }
 
 /// Asserts that a vector of 10,000 bytes is read of a source that gives so many a pull, and that 9 bytes after it, or
@@ -256,6 +198,37 @@ fn assert_long_vector(rt: &impl Abort, alloc: Global, most: usize) {
 fn a_long_vector_is_read_in_whatever_pieces_it_comes(rt: HostRuntime) {
     assert_long_vector(&rt, rt.alloc(), usize::MAX);
     assert_long_vector(&rt, rt.alloc(), 1);
+}
+
+#[test]
+fn an_early_end_is_said_as_it_was_met(rt: HostRuntime) {
+    let alloc = rt.alloc();
+    let mut source: &[u8] = &[1];
+    let outcome = <u16 as Readable<LittleEndian>>::read_from_stream_buffered(alloc, &mut source);
+    assert_refused(&rt, alloc, outcome, "UnexpectedEndOfInput");
+    let mut source: &[u8] = &[1];
+    let outcome = <u16 as Readable<LittleEndian>>::read_from_stream_unbuffered(alloc, &mut source);
+    let error = outcome.err().expect(&rt, "it is refused");
+    assert_same(&rt, device_kind(&error), Some(io::ErrorKind::UnexpectedEof));
+    assert!(rt; error.is_eof());
+}
+
+#[test]
+fn items_are_read_until_one_is_refused(rt: HostRuntime) {
+    let alloc = rt.alloc();
+    let bytes = [2, 0, 0, 0, 0, 0xD8, 0, 0];
+    let mut source: &[u8] = &bytes;
+    let outcome = <Vec<char> as Readable<LittleEndian>>::read_from_stream_unbuffered(
+        alloc,
+        &mut source,
+    );
+    assert_refused(&rt, alloc, outcome, "InvalidChar");
+    let mut source: &[u8] = &bytes;
+    let outcome = <Vec<char> as Readable<LittleEndian>>::read_from_stream_buffered(
+        alloc,
+        &mut source,
+    );
+    assert_refused(&rt, alloc, outcome, "InvalidChar");
 }
 
 /// Asserts that a vector of 513 numbers is read of a source that gives so many bytes a pull, and answers how many pulls
@@ -333,20 +306,6 @@ fn make_reader<'s, S: Source>(
     is_buffering: bool,
 ) -> StreamReader<'s, S, LittleEndian> {
     StreamReader::new(alloc, LittleEndian {}, source, is_buffering).expect(rt, "a reader")
-}
-
-#[test]
-fn a_reader_makes_no_call_for_no_byte(rt: HostRuntime) {
-    let alloc = rt.alloc();
-    for is_buffering in [false, true] {
-        let mut source = make_pieces(&[], 1, Some(0));
-        let mut reader = make_reader(&rt, alloc, &mut source, is_buffering);
-        assert_ok(&rt, reader.read_bytes(&mut []), ());
-        assert_ok(&rt, reader.peek_bytes(&mut []), ());
-        assert_ok(&rt, reader.skip_bytes(0), ());
-        assert_ok_items(&rt, reader.read_vec::<u8>(0), &[]);
-        assert_same(&rt, reader.into_source().pulls, 0);
-    }
 }
 
 /// Asserts that a read of so many bytes is refused as an end of the input, where the source lacks one of them: with the
@@ -469,65 +428,6 @@ fn a_failed_pull_is_answered_by_each_way_and_not_tried_again(rt: HostRuntime) {
 }
 
 #[test]
-fn a_failed_peek_loses_nothing(rt: HostRuntime) {
-    let alloc = rt.alloc();
-    for pulls in 0..3 {
-        let mut source = make_pieces(&THREE, 1, Some(pulls));
-        let mut reader = make_reader(&rt, alloc, &mut source, false);
-        assert_fault(&rt, reader.peek_bytes(&mut [0; 3]), INTERRUPTED);
-        assert_ok(&rt, reader.peek_u64_varint(), 0x102);
-        assert_ok(&rt, reader.peek_u8(), 0xC0);
-        assert_ok_items(&rt, reader.read_vec::<u8>(3), &THREE[..3]);
-        assert_same(&rt, reader.into_source().pulls, 4);
-    }
-}
-
-/// Asserts that whichever pull fails, of one a byte, its error is what each form answers, and no pull comes after it.
-fn assert_form_cut_off<'a, T: Readable<'a, Endianness>>(
-    rt: &impl Abort,
-    alloc: Global,
-    bytes: &[u8],
-    code: i32,
-) {
-    for pulls in 0..bytes.len() {
-        for is_buffering in [false, true] {
-            let mut source = Pieces {
-                code,
-                ..make_pieces(bytes, 1, Some(pulls))
-            };
-            let order = Endianness::LittleEndian;
-            let outcome = if is_buffering {
-                T::read_from_stream_buffered_with_ctx(alloc, order, &mut source)
-            } else {
-                T::read_from_stream_unbuffered_with_ctx(alloc, order, &mut source)
-            };
-            assert_fault(rt, outcome, code);
-            assert_same(rt, source.pulls, pulls + 1);
-        }
-    }
-}
-
-#[test]
-fn a_failed_pull_is_answered_by_each_form_and_not_tried_again(rt: HostRuntime) {
-    for code in CODES {
-        assert_form_cut_off::<u32>(&rt, rt.alloc(), &[1, 2, 3, 4], code);
-        let list = [2, 0, 0, 0, 7, 8];
-        assert_form_cut_off::<Vec<u8>>(&rt, rt.alloc(), &list, code);
-    }
-}
-
-#[test]
-fn a_source_goes_on_after_a_failed_pull(rt: HostRuntime) {
-    let alloc = rt.alloc();
-    let mut source = make_pieces(&[1, 2, 3, 4, 5, 6], 1, Some(2));
-    let outcome = <u32 as Readable<LittleEndian>>::read_from_stream_unbuffered(alloc, &mut source);
-    assert_fault(&rt, outcome, INTERRUPTED);
-    let outcome = <u8 as Readable<LittleEndian>>::read_from_stream_unbuffered(alloc, &mut source);
-    assert_ok(&rt, outcome, 3);
-    assert_same(&rt, source.pulls, 4);
-}
-
-#[test]
 fn a_file_that_is_not_there_is_an_io_error(rt: HostRuntime) {
     let alloc = rt.alloc();
     let outcome = <u16 as Readable<LittleEndian>>::read_from_file(&rt, alloc, "no/such/file");
@@ -571,54 +471,4 @@ fn a_failed_read_of_a_file_is_answered_and_not_tried_again(rt: HostRuntime) {
     let outcome = <u16 as Readable<LittleEndian>>::read_from_file(&files, rt.alloc(), "any");
     assert_device_refused(&rt, outcome, io::ErrorKind::Other);
     assert_same(&rt, calls.reads.get(), 1);
-}
-
-/// Asserts that what was read of a stream is this value, or that it is refused where there is none.
-fn assert_value_or_refused<T: PartialEq + Drop>(
-    rt: &impl Abort,
-    outcome: Result<T, Error>,
-    value: Option<&T>,
-) {
-    match (&outcome, value) {
-        (Ok(one), Some(other)) => assert!(rt; one == other, "another value"),
-        (Err(_), None) => (),
-        _ => assert!(rt; false, "one of them is refused"),
-    }
-}
-
-/// Asserts that the value, if there is one, is read of a source that gives so many of the bytes a pull, and that an
-/// unbuffered reader then takes so many of them.
-fn assert_read_in_pieces<'a, T: Readable<'a, Endianness> + PartialEq>(
-    rt: &impl Abort,
-    alloc: Global,
-    order: Endianness,
-    most: usize,
-    bytes: &[u8],
-    value: Option<&T>,
-    count: usize,
-) {
-    let mut source = make_pieces(bytes, most, None);
-    let outcome = T::read_from_stream_unbuffered_with_ctx(alloc, order, &mut source);
-    assert_value_or_refused(rt, outcome, value);
-    if value.is_some() {
-        let left = source.left.len();
-        assert_same(rt, left, bytes.len().saturating_sub(count));
-    }
-    let mut source = make_pieces(bytes, most, None);
-    let outcome = T::read_from_stream_buffered_with_ctx(alloc, order, &mut source);
-    assert_value_or_refused(rt, outcome, value);
-}
-
-/// Asserts that the value, if there is one, is read of so many of the bytes in each way from a source, whole and a byte a
-/// pull.
-pub(crate) fn assert_read_of_streams<'a, T: Readable<'a, Endianness> + PartialEq>(
-    rt: &impl Abort,
-    alloc: Global,
-    order: Endianness,
-    bytes: &[u8],
-    value: Option<&T>,
-    count: usize,
-) {
-    assert_read_in_pieces(rt, alloc, order, usize::MAX, bytes, value, count);
-    assert_read_in_pieces(rt, alloc, order, 1, bytes, value, count);
 }

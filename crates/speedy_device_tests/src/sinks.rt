@@ -1,16 +1,16 @@
 //! Writing to sinks and to files: what is pushed, and what a failed call leaves.
 ghost use Rattle.std.specs.Prelude.{[], false};
 
-use crate::asserting::{assert_bytes, assert_ok, assert_same, make_text, make_vec};
-use crate::context::LittleEndian;
-use crate::device::{Faults, Sink, VecSink};
-use crate::endianness::Endianness;
-use crate::error::Error;
-use crate::private::{ErrorKind, get_error_kind};
-use crate::readable::Readable;
-use crate::tests_devices::{FakeFiles, FileCall, FileCalls, KINDS, make_recorder};
-use crate::writable::{Writable, WritingCollector};
-use crate::writer::Writer;
+use crate::asserting::{assert_bytes, assert_ok, assert_same};
+use crate::devices::{FakeFiles, FileCall, FileCalls, KINDS, make_recorder};
+use speedy::context::LittleEndian;
+use speedy::device::{Faults, Sink, VecSink};
+use speedy::endianness::Endianness;
+use speedy::error::Error;
+use speedy::private::{ErrorKind, get_error_kind};
+use speedy::readable::Readable;
+use speedy::writable::{Writable, WritingCollector};
+use speedy::writer::Writer;
 use std::alloc::Global;
 use std::process::Abort;
 use std::rt::Files;
@@ -21,7 +21,7 @@ fn assert_failed_call(rt: &impl Abort, outcome: Result<(), Error>, kind: io::Err
     let error = outcome.err().expect(rt, "a call failed");
     let found = match get_error_kind(&error) {
         ErrorKind::IoError(inner) => Some(inner.kind()),
-        _ => None,
+        _ => None
     };
     assert_same(rt, found, Some(kind));
 }
@@ -87,26 +87,12 @@ fn assert_pushed<T: Writable<Endianness>>(
 }
 
 #[test]
-fn a_number_is_pushed(rt: HostRuntime) {
-    assert_pushed(&rt, rt.alloc(), &0x0102_u16, &[2, 1], &[1, 2]);
-}
-
-#[test]
 fn a_vector_is_pushed(rt: HostRuntime) {
     let alloc = rt.alloc();
-    let numbers = make_vec(&rt, alloc, &[1_u16, 2]);
+    let numbers = vec![in alloc; 1_u16, 2].expect(&rt, "a vector");
     let little = [2, 0, 0, 0, 1, 0, 2, 0];
     let big = [0, 0, 0, 2, 0, 1, 0, 2];
     assert_pushed(&rt, alloc, &numbers, &little, &big);
-}
-
-#[test]
-fn a_nested_value_is_pushed(rt: HostRuntime) {
-    let alloc = rt.alloc();
-    let texts = [Some(make_text(&rt, alloc, "a")), None];
-    let little = [1, 1, 0, 0, 0, 97, 0];
-    let big = [1, 0, 0, 0, 1, 97, 0];
-    assert_pushed(&rt, alloc, &texts, &little, &big);
 }
 
 /// A sink that takes all that it is given and forgets it. It counts its pushes and its flushes.
@@ -189,17 +175,6 @@ fn without_a_context_the_little_order_is_pushed(rt: HostRuntime) {
     assert_bytes(&rt, sink.bytes(), &[2, 0, 2, 0]);
 }
 
-#[test]
-fn nothing_is_pushed_of_a_value_without_bytes(rt: HostRuntime) {
-    let alloc = rt.alloc();
-    let mut sink = make_recorder(alloc, 0, 0, io::ErrorKind::Other);
-    let outcome = Writable::<LittleEndian>::write_to_stream(&(), alloc, &mut sink);
-    assert_ok(&rt, outcome, ());
-    let outcome = Writable::<LittleEndian>::write_to_stream(&1_u8, alloc, &mut sink);
-    assert_failed_call(&rt, outcome, io::ErrorKind::WriteZero);
-    assert_same(&rt, sink.into_inner().calls, 1);
-}
-
 /// Writes 1 as two bytes, no byte, and 2 as two in the other order.
 fn write_in_both_orders(rt: &impl Abort, writer: &mut impl Writer<Endianness>) {
     assert_ok(rt, writer.write_value(&1_u16), ());
@@ -234,15 +209,15 @@ fn assert_file<R: Files + AllocGlobal + Abort>(rt: &R, path: &str, bytes: &[u8])
 #[test]
 fn a_file_is_emptied_and_written(rt: HostRuntime) {
     let alloc = rt.alloc();
-    let numbers = make_vec(&rt, alloc, &[1_u16, 2]);
+    let numbers = vec![in alloc; 1_u16, 2].expect(&rt, "a vector");
     let outcome = numbers.write_to_file_with_ctx(&rt, alloc, Endianness::BigEndian, PATH);
     assert_ok(&rt, outcome, ());
     assert_file(&rt, PATH, &[0, 0, 0, 2, 0, 1, 0, 2]);
     let outcome = Writable::<LittleEndian>::write_to_file(&2_u16, &rt, alloc, PATH);
     assert_ok(&rt, outcome, ());
     assert_file(&rt, PATH, &[2, 0]);
-    let outcome = <u16 as Readable<LittleEndian>>::read_from_file(&rt, alloc, PATH);
-    assert_ok(&rt, outcome, 2);
+    let outcome = u16::read_from_file_with_ctx(&rt, alloc, Endianness::BigEndian, PATH);
+    assert_ok(&rt, outcome, 0x0200);
     fs::remove_file(&rt, PATH).expect(&rt, "it is removed");
 }
 

@@ -1,8 +1,8 @@
 //! The same bytes read by each reader.
-use crate::endianness::Endianness;
-use crate::readable::{BufferReader, CopyingBufferReader, StreamReader};
-use crate::reader::LendingReader;
-use crate::tests_streams::make_pieces;
+use crate::streams::make_pieces;
+use speedy::endianness::Endianness;
+use speedy::readable::{BufferReader, CopyingBufferReader, StreamReader};
+use speedy::reader::LendingReader;
 use std::alloc::Global;
 use std::convert::AsSlice;
 use std::process::Abort;

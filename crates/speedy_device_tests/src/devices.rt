@@ -1,12 +1,11 @@
 //! Sources and sinks: what they move, and what a failed call leaves.
-use crate::asserting::{assert_bytes, assert_same};
-use crate::device::{Counted, Sink, Source, VecSink};
+use crate::asserting::assert_same;
+use speedy::device::{Counted, Sink, Source};
 use std::alloc::{Allocator, Global};
 use std::cell::Cell;
 use std::fs::{Metadata, OpenFile, OpenOptions};
 use std::io;
 use std::io::{Read, Seek, SeekFrom, Write};
-use std::process::Abort;
 use std::rt::Files;
 
 /// A device that fails once, where it is told to, and then moves at most so many bytes a call. It counts its calls.
@@ -263,44 +262,6 @@ fn kind_of<T>(outcome: io::Result<T>) -> Result<T, io::ErrorKind> {
     outcome.map_err(|error| error.kind())
 }
 
-#[test]
-fn a_slice_gives_its_bytes_in_pieces(rt: HostRuntime) {
-    let mut bytes: &[u8] = b"abcde";
-    let mut output = [0; 3];
-    for (count, seen, left) in [
-        (3, b"abc", &b"de"[..]),
-        (2, b"dec", &b""[..]),
-        (0, b"dec", &b""[..]),
-    ] {
-        assert_same(&rt, kind_of(bytes.pull(&mut output)), Ok(count));
-        assert_bytes(&rt, &output, seen);
-        assert_bytes(&rt, bytes, left);
-    }
-}
-
-#[test]
-fn a_slice_gives_nothing_where_there_is_no_room(rt: HostRuntime) {
-    let mut bytes: &[u8] = b"abc";
-    assert_same(&rt, kind_of(bytes.pull(&mut [])), Ok(0));
-    assert_bytes(&rt, bytes, b"abc");
-}
-
-#[test]
-fn a_vec_sink_keeps_what_it_takes(rt: HostRuntime) {
-    let mut sink = VecSink::new(rt.alloc());
-    assert_same(&rt, sink.bytes().len(), 0);
-    for (bytes, count, taken) in [
-        (&b"ab"[..], 2, &b"ab"[..]),
-        (&b""[..], 0, &b"ab"[..]),
-        (&b"c"[..], 1, &b"abc"[..]),
-    ] {
-        assert_same(&rt, kind_of(sink.push(bytes)), Ok(count));
-        assert_same(&rt, kind_of(sink.flush()), Ok(()));
-        assert_bytes(&rt, sink.bytes(), taken);
-    }
-    assert_bytes(&rt, sink.into_bytes().as_slice(), b"abc");
-}
-
 /// The kinds with which a call fails in tests: each comes back, also the one that std's own loops would try again.
 pub(crate) const KINDS: [io::ErrorKind; 2] = [io::ErrorKind::Other, io::ErrorKind::Interrupted];
 
@@ -341,23 +302,6 @@ fn a_flush_is_made_even_where_nothing_waits(rt: HostRuntime) {
     assert_same(&rt, kind_of(writer.flush()), Ok(()));
     let inner = writer.into_inner();
     assert_same(&rt, (inner.calls, inner.flushes), (1, 4));
-}
-
-/// Asserts that after a read that fails with the kind the next one reads.
-fn assert_read_after(rt: &impl Abort, kind: io::ErrorKind) {
-    let mut reader = make_device(Some(kind), 2);
-    let mut output = [b'.'; 3];
-    assert_same(rt, kind_of(reader.pull(&mut output)), Err(kind));
-    assert_same(rt, kind_of(reader.pull(&mut output)), Ok(2));
-    assert_bytes(rt, &output, b"rr.");
-    assert_same(rt, reader.into_inner().calls, 2);
-}
-
-#[test]
-fn a_read_after_a_failed_one_reads(rt: HostRuntime) {
-    for kind in KINDS {
-        assert_read_after(&rt, kind);
-    }
 }
 
 #[test]

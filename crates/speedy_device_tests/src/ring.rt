@@ -1,6 +1,6 @@
 //! Bytes that wait between a device and its readers.
 use crate::asserting::{assert_bytes, assert_same};
-use crate::circular_buffer::CircularBuffer;
+use speedy::circular_buffer::CircularBuffer;
 use std::alloc::Global;
 use std::process::Abort;
 
