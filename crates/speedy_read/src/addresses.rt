@@ -22,7 +22,7 @@ impl<L: AsSlice<u8> + Drop, C: Context> ReadFrom<L, C> for Ipv4Addr {
 }
 
 impl<L: AsSlice<u8> + Drop, C: Context> ReadMany<L, C> for Ipv4Addr {
-    type Strategy = ItemByItem;
+    type Strategy = ItemByItem<C>;
 }
 
 impl<L: AsSlice<u8> + Drop, C: Context> ReadFrom<L, C> for Ipv6Addr {
@@ -39,7 +39,7 @@ impl<L: AsSlice<u8> + Drop, C: Context> ReadFrom<L, C> for Ipv6Addr {
 }
 
 impl<L: AsSlice<u8> + Drop, C: Context> ReadMany<L, C> for Ipv6Addr {
-    type Strategy = ItemByItem;
+    type Strategy = ItemByItem<C>;
 }
 
 impl<L: AsSlice<u8> + Drop, C: Context> ReadFrom<L, C> for IpAddr {
@@ -66,5 +66,5 @@ impl<L: AsSlice<u8> + Drop, C: Context> ReadFrom<L, C> for IpAddr {
 }
 
 impl<L: AsSlice<u8> + Drop, C: Context> ReadMany<L, C> for IpAddr {
-    type Strategy = ItemByItem;
+    type Strategy = ItemByItem<C>;
 }

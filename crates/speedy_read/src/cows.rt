@@ -24,7 +24,7 @@ impl<'a, L: AsSlice<u8> + Drop, C: Context, T: ReadFrom<L, C>> ReadFrom<L, C> fo
 }
 
 impl<'a, L: AsSlice<u8> + Drop, C: Context, T: ReadFrom<L, C>> ReadMany<L, C> for Cow<'a, T> {
-    type Strategy = ItemByItem;
+    type Strategy = ItemByItem<C>;
 }
 
 // Bytes point into those that the reader lends; other items are owned.
@@ -46,7 +46,7 @@ impl<'a, C: Context, T: ReadMany<&'a [u8], C> + 'a> ReadFrom<&'a [u8], C> for Co
 }
 
 impl<'a, C: Context, T: ReadMany<&'a [u8], C> + 'a> ReadMany<&'a [u8], C> for CowSlice<'a, T> {
-    type Strategy = ItemByItem;
+    type Strategy = ItemByItem<C>;
 }
 
 // It points into the bytes that the reader lends, and is owned where it lends nothing.
@@ -67,5 +67,5 @@ impl<'a, C: Context> ReadFrom<&'a [u8], C> for CowStr<'a> {
 }
 
 impl<'a, C: Context> ReadMany<&'a [u8], C> for CowStr<'a> {
-    type Strategy = ItemByItem;
+    type Strategy = ItemByItem<C>;
 }

@@ -31,7 +31,7 @@ impl<L: AsSlice<u8> + Drop, C: Context> ReadFrom<L, C> for char {
 }
 
 impl<L: AsSlice<u8> + Drop, C: Context> ReadMany<L, C> for char {
-    type Strategy = ItemByItem;
+    type Strategy = ItemByItem<C>;
 }
 
 impl<L: AsSlice<u8> + Drop, C: Context> ReadFrom<L, C> for Endianness {
@@ -51,7 +51,7 @@ impl<L: AsSlice<u8> + Drop, C: Context> ReadFrom<L, C> for Endianness {
 }
 
 impl<L: AsSlice<u8> + Drop, C: Context> ReadMany<L, C> for Endianness {
-    type Strategy = ItemByItem;
+    type Strategy = ItemByItem<C>;
 }
 
 impl<L: AsSlice<u8> + Drop, C: Context> ReadFrom<L, C> for Duration {
@@ -78,7 +78,7 @@ impl<L: AsSlice<u8> + Drop, C: Context> ReadFrom<L, C> for Duration {
 }
 
 impl<L: AsSlice<u8> + Drop, C: Context> ReadMany<L, C> for Duration {
-    type Strategy = ItemByItem;
+    type Strategy = ItemByItem<C>;
 }
 
 impl<L: AsSlice<u8> + Drop, C: Context> ReadFrom<L, C> for Uuid {
@@ -96,5 +96,5 @@ impl<L: AsSlice<u8> + Drop, C: Context> ReadFrom<L, C> for Uuid {
 }
 
 impl<L: AsSlice<u8> + Drop, C: Context> ReadMany<L, C> for Uuid {
-    type Strategy = ItemByItem;
+    type Strategy = ItemByItem<C>;
 }

@@ -32,7 +32,7 @@ impl<L: AsSlice<u8> + Drop, C: Context, T: ReadMany<L, C>> ReadFrom<L, C> for Ve
 }
 
 impl<L: AsSlice<u8> + Drop, C: Context, T: ReadMany<L, C>> ReadMany<L, C> for Vec<T> {
-    type Strategy = ItemByItem;
+    type Strategy = ItemByItem<C>;
 }
 
 impl<L: AsSlice<u8> + Drop, C: Context, T: ReadMany<L, C>> ReadFrom<L, C> for BoxedSlice<T> {
@@ -49,7 +49,7 @@ impl<L: AsSlice<u8> + Drop, C: Context, T: ReadMany<L, C>> ReadFrom<L, C> for Bo
 }
 
 impl<L: AsSlice<u8> + Drop, C: Context, T: ReadMany<L, C>> ReadMany<L, C> for BoxedSlice<T> {
-    type Strategy = ItemByItem;
+    type Strategy = ItemByItem<C>;
 }
 
 impl<
@@ -76,7 +76,7 @@ impl<
     T: ReadMany<L, C> + MadeWith<Global>,
     const N: usize,
 > ReadMany<L, C> for SmallVec<T, N> {
-    type Strategy = ItemByItem;
+    type Strategy = ItemByItem<C>;
 }
 
 impl<L: AsSlice<u8> + Drop, C: Context, T: ReadMany<L, C>, const N: usize> ReadFrom<L, C>
@@ -104,7 +104,7 @@ impl<L: AsSlice<u8> + Drop, C: Context, T: ReadMany<L, C>, const N: usize> ReadF
 
 impl<L: AsSlice<u8> + Drop, C: Context, T: ReadMany<L, C>, const N: usize> ReadMany<L, C>
     for [T; N] {
-    type Strategy = ItemByItem;
+    type Strategy = ItemByItem<C>;
 }
 
 impl<L: AsSlice<u8> + Drop, C: Context, T: ReadFrom<L, C>, const N: usize> Places<L, C, T>
@@ -159,7 +159,7 @@ impl<'a, C: Context> ReadFrom<&'a [u8], C> for &'a [u8] {
 }
 
 impl<'a, C: Context> ReadMany<&'a [u8], C> for &'a [u8] {
-    type Strategy = ItemByItem;
+    type Strategy = ItemByItem<C>;
 }
 
 // They are lent by the reader, with no count before them.
@@ -196,5 +196,5 @@ impl<'a, C: Context, const N: usize> ReadFrom<&'a [u8], C> for &'a [u8; N] {
 }
 
 impl<'a, C: Context, const N: usize> ReadMany<&'a [u8], C> for &'a [u8; N] {
-    type Strategy = ItemByItem;
+    type Strategy = ItemByItem<C>;
 }

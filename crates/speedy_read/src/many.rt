@@ -17,6 +17,7 @@ use speedy_base::error::{ErrorKind, error_out_of_memory};
 use std::alloc::Global;
 use std::borrow::CowSlice;
 use std::convert::AsSlice;
+use std::marker::PhantomData;
 
 /// How the values of a type are read several at a time.
 pub trait Strategy<L: AsSlice<u8> + Drop, C: Context, T: ReadFrom<L, C>> {
@@ -42,9 +43,13 @@ pub trait Strategy<L: AsSlice<u8> + Drop, C: Context, T: ReadFrom<L, C>> {
 }
 
 /// Each value by itself. This serves any type.
-pub struct ItemByItem {}
+///
+/// It names the context, since a type that owns memory gets no proof of an impl whose strategy names no parameter of it.
+pub struct ItemByItem<C> {
+    _context: PhantomData<C>,
+}
 
-impl<L: AsSlice<u8> + Drop, C: Context, T: ReadFrom<L, C>> Strategy<L, C, T> for ItemByItem {
+impl<L: AsSlice<u8> + Drop, C: Context, T: ReadFrom<L, C>> Strategy<L, C, T> for ItemByItem<C> {
     fn read_many_lent<W: FromLent<L, T>, R: LendingReader<L, C>>(
         reader: &mut R,
         length: usize,

@@ -33,7 +33,7 @@ impl<
     K: ReadFrom<L, C> + SameKey + Ord,
     V: ReadFrom<L, C>,
 > ReadMany<L, C> for BTreeMap<K, V> {
-    type Strategy = ItemByItem;
+    type Strategy = ItemByItem<C>;
 }
 
 impl<
@@ -62,7 +62,7 @@ impl<
     V: ReadFrom<L, C>,
     S: BuildHasher + Default + Drop,
 > ReadMany<L, C> for HashMap<K, V, S> {
-    type Strategy = ItemByItem;
+    type Strategy = ItemByItem<C>;
 }
 
 impl<
@@ -91,5 +91,5 @@ impl<
     V: ReadFrom<L, C>,
     S: BuildHasher + Default + Drop,
 > ReadMany<L, C> for IndexMap<K, V, S> {
-    type Strategy = ItemByItem;
+    type Strategy = ItemByItem<C>;
 }

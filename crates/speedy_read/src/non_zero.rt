@@ -25,7 +25,7 @@ impl<L: AsSlice<u8> + Drop, C: Context> ReadFrom<L, C> for NonZeroU8 {
 }
 
 impl<L: AsSlice<u8> + Drop, C: Context> ReadMany<L, C> for NonZeroU8 {
-    type Strategy = ItemByItem;
+    type Strategy = ItemByItem<C>;
 }
 
 impl<L: AsSlice<u8> + Drop, C: Context> ReadFrom<L, C> for NonZeroU16 {
@@ -44,7 +44,7 @@ impl<L: AsSlice<u8> + Drop, C: Context> ReadFrom<L, C> for NonZeroU16 {
 }
 
 impl<L: AsSlice<u8> + Drop, C: Context> ReadMany<L, C> for NonZeroU16 {
-    type Strategy = ItemByItem;
+    type Strategy = ItemByItem<C>;
 }
 
 impl<L: AsSlice<u8> + Drop, C: Context> ReadFrom<L, C> for NonZeroU32 {
@@ -63,7 +63,7 @@ impl<L: AsSlice<u8> + Drop, C: Context> ReadFrom<L, C> for NonZeroU32 {
 }
 
 impl<L: AsSlice<u8> + Drop, C: Context> ReadMany<L, C> for NonZeroU32 {
-    type Strategy = ItemByItem;
+    type Strategy = ItemByItem<C>;
 }
 
 impl<L: AsSlice<u8> + Drop, C: Context> ReadFrom<L, C> for NonZeroU64 {
@@ -82,7 +82,7 @@ impl<L: AsSlice<u8> + Drop, C: Context> ReadFrom<L, C> for NonZeroU64 {
 }
 
 impl<L: AsSlice<u8> + Drop, C: Context> ReadMany<L, C> for NonZeroU64 {
-    type Strategy = ItemByItem;
+    type Strategy = ItemByItem<C>;
 }
 
 impl<L: AsSlice<u8> + Drop, C: Context> ReadFrom<L, C> for NonZeroI8 {
@@ -101,7 +101,7 @@ impl<L: AsSlice<u8> + Drop, C: Context> ReadFrom<L, C> for NonZeroI8 {
 }
 
 impl<L: AsSlice<u8> + Drop, C: Context> ReadMany<L, C> for NonZeroI8 {
-    type Strategy = ItemByItem;
+    type Strategy = ItemByItem<C>;
 }
 
 impl<L: AsSlice<u8> + Drop, C: Context> ReadFrom<L, C> for NonZeroI16 {
@@ -120,7 +120,7 @@ impl<L: AsSlice<u8> + Drop, C: Context> ReadFrom<L, C> for NonZeroI16 {
 }
 
 impl<L: AsSlice<u8> + Drop, C: Context> ReadMany<L, C> for NonZeroI16 {
-    type Strategy = ItemByItem;
+    type Strategy = ItemByItem<C>;
 }
 
 impl<L: AsSlice<u8> + Drop, C: Context> ReadFrom<L, C> for NonZeroI32 {
@@ -139,7 +139,7 @@ impl<L: AsSlice<u8> + Drop, C: Context> ReadFrom<L, C> for NonZeroI32 {
 }
 
 impl<L: AsSlice<u8> + Drop, C: Context> ReadMany<L, C> for NonZeroI32 {
-    type Strategy = ItemByItem;
+    type Strategy = ItemByItem<C>;
 }
 
 impl<L: AsSlice<u8> + Drop, C: Context> ReadFrom<L, C> for NonZeroI64 {
@@ -158,5 +158,5 @@ impl<L: AsSlice<u8> + Drop, C: Context> ReadFrom<L, C> for NonZeroI64 {
 }
 
 impl<L: AsSlice<u8> + Drop, C: Context> ReadMany<L, C> for NonZeroI64 {
-    type Strategy = ItemByItem;
+    type Strategy = ItemByItem<C>;
 }

@@ -183,5 +183,5 @@ impl<L: AsSlice<u8> + Drop, C: Context> ReadFrom<L, C> for usize {
 }
 
 impl<L: AsSlice<u8> + Drop, C: Context> ReadMany<L, C> for usize {
-    type Strategy = ItemByItem;
+    type Strategy = ItemByItem<C>;
 }

@@ -23,5 +23,5 @@ impl<L: AsSlice<u8> + Drop, C: Context, T: ReadFrom<L, C>> ReadFrom<L, C> for Bo
 }
 
 impl<L: AsSlice<u8> + Drop, C: Context, T: ReadFrom<L, C>> ReadMany<L, C> for Box<T> {
-    type Strategy = ItemByItem;
+    type Strategy = ItemByItem<C>;
 }

@@ -25,7 +25,7 @@ impl<L: AsSlice<u8> + Drop, C: Context, T: ReadFrom<L, C>> ReadFrom<L, C> for Ra
 }
 
 impl<L: AsSlice<u8> + Drop, C: Context, T: ReadFrom<L, C>> ReadMany<L, C> for Range<T> {
-    type Strategy = ItemByItem;
+    type Strategy = ItemByItem<C>;
 }
 
 impl<L: AsSlice<u8> + Drop, C: Context, T: ReadFrom<L, C>> ReadFrom<L, C> for RangeInclusive<T> {
@@ -47,5 +47,5 @@ impl<L: AsSlice<u8> + Drop, C: Context, T: ReadFrom<L, C>> ReadFrom<L, C> for Ra
 }
 
 impl<L: AsSlice<u8> + Drop, C: Context, T: ReadFrom<L, C>> ReadMany<L, C> for RangeInclusive<T> {
-    type Strategy = ItemByItem;
+    type Strategy = ItemByItem<C>;
 }

@@ -25,7 +25,7 @@ impl<L: AsSlice<u8> + Drop, C: Context, T: ReadMany<L, C> + SameKey + Ord> ReadF
 
 impl<L: AsSlice<u8> + Drop, C: Context, T: ReadMany<L, C> + SameKey + Ord> ReadMany<L, C>
     for BTreeSet<T> {
-    type Strategy = ItemByItem;
+    type Strategy = ItemByItem<C>;
 }
 
 impl<
@@ -52,7 +52,7 @@ impl<
     T: ReadMany<L, C> + SameKey + Hash,
     S: BuildHasher + Default + Drop,
 > ReadMany<L, C> for HashSet<T, S> {
-    type Strategy = ItemByItem;
+    type Strategy = ItemByItem<C>;
 }
 
 impl<
@@ -79,5 +79,5 @@ impl<
     T: ReadMany<L, C> + SameKey + Hash,
     S: BuildHasher + Default + Drop,
 > ReadMany<L, C> for IndexSet<T, S> {
-    type Strategy = ItemByItem;
+    type Strategy = ItemByItem<C>;
 }

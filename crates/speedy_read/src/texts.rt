@@ -27,7 +27,7 @@ impl<L: AsSlice<u8> + Drop, C: Context> ReadFrom<L, C> for String {
 }
 
 impl<L: AsSlice<u8> + Drop, C: Context> ReadMany<L, C> for String {
-    type Strategy = ItemByItem;
+    type Strategy = ItemByItem<C>;
 }
 
 impl<L: AsSlice<u8> + Drop, C: Context> ReadFrom<L, C> for BoxedStr {
@@ -44,7 +44,7 @@ impl<L: AsSlice<u8> + Drop, C: Context> ReadFrom<L, C> for BoxedStr {
 }
 
 impl<L: AsSlice<u8> + Drop, C: Context> ReadMany<L, C> for BoxedStr {
-    type Strategy = ItemByItem;
+    type Strategy = ItemByItem<C>;
 }
 
 // It points into the bytes that the reader lends.
@@ -75,5 +75,5 @@ impl<'a, C: Context> ReadFrom<&'a [u8], C> for &'a str {
 }
 
 impl<'a, C: Context> ReadMany<&'a [u8], C> for &'a str {
-    type Strategy = ItemByItem;
+    type Strategy = ItemByItem<C>;
 }

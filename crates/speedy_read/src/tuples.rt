@@ -21,7 +21,7 @@ impl<L: AsSlice<u8> + Drop, C: Context> ReadFrom<L, C> for () {
 }
 
 impl<L: AsSlice<u8> + Drop, C: Context> ReadMany<L, C> for () {
-    type Strategy = ItemByItem;
+    type Strategy = ItemByItem<C>;
 }
 
 impl<L: AsSlice<u8> + Drop, C: Context, T0: ReadFrom<L, C>> ReadFrom<L, C> for (T0,) {
@@ -38,7 +38,7 @@ impl<L: AsSlice<u8> + Drop, C: Context, T0: ReadFrom<L, C>> ReadFrom<L, C> for (
 }
 
 impl<L: AsSlice<u8> + Drop, C: Context, T0: ReadFrom<L, C>> ReadMany<L, C> for (T0,) {
-    type Strategy = ItemByItem;
+    type Strategy = ItemByItem<C>;
 }
 
 impl<L: AsSlice<u8> + Drop, C: Context, T0: ReadFrom<L, C>, T1: ReadFrom<L, C>> ReadFrom<L, C>
@@ -58,7 +58,7 @@ impl<L: AsSlice<u8> + Drop, C: Context, T0: ReadFrom<L, C>, T1: ReadFrom<L, C>> 
 
 impl<L: AsSlice<u8> + Drop, C: Context, T0: ReadFrom<L, C>, T1: ReadFrom<L, C>> ReadMany<L, C>
     for (T0, T1) {
-    type Strategy = ItemByItem;
+    type Strategy = ItemByItem<C>;
 }
 
 impl<
@@ -87,7 +87,7 @@ impl<
     T1: ReadFrom<L, C>,
     T2: ReadFrom<L, C>,
 > ReadMany<L, C> for (T0, T1, T2) {
-    type Strategy = ItemByItem;
+    type Strategy = ItemByItem<C>;
 }
 
 impl<
@@ -118,7 +118,7 @@ impl<
     T2: ReadFrom<L, C>,
     T3: ReadFrom<L, C>,
 > ReadMany<L, C> for (T0, T1, T2, T3) {
-    type Strategy = ItemByItem;
+    type Strategy = ItemByItem<C>;
 }
 
 impl<
@@ -151,7 +151,7 @@ impl<
     T3: ReadFrom<L, C>,
     T4: ReadFrom<L, C>,
 > ReadMany<L, C> for (T0, T1, T2, T3, T4) {
-    type Strategy = ItemByItem;
+    type Strategy = ItemByItem<C>;
 }
 
 impl<
@@ -186,7 +186,7 @@ impl<
     T4: ReadFrom<L, C>,
     T5: ReadFrom<L, C>,
 > ReadMany<L, C> for (T0, T1, T2, T3, T4, T5) {
-    type Strategy = ItemByItem;
+    type Strategy = ItemByItem<C>;
 }
 
 impl<
@@ -223,7 +223,7 @@ impl<
     T5: ReadFrom<L, C>,
     T6: ReadFrom<L, C>,
 > ReadMany<L, C> for (T0, T1, T2, T3, T4, T5, T6) {
-    type Strategy = ItemByItem;
+    type Strategy = ItemByItem<C>;
 }
 
 impl<
@@ -264,7 +264,7 @@ impl<
     T6: ReadFrom<L, C>,
     T7: ReadFrom<L, C>,
 > ReadMany<L, C> for (T0, T1, T2, T3, T4, T5, T6, T7) {
-    type Strategy = ItemByItem;
+    type Strategy = ItemByItem<C>;
 }
 
 impl<
@@ -307,7 +307,7 @@ impl<
     T7: ReadFrom<L, C>,
     T8: ReadFrom<L, C>,
 > ReadMany<L, C> for (T0, T1, T2, T3, T4, T5, T6, T7, T8) {
-    type Strategy = ItemByItem;
+    type Strategy = ItemByItem<C>;
 }
 
 impl<
@@ -352,7 +352,7 @@ impl<
     T8: ReadFrom<L, C>,
     T9: ReadFrom<L, C>,
 > ReadMany<L, C> for (T0, T1, T2, T3, T4, T5, T6, T7, T8, T9) {
-    type Strategy = ItemByItem;
+    type Strategy = ItemByItem<C>;
 }
 
 impl<
@@ -399,5 +399,5 @@ impl<
     T9: ReadFrom<L, C>,
     T10: ReadFrom<L, C>,
 > ReadMany<L, C> for (T0, T1, T2, T3, T4, T5, T6, T7, T8, T9, T10) {
-    type Strategy = ItemByItem;
+    type Strategy = ItemByItem<C>;
 }

@@ -19,5 +19,5 @@ impl<L: AsSlice<u8> + Drop, C: Context> ReadFrom<L, C> for VarInt64 {
 }
 
 impl<L: AsSlice<u8> + Drop, C: Context> ReadMany<L, C> for VarInt64 {
-    type Strategy = ItemByItem;
+    type Strategy = ItemByItem<C>;
 }

@@ -51,7 +51,7 @@ impl<'a, C: Context, T: ZeroCopyable<C>> ReadFrom<&'a [u8], C> for SliceView<'a,
 }
 
 impl<'a, C: Context, T: ZeroCopyable<C>> ReadMany<&'a [u8], C> for SliceView<'a, T> {
-    type Strategy = ItemByItem;
+    type Strategy = ItemByItem<C>;
 }
 
 impl<'a, C: Context, T: ZeroCopyable<C>, const N: usize> ReadFrom<&'a [u8], C>
@@ -97,7 +97,7 @@ impl<'a, C: Context, T: ZeroCopyable<C>, const N: usize> ReadFrom<&'a [u8], C>
 
 impl<'a, C: Context, T: ZeroCopyable<C>, const N: usize> ReadMany<&'a [u8], C>
     for ArrayView<'a, T, N> {
-    type Strategy = ItemByItem;
+    type Strategy = ItemByItem<C>;
 }
 
 // What a proof knows of a context without a lifetime, it is told here for readers that lend for one.

@@ -12,11 +12,11 @@ use Rattle.speedy.specs.Leaves.{character, byte_order, duration}
 use Rattle.speedy.specs.Addresses.{address, ip_address}
 use Rattle.speedy.specs.Flags.{flag, option, alternative}
 use Rattle.speedy.specs.Tuples.{unit, pair}
-use Rattle.speedy.specs.Lists.{list, vector}
+use Rattle.speedy.specs.Lists.{list, vector, counted_list}
 use Rattle.speedy.specs.SeenItems.{IsLess}
 use Rattle.speedy.specs.Maps.{tree_map, index_map}
 use Rattle.speedy.specs.Sets.{tree_set, index_set}
-use Rattle.speedy.specs.Texts.{text, raw_bytes}
+use Rattle.speedy.specs.Texts.{text, raw_bytes, constant_bytes, counted_text}
 use Rattle.speedy.specs.Owned.{owned_content, borrowed_content}
 use Rattle.speedy.specs.Varint.{varint}
 use Rattle.speedy_vectors.specs.declared.line.TypeName.{TypeName}
@@ -101,3 +101,4 @@ named names.BytesRef = by (codes "bytes_ref") refl 4 (λ encoding. borrowed_cont
 named names.BytesRef4 = by (codes "bytes_ref_4") refl 4 (λ encoding. borrowed_content (vector 4 (unsigned_number 1 encoding)))
 named names.ViewI8 = by (codes "view_i8") refl 4 (λ encoding. borrowed_content (list encoding (signed_number w8 encoding)))
 named names.ArrayViewI8x4 = by (codes "array_view_i8_4") refl 4 (λ encoding. borrowed_content (vector 4 (signed_number w8 encoding)))
+named names.Frame = by (codes "frame") refl 4 (λ encoding. pair (constant_bytes encoding (codes "SP")) (pair (counted_list (varint encoding) (varint encoding)) (counted_text encoding (unsigned_number 1 encoding))))

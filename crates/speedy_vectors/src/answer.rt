@@ -5,6 +5,7 @@ ghost use Rattle.speedy.specs.Error.{error_of};
 ghost use Rattle.speedy_vectors.specs.Answer.{hex_of, kind_name, ok_text, refused_text, AnswersAs, AnswersBytes, AnswersLine};
 ghost use Rattle.speedy_vectors.specs.Line.{encoding_of};
 
+use crate::frame::Frame;
 use crate::line::{Line, LineOrder, TypeName, for_each_name, parse_line};
 use speedy::ext::{IndexMap, IndexSet, SmallVec, Uuid};
 use speedy::private::{ErrorKind, get_error_kind};

@@ -135,6 +135,8 @@ pub enum TypeName {
     ViewI8,
     /// `ArrayView<i8, 4>`.
     ArrayViewI8x4,
+    /// [`Frame`](crate::frame::Frame).
+    Frame,
 }
 
 // Each type of the program: its name on a line, its variant, and the type. The row of its bytes is in `specs/`.
@@ -194,6 +196,7 @@ macro_rules! for_each_name {
             b"bytes_ref_4" BytesRef4 &[u8; 4];
             b"view_i8" ViewI8 SliceView<i8>;
             b"array_view_i8_4" ArrayViewI8x4 ArrayView<i8, 4>;
+            b"frame" Frame Frame;
         }
     };
 }

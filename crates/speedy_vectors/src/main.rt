@@ -9,6 +9,7 @@
 
 pub mod answer;
 pub mod callers;
+pub mod frame;
 pub mod line;
 #[cfg(test)]
 mod plain16;

@@ -32,7 +32,7 @@ impl<L: AsSlice<u8> + Drop, C: Context> ReadFrom<L, C> for Plain16 {
 }
 
 impl<L: AsSlice<u8> + Drop, C: Context> ReadMany<L, C> for Plain16 {
-    type Strategy = ItemByItem;
+    type Strategy = ItemByItem<C>;
 }
 
 impl<C: Context> Writable<C> for Plain16 {

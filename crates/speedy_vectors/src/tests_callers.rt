@@ -2,6 +2,7 @@
 use crate::callers::headers::Header;
 use crate::callers::own_types::{Entry, Labelled, Mark};
 use crate::callers::{headers, memory, readme, streams};
+use crate::frame::Frame;
 use speedy::private::get_error_kind;
 use speedy::readable::BufferReader;
 use speedy::{Endianness, Error, IsEof, LendingReader, LittleEndian, Readable, Reader, Writable};
@@ -168,5 +169,28 @@ fn a_log_is_read_without_a_record_that_was_cut_short(rt: HostRuntime) {
     assert!(rt; records.len() == 1);
     assert_message(&rt, &records[0], 1, "Hi");
     let outcome = headers::read_log(alloc, &bytes, 0);
+    assert_refused(&rt, alloc, outcome, "OutOfRangeLength");
+}
+
+/// A frame without parts, whose note has so many bytes.
+fn make_frame(rt: &impl Abort, alloc: Global, length: usize) -> Frame {
+    let mut note = String::new(alloc);
+    for _ in 0..length {
+        note.push_str("a").expect(rt, "room");
+    }
+    Frame {
+        parts: Vec::new(alloc),
+        note,
+    }
+}
+
+#[test]
+fn a_frame_has_a_short_note(rt: HostRuntime) {
+    let alloc = rt.alloc();
+    let order = Endianness::BigEndian;
+    let written = make_frame(&rt, alloc, 255).write_to_vec_with_ctx(alloc, order);
+    let written = written.expect(&rt, "bytes");
+    assert!(rt; written.len() == 259 && written.starts_with(&[83, 80, 0, 255, 97]));
+    let outcome = make_frame(&rt, alloc, 256).write_to_vec_with_ctx(alloc, order);
     assert_refused(&rt, alloc, outcome, "OutOfRangeLength");
 }

@@ -247,6 +247,18 @@ const BORROWED: [(&str, &str); 13] = [
     ("be array_view_i8_4 ff800102", "ok 4 ff800102\n"),
 ];
 
+/// Frames: of both orders alike, but for their longer integers under a strict one.
+const FRAMES: [(&str, &str); 8] = [
+    ("be frame 5350018080024869", "ok 8 5350018080024869\n"),
+    ("le frame 53508001808000", "ok 7 535001808000\n"),
+    ("le frame 53510000", "refused ExpectedConstant\n"),
+    ("le frame 535000", "refused InputBufferIsTooSmall 3 4\n"),
+    ("le frame 5350000141", "ok 5 5350000141\n"),
+    ("le frame 53500001ff", "refused InvalidUtf8\n"),
+    ("sle frame 53508001808000", "refused NotWrittenForm\n"),
+    ("sbe frame 5350018080024869", "ok 8 5350018080024869\n"),
+];
+
 /// What the strict orders refuse, and what they do not.
 const STRICT: [(&str, &str); 10] = [
     ("sle varint 8000", "refused NotWrittenForm\n"),
@@ -339,6 +351,11 @@ fn maps_and_sets_are_answered(rt: HostRuntime) {
 #[test]
 fn what_borrows_is_answered(rt: HostRuntime) {
     assert_answers(&rt, rt.alloc(), &BORROWED);
+}
+
+#[test]
+fn frames_are_answered(rt: HostRuntime) {
+    assert_answers(&rt, rt.alloc(), &FRAMES);
 }
 
 #[test]

@@ -53,7 +53,7 @@ impl<L: AsSlice<u8> + Drop, C: Context> ReadFrom<L, C> for Header {
 }
 
 impl<L: AsSlice<u8> + Drop, C: Context> ReadMany<L, C> for Header {
-    type Strategy = ItemByItem;
+    type Strategy = ItemByItem<C>;
 }
 
 impl<C: Context> Writable<C> for Header {

@@ -46,7 +46,7 @@ impl<L: AsSlice<u8> + Drop, C: Context> ReadFrom<L, C> for Mark {
 }
 
 impl<L: AsSlice<u8> + Drop, C: Context> ReadMany<L, C> for Mark {
-    type Strategy = ItemByItem;
+    type Strategy = ItemByItem<C>;
 }
 
 impl<C: Context> Writable<C> for Mark {
@@ -87,7 +87,7 @@ impl<L: AsSlice<u8> + Drop, C: Context, T: ReadFrom<L, C>> ReadFrom<L, C> for La
 }
 
 impl<L: AsSlice<u8> + Drop, C: Context, T: ReadFrom<L, C>> ReadMany<L, C> for Labelled<T> {
-    type Strategy = ItemByItem;
+    type Strategy = ItemByItem<C>;
 }
 
 impl<C: Context, T: Writable<C>> Writable<C> for Labelled<T> {
@@ -132,5 +132,5 @@ impl<'a, C: Context> ReadFrom<&'a [u8], C> for Entry<'a> {
 }
 
 impl<'a, C: Context> ReadMany<&'a [u8], C> for Entry<'a> {
-    type Strategy = ItemByItem;
+    type Strategy = ItemByItem<C>;
 }

@@ -8,3 +8,6 @@ returns-in-RangeInclU16 g c = rw c.in-RangeInclU16.is c.answer_as-in-RangeInclU1
 
 pub returns-in-TupleU8U16U32 : goal.returns-in-TupleU8U16U32
 returns-in-TupleU8U16U32 g c = rw c.in-TupleU8U16U32.is c.answer_as-in-TupleU8U16U32.ensures
+
+pub returns-in-Frame : goal.returns-in-Frame
+returns-in-Frame g c = rw c.in-Frame.is c.answer_as-in-Frame.ensures

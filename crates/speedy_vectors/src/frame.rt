@@ -1,0 +1,111 @@
+//! A frame: a constant, counted parts and a short note, made of lengths of other widths than the listed types have.
+ghost use Rattle.std.specs.Prelude.{◌≡◌, ℕ, List, codes, map};
+ghost use Rattle.speedy.specs.Lists.{counted_list, counted_list_laws};
+ghost use Rattle.speedy.specs.Numbers.{unsigned_number, unsigned_number_laws};
+ghost use Rattle.speedy.specs.Reading.{Reads};
+ghost use Rattle.speedy.specs.Texts.{constant_bytes, constant_bytes_laws, counted_text, counted_text_laws};
+ghost use Rattle.speedy.specs.Tuples.{pair, pair_laws};
+ghost use Rattle.speedy.specs.Varint.{varint, varint_laws};
+ghost use Rattle.speedy.specs.Writing.{Writes};
+
+use speedy::private::{
+    read_constant, read_length_u8, read_length_u64_varint, write_length_u8, write_length_u64_varint,
+};
+use speedy::varint::VarInt64;
+use speedy::{Context, ItemByItem, Layout, LendingReader, ReadFrom, ReadMany, Writable, Writer};
+use std::convert::AsSlice;
+
+/// What a frame begins with.
+const MAGIC: &'static [u8] = b"SP";
+
+/// Parts and a note: the constant `SP`, the number of parts as an integer of variable length, the parts, and the note
+/// behind its number of bytes, one byte. A longer note has no spelling.
+#[derive(Debug, PartialEq, Drop)]
+pub struct Frame {
+    pub parts: Vec<VarInt64>,
+    pub note: String,
+}
+
+impl Layout for Frame {
+    ghost Seen = { List ℕ × (List ℕ × List ℕ) };
+
+    ghost seen = { λ frame. (codes "SP", (⟦<Vec<VarInt64> as Layout>⟧.seen frame.parts, ⟦<String as Layout>⟧.seen frame.note)) };
+
+    ghost format = { λ f. pair (constant_bytes f (codes "SP"))
+        (pair (counted_list (varint f) (varint f)) (counted_text f (unsigned_number 1 f))) };
+
+    ghost least = { 4 };
+
+    ghost layout_laws = { λ f. pair_laws (constant_bytes_laws f (codes "SP"))
+        (pair_laws (counted_list_laws (varint_laws f) (varint_laws f)) (counted_text_laws f (unsigned_number_laws 1 f))) };
+}
+
+// The parts, behind their number.
+fn read_parts<L: AsSlice<u8> + Drop, C: Context, R: LendingReader<L, C>>(
+    reader: &mut R,
+) -> Result<Vec<VarInt64>, C::Error>
+    ensures { let number = varint (R.state reader.old).encoding in
+        Reads C.Error.from_gives C.Error.eof ⟦<Vec<VarInt64> as Layout>⟧.seen (counted_list number number) result
+        (R.state reader.old) (R.state reader.new) }
+{
+    let count = read_length_u64_varint(reader)?;
+    reader.read_vec(count)
+}
+
+// The note, behind its number of bytes.
+fn read_note<L: AsSlice<u8> + Drop, C: Context, R: LendingReader<L, C>>(
+    reader: &mut R,
+) -> Result<String, C::Error>
+    ensures { let encoding = (R.state reader.old).encoding in
+        Reads C.Error.from_gives C.Error.eof ⟦<String as Layout>⟧.seen (counted_text encoding (unsigned_number 1 encoding)) result
+        (R.state reader.old) (R.state reader.new) }
+{
+    let length = read_length_u8(reader)?;
+    reader.read_string(length)
+}
+
+impl<L: AsSlice<u8> + Drop, C: Context> ReadFrom<L, C> for Frame {
+    fn read_from<R: LendingReader<L, C>>(reader: &mut R) -> Result<Frame, C::Error> {
+        read_constant(reader, MAGIC)?;
+        let parts = read_parts(reader)?;
+        let note = read_note(reader)?;
+        Ok(Frame { parts, note })
+    }
+
+    fn minimum_bytes_needed() -> usize {
+        4
+    }
+}
+
+impl<L: AsSlice<u8> + Drop, C: Context> ReadMany<L, C> for Frame {
+    type Strategy = ItemByItem<C>;
+}
+
+// The parts, behind their number.
+fn write_parts<C: Context, W: Writer<C>>(parts: &[VarInt64], writer: &mut W) -> Result<(), C::Error>
+    ensures { Writes C.Error.from_gives (λ f. counted_list (varint f) (varint f)) (map ⟦<VarInt64 as Layout>⟧.seen parts.now) result
+        (W.state writer.old) (W.state writer.new) (λ b. W.appends writer.old b writer.new) }
+{
+    write_length_u64_varint(parts.len(), writer)?;
+    writer.write_slice(parts)
+}
+
+// The note, behind its number of bytes.
+fn write_note<C: Context, W: Writer<C>>(note: &str, writer: &mut W) -> Result<(), C::Error>
+    ensures { Writes C.Error.from_gives (λ f. counted_text f (unsigned_number 1 f)) note.now result
+        (W.state writer.old) (W.state writer.new) (λ b. W.appends writer.old b writer.new) }
+{
+    let bytes = note.as_bytes();
+    write_length_u8(bytes.len(), writer)?;
+    writer.write_bytes(bytes)
+}
+
+impl<C: Context> Writable<C> for Frame {
+    fn write_to<W: Writer<C>>(&self, writer: &mut W) -> Result<(), C::Error> {
+        let parts = self.parts.as_slice();
+        let note = self.note.as_str();
+        writer.write_bytes(MAGIC)?;
+        write_parts(parts, writer)?;
+        write_note(note, writer)
+    }
+}
