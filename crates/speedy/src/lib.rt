@@ -14,8 +14,6 @@ pub mod private;
 #[cfg(test)]
 mod round_trips;
 #[cfg(test)]
-mod tests_addresses;
-#[cfg(test)]
 mod tests_collections;
 #[cfg(test)]
 mod tests_cows;
@@ -25,8 +23,6 @@ mod tests_endianness;
 mod tests_errors;
 #[cfg(test)]
 mod tests_laws;
-#[cfg(test)]
-mod tests_leaves;
 #[cfg(test)]
 mod tests_lent;
 #[cfg(test)]
@@ -41,8 +37,6 @@ mod tests_owned;
 mod tests_ranges;
 #[cfg(test)]
 mod tests_readers;
-#[cfg(test)]
-mod tests_texts;
 #[cfg(test)]
 mod tests_tuples;
 #[cfg(test)]

@@ -67,13 +67,9 @@ fn slice_again<'a, C: Context + Copy, T: Writable<C> + Readable<'a, C>>(
 fn what_was_written_is_read(rt: HostRuntime) {
     let alloc = rt.alloc();
     let order = Endianness::BigEndian;
-    let bytes = [0, 0, 0, 2, 0, 10, 0, 11];
-    assert_ok_items(
-        &rt,
-        read_written::<_, Vec<u16>>(alloc, order, &bytes),
-        &[10_u16, 11],
-    );
-    assert_ok(&rt, read_front::<_, u32>(alloc, order, &bytes), (2, 4));
+    let bytes = [0, 0, 0, 2, 9];
+    assert_ok(&rt, read_written::<_, u32>(alloc, order, &bytes[..4]), 2);
+    assert_ok(&rt, read_front::<_, u32>(alloc, order, &bytes), (2, 1));
 }
 
 #[test]

@@ -4,21 +4,18 @@ use crate::context::LittleEndian;
 use crate::endianness::Endianness;
 use crate::error::Error;
 use crate::private::cow_bytes_to_cow_str;
-use crate::readable::{BufferReader, CopyingBufferReader, ReadMany, Readable, ReadableOwned};
+use crate::readable::{BufferReader, CopyingBufferReader, Readable, ReadableOwned};
 use crate::reader::{LendingReader, Reader};
 use std::alloc::Global;
 use std::borrow::{CowSlice, CowStr};
-use std::convert::AsSlice;
 use std::process::Abort;
 
 /// The text "Hi" with its count.
 const HI: [u8; 6] = [2, 0, 0, 0, 72, 105];
 
 #[test]
-fn a_text_is_borrowed_where_it_is_lent(rt: HostRuntime) {
+fn a_text_is_not_borrowed_where_nothing_is_lent(rt: HostRuntime) {
     let alloc = rt.alloc();
-    let outcome = <&str as Readable<LittleEndian>>::read_from_buffer(alloc, &HI);
-    assert_ok(&rt, outcome, "Hi");
     let outcome = <&str as Readable<LittleEndian>>::read_from_buffer_copying_data(alloc, &HI);
     assert_refused(&rt, alloc, outcome, "Unsized");
     let outcome = <&str as Readable<LittleEndian>>::read_from_buffer_copying_data(alloc, &[]);
@@ -28,8 +25,6 @@ fn a_text_is_borrowed_where_it_is_lent(rt: HostRuntime) {
         outcome,
         "InputBufferIsTooSmall { actual_size: 0, expected_size: 4 }",
     );
-    let outcome = <&str as Readable<LittleEndian>>::read_from_buffer(alloc, &[1, 0, 0, 0, 255]);
-    assert_refused(&rt, alloc, outcome, "InvalidUtf8");
 }
 
 /// Asserts that it borrows the bytes or not.
@@ -43,13 +38,15 @@ fn cows_borrow_bytes_where_they_are_lent(rt: HostRuntime) {
     let alloc = rt.alloc();
     let outcome = <CowSlice<u8> as Readable<LittleEndian>>::read_from_buffer(alloc, &HI);
     assert_borrows(&rt, outcome.expect(&rt, "a cow"), &[72, 105], true);
+}
+
+#[test]
+fn cows_own_bytes_where_they_are_copied(rt: HostRuntime) {
+    let alloc = rt.alloc();
     let outcome = <CowSlice<u8> as Readable<LittleEndian>>::read_from_buffer_copying_data(
         alloc, &HI,
     );
     assert_borrows(&rt, outcome.expect(&rt, "a cow"), &[72, 105], false);
-    let numbers = [1, 0, 0, 0, 4, 3];
-    let outcome = <CowSlice<u16> as Readable<LittleEndian>>::read_from_buffer(alloc, &numbers);
-    assert_same(&rt, outcome.expect(&rt, "a cow").as_slice(), &[0x0304]);
 }
 
 /// Asserts that the reader has these two numbers, and a byte after them.
@@ -96,44 +93,6 @@ fn cows_of_texts(rt: HostRuntime) {
     assert_hi(&rt, outcome, false);
     let outcome: Result<CowStr, Error> = cow_bytes_to_cow_str(CowSlice::Borrowed(&[255]));
     assert_refused(&rt, alloc, outcome, "InvalidUtf8");
-}
-
-/// So many bytes that they are more than two chunks of those in which bytes are copied, and others after them.
-const MANY: usize = 1300;
-
-/// The bytes from 0 to 250, again and again, so that a chunk of them is not the one before it.
-fn make_many(rt: &impl Abort, alloc: Global) -> Vec<u8> {
-    let mut bytes = Vec::new(alloc);
-    let mut byte = 0_u8;
-    for _ in 0..2 * MANY {
-        assert!(rt; bytes.push(byte).is_ok(), "no room for a byte");
-        byte = byte.wrapping_add(1) % 251;
-    }
-    bytes
-}
-
-/// Asserts that the reader has these bytes, which it reads as a vector and as many values.
-fn assert_many<L: AsSlice<u8> + Drop, R: LendingReader<L, Endianness>>(
-    rt: &impl Abort,
-    reader: &mut R,
-    bytes: &[u8],
-) {
-    let (first, second) = bytes.split_at_checked(MANY).expect(rt, "so many bytes");
-    let read: Vec<u8> = reader.read_vec(first.len()).expect(rt, "a vector");
-    assert_bytes(rt, read.as_slice(), first);
-    let read = <u8 as ReadMany<L, Endianness>>::read_many(reader, second.len());
-    assert_bytes(rt, read.expect(rt, "values").as_slice(), second);
-    assert!(rt; reader.read_u8().is_err());
-}
-
-#[test]
-fn many_bytes_are_read_alike_by_each_reader(rt: HostRuntime) {
-    let alloc = rt.alloc();
-    let bytes = make_many(&rt, alloc);
-    let mut order = Endianness::LittleEndian;
-    assert_many(&rt, &mut BufferReader::new(alloc, order, &bytes), &bytes);
-    let mut reader = CopyingBufferReader::new(alloc, &mut order, &bytes);
-    assert_many::<&[u8], CopyingBufferReader<'_, Endianness>>(&rt, &mut reader, &bytes);
 }
 
 /// Asserts that the reader lends all that is left, and then nothing.

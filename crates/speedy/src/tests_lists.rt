@@ -72,6 +72,17 @@ fn small_vectors_of_texts_lie_within_each_other(rt: HostRuntime) {
 }
 
 #[test]
+fn arrays_of_texts_lie_text_after_text(rt: HostRuntime) {
+    let alloc = rt.alloc();
+    let texts = [make_text(&rt, alloc, "A"), make_text(&rt, alloc, "BB")];
+    let order = Endianness::LittleEndian;
+    let bytes = [1, 0, 0, 0, 65, 2, 0, 0, 0, 66, 66];
+    assert_ok_items(&rt, texts.write_to_vec_with_ctx(alloc, order), &bytes);
+    let read = <[String; 2]>::read_from_buffer_with_ctx(alloc, order, &bytes);
+    assert!(rt; read.expect(&rt, "two texts") == texts);
+}
+
+#[test]
 fn slices_and_borrowed_texts_are_written_after_their_counts(rt: HostRuntime) {
     let order = Endianness::BigEndian;
     let items = [10_u8, 11];
@@ -81,42 +92,12 @@ fn slices_and_borrowed_texts_are_written_after_their_counts(rt: HostRuntime) {
     assert_ok_items(&rt, written, &[0, 0, 0, 2, 72, 105]);
 }
 
-/// So many bytes that count up from 0, again and again.
-fn make_bytes(rt: &impl Abort, alloc: Global, count: usize) -> Vec<u8> {
-    let mut bytes = Vec::new(alloc);
-    let mut next = 0_u8;
-    for _ in 0..count {
-        bytes.push(next).expect(rt, "room");
-        next = next.wrapping_add(1) % 251;
-    }
-    bytes
-}
-
-/// Asserts that so many bytes are read as they were written, where a byte follows.
-fn assert_read_whole(rt: &impl Abort, alloc: Global, order: Endianness, count: usize) {
-    let bytes = make_bytes(rt, alloc, count);
-    let mut written = bytes
-        .write_to_vec_with_ctx(alloc, order)
-        .expect(rt, "a vector");
-    let length = written.len();
-    written.push(9).expect(rt, "room");
-    assert_reads(rt, alloc, order, &bytes, written.as_slice(), length);
-}
-
-#[test]
-fn bytes_are_read_whole_whatever_their_number(rt: HostRuntime) {
-    for count in [0, 1, 511, 512, 513, 1024, 1500] {
-        assert_read_whole(&rt, rt.alloc(), Endianness::BigEndian, count);
-    }
-}
-
 /// So many numbers, each with other digits.
-fn make_wide(rt: &impl Abort, alloc: Global, count: usize) -> Vec<u128> {
+fn make_wide(rt: &impl Abort, alloc: Global, count: u8) -> Vec<u128> {
     let mut numbers = Vec::new(alloc);
-    let mut next = 0x0102_0304_0506_0708_090a_0b0c_0d0e_0f10_u128;
-    for _ in 0..count {
-        numbers.push(next).expect(rt, "room");
-        next = next.rotate_left(7) ^ 1;
+    for number in 0..count {
+        let wide = 0x0102_0304_0506_0708_090a_0b0c_0d0e_0f10 + u128::from(number);
+        numbers.push(wide).expect(rt, "room");
     }
     numbers
 }
@@ -134,7 +115,7 @@ fn write_each(rt: &impl Abort, alloc: Global, order: Endianness, numbers: &[u128
 }
 
 /// Asserts that so many numbers are written and read, in each way, as one by one.
-fn assert_as_one_by_one(rt: &impl Abort, alloc: Global, order: Endianness, count: usize) {
+fn assert_as_one_by_one(rt: &impl Abort, alloc: Global, order: Endianness, count: u8) {
     let numbers = make_wide(rt, alloc, count);
     let bytes = write_each(rt, alloc, order, numbers.as_slice());
     let written = numbers

@@ -1,11 +1,10 @@
 //! Ranges lie as their ends. One that is read can be walked: it has all of its numbers, both ends included.
 use crate::asserting::assert_same;
-use crate::context::{BigEndian, Context, LittleEndian};
 use crate::endianness::Endianness;
+use crate::error::Error;
 use crate::readable::{BufferReader, ReadFrom, Readable};
 use crate::reader::LendingReader;
 use std::alloc::Global;
-use std::fmt::Debug;
 use std::ops::RangeInclusive;
 use std::process::Abort;
 
@@ -26,7 +25,7 @@ fn assert_yields(rt: &impl Abort, alloc: Global, range: Numbers, expected: &[u16
 }
 
 /// Asserts that the outcome is the range from 10 to 12.
-fn assert_whole<E: Debug>(rt: &impl Abort, alloc: Global, outcome: Result<Numbers, E>) {
+fn assert_whole(rt: &impl Abort, alloc: Global, outcome: Result<Numbers, Error>) {
     let range = outcome.expect(rt, "a range");
     assert!(rt; !range.is_empty());
     assert!(rt; range.contains(&10) && range.contains(&11) && range.contains(&12));
@@ -34,49 +33,31 @@ fn assert_whole<E: Debug>(rt: &impl Abort, alloc: Global, outcome: Result<Number
     assert_yields(rt, alloc, range, &[10, 11, 12]);
 }
 
-/// Asserts that under the context the range is read of a buffer.
-fn assert_read_of_buffer<C: Context + Copy>(
-    rt: &impl Abort,
-    alloc: Global,
-    context: C,
-    bytes: &[u8],
-)
-where
-    C::Error: Debug,
-{
-    let outcome = Numbers::read_from_buffer_with_ctx(alloc, context, bytes);
+/// Asserts that in the order the range is read of a buffer.
+fn assert_read_of_buffer(rt: &impl Abort, alloc: Global, order: Endianness, bytes: &[u8]) {
+    let outcome = Numbers::read_from_buffer_with_ctx(alloc, order, bytes);
     assert_whole(rt, alloc, outcome);
-    let (outcome, count) = Numbers::read_with_length_from_buffer_with_ctx(alloc, context, bytes);
+    let (outcome, count) = Numbers::read_with_length_from_buffer_with_ctx(alloc, order, bytes);
     assert_whole(rt, alloc, outcome);
     assert_same(rt, count, 4);
 }
 
-/// Asserts that under the context the range is read by a reader.
-fn assert_read_by_reader<C: Context + Copy>(
-    rt: &impl Abort,
-    alloc: Global,
-    context: C,
-    bytes: &[u8],
-)
-where
-    C::Error: Debug,
-{
-    let mut reader = BufferReader::new(alloc, context, bytes);
+/// Asserts that in the order the range is read by a reader.
+fn assert_read_by_reader(rt: &impl Abort, alloc: Global, order: Endianness, bytes: &[u8]) {
+    let mut reader = BufferReader::new(alloc, order, bytes);
     assert_whole(rt, alloc, reader.read_value());
-    let mut reader = BufferReader::new(alloc, context, bytes);
+    let mut reader = BufferReader::new(alloc, order, bytes);
     assert_whole(rt, alloc, Numbers::read_from(&mut reader));
 }
 
 #[test]
 fn ranges_of_a_buffer_are_whole(rt: HostRuntime) {
     let alloc = rt.alloc();
-    assert_read_of_buffer(&rt, alloc, LittleEndian {}, &LITTLE);
     assert_read_of_buffer(&rt, alloc, Endianness::BigEndian, &BIG);
 }
 
 #[test]
 fn ranges_of_a_reader_are_whole(rt: HostRuntime) {
     let alloc = rt.alloc();
-    assert_read_by_reader(&rt, alloc, BigEndian {}, &BIG);
     assert_read_by_reader(&rt, alloc, Endianness::LittleEndian, &LITTLE);
 }

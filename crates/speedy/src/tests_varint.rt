@@ -1,9 +1,7 @@
-//! Integers of variable length: how they are spelled, longer spellings, and peeks.
+//! Integers of variable length: how they are spelled, and signed numbers that become them.
 use crate::asserting::{assert_bytes, assert_ok, assert_refused, assert_same, followed};
 use crate::endianness::Endianness;
 use crate::private::VarInt64;
-use crate::readable::BufferReader;
-use crate::reader::{LendingReader, Reader};
 use crate::writable::BufferCollector;
 use crate::writer::Writer;
 use std::process::Abort;
@@ -102,22 +100,6 @@ fn unsigned_numbers_stay_as_they_are(rt: HostRuntime) {
     assert_same(&rt, u64::from(VarInt64::from(60000_u16)), 60000);
     assert_same(&rt, u64::from(VarInt64::from(u32::MAX)), u32::MAX as u64);
     assert!(rt; VarInt64::from(3_u8) < VarInt64::from(4_u64));
-}
-
-/// Asserts that two peeks, one after the other, answer the number.
-fn assert_peeked<'a>(rt: &impl Abort, reader: &mut impl Reader<'a, Endianness>, number: u64) {
-    assert_ok(rt, reader.peek_u64_varint(), number);
-    assert_ok(rt, reader.peek_u64_varint(), number);
-}
-
-#[test]
-fn a_peek_answers_what_the_read_does(rt: HostRuntime) {
-    // The original's peek starts its later bytes at the first one, and so answers 0x3fbf here.
-    let mut reader = BufferReader::new(rt.alloc(), Endianness::LittleEndian, &[0xbf, 0xff, 0xc0]);
-    assert_peeked(&rt, &mut reader, 16383);
-    assert_same(&rt, reader.len(), 3);
-    assert_ok(&rt, reader.read_u64_varint(), 16383);
-    assert_same(&rt, reader.len(), 1);
 }
 
 #[test]

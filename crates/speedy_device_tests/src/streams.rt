@@ -143,32 +143,12 @@ fn a_long_read_empties_the_ring_and_takes_no_more(rt: HostRuntime) {
 }
 
 #[test]
-fn an_option_comes_a_byte_a_pull(rt: HostRuntime) {
-    let alloc = rt.alloc();
-    let mut source = make_pieces(&[7, 5, 0], 1, None);
-    let outcome = <Option<u16> as Readable<LittleEndian>>::read_from_stream_unbuffered(
-        alloc,
-        &mut source,
-    );
-    assert_ok(&rt, outcome, Some(5));
-    let mut source = make_pieces(&[7, 5, 0], 1, None);
-    let outcome = <Option<u16> as Readable<LittleEndian>>::read_from_stream_buffered(
-        alloc,
-        &mut source,
-    );
-    assert_ok(&rt, outcome, Some(5));
-}
-
-#[test]
 fn what_borrows_is_refused_by_a_stream(rt: HostRuntime) {
     let alloc = rt.alloc();
     let mut source: &[u8] = &[2, 0, 0, 0, 72, 105];
     let outcome = <&str as Readable<LittleEndian>>::read_from_stream_unbuffered(alloc, &mut source);
     assert_refused(&rt, alloc, outcome, "Unsized");
     assert_bytes(&rt, source, b"Hi");
-    let mut source: &[u8] = &[2, 0, 0, 0, 72, 105];
-    let outcome = <&str as Readable<LittleEndian>>::read_from_stream_buffered(alloc, &mut source);
-    assert_refused(&rt, alloc, outcome, "Unsized");
 }
 
 /// Asserts that a vector of 10,000 bytes is read of a source that gives so many a pull, and that 9 bytes after it, or
@@ -198,37 +178,6 @@ fn assert_long_vector(rt: &impl Abort, alloc: Global, most: usize) {
 fn a_long_vector_is_read_in_whatever_pieces_it_comes(rt: HostRuntime) {
     assert_long_vector(&rt, rt.alloc(), usize::MAX);
     assert_long_vector(&rt, rt.alloc(), 1);
-}
-
-#[test]
-fn an_early_end_is_said_as_it_was_met(rt: HostRuntime) {
-    let alloc = rt.alloc();
-    let mut source: &[u8] = &[1];
-    let outcome = <u16 as Readable<LittleEndian>>::read_from_stream_buffered(alloc, &mut source);
-    assert_refused(&rt, alloc, outcome, "UnexpectedEndOfInput");
-    let mut source: &[u8] = &[1];
-    let outcome = <u16 as Readable<LittleEndian>>::read_from_stream_unbuffered(alloc, &mut source);
-    let error = outcome.err().expect(&rt, "it is refused");
-    assert_same(&rt, device_kind(&error), Some(io::ErrorKind::UnexpectedEof));
-    assert!(rt; error.is_eof());
-}
-
-#[test]
-fn items_are_read_until_one_is_refused(rt: HostRuntime) {
-    let alloc = rt.alloc();
-    let bytes = [2, 0, 0, 0, 0, 0xD8, 0, 0];
-    let mut source: &[u8] = &bytes;
-    let outcome = <Vec<char> as Readable<LittleEndian>>::read_from_stream_unbuffered(
-        alloc,
-        &mut source,
-    );
-    assert_refused(&rt, alloc, outcome, "InvalidChar");
-    let mut source: &[u8] = &bytes;
-    let outcome = <Vec<char> as Readable<LittleEndian>>::read_from_stream_buffered(
-        alloc,
-        &mut source,
-    );
-    assert_refused(&rt, alloc, outcome, "InvalidChar");
 }
 
 /// Asserts that a vector of 513 numbers is read of a source that gives so many bytes a pull, and answers how many pulls
@@ -284,7 +233,6 @@ fn a_hostile_count_ends_where_the_bytes_do(rt: HostRuntime) {
     // 3,000 items, and a part of one.
     let bytes = vec![in alloc; 255; 48_009].expect(&rt, "a buffer");
     assert_ends::<Vec<u128>>(&rt, alloc, &bytes);
-    assert_ends::<Vec<Option<u8>>>(&rt, alloc, &[255, 255, 255, 255, 1, 7]);
 }
 
 #[test]

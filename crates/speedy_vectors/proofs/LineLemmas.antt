@@ -3,7 +3,7 @@ use Rattle.std.specs.Prelude.{◌≡◌, ℕ, ◌==◌, ◌&&◌, not, true, fal
 use Rattle.std.proofs.Common.{sym, ◌∙◌, subst, arith}
 use Rattle.speedy_vectors.specs.declared.line.LineOrder.{LineOrder}
 use Rattle.speedy_vectors.specs.declared.line.LineOrder.TheVariants as orders
-use Rattle.speedy_vectors.specs.declared.line.TypeName.{TypeName}
+use Rattle.speedy_vectors.specs.declared.names.TypeName.{TypeName}
 use Rattle.speedy_vectors.specs.Names.{named, has_no_space}
 use Rattle.speedy_vectors.specs.Line.{space, order_text, name_text, IsHex, IsLine, IsBad}
 use Rattle.speedy_vectors.specs.Split.{IsFreeOf, SplitsAt}

@@ -8,8 +8,8 @@ use Rattle.speedy.specs.ErrorKind.{is_eof_kind, EndsInput}
 use Rattle.speedy.specs.Encoding.{Encoding}
 use Rattle.speedy.specs.Format.{Format}
 use Rattle.speedy_vectors.specs.declared.line.LineOrder.{LineOrder}
-use Rattle.speedy_vectors.specs.declared.line.TypeName.{TypeName}
-use Rattle.speedy_vectors.specs.Names.{named}
+use Rattle.speedy_vectors.specs.declared.names.TypeName.{TypeName}
+use Rattle.speedy_vectors.specs.Names.{Named, named}
 use Rattle.speedy_vectors.specs.Line.{encoding_of, IsLine, IsBad}
 
 -- bytes as hexadecimal digits in lower case, `-` for none
@@ -79,9 +79,9 @@ module _ {V : Type 0} (least : ℕ) (L : Format V) (bytes answer : List ℕ) whe
   abbrev pub AnswersBytes : Type 0
   AnswersBytes = AnswersTooSmall least bytes answer ⊎ (AnswersValue ⊎ AnswersRefusal)
 
--- what the bytes of a line are answered, by the type's name
-abbrev pub AnswersAs : TypeName → Encoding → List ℕ → List ℕ → Type 0
-AnswersAs name encoding = AnswersBytes (named name).least ((named name).format encoding)
+-- what the bytes of a line are answered, as a type that lines name
+abbrev pub AnswersAs : Named → Encoding → List ℕ → List ℕ → Type 0
+AnswersAs type encoding = AnswersBytes type.least (type.format encoding)
 
 -- the answer of a line that is of the form
 pub record AnswersGoodLine (line answer : List ℕ) : Type 0 where
@@ -89,7 +89,7 @@ pub record AnswersGoodLine (line answer : List ℕ) : Type 0 where
   pub name : TypeName
   pub bytes : List ℕ
   pub says : IsLine line order name bytes
-  pub answers : AnswersAs name (encoding_of order) bytes answer
+  pub answers : AnswersAs (named name) (encoding_of order) bytes answer
 
 -- the answer of a line: `bad line` exactly where it isn't of the form
 abbrev pub AnswersLine : List ℕ → List ℕ → Type 0

@@ -5,7 +5,7 @@ use Rattle.speedy.specs.declared.endianness.Endianness.TheVariants.{LittleEndian
 use Rattle.speedy.specs.Encoding.{Encoding, plain_encoding, strict_encoding}
 use Rattle.speedy_vectors.specs.declared.line.LineOrder.{LineOrder}
 use Rattle.speedy_vectors.specs.declared.line.LineOrder.TheVariants as orders
-use Rattle.speedy_vectors.specs.declared.line.TypeName.{TypeName}
+use Rattle.speedy_vectors.specs.declared.names.TypeName.{TypeName}
 use Rattle.speedy_vectors.specs.Names.{named}
 
 -- the space between two fields

@@ -4,26 +4,17 @@ ghost use Rattle.std.specs.String.{string_bytes};
 ghost use Rattle.speedy.specs.Error.{error_of};
 ghost use Rattle.speedy_vectors.specs.Answer.{hex_of, kind_name, ok_text, refused_text, AnswersAs, AnswersBytes, AnswersLine};
 ghost use Rattle.speedy_vectors.specs.Line.{encoding_of};
+ghost use Rattle.speedy_vectors.specs.Names.{named};
 
-use crate::frame::Frame;
-use crate::line::{Line, LineOrder, TypeName, for_each_name, parse_line};
-use speedy::ext::{IndexMap, IndexSet, SmallVec, Uuid};
+use crate::by_name::answer_by_name;
+use crate::line::{Line, LineOrder, parse_line};
 use speedy::private::{ErrorKind, get_error_kind};
-use speedy::varint::VarInt64;
-use speedy::views::{ArrayView, SliceView};
 use speedy::{
-    BigEndian, Context, Endianness, Error, LittleEndian, Readable, StrictBigEndian,
-    StrictLittleEndian, Writable,
+    BigEndian, Context, Error, LittleEndian, Readable, StrictBigEndian, StrictLittleEndian,
+    Writable,
 };
 use std::alloc::{AllocError, Global};
-use std::borrow::{CowSlice, CowStr};
-use std::boxed::{BoxedSlice, BoxedStr};
-use std::collections::{BTreeMap, BTreeSet};
 use std::fmt;
-use std::net::{IpAddr, Ipv4Addr, Ipv6Addr};
-use std::num::{NonZeroI32, NonZeroU8, NonZeroU16};
-use std::ops::{Range, RangeInclusive};
-use std::time::Duration;
 
 /// The answer to a line, with its line feed. The line comes without one.
 ///
@@ -41,7 +32,7 @@ pub fn answer_line(alloc: Global, line: &[u8]) -> Result<Vec<u8>, Error>
 // The answer to a line that is of the form, by its order.
 fn answer_good_line(alloc: Global, line: &Line) -> Result<Vec<u8>, AllocError>
     ensures { let asked = encoding_of line.now.order in
-        IfOk result (λ answer. AnswersAs line.now.name asked line.now.bytes.items answer.items) }
+        IfOk result (λ answer. AnswersAs (named line.now.name) asked line.now.bytes.items answer.items) }
 {
     let (name, bytes) = (line.name, line.bytes.as_slice());
     match line.order {
@@ -50,26 +41,6 @@ fn answer_good_line(alloc: Global, line: &Line) -> Result<Vec<u8>, AllocError>
         LineOrder::StrictLittleEndian => answer_by_name(alloc, StrictLittleEndian {}, name, bytes),
         LineOrder::StrictBigEndian => answer_by_name(alloc, StrictBigEndian {}, name, bytes),
     }
-}
-
-// What bytes are answered under a context, by the type's name.
-fn answer_by_name<C: Context<Error = Error> + Copy>(
-    alloc: Global,
-    context: C,
-    name: TypeName,
-    bytes: &[u8],
-) -> Result<Vec<u8>, AllocError>
-    ensures { let asked = C.encoding context in
-        IfOk result (λ answer. AnswersAs name asked bytes.now answer.items) }
-{
-    macro_rules! answer {
-        ($($text:literal $name:ident $type:ty;)*) => {
-            match name {
-                $(TypeName::$name => answer_as::<$type, C>(alloc, context, bytes),)*
-            }
-        };
-    }
-    for_each_name!(answer)
 }
 
 // Bytes in hexadecimal digits, `-` for none.
@@ -138,8 +109,8 @@ fn refused_answer(alloc: Global, kind: &ErrorKind) -> Result<Vec<u8>, AllocError
     Ok(format!(in alloc; "refused {name}\n")?.into_bytes())
 }
 
-// What bytes are answered, read as values of a type. It fails by want of memory alone.
-fn answer_as<'a, T: Readable<'a, C> + Writable<C>, C: Context<Error = Error> + Copy>(
+/// What bytes are answered, read as values of a type. It fails by want of memory alone.
+pub(crate) fn answer_as<'a, T: Readable<'a, C> + Writable<C>, C: Context<Error = Error> + Copy>(
     alloc: Global,
     context: C,
     bytes: &'a [u8],

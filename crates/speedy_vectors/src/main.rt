@@ -8,9 +8,11 @@
 #![tactic(auto)]
 
 pub mod answer;
+mod by_name;
 pub mod callers;
 pub mod frame;
 pub mod line;
+pub mod names;
 #[cfg(test)]
 mod plain16;
 pub mod run;

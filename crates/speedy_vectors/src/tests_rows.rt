@@ -60,7 +60,8 @@ const UNSIGNED: [(&str, &str); 9] = [
 ];
 
 /// Signed numbers.
-const SIGNED: [(&str, &str); 9] = [
+const SIGNED: [(&str, &str); 10] = [
+    ("le i64 dfffffffffffffff", "ok 8 dfffffffffffffff\n"),
     ("le i8 DF", "ok 1 df\n"),
     ("be i16 ffdf", "ok 2 ffdf\n"),
     ("le i32 dfffffff", "ok 4 dfffffff\n"),
@@ -114,8 +115,30 @@ const LEAVES: [(&str, &str); 10] = [
     ),
 ];
 
+/// Characters past the first 65,536, and durations of which each part shows.
+const WIDE_LEAVES: [(&str, &str); 5] = [
+    ("le char b9590000", "ok 4 b9590000\n"),
+    ("be char 0010ffff", "ok 4 0010ffff\n"),
+    (
+        "le duration 010000000000000002000000",
+        "ok 12 010000000000000002000000\n",
+    ),
+    (
+        "be duration 000000000000000100000002",
+        "ok 12 000000000000000100000002\n",
+    ),
+    (
+        "be duration ffffffffffffffff3b9ac9ff",
+        "ok 12 ffffffffffffffff3b9ac9ff\n",
+    ),
+];
+
 /// Addresses.
-const ADDRESSES: [(&str, &str); 7] = [
+const ADDRESSES: [(&str, &str); 8] = [
+    (
+        "le ipv6 00a10000000000000100001520070120",
+        "ok 16 00a10000000000000100001520070120\n",
+    ),
     ("le ipv4 0100007f", "ok 4 0100007f\n"),
     (
         "be ipv6 2001072015000001000000000000a100",
@@ -325,6 +348,7 @@ fn signed_numbers_are_answered(rt: HostRuntime) {
 #[test]
 fn leaves_are_answered(rt: HostRuntime) {
     assert_answers(&rt, rt.alloc(), &LEAVES);
+    assert_answers(&rt, rt.alloc(), &WIDE_LEAVES);
 }
 
 #[test]
@@ -369,6 +393,7 @@ fn strict_orders_answer_written_forms_alone(rt: HostRuntime) {
     assert_strict_answers(&rt, rt.alloc(), &SIGNED);
     assert_strict_answers(&rt, rt.alloc(), &NON_ZERO);
     assert_strict_answers(&rt, rt.alloc(), &LEAVES);
+    assert_strict_answers(&rt, rt.alloc(), &WIDE_LEAVES);
     assert_strict_answers(&rt, rt.alloc(), &ADDRESSES);
     assert_strict_answers(&rt, rt.alloc(), &COMPOSED);
     assert_strict_answers(&rt, rt.alloc(), &OWNED);
