@@ -59,6 +59,7 @@ pub use Rattle.speedy_read.specs.StreamModel
 pub use Rattle.speedy_read.specs.Streams
 pub use Rattle.speedy_read.specs.UntilEnd
 pub use Rattle.speedy_read.specs.WaysOfReading
+pub use Rattle.speedy_read.proofs.ListLemmas as ReadItems
 pub use Rattle.speedy_write.specs.Codes as WriteCodes
 pub use Rattle.speedy_write.specs.Collections as WriteCollections
 pub use Rattle.speedy_write.specs.CollectorLemmas
@@ -70,3 +71,7 @@ pub use Rattle.speedy_write.specs.Pushing
 pub use Rattle.speedy_write.specs.Sequences as WriteSequences
 pub use Rattle.speedy_write.specs.WaysOfWriting
 pub use Rattle.speedy_write.specs.Writing
+pub use Rattle.speedy_write.proofs.ListLemmas as WriteItems
+pub mod Levels
+pub mod ReadLevels
+pub mod WriteLevels
