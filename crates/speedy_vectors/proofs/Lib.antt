@@ -4,3 +4,5 @@ pub mod SplitLemmas
 pub mod AnswerLemmas
 pub mod RunLemmas
 pub mod StreamLemmas
+pub mod TreeLemmas
+pub mod DepthLemmas

@@ -3,3 +3,4 @@ pub mod Split
 pub mod Line
 pub mod Answer
 pub mod Run
+pub mod Trees

@@ -25,6 +25,9 @@ mod tests_bulk;
 mod tests_callers;
 #[cfg(test)]
 mod tests_rows;
+#[cfg(test)]
+mod tests_tree;
+pub mod tree;
 
 pub use answer::answer_line;
 use run::run;

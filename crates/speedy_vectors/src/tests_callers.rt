@@ -11,7 +11,12 @@ use std::borrow::CowSlice;
 use std::process::Abort;
 
 /// Asserts that the outcome is a refusal of the kind, as `Debug` prints it.
-fn assert_refused<T: Drop>(rt: &impl Abort, alloc: Global, outcome: Result<T, Error>, kind: &str) {
+pub(crate) fn assert_refused<T: Drop>(
+    rt: &impl Abort,
+    alloc: Global,
+    outcome: Result<T, Error>,
+    kind: &str,
+) {
     let error = outcome.err().expect(rt, "it is refused");
     let printed = format!(in alloc; "{:?}", get_error_kind(&error)).expect(rt, "its kind");
     assert!(rt; printed.as_str() == kind, "{printed}");

@@ -1,0 +1,33 @@
+-- How a tree is seen, taken apart and put together.
+use Rattle.std.specs.Prelude.{◌≡◌, ℕ, List, [], ◌∷◌, ◌++◌, map, Vec, Result, Ok, Err, is_ok, is_err, if◌then◌else◌, false}
+use Rattle.std.proofs.Common.{◌∙◌, ap, rules}
+use Rattle.std.proofs.lemmas.List.{map-append}
+use Rattle.std.specs.declared.alloc.Global.{Global}
+use Rattle.speedy.specs.Encoding.{Encoding}
+use Rattle.speedy.specs.Format.{Format}
+use Rattle.speedy.specs.Lists.{list}
+use Rattle.speedy.specs.Numbers.{unsigned_number}
+use Rattle.speedy.specs.ReadSequences.{Composes, sequence_composes}
+use Rattle.speedy.specs.Sequences.{asks_same}
+use Rattle.speedy_vectors.specs.Trees.{Rose, view, parts, whole, apart, tree_step}
+use Rattle.speedy_vectors.specs.declared.tree.Tree.{Tree, out-Tree, the_lemmas}
+use Rattle.speedy_vectors.specs.declared.tree.Tree.TheViews.{roll-Tree}
+
+-- a node is read as its value and then its children
+pub tree_composes : (encoding : Encoding) (F : Format Rose) → Composes (unsigned_number 1 encoding) (λ _. list encoding F) (tree_step encoding F) whole
+tree_composes encoding F = sequence_composes parts (λ _. asks_same) (λ value children s h. apart value children)
+
+-- what is seen of a tree that is made
+pub view_made : (value : ℕ) (children : Vec Tree Global) → view (roll-Tree (record { value = value; children = children })) ≡ whole value (map view children.items)
+view_made value children = search (rules, the_lemmas)
+
+-- and of one that is there
+pub view_parts : (t : Tree) → let both : ℕ × List Rose = ((out-Tree t).value, map view (out-Tree t).children.items) in parts (view t) ≡ both
+view_parts t = ap parts seen ∙ apart (out-Tree t).value (map view (out-Tree t).children.items) where
+  seen : view t ≡ whole (out-Tree t).value (map view (out-Tree t).children.items)
+  seen = search (rules, the_lemmas)
+
+-- what is seen of items and one item more, where the push of it succeeded
+pub seen_pushed : {A E X V : Type 0} (seen : X → V) (r : Result A E) (xs zs : List X) (x : X) → is_err r ≡ false → zs ≡ (if is_ok r then xs ++ x ∷ [] else xs) → map seen zs ≡ map seen xs ++ seen x ∷ []
+seen_pushed seen (Ok y) xs zs x went added = ap (map seen) added ∙ map-append seen xs (x ∷ [])
+seen_pushed seen (Err e) xs zs x went added = absurd (cc)

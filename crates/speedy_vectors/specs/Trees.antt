@@ -1,0 +1,96 @@
+-- What is seen of a tree, and which bytes spell it.
+use Rattle.std.specs.Prelude.{◌≡◌, ℕ, suc, ◌^◌, ◌<◌, max, List, [], ◌∷◌, length, refl}
+use Rattle.std.proofs.Common.{ap}
+use Rattle.speedy.specs.declared.error.ErrorKind.TheVariants as kinds
+use Rattle.speedy.specs.Encoding.{Encoding}
+use Rattle.speedy.specs.Format.{Format}
+use Rattle.speedy.specs.Laws.{Laws}
+use Rattle.speedy.specs.Lists.{list, list_laws}
+use Rattle.speedy.specs.Numbers.{unsigned_number, unsigned_number_laws}
+use Rattle.speedy.specs.Sequences.{sequence, sequence_laws, asks_same, told_apart}
+use Rattle.speedy.specs.Levels.{levels, levels_laws}
+use Rattle.speedy_vectors.specs.declared.tree.Tree.{Tree, fold-Tree}
+use Rattle.speedy_vectors.specs.declared.tree.Tree.TheOpen.{Tree-F}
+
+-- a value and trees below it, and a list of such trees
+mutual
+  pub data Rose : Type 0 where
+    node : ℕ → Forest → Rose
+
+  pub data Forest : Type 0 where
+    no_trees : Forest
+    with_tree : Rose → Forest → Forest
+
+-- how many levels it has
+abbrev mutual
+  pub depth : Rose → ℕ
+  depth (node value children) = suc (depths children)
+
+  pub depths : Forest → ℕ
+  depths no_trees = 0
+  depths (with_tree r rs) = max (depth r) (depths rs)
+
+-- a list of trees is a forest, and back
+abbrev pub forest_of : List Rose → Forest
+forest_of [] = no_trees
+forest_of (r ∷ rs) = with_tree r (forest_of rs)
+
+abbrev pub trees_of : Forest → List Rose
+trees_of no_trees = []
+trees_of (with_tree r rs) = r ∷ trees_of rs
+
+-- each value is a byte, and each count fits its digits
+abbrev mutual
+  pub FitsDigits : Rose → Type 0
+  FitsDigits (node value children) = (value < 256) × (length (trees_of children) < 2 ^ 32) × EachFitsDigits children
+
+  pub EachFitsDigits : Forest → Type 0
+  EachFitsDigits no_trees = Unit {0}
+  EachFitsDigits (with_tree r rs) = FitsDigits r × EachFitsDigits rs
+
+-- a node's value and children, and back
+abbrev pub parts : Rose → ℕ × List Rose
+parts (node value children) = (value, trees_of children)
+
+abbrev pub whole : ℕ → List Rose → Rose
+whole value children = node value (forest_of children)
+
+-- what is seen of a tree
+abbrev pub view_step : Tree-F Rose → Rose
+view_step tree = whole tree.value tree.children.items
+
+abbrev pub view : Tree → Rose
+view = fold-Tree Rose view_step
+
+-- the value, and a list of children
+abbrev pub tree_step : Encoding → Format Rose → Format Rose
+tree_step encoding F = sequence parts (unsigned_number 1 encoding) (list encoding F).asks (λ _. list encoding F)
+
+-- trees of at most so many levels
+abbrev pub tree_levels : ℕ → Encoding → Format Rose
+tree_levels n encoding = levels kinds.OutOfRangeLength (tree_step encoding) n
+
+abbrev pub tree_format : Encoding → Format Rose
+tree_format = tree_levels 16
+
+forest_back : (rs : Forest) → forest_of (trees_of rs) ≡ rs
+forest_back no_trees = refl
+forest_back (with_tree r rs) = ap (with_tree r) (forest_back rs)
+
+trees_back : (rs : List Rose) → trees_of (forest_of rs) ≡ rs
+trees_back [] = refl
+trees_back (r ∷ rs) = ap (λ xs. r ∷ xs) (trees_back rs)
+
+joined : (r : Rose) → whole (parts r).0 (parts r).1 ≡ r
+joined (node value children) = ap (node value) (forest_back children)
+
+-- a node that is put together comes apart again
+pub apart : (value : ℕ) (children : List Rose) → let both : ℕ × List Rose = (value, children) in parts (whole value children) ≡ both
+apart value children = ap (λ (rs : List Rose). let both : ℕ × List Rose = (value, rs) in both) (trees_back children)
+
+pub tree_step_laws : (encoding : Encoding) (F : Format Rose) → Laws encoding.strict 5 F → Laws encoding.strict 5 (tree_step encoding F)
+tree_step_laws encoding F laws =
+    sequence_laws {n = 1} {m = 4} (unsigned_number_laws 1 encoding) (λ _. list_laws encoding laws) (λ _. asks_same) (told_apart parts whole joined)
+
+pub tree_laws : (n : ℕ) (encoding : Encoding) → Laws encoding.strict 5 (tree_levels n encoding)
+tree_laws n encoding = levels_laws kinds.OutOfRangeLength tt (tree_step encoding) (tree_step_laws encoding) n

@@ -1,0 +1,29 @@
+//! How many levels a tree has, as callers may cite it.
+ghost use Rattle.std.specs.Prelude.{◌≡◌, ◌<◌, ◌≤◌, ℕ, List, IsErrAnd};
+ghost use Rattle.speedy.specs.declared.error.ErrorKind.{ErrorKind};
+ghost use Rattle.speedy.specs.declared.error.ErrorKind.TheVariants.{OutOfRangeLength};
+ghost use Rattle.speedy.specs.Encoding.{Encoding};
+ghost use Rattle.speedy.specs.Error.{error_of};
+ghost use Rattle.speedy_vectors.specs.Trees.{Rose, FitsDigits, depth, view};
+
+use crate::tree::Tree;
+use speedy::{Context, Layout, Writable};
+
+/// A tree that is spelled has at most 16 levels, each one of those has a written form where its counts fit, and every
+/// refusal that the type names is the same.
+pub fn levels_are_bounded()
+    ensures spelled { let format = ⟦<Tree as Layout>⟧.format in
+        (f : Encoding) (r : Rose) (bytes : List ℕ) → (format f).spells r bytes → depth r ≤ 16 }
+    ensures written { let format = ⟦<Tree as Layout>⟧.format in
+        (f : Encoding) (r : Rose) → FitsDigits r → depth r ≤ 16 → (bytes : List ℕ) × (format f).writes r bytes }
+    ensures named { let format = ⟦<Tree as Layout>⟧.format in
+        (f : Encoding) (kind : ErrorKind) → (format f).names kind → kind ≡ OutOfRangeLength }
+{}
+
+/// How many bytes a tree of more levels needs: it is refused.
+pub fn bytes_of_deep_tree<C: Context>(tree: &Tree, context: &mut C) -> Result<usize, C::Error>
+    requires { 16 < depth (view tree.now) }
+    ensures { IsErrAnd result (λ e. C.Error.from_gives (error_of OutOfRangeLength) e) }
+{
+    tree.bytes_needed(context)
+}
