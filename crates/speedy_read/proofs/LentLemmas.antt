@@ -1,8 +1,8 @@
 -- Reads of what is lent make reads of what is borrowed.
-use Rattle.std.specs.Prelude.{◌≡◌, ℕ, List, [], ◌∷◌, length, Bool, false, IsTrue, Result, Ok, Err, MatchResult, IsErrAnd, refl}
+use Rattle.std.specs.Prelude.{◌≡◌, ℕ, ◌*◌, List, [], ◌∷◌, length, Bool, false, IsTrue, Result, Ok, Err, MatchResult, IfOk, IsErrAnd, refl}
 use Rattle.std.specs.Borrow.{Bor}
 use Rattle.std.specs.Str.{IsUtf8}
-use Rattle.std.proofs.Common.{sym, ◌∙◌, ap, subst, inl, inr}
+use Rattle.std.proofs.Common.{sym, ◌∙◌, ap, subst, inl, inr, arith}
 use Rattle.speedy_base.specs.declared.error.ErrorKind.TheVariants as kinds
 use Rattle.speedy_base.specs.declared.error.Error.{Error}
 use Rattle.speedy_base.specs.Error.{error_of}
@@ -14,12 +14,13 @@ use Rattle.speedy_layout.specs.Lists.{repeat, vector, list}
 use Rattle.speedy_layout.specs.Numbers.{unsigned_number}
 use Rattle.speedy_layout.specs.Owned.{owned_content, borrowed_content}
 use Rattle.speedy_layout.specs.Codes.{coding, subset, subset_code}
-use Rattle.speedy_layout.specs.Texts.{raw_bytes, raw_bytes_laws, text_of_length, text, each_byte, each_byte_is}
-use Rattle.speedy_layout.specs.Sequences.{asks_same}
+use Rattle.speedy_layout.specs.Texts.{raw_bytes, raw_bytes_laws, text_of_length, text, each_byte}
+use Rattle.speedy_layout.specs.Views.{each_one_size}
+use Rattle.speedy_layout.specs.Sequences.{asks_nothing_more}
 use Rattle.speedy_read.specs.Reading.{ReaderState, Kept, Reads, ShowsNothing}
-use Rattle.speedy_read.specs.ReadingLemmas.{Kept-same, Reads-passed}
+use Rattle.speedy_read.specs.ReadingLemmas.{Kept-same}
 use Rattle.speedy_read.specs.Sequences.{Composes}
-use Rattle.speedy_read.specs.Codes.{Covers, refused_covered, got_covered, code_refused, exact_code_read, code_means_nothing}
+use Rattle.speedy_read.specs.Codes.{Covers, refused_covered, got_covered, codes_cover, exact_code_read, code_means_nothing}
 use Rattle.speedy_read.proofs.OwnedLemmas.{owned_read}
 use Rattle.speedy_read.proofs.ListLemmas.{list_composes}
 use Rattle.speedy_read.proofs.TextLemmas.{text_composes}
@@ -41,23 +42,42 @@ borrowed_composes none c = record {
   asks_second = λ u. record { lending = λ _. refl; hashed = (c.asks_second u).hashed; memory = λ t. t };
 }
 
-content_covers : {V : Type 0} {L : Format V} → L.asks.memory ≡ false → Covers L (borrowed_content (owned_content L))
-unfolding borrowed_content owned_content
+-- what covers another format covers it where both are borrowed
+pub borrowed_covers : {U V : Type 0} {L : Format U} {N : Format V} → Covers L N → Covers (borrowed_content L) (borrowed_content N)
+unfolding borrowed_content
+borrowed_covers c = record {
+  under = c.under;
+  names = λ kind h. elim h [ inl k ↦ inl (c.names kind k) | inr k ↦ inr k ];
+  malformed = c.malformed;
+  asks = record { lending = λ _. refl; hashed = c.asks.hashed; memory = λ t. t };
+}
+
+content_covers : {V : Type 0} {L : Format V} → L.asks.memory ≡ false → Covers L (borrowed_content L)
+unfolding borrowed_content
 content_covers none = record { under = λ v s h. (v, h); names = λ kind h. inl h; malformed = λ bytes _ h. inl h; asks = record { lending = λ _. refl; hashed = λ t. t; memory = λ t. absurd (cc) } }
 
-bytes_cover_items : (n : ℕ) (encoding : Encoding) → Covers (raw_bytes n) (repeat n (unsigned_number 1 encoding))
-unfolding raw_bytes repeat unsigned_number
-bytes_cover_items n encoding = record {
-  under = λ v s h. (s, (refl, ap length (sym (each_byte_is encoding.order v s h.1)) ∙ h.0));
+-- where so many items of one size are spelled, there are the bytes of so many
+pub bytes_cover_items : {V : Type 0} (size : ℕ) (F : Format V) → ((v : V) (bytes : List ℕ) → F.spells v bytes → length bytes ≡ size) → (n : ℕ) {all : ℕ} → n * size ≡ all → Covers (raw_bytes all) (repeat n F)
+unfolding raw_bytes repeat
+bytes_cover_items size F one n whole = record {
+  under = λ vs s h. (s, (refl, each_one_size one vs s h.1 ∙ (ap (λ m. m * size) h.0 ∙ whole)));
   names = λ kind h. absurd h;
   malformed = λ bytes are h. absurd h;
-  asks = asks_same;
+  asks = asks_nothing_more;
 }
+
+bytes_cover : (n : ℕ) (encoding : Encoding) → Covers (raw_bytes n) (repeat n (unsigned_number 1 encoding))
+unfolding unsigned_number
+bytes_cover n encoding = bytes_cover_items 1 _ (λ v bytes h. h.width_is) n (omega arith)
+
+bytes_spell_items : (n : ℕ) (encoding : Encoding) (bytes : List ℕ) → AreBytes bytes → (s : List ℕ) → (raw_bytes n).spells bytes s → (repeat n (unsigned_number 1 encoding)).spells bytes s
+unfolding raw_bytes repeat unsigned_number
+bytes_spell_items n encoding bytes are s h = (ap length h.0 ∙ h.1, subst (λ (t : List ℕ). Each (SpellsNumber 1 encoding.order) bytes t) h.0 (each_byte encoding.order bytes are))
 
 module _ {E : Type 0} {gives : Error → E → Type 0} {eof : E → Bool} {old new : ReaderState} where
   -- what takes no memory is read where it is borrowed
-  borrowed_read : {V : Type 0} (L : Format V) {A : Type 0} {seen' : A → V} {result : Result A E} → L.asks.memory ≡ false → Reads gives eof seen' L result old new → Reads gives eof seen' (borrowed_content (owned_content L)) result old new
-  unfolding borrowed_content owned_content
+  pub borrowed_read : {V : Type 0} (L : Format V) {A : Type 0} {seen' : A → V} {result : Result A E} → L.asks.memory ≡ false → Reads gives eof seen' L result old new → Reads gives eof seen' (borrowed_content L) result old new
+  unfolding borrowed_content
   borrowed_read L {result = Ok x} none r = got_covered (λ s h. h) r
   borrowed_read L {result = Err e} none r = refused_covered (content_covers none) refl r
 
@@ -70,52 +90,37 @@ module _ {E : Type 0} {gives : Error → E → Type 0} {eof : E → Bool} {old n
   }
 
   -- so many were lent
-  pub lent_length : {A : Type 0} {shows : A → List ℕ} {n : ℕ} {x : A} → Reads gives eof shows (raw_bytes n) (Ok x) old new → length (shows x) ≡ n
-  unfolding raw_bytes
+  pub lent_length : {A : Type 0} {shows : A → List ℕ} {n : ℕ} {x : A} → Reads gives eof shows (borrowed_content (raw_bytes n)) (Ok x) old new → length (shows x) ≡ n
+  unfolding borrowed_content raw_bytes
   lent_length r = let is = r.answer.front_is in ap length is.0 ∙ is.1
 
-  module _ {A B : Type 0} {shows : A → List ℕ} {seen' : B → List ℕ} (n : ℕ) (encoding : Encoding) where
-    -- lent bytes that are refused are no text
-    pub text_not_lent : {e : E} → Reads gives eof shows (raw_bytes n) (Err e) old new → Reads gives eof seen' (borrowed_content (text_of_length encoding n)) (Err e) old new
-    unfolding text_of_length raw_bytes coding
-    text_not_lent r = borrowed_read (subset encoding IsUtf8 kinds.InvalidUtf8 (raw_bytes n)) refl (code_refused encoding (subset_code IsUtf8 kinds.InvalidUtf8) refl r)
-
-    text_decided : {x : A} {r : Result B E} → MatchResult r (λ t. (seen' t ≡ shows x) × IsUtf8 (shows x)) (λ e. gives (error_of kinds.InvalidUtf8) e × (IsUtf8 (shows x) → ⊥)) → Reads gives eof shows (raw_bytes n) (Ok x) old new → Reads gives eof seen' (subset encoding IsUtf8 kinds.InvalidUtf8 (raw_bytes n)) r old new
-    text_decided {r = Ok t} h read = exact_code_read _ _ _ (sym h.0, subst IsUtf8 (sym h.0) h.1) read
-    text_decided {r = Err e} h read = code_means_nothing _ _ (raw_bytes_laws n) (λ _ h. h) (λ v k. h.1 (subst IsUtf8 (sym k.0) k.1)) (kinds.InvalidUtf8, refl, h.0) read
-
-    -- those that are answered are one, or are refused as none
-    pub text_lent : {x : A} {r : Result B E} → MatchResult r (λ t. (seen' t ≡ shows x) × IsUtf8 (shows x)) (λ e. gives (error_of kinds.InvalidUtf8) e × (IsUtf8 (shows x) → ⊥)) → Reads gives eof shows (raw_bytes n) (Ok x) old new → Reads gives eof seen' (borrowed_content (text_of_length encoding n)) r old new
-    unfolding text_of_length raw_bytes coding
-    text_lent h read = borrowed_read (subset encoding IsUtf8 kinds.InvalidUtf8 (raw_bytes n)) refl (text_decided h read)
-
-    items_refused : {e : E} → Reads gives eof shows (raw_bytes n) (Err e) old new → Reads gives eof seen' (repeat n (unsigned_number 1 encoding)) (Err e) old new
-    items_refused r = refused_covered (bytes_cover_items n encoding) refl r
-
-    items_read : {x : A} {y : B} → seen' y ≡ shows x → AreBytes (shows x) → Reads gives eof shows (raw_bytes n) (Ok x) old new → Reads gives eof seen' (repeat n (unsigned_number 1 encoding)) (Ok y) old new
-    unfolding raw_bytes repeat unsigned_number
-    items_read {x = x} {y = y} same are r =
-        got_covered
-        (λ s h. (ap length (same ∙ h.0) ∙ h.1, subst (λ (vs : List ℕ). Each (SpellsNumber 1 encoding.order) vs s) (sym same) (subst (λ (t : List ℕ). Each (SpellsNumber 1 encoding.order) (shows x) t) h.0 (each_byte encoding.order (shows x) are))))
-        r
-
+  module _ {A : Type 0} {shows : A → List ℕ} (n : ℕ) (encoding : Encoding) where
     -- lent bytes are items of one byte each
-    pub items_not_lent : {e : E} {result : Result B E} → IsErrAnd result (λ x. x ≡ e) → Reads gives eof shows (raw_bytes n) (Err e) old new → Reads gives eof seen' (borrowed_content (vector n (unsigned_number 1 encoding))) result old new
-    unfolding vector repeat unsigned_number
-    items_not_lent passed r = Reads-passed passed (borrowed_read (repeat n (unsigned_number 1 encoding)) refl (items_refused r))
-
-    pub items_lent : {x : A} {y : B} → seen' y ≡ shows x → AreBytes (shows x) → Reads gives eof shows (raw_bytes n) (Ok x) old new → Reads gives eof seen' (borrowed_content (vector n (unsigned_number 1 encoding))) (Ok y) old new
-    unfolding vector repeat unsigned_number
-    items_lent same are r = borrowed_read (repeat n (unsigned_number 1 encoding)) refl (items_read same are r)
+    pub items_lent : {result : Result A E} → IfOk result (λ x. AreBytes (shows x)) → Reads gives eof shows (borrowed_content (raw_bytes n)) result old new → Reads gives eof shows (borrowed_content (vector n (unsigned_number 1 encoding))) result old new
+    unfolding borrowed_content vector owned_content
+    items_lent {result = Ok x} are r = got_covered (bytes_spell_items n encoding (shows x) are) r
+    items_lent {result = Err e} are r = refused_covered (borrowed_covers (bytes_cover n encoding)) refl r
 
     -- as they are of a vector, which a cow may borrow
-    pub cow_not_lent : {e : E} → Reads gives eof shows (raw_bytes n) (Err e) old new → Reads gives eof seen' (vector n (unsigned_number 1 encoding)) (Err e) old new
+    pub cow_lent : {result : Result A E} → IfOk result (λ x. AreBytes (shows x)) → Reads gives eof shows (raw_bytes n) result old new → Reads gives eof shows (vector n (unsigned_number 1 encoding)) result old new
     unfolding vector
-    cow_not_lent r = owned_read (items_refused r)
+    cow_lent {result = Ok x} are r = owned_read (got_covered (bytes_spell_items n encoding (shows x) are) r)
+    cow_lent {result = Err e} are r = owned_read (refused_covered (bytes_cover n encoding) refl r)
 
-    pub cow_lent : {x : A} {y : B} → seen' y ≡ shows x → AreBytes (shows x) → Reads gives eof shows (raw_bytes n) (Ok x) old new → Reads gives eof seen' (vector n (unsigned_number 1 encoding)) (Ok y) old new
-    unfolding vector
-    cow_lent same are r = owned_read (items_read same are r)
+    module _ {B : Type 0} {seen' : B → List ℕ} where
+      -- lent bytes that are refused are no text
+      pub text_not_lent : {e : E} {result : Result B E} → IsErrAnd result (λ x. x ≡ e) → Reads gives eof shows (borrowed_content (raw_bytes n)) (Err e) old new → Reads gives eof seen' (borrowed_content (text_of_length encoding n)) result old new
+      unfolding borrowed_content text_of_length owned_content
+      text_not_lent passed r = refused_covered (borrowed_covers (codes_cover encoding (subset_code IsUtf8 kinds.InvalidUtf8))) passed r
+
+      text_decided : {x : A} {r : Result B E} → MatchResult r (λ t. (seen' t ≡ shows x) × IsUtf8 (shows x)) (λ e. gives (error_of kinds.InvalidUtf8) e × (IsUtf8 (shows x) → ⊥)) → Reads gives eof shows (raw_bytes n) (Ok x) old new → Reads gives eof seen' (subset encoding IsUtf8 kinds.InvalidUtf8 (raw_bytes n)) r old new
+      text_decided {r = Ok t} h read = exact_code_read _ _ _ (sym h.0, subst IsUtf8 (sym h.0) h.1) read
+      text_decided {r = Err e} h read = code_means_nothing _ _ (raw_bytes_laws n) (λ _ h. h) (λ v k. h.1 (subst IsUtf8 (sym k.0) k.1)) (kinds.InvalidUtf8, refl, h.0) read
+
+      -- those that are answered are one, or are refused as none
+      pub text_lent : {x : A} {r : Result B E} → MatchResult r (λ t. (seen' t ≡ shows x) × IsUtf8 (shows x)) (λ e. gives (error_of kinds.InvalidUtf8) e × (IsUtf8 (shows x) → ⊥)) → Reads gives eof shows (borrowed_content (raw_bytes n)) (Ok x) old new → Reads gives eof seen' (borrowed_content (text_of_length encoding n)) r old new
+      unfolding borrowed_content text_of_length owned_content raw_bytes coding
+      text_lent h read = borrowed_read (subset encoding IsUtf8 kinds.InvalidUtf8 (raw_bytes n)) refl (text_decided h (got_covered (λ s h. h) read))
 
 -- ---- sequences of a count and what is borrowed
 

@@ -1,6 +1,6 @@
 -- Reads of lent bytes make reads of views.
 use Rattle.std.specs.Prelude.{◌≡◌, ℕ, ◌+◌, ◌-◌, ◌*◌, ◌<◌, ◌≤◌, ◌^◌, List, ◌++◌, length, replicate, map, Bool, Ok, Err, Result, IsErrAnd, refl}
-use Rattle.std.proofs.Common.{sym, ◌∙◌, ap, subst, inr, arith}
+use Rattle.std.proofs.Common.{sym, ◌∙◌, ap, subst, inl, inr, arith}
 use Rattle.std.proofs.lemmas.List.{length-append, length-map, length-replicate}
 use Rattle.speedy_base.specs.declared.error.Error.{Error}
 use Rattle.speedy_base.specs.Digits.{AreBytes}
@@ -9,30 +9,22 @@ use Rattle.speedy_layout.specs.Lists.{repeat, vector}
 use Rattle.speedy_layout.specs.Owned.{owned_content, borrowed_content}
 use Rattle.speedy_layout.specs.Texts.{raw_bytes}
 use Rattle.speedy_layout.specs.Views.{shown_items, length-shown_many, shown_items_spelled, each_one_size}
-use Rattle.speedy_layout.specs.Sequences.{asks_nothing_more}
 use Rattle.speedy_read.specs.Reading.{ReaderState, Reads, IsEnd}
-use Rattle.speedy_read.specs.ReadingLemmas.{ends_early, part_refused}
-use Rattle.speedy_read.specs.Codes.{Covers, refused_covered, got_covered}
+use Rattle.speedy_read.specs.ReadingLemmas.{IsTold-part, Reads-passed, ends_early, part_refused}
+use Rattle.speedy_read.specs.Codes.{refused_covered, got_covered}
+use Rattle.speedy_read.proofs.LentLemmas.{borrowed_covers, bytes_cover_items}
 
 -- items of one size
 module _ {V : Type 0} (size : ℕ) (F : Format V) (one : (v : V) (bytes : List ℕ) → F.spells v bytes → length bytes ≡ size) (n : ℕ) where
-  bytes_cover_view : Covers (raw_bytes (n * size)) (borrowed_content (vector n F))
-  unfolding raw_bytes borrowed_content vector owned_content repeat
-  bytes_cover_view = record {
-    under = λ vs s h. (s, (refl, each_one_size one vs s h.1 ∙ ap (λ m. m * size) h.0));
-    names = λ kind h. absurd h;
-    malformed = λ bytes are h. absurd h;
-    asks = asks_nothing_more;
-  }
-
   module _ {E : Type 0} {gives : Error → E → Type 0} {eof : E → Bool} {old new : ReaderState} {X Y : Type 0} {shows : X → List ℕ} {seen' : Y → List V} where
     -- lent bytes that are refused are no items
-    pub view_not_lent : {e : E} {result : Result Y E} → IsErrAnd result (λ x. x ≡ e) → Reads gives eof shows (raw_bytes (n * size)) (Err e) old new → Reads gives eof seen' (borrowed_content (vector n F)) result old new
-    view_not_lent passed r = refused_covered bytes_cover_view passed r
+    pub view_not_lent : {e : E} {result : Result Y E} → IsErrAnd result (λ x. x ≡ e) → Reads gives eof shows (borrowed_content (raw_bytes (n * size))) (Err e) old new → Reads gives eof seen' (borrowed_content (vector n F)) result old new
+    unfolding borrowed_content vector owned_content
+    view_not_lent passed r = refused_covered (borrowed_covers (bytes_cover_items size F one n refl)) passed r
 
     -- those that are answered are the items that they show, if any bytes of that size spell one
     pub view_lent : {A : Type 0} (decoded : List ℕ → A) (seen : A → V) → 0 < size → ((bytes : List ℕ) → length bytes ≡ size → AreBytes bytes → F.spells (seen (decoded bytes)) bytes)
-        → {x : X} {y : Y} → seen' y ≡ map seen (shown_items decoded size (shows x)) → AreBytes (shows x) → Reads gives eof shows (raw_bytes (n * size)) (Ok x) old new → Reads gives eof seen' (borrowed_content (vector n F)) (Ok y) old new
+        → {x : X} {y : Y} → seen' y ≡ map seen (shown_items decoded size (shows x)) → AreBytes (shows x) → Reads gives eof shows (borrowed_content (raw_bytes (n * size))) (Ok x) old new → Reads gives eof seen' (borrowed_content (vector n F)) (Ok y) old new
     unfolding raw_bytes borrowed_content vector owned_content repeat
     view_lent decoded seen some decodes {x = x} {y = y} same are r =
         got_covered
@@ -46,7 +38,7 @@ module _ {V : Type 0} (size : ℕ) (F : Format V) (one : (v : V) (bytes : List �
 
   -- no input has more bytes than can be counted
   module _ {E : Type 0} {gives : Error → E → Type 0} {eof : E → Bool} {old new : ReaderState} {X Y : Type 0} {shows : X → List ℕ} {seen' : Y → List V} (many : 2 ^ 64 ≤ n * size) where
-    pub more_than_all : (k : ℕ) {x : X} {e : E} → IsEnd gives eof old.fixed.ends_by_device e → Reads gives eof shows (raw_bytes k) (Ok x) old new → Reads gives eof seen' (borrowed_content (vector n F)) (Err e) old new
+    pub more_than_all : (k : ℕ) {x : X} {e : E} → IsEnd gives eof old.fixed.ends_by_device e → Reads gives eof shows (borrowed_content (raw_bytes k)) (Ok x) old new → Reads gives eof seen' (borrowed_content (vector n F)) (Err e) old new
     unfolding borrowed_content vector owned_content repeat
     more_than_all k ended r = record {
       kept = r.kept;
@@ -54,13 +46,13 @@ module _ {V : Type 0} (size : ℕ) (F : Format V) (one : (v : V) (bytes : List �
     }
 
     -- so where as many as can be counted are refused, the items are
-    pub all_refused : {e : E} → Reads gives eof shows (raw_bytes (2 ^ 64 - 1)) (Err e) old new → Reads gives eof seen' (borrowed_content (vector n F)) (Err e) old new
+    pub all_refused : {e : E} {result : Result Y E} → IsErrAnd result (λ x. x ≡ e) → Reads gives eof shows (borrowed_content (raw_bytes (2 ^ 64 - 1))) (Err e) old new → Reads gives eof seen' (borrowed_content (vector n F)) result old new
     unfolding raw_bytes borrowed_content vector owned_content repeat
-    all_refused r = record {
+    all_refused passed r = Reads-passed passed (record {
       kept = r.kept;
-      answer = part_refused new refl refl (λ t. absurd (cc)) (λ kind h. absurd h)
+      answer = part_refused new refl refl (λ t. t) (λ kind h. elim h [ inl k ↦ absurd k | inr k ↦ inr k ])
           (λ told because.
-          let un = because (record { tells = told.tells; are_bytes = told.are_bytes; fit = told.fit; lends = λ t. absurd (cc) }) in
+          let un = because (IsTold-part (λ t. t) told) in
           let missing = replicate (2 ^ 64 - 1 - length old.to_come) 0 in
           record {
             no_front = λ vs front rest is sp.
@@ -74,4 +66,4 @@ module _ {V : Type 0} (size : ℕ) (F : Format V) (one : (v : V) (bytes : List �
             malformed = λ bad. absurd bad;
           })
           r.answer;
-    }
+    })

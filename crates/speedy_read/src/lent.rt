@@ -1,7 +1,14 @@
 //! What readers lend.
-ghost use Rattle.std.specs.Prelude.{[]};
+ghost use Rattle.std.specs.Prelude.{◌≡◌, false, [], IfOk, IsErrAnd};
 ghost use Rattle.speedy_base.specs.Digits.{AreBytes};
+ghost use Rattle.speedy_base.specs.Error.{error_of};
+ghost use Rattle.speedy_layout.specs.Owned.{borrowed_content};
+ghost use Rattle.speedy_layout.specs.Texts.{raw_bytes};
+ghost use Rattle.speedy_read.specs.Reading.{Reads};
 
+use crate::reader::LendingReader;
+use speedy_base::context::Context;
+use speedy_base::error::{ErrorKind, error_unsized};
 use std::convert::AsSlice;
 
 /// What is lent where nothing is borrowed.
@@ -14,6 +21,27 @@ impl AsSlice<u8> for Nothing {
     fn as_slice(&self) -> &[u8] {
         &[]
     }
+}
+
+// The next bytes, so many, which the reader lends. One that lends nothing answers `Unsized` and is left as it was.
+#[inline]
+pub(crate) fn read_lent<'a, C: Context, R: LendingReader<&'a [u8], C>>(
+    reader: &mut R,
+    length: usize,
+) -> Result<&'a [u8], C::Error>
+    ensures reads { Reads C.Error.from_gives C.Error.eof (λ b. b.now)
+        (borrowed_content (raw_bytes length)) result (R.state reader.old) (R.state reader.new) }
+    ensures range { IfOk result (λ b. AreBytes b.now) }
+    ensures not_lent { (R.state reader.old).fixed.lends ≡ false
+        → IsErrAnd result (λ e. C.Error.from_gives (error_of ErrorKind.Unsized) e)
+        × (R.state reader.new ≡ R.state reader.old) }
+{
+    let Some(lent) = reader.read_bytes_borrowed(length) else {
+        return Err(error_unsized());
+    };
+    let bytes = lent?;
+    slice_in_range(bytes);
+    Ok(bytes)
 }
 
 // What a proof knows of lent bytes is their range, which a type that lends them doesn't show.

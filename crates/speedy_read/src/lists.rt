@@ -4,13 +4,13 @@ ghost use Rattle.speedy_base.specs.Error.{error_of};
 ghost use Rattle.speedy_layout.specs.Numbers.{unsigned_number};
 ghost use Rattle.speedy_read.specs.Reading.{Reads, RefusesUnsized};
 
-use crate::lent::lent_in_range;
+use crate::lent::read_lent;
 use crate::many::{Fills, ItemByItem, Places, Strategy};
 use crate::readable::{ReadFrom, ReadMany};
 use crate::reader::{LendingReader, ends_before};
 use smallvec::SmallVec;
 use speedy_base::context::Context;
-use speedy_base::error::{ErrorKind, error_end_of_input, error_unsized};
+use speedy_base::error::{ErrorKind, error_end_of_input};
 use speedy_layout::layout::Layout;
 use std::alloc::Global;
 use std::array;
@@ -140,14 +140,7 @@ impl<'a, C: Context> ReadFrom<&'a [u8], C> for &'a [u8] {
             (R.state reader.old) (R.state reader.new) }
     {
         let length = reader.read_u32()?;
-        match reader.read_bytes_borrowed(length as usize) {
-            Some(lent) => {
-                let bytes = lent?;
-                lent_in_range(&bytes);
-                Ok(bytes)
-            }
-            None => Err(error_unsized()),
-        }
+        read_lent(reader, length as usize)
     }
 
     #[inline]
@@ -174,16 +167,10 @@ impl<'a, C: Context, const N: usize> ReadFrom<&'a [u8], C> for &'a [u8; N] {
             → IsErrAnd result (λ e. C.Error.from_gives (error_of ErrorKind.Unsized) e)
             × (R.state reader.new ≡ R.state reader.old) }
     {
-        match reader.read_bytes_borrowed(N) {
-            Some(lent) => {
-                let bytes = lent?;
-                lent_in_range(&bytes);
-                match <&'a [u8; N]>::try_from(bytes) {
-                    Ok(array) => Ok(array),
-                    Err(_) => unreachable!(),
-                }
-            }
-            None => Err(error_unsized()),
+        let bytes = read_lent(reader, N)?;
+        match <&'a [u8; N]>::try_from(bytes) {
+            Ok(array) => Ok(array),
+            Err(_) => unreachable!(),
         }
     }
 

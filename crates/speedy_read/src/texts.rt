@@ -3,12 +3,12 @@ ghost use Rattle.std.specs.Prelude.{◌≡◌};
 ghost use Rattle.speedy_layout.specs.Numbers.{unsigned_number};
 ghost use Rattle.speedy_read.specs.Reading.{Reads, RefusesUnsized};
 
+use crate::lent::read_lent;
 use crate::many::ItemByItem;
 use crate::private::bytes_to_str;
 use crate::readable::{ReadFrom, ReadMany};
 use crate::reader::LendingReader;
 use speedy_base::context::Context;
-use speedy_base::error::error_unsized;
 use speedy_layout::layout::Layout;
 use std::boxed::BoxedStr;
 use std::convert::AsSlice;
@@ -60,10 +60,8 @@ impl<'a, C: Context> ReadFrom<&'a [u8], C> for &'a str {
             (R.state reader.old) (R.state reader.new) }
     {
         let length = reader.read_u32()?;
-        match reader.read_bytes_borrowed(length as usize) {
-            Some(lent) => bytes_to_str(lent?),
-            None => Err(error_unsized()),
-        }
+        let bytes = read_lent(reader, length as usize)?;
+        bytes_to_str(bytes)
     }
 
     #[inline]

@@ -6,12 +6,12 @@ ghost use Rattle.speedy_base.specs.declared.endianness.Endianness.TheVariants.{L
 ghost use Rattle.speedy_layout.specs.Numbers.{unsigned_number};
 ghost use Rattle.speedy_read.specs.Reading.{Reads, RefusesUnsized};
 
-use crate::lent::lent_in_range;
+use crate::lent::read_lent;
 use crate::many::ItemByItem;
 use crate::readable::{ReadFrom, ReadMany};
 use crate::reader::LendingReader;
 use speedy_base::context::Context;
-use speedy_base::error::{ErrorKind, error_end_of_input, error_unsized};
+use speedy_base::error::{ErrorKind, error_end_of_input};
 use speedy_layout::layout::Layout;
 use speedy_layout::view_items::{ViewItem, ZeroCopyable};
 use speedy_layout::views::{ArrayView, SliceView};
@@ -32,14 +32,8 @@ impl<'a, C: Context, T: ZeroCopyable<C>> ReadFrom<&'a [u8], C> for SliceView<'a,
     {
         spelled_as_little::<T, &'a [u8], C, R>(reader);
         let length = reader.read_u32()?;
-        match reader.read_bytes_borrowed(size_of_items::<T>(length)) {
-            Some(lent) => {
-                let bytes = lent?;
-                lent_in_range(&bytes);
-                Ok(SliceView::over(bytes))
-            }
-            None => Err(error_unsized()),
-        }
+        let bytes = read_lent(reader, size_of_items::<T>(length))?;
+        Ok(SliceView::over(bytes))
     }
 
     #[inline]
@@ -71,20 +65,11 @@ impl<'a, C: Context, T: ZeroCopyable<C>, const N: usize> ReadFrom<&'a [u8], C>
         spelled_as_little::<T, &'a [u8], C, R>(reader);
         let Some(size) = size_of_array::<T, N>() else {
             // No input has so many bytes.
-            return match reader.read_bytes_borrowed(usize::MAX) {
-                Some(Ok(_)) => Err(error_end_of_input()),
-                Some(Err(error)) => Err(error),
-                None => Err(error_unsized()),
-            };
+            read_lent(reader, usize::MAX)?;
+            return Err(error_end_of_input());
         };
-        match reader.read_bytes_borrowed(size) {
-            Some(lent) => {
-                let bytes = lent?;
-                lent_in_range(&bytes);
-                Ok(ArrayView::over(bytes))
-            }
-            None => Err(error_unsized()),
-        }
+        let bytes = read_lent(reader, size)?;
+        Ok(ArrayView::over(bytes))
     }
 
     #[inline]

@@ -4,37 +4,29 @@ use Rattle.std.proofs.Math.Nat.{mul-mod_left}
 use Rattle.speedy_layout.specs.Numbers.{unsigned_number_laws}
 use Rattle.speedy_layout.specs.Views.{shown_items}
 use Rattle.speedy_read.specs.Sequences.{refused_first, refused_second, second_decides}
-use Rattle.speedy_read.proofs.LentLemmas.{slices_show, borrowed_list_composes, not_lent, lent_length}
+use Rattle.speedy_read.proofs.LentLemmas.{borrowed_list_composes, lent_length}
 use Rattle.speedy_read.proofs.ViewLemmas.{view_lent, view_not_lent}
 use Rattle.speedy_read.proofs.views.SliceViewReadFromRefSliceU8.read_from.Goals as goal
 
 pub over-requires : goal.over-requires
 over-requires g c =
-    let whole = lent_length (rw c.in_ok-bytes-in-Some.was at c.in-Some.ensures.1) ∙ c.size_of_items.ensures in
+    let whole = lent_length c.in_ok-bytes.ensures.reads ∙ c.size_of_items.ensures in
     ap (λ n. n % g.T.FixedSize.SIZE) whole ∙ mul-mod_left c.in_ok-length.length g.T.FixedSize.SIZE
 
 pub returns-in_err-length-clause-reads : goal.returns-in_err-length-clause-reads
 returns-in_err-length-clause-reads g c = refused_first (borrowed_list_composes (g.met.T.Layout.layout_laws _) _) c.from_residual.ensures.1
     c.in_err-length.ensures
 
-pub returns-in_err-bytes-in-Some-clause-reads : goal.returns-in_err-bytes-in-Some-clause-reads
-returns-in_err-bytes-in-Some-clause-reads g c =
-    let item = g.met.T.ViewItem in
-    let number = c.in_ok-length.ensures in
-    refused_second (borrowed_list_composes (g.met.T.Layout.layout_laws _) _) (unsigned_number_laws 4 _) {A = List g.T.Layout.Seen} {seen = λ t. t} number c.from_residual-in_err-bytes-in-Some.ensures.1
-    (view_not_lent g.T.FixedSize.SIZE _ (item.one_size _) _ refl (rw c.size_of_items.ensures at (rw c.in_err-bytes-in-Some.was at c.in-Some.ensures.1)))
+pub returns-in_err-bytes-clause-reads : goal.returns-in_err-bytes-clause-reads
+returns-in_err-bytes-clause-reads g c =
+    refused_second (borrowed_list_composes (g.met.T.Layout.layout_laws _) _) (unsigned_number_laws 4 _) {A = List g.T.Layout.Seen} {seen = λ t. t} c.in_ok-length.ensures c.from_residual-in_err-bytes.ensures.1
+    (view_not_lent g.T.FixedSize.SIZE _ (g.met.T.ViewItem.one_size _) _ refl (rw c.size_of_items.ensures at c.in_err-bytes.ensures.reads))
 
-pub returns-in_ok-bytes-in-Some-clause-reads : goal.returns-in_ok-bytes-in-Some-clause-reads
-returns-in_ok-bytes-in-Some-clause-reads g c =
+pub returns-clause-reads : goal.returns-clause-reads
+returns-clause-reads g c =
     let item = g.met.T.ViewItem in
-    let number = c.in_ok-length.ensures in
-    second_decides (borrowed_list_composes (g.met.T.Layout.layout_laws _) _) (unsigned_number_laws 4 _) {seen = λ view. map g.T.Layout.seen (shown_items g.T.ViewItem.decoded g.T.FixedSize.SIZE view.bytes.now)} number
+    let lent = c.in_ok-bytes.ensures in
+    second_decides (borrowed_list_composes (g.met.T.Layout.layout_laws _) _) (unsigned_number_laws 4 _) {seen = λ view. map g.T.Layout.seen (shown_items g.T.ViewItem.decoded g.T.FixedSize.SIZE view.bytes.now)} c.in_ok-length.ensures
     (view_lent g.T.FixedSize.SIZE _ (item.one_size _) _ g.T.ViewItem.decoded g.T.Layout.seen item.some_bytes (λ bytes l are. c.spelled_as_little.ensures _ bytes (item.decodes bytes l are))
-    (ap (λ b. map g.T.Layout.seen (shown_items g.T.ViewItem.decoded g.T.FixedSize.SIZE b)) c.over.ensures.bytes) c.lent_in_range.ensures (rw c.size_of_items.ensures at (rw c.in_ok-bytes-in-Some.was at c.in-Some.ensures.1)))
+    (ap (λ b. map g.T.Layout.seen (shown_items g.T.ViewItem.decoded g.T.FixedSize.SIZE b)) c.over.ensures.bytes) lent.range (rw c.size_of_items.ensures at lent.reads))
     (λ _. refl)
-
-pub returns-in-None-clause-reads : goal.returns-in-None-clause-reads
-returns-in-None-clause-reads g c =
-    let number = c.in_ok-length.ensures in
-    let none = c.in-None.ensures in
-    refused_second (borrowed_list_composes (g.met.T.Layout.layout_laws _) _) (unsigned_number_laws 4 _) {A = List g.T.Layout.Seen} {seen = λ t. t} number refl (not_lent _ (λ l. slices_show (none.0 l)) none.1 c.error_unsized.ensures)
