@@ -1,5 +1,5 @@
 //! A writer into a sink that gathers short writes and pushes them together.
-ghost use Rattle.std.specs.Prelude.{◌≡◌, ◌+◌, ◌≤◌, [], ◌++◌, length, None, IsTrue, refl};
+ghost use Rattle.std.specs.Prelude.{◌≡◌, ◌+◌, ◌≤◌, ◌↔◌, [], ◌++◌, length, None, IsTrue, refl};
 ghost use Rattle.speedy_write.specs.Collectors.{sink_state};
 ghost use Rattle.speedy_write.specs.Writing.{WritesBytes, RefusesFull};
 ghost use Rattle.speedy_write.specs.Gathering.{Gathers, PushesWaiting, gathers_nothing, gathers_additive};
@@ -40,7 +40,7 @@ impl Waiting {
     // Whether so many bytes more have room.
     #[inline(always)]
     fn has_room(&self, count: usize) -> bool
-        ensures { IsTrue result → self.now.end + count ≤ length self.now.bytes }
+        ensures { IsTrue result ↔ (self.now.end + count ≤ length self.now.bytes) }
     {
         count <= self.bytes.len() - self.end
     }
