@@ -1,5 +1,5 @@
 //! A writer into a sink that gathers short writes and pushes them together.
-ghost use Rattle.std.specs.Prelude.{◌≡◌, ◌+◌, ◌≤◌, ◌↔◌, [], ◌++◌, length, None, IsTrue, refl};
+ghost use Rattle.std.specs.Prelude.{◌≡◌, ◌+◌, ◌≤◌, ◌↔◌, [], ◌++◌, length, None, IsTrue, OnOk, refl};
 ghost use Rattle.speedy_write.specs.Collectors.{sink_state};
 ghost use Rattle.speedy_write.specs.Writing.{WritesBytes, RefusesFull};
 ghost use Rattle.speedy_write.specs.Gathering.{Gathers, PushesWaiting, gathers_nothing, gathers_additive};
@@ -25,10 +25,11 @@ pub struct Waiting {
 impl Waiting {
     ghost use Rattle.speedy_write.specs.CollectorModels.{waiting};
 
-    // Nothing waits.
+    // Nothing waits, and all room is free.
     #[inline]
     fn none() -> Waiting
-        ensures { waiting result ≡ [] }
+        ensures waits { waiting result ≡ [] }
+        ensures room { result.end ≡ 0 }
     {
         Waiting {
             bytes: [0; 256],
@@ -56,10 +57,11 @@ impl Waiting {
         self.end = end;
     }
 
-    // Pushes what waits.
+    // Pushes what waits. Where that succeeds, all room is free.
     fn push_to<S: Sink, E: From<Error>>(&mut self, alloc: Global, sink: &mut S) -> Result<(), E>
-        ensures { PushesWaiting E.from_gives result (waiting self.old) (waiting self.new)
+        ensures pushes { PushesWaiting E.from_gives result (waiting self.old) (waiting self.new)
             (S.sink sink.old) (S.sink sink.new) }
+        ensures room { OnOk result (self.new.end ≡ 0) }
     {
         while self.start < self.end {
             match sink.push(&self.bytes[self.start..self.end]) {
