@@ -1,5 +1,5 @@
 //! Values that are read one after another, and what is made of them.
-ghost use Rattle.std.specs.Prelude.{◌≡◌, ℕ, ⊤, [], List, IsSome, length as count_of, map, MatchResult, true, false};
+ghost use Rattle.std.specs.Prelude.{◌≡◌, ◌*◌, ◌^◌, ◌<◌, ◌≤◌, ◌⊎◌, ℕ, ⊤, [], List, Some, IsSome, IfOk, length as count_of, vec_capacity, map, MatchResult, true, false};
 ghost use Rattle.std.specs.Cow.{cow_slice_items};
 ghost use Rattle.std.specs.Option.{MatchOption};
 ghost use Rattle.speedy_base.specs.Error.{error_of};
@@ -266,14 +266,19 @@ pub(crate) fn read_each<
     Ok(Many::Owned(items))
 }
 
-// An empty vector, with room for so many items where the reader says that their bytes are to come.
+// An empty vector, with room for so many items where the reader says that their bytes are to come. Only there is
+// memory asked for.
 pub(crate) fn vec_for<T, L: AsSlice<u8> + Drop, C: Context, R: LendingReader<L, C>>(
     reader: &R,
     least: usize,
     length: usize,
 ) -> Result<Vec<T>, C::Error>
-    ensures { MatchResult result (λ v. v.items ≡ [])
+    ensures empty { MatchResult result (λ v. v.items ≡ [])
         (C.Error.from_gives (error_of ErrorKind.OutOfMemory)) }
+    ensures room { (0 < least) × (least * length < 2 ^ 64) × (R.can_read reader.now (least * length) ≡ Some true)
+        → IfOk result (λ v. length ≤ vec_capacity v) }
+    ensures asks { let told = R.can_read reader.now (least * length) ≡ Some true in
+        MatchResult result (λ v. (vec_capacity v ≡ 0) ⊎ told) (λ _. told) }
 {
     let known = match least.checked_mul(length) {
         Some(size) => least > 0 && reader.can_read_at_least(size) == Some(true),

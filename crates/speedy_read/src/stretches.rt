@@ -1,5 +1,5 @@
 //! Numbers and bytes of which many are read: a stretch at a time, in bounded steps of room.
-ghost use Rattle.std.specs.Prelude.{◌≡◌, ◌*◌, ◌<◌, ◌≤◌, ◌++◌, ◌∷◌, [], ℕ, List, length, map, replicate, false, not, nat_eq, IfOk, OnOk, MatchResult};
+ghost use Rattle.std.specs.Prelude.{◌≡◌, ◌+◌, ◌-◌, ◌*◌, ◌<◌, ◌≤◌, min, ◌++◌, ◌∷◌, [], ℕ, List, length, vec_len, vec_capacity, map, replicate, false, not, nat_eq, IfOk, OnOk, IsOk, IsSome, MatchOption, MatchResult};
 ghost use Rattle.speedy_base.specs.Digits.{AreBytes};
 ghost use Rattle.speedy_base.specs.Error.{error_of};
 ghost use Rattle.speedy_layout.specs.FixedNumbers.{spelled_in};
@@ -18,6 +18,7 @@ use speedy_base::context::Context;
 use speedy_base::endianness::Endianness;
 use speedy_base::error::{Error, ErrorKind, error_end_of_input, error_out_of_memory};
 use speedy_layout::fixed_numbers::{FixedNumber, append_each, take_each};
+use speedy_layout::layout::Layout;
 use std::alloc::{AllocError, Global};
 use std::convert::AsSlice;
 
@@ -38,7 +39,13 @@ impl<L: AsSlice<u8> + Drop, C: Context, T: FixedNumber + ReadFrom<L, C> + Drop> 
 
     fn read_places<P: Places<L, C, T>, R: LendingReader<L, C>>(
         reader: &mut R,
-    ) -> Option<Result<P, C::Error>> {
+    ) -> Option<Result<P, C::Error>>
+        ensures reads { MatchOption result (R.state reader.new ≡ R.state reader.old) (λ read.
+            Reads C.Error.from_gives C.Error.eof (λ p. map T.seen (P.shown p))
+            (vector P.count (T.format (R.state reader.old).encoding)) read
+            (R.state reader.old) (R.state reader.new)) }
+        ensures in_place { IsSome result }
+    {
         let mut places = P::begun::<Numbers>();
         match places.fill::<Numbers, R>(reader) {
             Ok(()) => Some(Ok(places)),
@@ -82,7 +89,13 @@ impl<L: AsSlice<u8> + Drop, C: Context> Strategy<L, C, u8> for Bytes {
 
     fn read_places<P: Places<L, C, u8>, R: LendingReader<L, C>>(
         reader: &mut R,
-    ) -> Option<Result<P, C::Error>> {
+    ) -> Option<Result<P, C::Error>>
+        ensures reads { MatchOption result (R.state reader.new ≡ R.state reader.old) (λ read.
+            Reads C.Error.from_gives C.Error.eof (λ p. map ⟦<u8 as Layout>⟧.seen (P.shown p))
+            (vector P.count (⟦<u8 as Layout>⟧.format (R.state reader.old).encoding)) read
+            (R.state reader.old) (R.state reader.new)) }
+        ensures in_place { IsSome result }
+    {
         let mut places = P::begun::<Bytes>();
         match places.fill::<Bytes, R>(reader) {
             Ok(()) => Some(Ok(places)),
@@ -172,7 +185,10 @@ fn are_in_range(_bytes: &[u8])
 pub(crate) fn push_in_steps<T>(items: &mut Vec<T>, item: T, left: usize) -> Result<(), AllocError>
 where
     T: Drop,
-    ensures { OnOk result (items.new.items ≡ items.old.items ++ item ∷ []) }
+    ensures pushed { OnOk result (items.new.items ≡ items.old.items ++ item ∷ []) }
+    ensures in_room { vec_len items.old < vec_capacity items.old → IsOk result }
+    ensures step { OnOk result (vec_capacity items.old ≤ vec_len items.old
+        → vec_len items.old + min left 1024 ≤ vec_capacity items.new) }
 {
     if items.len() == items.capacity() {
         items.reserve(left.min(STEP))?;
@@ -359,8 +375,11 @@ pub(crate) fn read_chunks<L: AsSlice<u8> + Drop, C: Context, R: LendingReader<L,
 // Adds zeros for as many bytes as there is room for, at most so many. Where there is no room, a step of it is asked for.
 fn open_stretch(bytes: &mut Vec<u8>, left: usize) -> Result<usize, AllocError>
     requires { 0 < left }
-    ensures { IfOk result (λ size. (0 < size) × (size ≤ left)
+    ensures zeros { IfOk result (λ size. (0 < size) × (size ≤ left)
         × (bytes.new.items ≡ bytes.old.items ++ replicate size 0)) }
+    ensures all_room { IfOk result (λ size. min left (vec_capacity bytes.old - vec_len bytes.old) ≤ size) }
+    ensures step { IfOk result (λ size. vec_capacity bytes.old ≤ vec_len bytes.old
+        → min left 1024 ≤ size) }
 {
     if bytes.len() == bytes.capacity() {
         bytes.reserve(left.min(STEP))?;

@@ -6,7 +6,7 @@ use Rattle.speedy_read.proofs.ListLemmas.{refused_room}
 use Rattle.speedy_read.proofs.stretches.read_chunks.Goals as goal
 
 pub loop-left-init : goal.loop-left-init
-loop-left-init g c = (omega arith, ap length c.in_ok-bytes.ensures ∙ omega arith, none_so_far (sym c.in_ok-bytes.ensures))
+loop-left-init g c = (omega arith, ap length c.in_ok-bytes.ensures.empty ∙ omega arith, none_so_far (sym c.in_ok-bytes.ensures.empty))
 
 pub loop-left-preserved : goal.loop-left-preserved
 loop-left-preserved g c =
@@ -15,7 +15,7 @@ loop-left-preserved g c =
     let slice = c.as_mut_slice.result.now in
     let start = c.args.length - c.loop-left.left in
     let at : start ≡ length bytes = sym c.loop-left.invariant.1 in
-    let room = c.in-Ok.ensures in
+    let room = c.in-Ok.ensures.zeros in
     let sized : length c.read_bytes.new.output ≡ length zeros = c.read_bytes.auto.output ∙ behind bytes zeros slice start (c.as_mut_slice.ensures.value ∙ room.2) at in
     let filled = filled_behind bytes zeros c.open_stretch.new.bytes.items slice c.read_bytes.new.output start _ room.2 c.as_mut_slice.ensures.value at c.as_mut_slice.ensures.len sized in (
       omega arith,
@@ -29,7 +29,7 @@ returns g c =
     all_bytes _ (rw (sym same) at c.loop-left.invariant.2) (ap length same ∙ omega (arith, c.loop-left.invariant.1)) c.in_range.ensures.range
 
 pub returns-in_err-bytes : goal.returns-in_err-bytes
-returns-in_err-bytes g c = refused_room _ _ _ Kept-same refl c.from_residual.ensures.1 c.in_err-bytes.ensures
+returns-in_err-bytes g c = refused_room _ _ _ Kept-same refl c.from_residual.ensures.1 c.in_err-bytes.ensures.empty
 
 pub returns-in_default : goal.returns-in_default
 returns-in_default g c = let so_far = c.loop-left.invariant.2 in refused_room _ _ _ so_far.kept so_far.got.no_fault refl c.error_out_of_memory.ensures
@@ -37,5 +37,5 @@ returns-in_default g c = let so_far = c.loop-left.invariant.2 in refused_room _ 
 pub returns-in_err-read_bytes : goal.returns-in_err-read_bytes
 returns-in_err-read_bytes g c =
     bytes_refused _ _ _ _ c.loop-left.invariant.1
-    (let size = behind c.loop-left.bytes.items (replicate c.in-Ok.size 0) c.as_mut_slice.result.now _ (c.as_mut_slice.ensures.value ∙ c.in-Ok.ensures.2) (sym c.loop-left.invariant.1) in omega (arith, size, length-replicate {A = ℕ} c.in-Ok.size 0, c.in-Ok.ensures.1, c.loop-left.invariant.0)) c.loop-left.invariant.2 c.from_residual-in_err-read_bytes.ensures.1
+    (let size = behind c.loop-left.bytes.items (replicate c.in-Ok.size 0) c.as_mut_slice.result.now _ (c.as_mut_slice.ensures.value ∙ c.in-Ok.ensures.zeros.2) (sym c.loop-left.invariant.1) in omega (arith, size, length-replicate {A = ℕ} c.in-Ok.size 0, c.in-Ok.ensures.zeros.1, c.loop-left.invariant.0)) c.loop-left.invariant.2 c.from_residual-in_err-read_bytes.ensures.1
     c.in_err-read_bytes.ensures

@@ -7,7 +7,7 @@ use Rattle.speedy_read.proofs.StretchLemmas.{more_numbers, numbers_refused, coun
 use Rattle.speedy_read.proofs.stretches.read_stretches.Goals as goal
 
 pub returns-in_err-numbers : goal.returns-in_err-numbers
-returns-in_err-numbers g c = refused_room _ _ _ Kept-same refl c.from_residual.ensures.1 c.in_err-numbers.ensures
+returns-in_err-numbers g c = refused_room _ _ _ Kept-same refl c.from_residual.ensures.1 c.in_err-numbers.ensures.empty
 
 pub returns-in_err-read_bytes : goal.returns-in_err-read_bytes
 returns-in_err-read_bytes g c =
