@@ -14,6 +14,7 @@ pub use Rattle.speedy_base.specs.SignedLemmas
 pub use Rattle.speedy_layout.specs.Adding
 pub use Rattle.speedy_layout.specs.Addresses
 pub use Rattle.speedy_layout.specs.Codes
+pub use Rattle.speedy_layout.specs.EachEncoding
 pub use Rattle.speedy_layout.specs.IndexMaps
 pub use Rattle.speedy_layout.specs.StdMaps
 pub use Rattle.speedy_layout.specs.StdSets
@@ -37,6 +38,7 @@ pub use Rattle.speedy_layout.specs.SeenItems
 pub use Rattle.speedy_layout.specs.Sequences
 pub use Rattle.speedy_layout.specs.Sets
 pub use Rattle.speedy_layout.specs.Texts
+pub use Rattle.speedy_layout.specs.TupleLaws
 pub use Rattle.speedy_layout.specs.Tuples
 pub use Rattle.speedy_layout.specs.Utf8
 pub use Rattle.speedy_layout.specs.Varint

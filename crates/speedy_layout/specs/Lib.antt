@@ -1,5 +1,6 @@
 pub mod Format
 pub mod Laws
+pub mod EachEncoding
 pub mod Codes
 pub mod Sequences
 pub mod Numbers
@@ -7,6 +8,7 @@ pub mod FixedNumbers
 pub mod NonZero
 pub mod Owned
 pub mod Tuples
+pub mod TupleLaws
 pub mod Flags
 pub mod Lists
 pub mod Members

@@ -2,6 +2,7 @@
 pub mod files;
 pub mod headers;
 pub mod memory;
+pub mod own_struct;
 pub mod own_types;
 pub mod readme;
 pub mod streams;

@@ -15,6 +15,7 @@ pub mod line;
 pub mod names;
 #[cfg(test)]
 mod plain16;
+pub mod record;
 pub mod run;
 mod split;
 #[cfg(test)]
@@ -23,6 +24,8 @@ mod tests;
 mod tests_bulk;
 #[cfg(test)]
 mod tests_callers;
+#[cfg(test)]
+mod tests_own_types;
 #[cfg(test)]
 mod tests_rows;
 #[cfg(test)]

@@ -14,6 +14,7 @@ pub mod maps;
 pub mod non_zero;
 pub mod numbers;
 pub mod owned;
+pub mod part;
 pub mod private;
 pub mod ranges;
 pub mod sets;
@@ -25,5 +26,6 @@ pub mod views;
 pub mod writable;
 pub mod writer;
 
+pub use part::Part;
 pub use writable::Writable;
 pub use writer::Writer;

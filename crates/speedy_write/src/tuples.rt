@@ -1,37 +1,14 @@
 //! How tuples are written: part by part. A tuple of more than two parts is written as its first part and the tuple
 //! of the others.
+use crate::part::Part;
 use crate::writable::Writable;
 use crate::writer::Writer;
 use speedy_base::context::Context;
-use speedy_layout::Layout;
 
 impl<C: Context> Writable<C> for () {
     #[inline(always)]
     fn write_to<W: Writer<C>>(&self, _writer: &mut W) -> Result<(), C::Error> {
         Ok(())
-    }
-}
-
-/// A part of a tuple, which lies and is written as the part itself.
-#[derive(Drop)]
-struct Part<'t, T>(&'t T);
-
-impl<'t, T: Layout> Layout for Part<'t, T> {
-    ghost Seen = { T.Seen };
-
-    ghost seen = { λ part. T.seen part.0.now };
-
-    ghost format = { T.format };
-
-    ghost least = { T.least };
-
-    ghost layout_laws = { T.layout_laws };
-}
-
-impl<'t, C: Context, T: Writable<C>> Writable<C> for Part<'t, T> {
-    #[inline(always)]
-    fn write_to<W: Writer<C>>(&self, writer: &mut W) -> Result<(), C::Error> {
-        writer.write_value(self.0)
     }
 }
 
