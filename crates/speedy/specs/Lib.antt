@@ -13,6 +13,7 @@ pub use Rattle.speedy_base.specs.Signed
 pub use Rattle.speedy_base.specs.SignedLemmas
 pub use Rattle.speedy_layout.specs.Adding
 pub use Rattle.speedy_layout.specs.Addresses
+pub use Rattle.speedy_layout.specs.Cases
 pub use Rattle.speedy_layout.specs.Codes
 pub use Rattle.speedy_layout.specs.EachEncoding
 pub use Rattle.speedy_layout.specs.IndexMaps
@@ -31,12 +32,14 @@ pub use Rattle.speedy_layout.specs.Maps
 pub use Rattle.speedy_layout.specs.Members
 pub use Rattle.speedy_layout.specs.NonZero
 pub use Rattle.speedy_layout.specs.Numbers
+pub use Rattle.speedy_layout.specs.OneOf
 pub use Rattle.speedy_layout.specs.Orders
 pub use Rattle.speedy_layout.specs.Owned
 pub use Rattle.speedy_layout.specs.EqualityOfMaps
 pub use Rattle.speedy_layout.specs.SeenItems
 pub use Rattle.speedy_layout.specs.Sequences
 pub use Rattle.speedy_layout.specs.Sets
+pub use Rattle.speedy_layout.specs.Tags
 pub use Rattle.speedy_layout.specs.Texts
 pub use Rattle.speedy_layout.specs.TupleLaws
 pub use Rattle.speedy_layout.specs.Tuples
@@ -46,6 +49,7 @@ pub use Rattle.speedy_layout.specs.ViewIters
 pub use Rattle.speedy_layout.specs.Views
 pub use Rattle.speedy_layout.specs.Zigzag
 pub use Rattle.speedy_read.specs.Buffers
+pub use Rattle.speedy_read.specs.Cases as ReadCases
 pub use Rattle.speedy_read.specs.Codes as ReadCodes
 pub use Rattle.speedy_read.specs.Collections as ReadCollections
 pub use Rattle.speedy_read.specs.Counted as ReadCounted
@@ -62,6 +66,7 @@ pub use Rattle.speedy_read.specs.Streams
 pub use Rattle.speedy_read.specs.UntilEnd
 pub use Rattle.speedy_read.specs.WaysOfReading
 pub use Rattle.speedy_read.proofs.ListLemmas as ReadItems
+pub use Rattle.speedy_write.specs.Cases as WriteCases
 pub use Rattle.speedy_write.specs.Codes as WriteCodes
 pub use Rattle.speedy_write.specs.Collections as WriteCollections
 pub use Rattle.speedy_write.specs.CollectorLemmas

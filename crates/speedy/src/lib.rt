@@ -60,7 +60,7 @@ pub use readable::{ReadFrom, ReadMany, Readable, ReadableOwned};
 pub use reader::{LendingReader, Reader};
 pub use same_key::SameKey;
 pub use speedy_base::{circular_buffer, context, device, endianness, error};
-pub use speedy_layout::{layout, same_key, varint, view_items, views};
+pub use speedy_layout::{layout, one_of, same_key, tag, varint, view_items, views};
 pub use speedy_read::{buffer, collections, lent, many, readable, reader};
 pub use speedy_write::{part, writable, writer};
 pub use writable::Writable;

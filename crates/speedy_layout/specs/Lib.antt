@@ -10,6 +10,9 @@ pub mod Owned
 pub mod Tuples
 pub mod TupleLaws
 pub mod Flags
+pub mod Cases
+pub mod OneOf
+pub mod Tags
 pub mod Lists
 pub mod Members
 pub mod Orders

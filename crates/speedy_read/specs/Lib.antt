@@ -4,6 +4,7 @@ pub mod Sequences
 pub mod Counted
 pub mod Codes
 pub mod Flags
+pub mod Cases
 pub mod Buffers
 pub mod CopyingModel
 pub mod OwnedModel

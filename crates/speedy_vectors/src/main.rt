@@ -10,6 +10,7 @@
 pub mod answer;
 mod by_name;
 pub mod callers;
+pub mod enums;
 pub mod frame;
 pub mod line;
 pub mod names;

@@ -7,6 +7,7 @@ pub mod CollectorModels
 pub mod Gathering
 pub mod Sequences
 pub mod Codes
+pub mod Cases
 pub mod Collections
 pub mod Pushing
 pub mod Lengths

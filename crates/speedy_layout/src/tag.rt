@@ -1,0 +1,37 @@
+//! Numbers that say which variant of an enum a value is, where nothing stands behind them.
+ghost use Rattle.std.specs.Prelude.{◌≡◌, ◌<◌, ℕ};
+ghost use Rattle.speedy_layout.specs.Tags.{tag, tag_laws};
+
+use crate::layout::Layout;
+
+/// A number of four bytes that is below `N`: which of `N` variants without parts a value is.
+///
+/// Another number is refused with `InvalidEnumVariant`.
+#[derive(Drop)]
+pub struct Tag<const N: u32> {
+    pub number: u32,
+    ghost below: { number < N },
+}
+
+impl<const N: u32> Tag<N> {
+    /// The tag of the variant with this number.
+    #[inline]
+    pub fn new(number: u32) -> Tag<N>
+        requires { number < N }
+        ensures { result.number ≡ number }
+    {
+        Tag { number }
+    }
+}
+
+impl<const N: u32> Layout for Tag<N> {
+    ghost Seen = { ℕ };
+
+    ghost seen = { λ t. t.number };
+
+    ghost format = { tag N };
+
+    ghost least = { 4 };
+
+    ghost layout_laws = { tag_laws N };
+}

@@ -1,0 +1,27 @@
+use Rattle.std.proofs.Common.{refl, arith}
+use Rattle.speedy_layout.specs.Cases.{none, other}
+use Rattle.speedy_layout.specs.OneOf.{IsChoice2, choice2}
+use Rattle.speedy_read.specs.Cases.{tag_refused, no_case_read, case_refused, case_read}
+use Rattle.speedy_read.proofs.one_of.OneOf2ReadFrom.read_from.Given.{Over}
+use Rattle.speedy_read.proofs.one_of.OneOf2ReadFrom.read_from.Goals as goal
+
+chosen : (g : Over) → IsChoice2 g.T0.Layout.format g.T1.Layout.format
+chosen g = choice2 _ _ g.met.T0.Layout.layout_laws g.met.T1.Layout.layout_laws
+
+pub returns-in_err-read_u32 : goal.returns-in_err-read_u32
+returns-in_err-read_u32 g c = tag_refused (chosen g) c.from_residual.ensures.1 c.in_err-read_u32.ensures
+
+pub returns-in_err-read_value-in-0 : goal.returns-in_err-read_value-in-0
+returns-in_err-read_value-in-0 g c = case_refused (chosen g) 0 c.in-0.is c.in_ok-read_u32.ensures c.from_residual-in_err-read_value-in-0.ensures.1 c.in_err-read_value-in-0.ensures
+
+pub returns-in_ok-read_value-in-0 : goal.returns-in_ok-read_value-in-0
+returns-in_ok-read_value-in-0 g c = case_read (chosen g) 0 c.in-0.is c.in_ok-read_u32.ensures c.in_ok-read_value-in-0.ensures refl
+
+pub returns-in_err-read_value-in-1 : goal.returns-in_err-read_value-in-1
+returns-in_err-read_value-in-1 g c = case_refused (chosen g) 1 c.in-1.is c.in_ok-read_u32.ensures c.from_residual-in_err-read_value-in-1.ensures.1 c.in_err-read_value-in-1.ensures
+
+pub returns-in_ok-read_value-in-1 : goal.returns-in_ok-read_value-in-1
+returns-in_ok-read_value-in-1 g c = case_read (chosen g) 1 c.in-1.is c.in_ok-read_u32.ensures c.in_ok-read_value-in-1.ensures refl
+
+pub returns-in_default : goal.returns-in_default
+returns-in_default g c = no_case_read (chosen g) (other (omega arith) (other (omega arith) none)) c.in_ok-read_u32.ensures c.error_invalid_enum_variant.ensures

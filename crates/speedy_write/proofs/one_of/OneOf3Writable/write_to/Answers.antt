@@ -1,0 +1,16 @@
+use Rattle.speedy_layout.specs.OneOf.{IsChoice3, choice3}
+use Rattle.speedy_write.specs.Cases.{case_written}
+use Rattle.speedy_write.proofs.one_of.OneOf3Writable.write_to.Given.{Over}
+use Rattle.speedy_write.proofs.one_of.OneOf3Writable.write_to.Goals as goal
+
+chosen : (g : Over) → IsChoice3 g.T0.Layout.format g.T1.Layout.format g.T2.Layout.format
+chosen g = choice3 _ _ _ g.met.T0.Layout.layout_laws g.met.T1.Layout.layout_laws g.met.T2.Layout.layout_laws
+
+pub returns-in-First : goal.returns-in-First
+returns-in-First g c = case_written (chosen g) 0 c.write_value.ensures (rw c.in-First.is)
+
+pub returns-in-Second : goal.returns-in-Second
+returns-in-Second g c = case_written (chosen g) 1 c.write_value-in-Second.ensures (rw c.in-Second.is)
+
+pub returns-in-Third : goal.returns-in-Third
+returns-in-Third g c = case_written (chosen g) 2 c.write_value-in-Third.ensures (rw c.in-Third.is)
