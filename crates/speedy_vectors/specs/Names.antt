@@ -17,7 +17,9 @@ use Rattle.speedy.specs.SeenItems.{IsLess}
 use Rattle.speedy.specs.Maps.{tree_map, index_map}
 use Rattle.speedy.specs.Sets.{tree_set, index_set}
 use Rattle.speedy.specs.Texts.{text, raw_bytes, constant_bytes, counted_text}
+use Rattle.speedy.specs.OneOf.{one_of3}
 use Rattle.speedy.specs.Owned.{owned_content, borrowed_content}
+use Rattle.speedy.specs.Tags.{tag}
 use Rattle.speedy.specs.Varint.{varint}
 use Rattle.speedy_vectors.specs.declared.names.NumberName.{NumberName}
 use Rattle.speedy_vectors.specs.declared.names.NumberName.TheVariants as number_names
@@ -33,6 +35,7 @@ use Rattle.speedy_vectors.specs.declared.names.LentName.{LentName}
 use Rattle.speedy_vectors.specs.declared.names.LentName.TheVariants as lent_names
 use Rattle.speedy_vectors.specs.declared.names.OwnName.{OwnName}
 use Rattle.speedy_vectors.specs.declared.names.OwnName.TheVariants as own_names
+use Rattle.speedy_vectors.specs.Trees.{tree_format}
 use Rattle.speedy_vectors.specs.declared.names.TypeName.{TypeName}
 use Rattle.speedy_vectors.specs.declared.names.TypeName.TheVariants as families
 
@@ -59,6 +62,10 @@ LessNumber = IsLess (λ (n : ℕ). n) nat_cmp
 -- texts in the order of their bytes
 abbrev LessText : List ℕ → List ℕ → Type 0
 LessText = IsLess (string_bytes {Z = Global}) string_cmp
+
+-- numbers of one, two and four bytes
+abbrev three_numbers : Encoding → Format (ℕ × (ℕ × ℕ))
+three_numbers encoding = pair (unsigned_number 1 encoding) (pair (unsigned_number 2 encoding) (unsigned_number 4 encoding))
 
 -- each type of the program, by family
 abbrev pub named_number : NumberName → Named
@@ -94,7 +101,7 @@ named_composed composed_names.OptU16 = by (codes "opt_u16") refl 1 (λ encoding.
 named_composed composed_names.ResU16U8 = by (codes "res_u16_u8") refl 1 (λ encoding. alternative encoding (unsigned_number 2 encoding) (unsigned_number 1 encoding))
 named_composed composed_names.RangeU16 = by (codes "range_u16") refl 4 (λ encoding. pair (unsigned_number 2 encoding) (unsigned_number 2 encoding))
 named_composed composed_names.RangeInclU16 = by (codes "range_incl_u16") refl 4 (λ encoding. pair (unsigned_number 2 encoding) (unsigned_number 2 encoding))
-named_composed composed_names.TupleU8U16U32 = by (codes "tuple_u8_u16_u32") refl 7 (λ encoding. pair (unsigned_number 1 encoding) (pair (unsigned_number 2 encoding) (unsigned_number 4 encoding)))
+named_composed composed_names.TupleU8U16U32 = by (codes "tuple_u8_u16_u32") refl 7 three_numbers
 named_composed composed_names.ArrayU16x4 = by (codes "array_u16_4") refl 8 (λ encoding. vector 4 (unsigned_number 2 encoding))
 named_composed composed_names.BoxU16 = by (codes "box_u16") refl 2 (λ encoding. owned_content (unsigned_number 2 encoding))
 
@@ -128,6 +135,10 @@ named_lent lent_names.ArrayViewI8x4 = by (codes "array_view_i8_4") refl 4 (λ en
 
 abbrev pub named_own : OwnName → Named
 named_own own_names.Frame = by (codes "frame") refl 4 (λ encoding. pair (constant_bytes encoding (codes "SP")) (pair (counted_list (varint encoding) (varint encoding)) (counted_text encoding (unsigned_number 1 encoding))))
+named_own own_names.Enum = by (codes "enum") refl 4 (tag 3)
+named_own own_names.DerivedEnum = by (codes "derived_enum") refl 4 (one_of3 (λ _. unit) three_numbers three_numbers)
+named_own own_names.Record = by (codes "record") refl 24 (λ encoding. pair (unsigned_number 8 encoding) (pair (text encoding) (pair (list encoding (unsigned_number 1 encoding)) (pair (list encoding (signed_number w64 encoding)) (tag 3 encoding)))))
+named_own own_names.Tree = by (codes "tree") refl 5 tree_format
 
 abbrev pub named : TypeName → Named
 named (families.Number name) = named_number name

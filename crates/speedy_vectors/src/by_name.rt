@@ -4,12 +4,15 @@ ghost use Rattle.speedy_vectors.specs.Answer.{AnswersAs};
 ghost use Rattle.speedy_vectors.specs.Names.{named, named_number, named_leaf, named_composed, named_list, named_gathered, named_lent, named_own};
 
 use crate::answer::answer_as;
+use crate::enums::{DerivedEnum, Enum};
 use crate::frame::Frame;
 use crate::names::{
     ComposedName, GatheredName, LeafName, LentName, ListName, NumberName, OwnName, TypeName,
     for_each_composed, for_each_gathered, for_each_leaf, for_each_lent, for_each_list,
     for_each_number, for_each_own,
 };
+use crate::record::Record;
+use crate::tree::Tree;
 use speedy::ext::{IndexMap, IndexSet, SmallVec, Uuid};
 use speedy::varint::VarInt64;
 use speedy::views::{ArrayView, SliceView};

@@ -171,6 +171,14 @@ pub enum LentName {
 pub enum OwnName {
     /// [`Frame`](crate::frame::Frame).
     Frame,
+    /// [`Enum`](crate::enums::Enum).
+    Enum,
+    /// [`DerivedEnum`](crate::enums::DerivedEnum).
+    DerivedEnum,
+    /// [`Record`](crate::record::Record).
+    Record,
+    /// [`Tree`](crate::tree::Tree).
+    Tree,
 }
 
 // A table of each family: the name on a line, the variant, and the type. The row of its bytes is in `specs/Names.antt`. It
@@ -281,6 +289,10 @@ macro_rules! for_each_own {
         $do! {
             $($given)* OwnName:
             b"frame" Frame Frame;
+            b"enum" Enum Enum;
+            b"derived_enum" DerivedEnum DerivedEnum;
+            b"record" Record Record;
+            b"tree" Tree Tree;
         }
     };
 }

@@ -1,9 +1,11 @@
-//! Types of one's own: bytes that come from outside, and each refusal once.
+//! Types of one's own: bytes that come from outside, and each way of reading them. What is refused, and what enums are
+//! written as, are lines of the tests of rows.
 use crate::callers::own_struct::Contact;
-use crate::enums::{DerivedEnum, Enum};
+use crate::enums::Enum;
 use crate::record::Record;
 use crate::tests_callers::assert_refused;
-use speedy::{BigEndian, Error, LittleEndian, Readable, Writable};
+use speedy::one_of::OneOf8;
+use speedy::{Error, LittleEndian, Readable, Writable};
 use std::alloc::Global;
 use std::borrow::CowSlice;
 use std::process::Abort;
@@ -49,31 +51,31 @@ fn a_struct_is_a_tuple_of_its_parts(rt: HostRuntime) {
     assert_refused(&rt, alloc, outcome, kind);
 }
 
-#[test]
-fn variants_lie_behind_their_tags(rt: HostRuntime) {
-    let alloc = rt.alloc();
-    let bytes = Writable::<LittleEndian>::write_to_vec(&Enum::C, alloc).expect(&rt, "bytes");
-    assert!(rt; bytes.as_slice() == [2, 0, 0, 0].as_slice());
-    let value = DerivedEnum::B(1, 2, 3);
-    let bytes = Writable::<LittleEndian>::write_to_vec(&value, alloc).expect(&rt, "bytes");
-    assert!(rt; bytes.as_slice() == [1, 0, 0, 0, 1, 2, 0, 3, 0, 0, 0].as_slice());
-    let value = DerivedEnum::C { a: 4, b: 5, c: 6 };
-    let bytes = value
-        .write_to_vec_with_ctx(alloc, BigEndian {})
-        .expect(&rt, "bytes");
-    assert!(rt; bytes.as_slice() == [0, 0, 0, 2, 4, 0, 5, 0, 0, 0, 6].as_slice());
-    let again = DerivedEnum::read_from_buffer_with_ctx(alloc, BigEndian {}, &bytes);
-    assert!(rt; again.expect(&rt, "a variant") == value);
+/// Which of the eight it is.
+fn place_of(value: &OneOf8<(), (), (), (), (), (), (), ()>) -> u8 {
+    match value {
+        OneOf8::First(()) => 0,
+        OneOf8::Second(()) => 1,
+        OneOf8::Third(()) => 2,
+        OneOf8::Fourth(()) => 3,
+        OneOf8::Fifth(()) => 4,
+        OneOf8::Sixth(()) => 5,
+        OneOf8::Seventh(()) => 6,
+        OneOf8::Eighth(()) => 7,
+    }
 }
 
 #[test]
-fn other_tags_are_refused(rt: HostRuntime) {
+fn the_number_of_one_of_eight_is_its_place(rt: HostRuntime) {
     let alloc = rt.alloc();
-    let bytes = [3, 0, 0, 0, 1, 2, 0, 3, 0, 0, 0];
-    let outcome = <Enum as Readable<LittleEndian>>::read_from_buffer(alloc, &bytes);
-    assert_refused(&rt, alloc, outcome, "InvalidEnumVariant");
-    let outcome = <DerivedEnum as Readable<LittleEndian>>::read_from_buffer(alloc, &bytes);
-    assert_refused(&rt, alloc, outcome, "InvalidEnumVariant");
+    for place in 0..8_u8 {
+        let bytes = [place, 0, 0, 0];
+        let value = OneOf8::read_from_buffer_with_ctx(alloc, LittleEndian {}, &bytes);
+        let value = value.expect(&rt, "a value");
+        assert!(rt; place_of(&value) == place);
+        let written = value.write_to_vec_with_ctx(alloc, LittleEndian {});
+        assert!(rt; written.expect(&rt, "bytes").as_slice() == bytes.as_slice());
+    }
 }
 
 #[test]
@@ -92,17 +94,4 @@ fn the_record_of_the_original_is_read_in_each_way(rt: HostRuntime) {
     let mut source = RECORD;
     let outcome = <Record as Readable<LittleEndian>>::read_from_stream_buffered(alloc, &mut source);
     assert_record(&rt, alloc, outcome);
-}
-
-#[test]
-fn the_record_is_written_as_the_original_writes_it(rt: HostRuntime) {
-    let alloc = rt.alloc();
-    let record = make_record(&rt, alloc);
-    let bytes = Writable::<LittleEndian>::write_to_vec(&record, alloc).expect(&rt, "bytes");
-    assert!(rt; bytes.as_slice() == RECORD && bytes.len() == 77);
-    let outcome = <Record as Readable<LittleEndian>>::read_from_buffer(alloc, &bytes[..76]);
-    assert_refused(&rt, alloc, outcome, "UnexpectedEndOfInput");
-    let outcome = <Record as Readable<LittleEndian>>::read_from_buffer(alloc, &bytes[..23]);
-    let kind = "InputBufferIsTooSmall { actual_size: 23, expected_size: 24 }";
-    assert_refused(&rt, alloc, outcome, kind);
 }

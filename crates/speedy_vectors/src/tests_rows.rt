@@ -282,6 +282,37 @@ const FRAMES: [(&str, &str); 8] = [
     ("sbe frame 5350018080024869", "ok 8 5350018080024869\n"),
 ];
 
+/// Enums: their tags, and what stands behind these.
+const ENUMS: [(&str, &str); 7] = [
+    ("le enum 02000000", "ok 4 02000000\n"),
+    ("be enum 00000001", "ok 4 00000001\n"),
+    ("le enum 03000000", "refused InvalidEnumVariant\n"),
+    (
+        "le derived_enum 0100000001020003000000",
+        "ok 11 0100000001020003000000\n",
+    ),
+    (
+        "be derived_enum 0000000201000200000003ff",
+        "ok 11 0000000201000200000003\n",
+    ),
+    ("le derived_enum 00000000", "ok 4 00000000\n"),
+    ("le derived_enum 0300000000", "refused InvalidEnumVariant\n"),
+];
+
+/// The record that the original crate's README shows, without its float, and one that is cut.
+const RECORDS: [(&str, &str); 2] = [
+    (
+        "le record 00efcdab785634121a0000004120746f74616c6c7920706f696e746c65737320737472696e670300000001020303000000040000000000000005000000000000000600000000000000\
+         02000000",
+        "ok 77 00efcdab785634121a0000004120746f74616c6c7920706f696e746c65737320737472696e670300000001020303000000040000000000000005000000000000000600000000000000\
+         02000000\n",
+    ),
+    (
+        "be record 0000000000000001",
+        "refused InputBufferIsTooSmall 8 24\n",
+    ),
+];
+
 /// What the strict orders refuse, and what they do not.
 const STRICT: [(&str, &str); 10] = [
     ("sle varint 8000", "refused NotWrittenForm\n"),
@@ -380,6 +411,39 @@ fn what_borrows_is_answered(rt: HostRuntime) {
 #[test]
 fn frames_are_answered(rt: HostRuntime) {
     assert_answers(&rt, rt.alloc(), &FRAMES);
+}
+
+#[test]
+fn enums_and_records_are_answered(rt: HostRuntime) {
+    assert_answers(&rt, rt.alloc(), &ENUMS);
+    assert_answers(&rt, rt.alloc(), &RECORDS);
+}
+
+/// Asserts that a chain of so many nodes, each but the last with one child, is answered so.
+fn assert_tree(rt: &impl Abort, alloc: Global, nodes: usize, is_answered: bool) {
+    let mut digits = String::new(alloc);
+    for _ in 1..nodes {
+        digits.push_str("0001000000").expect(rt, "room");
+    }
+    digits.push_str("0000000000").expect(rt, "room");
+    let line = format!(in alloc; "le tree {digits}").expect(rt, "a line");
+    let count = digits.len() / 2;
+    let answer = if is_answered {
+        format!(in alloc; "ok {count} {digits}\n")
+    } else {
+        format!(in alloc; "refused OutOfRangeLength\n")
+    };
+    assert_answers(rt, alloc, &[(&line, &answer.expect(rt, "an answer"))]);
+}
+
+#[test]
+fn trees_of_sixteen_levels_are_answered(rt: HostRuntime) {
+    let alloc = rt.alloc();
+    assert_tree(&rt, alloc, 1, true);
+    assert_tree(&rt, alloc, 16, true);
+    assert_tree(&rt, alloc, 17, false);
+    let line = "le tree 05010000000600000000";
+    assert_answers(&rt, alloc, &[(line, "ok 10 05010000000600000000\n")]);
 }
 
 #[test]
