@@ -1,4 +1,4 @@
-//! Types of one's own.
+//! Types of one's own: a leaf that tests what it reads, a struct of any part, and one that borrows.
 ghost use Rattle.std.specs.Prelude.{◌≡◌, ◌+◌, ℕ};
 ghost use Rattle.speedy.specs.Codes.{subset, subset_laws};
 ghost use Rattle.speedy.specs.Laws.{saturated_size};
@@ -6,11 +6,13 @@ ghost use Rattle.speedy.specs.Lists.{list_laws};
 ghost use Rattle.speedy.specs.Numbers.{unsigned_number, unsigned_number_laws};
 ghost use Rattle.speedy.specs.Owned.{borrowed_content_laws};
 ghost use Rattle.speedy.specs.Texts.{text_laws};
-ghost use Rattle.speedy.specs.Tuples.{pair, pair_laws};
+ghost use Rattle.speedy.specs.TupleLaws.{tuple2_laws};
 ghost use Rattle.speedy.specs.declared.error.ErrorKind.TheVariants.{InvalidEnumVariant};
 
 use speedy::private::error_invalid_enum_variant;
-use speedy::{Context, ItemByItem, Layout, LendingReader, ReadFrom, ReadMany, Writable, Writer};
+use speedy::{
+    Context, ItemByItem, Layout, LendingReader, Part, ReadFrom, ReadMany, Writable, Writer,
+};
 use std::borrow::CowSlice;
 use std::convert::AsSlice;
 
@@ -63,21 +65,20 @@ pub struct Labelled<T> {
 }
 
 impl<T: Layout> Layout for Labelled<T> {
-    ghost Seen = { ℕ × T.Seen };
+    ghost Seen = { ⟦<(u32, T) as Layout>⟧.Seen };
 
-    ghost seen = { λ it. (it.label, T.seen it.value) };
+    ghost seen = { λ it. ⟦<(u32, T) as Layout>⟧.seen (it.label, it.value) };
 
-    ghost format = { λ f. pair (unsigned_number 4 f) (T.format f) };
+    ghost format = { ⟦<(u32, T) as Layout>⟧.format };
 
     ghost least = { saturated_size (4 + T.least) };
 
-    ghost layout_laws = { λ f. pair_laws (unsigned_number_laws 4 f) (T.layout_laws f) };
+    ghost layout_laws = { tuple2_laws (unsigned_number_laws 4) T.layout_laws };
 }
 
 impl<L: AsSlice<u8> + Drop, C: Context, T: ReadFrom<L, C>> ReadFrom<L, C> for Labelled<T> {
     fn read_from<R: LendingReader<L, C>>(reader: &mut R) -> Result<Labelled<T>, C::Error> {
-        let label = reader.read_u32()?;
-        let value = reader.read_value()?;
+        let (label, value) = reader.read_value()?;
         Ok(Labelled { label, value })
     }
 
@@ -92,8 +93,7 @@ impl<L: AsSlice<u8> + Drop, C: Context, T: ReadFrom<L, C>> ReadMany<L, C> for La
 
 impl<C: Context, T: Writable<C>> Writable<C> for Labelled<T> {
     fn write_to<W: Writer<C>>(&self, writer: &mut W) -> Result<(), C::Error> {
-        writer.write_value(&self.label)?;
-        writer.write_value(&self.value)
+        writer.write_value(&(Part(&self.label), Part(&self.value)))
     }
 }
 
@@ -113,14 +113,13 @@ impl<'a> Layout for Entry<'a> {
 
     ghost least = { 8 };
 
-    ghost layout_laws = { λ f.
-        pair_laws (borrowed_content_laws (text_laws f)) (list_laws f (unsigned_number_laws 1 f)) };
+    ghost layout_laws = { tuple2_laws (λ f. borrowed_content_laws (text_laws f))
+        (λ f. list_laws f (unsigned_number_laws 1 f)) };
 }
 
 impl<'a, C: Context> ReadFrom<&'a [u8], C> for Entry<'a> {
     fn read_from<R: LendingReader<&'a [u8], C>>(reader: &mut R) -> Result<Entry<'a>, C::Error> {
-        let name = reader.read_value()?;
-        let content = reader.read_value()?;
+        let (name, content) = reader.read_value()?;
         Ok(Entry { name, content })
     }
 
