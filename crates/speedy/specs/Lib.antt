@@ -25,6 +25,7 @@ pub use Rattle.speedy_layout.specs.Format
 pub use Rattle.speedy_layout.specs.GatheredLemmas
 pub use Rattle.speedy_layout.specs.Gathering
 pub use Rattle.speedy_layout.specs.Equality
+pub use Rattle.speedy_layout.specs.Keys
 pub use Rattle.speedy_layout.specs.Laws
 pub use Rattle.speedy_layout.specs.Leaves
 pub use Rattle.speedy_layout.specs.Lists

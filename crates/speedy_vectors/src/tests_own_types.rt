@@ -1,6 +1,6 @@
 //! Types of one's own: bytes that come from outside, and each way of reading them. What is refused, and what enums are
 //! written as, are lines of the tests of rows.
-use crate::callers::own_struct::Contact;
+use crate::callers::own_struct::{Contact, Directory};
 use crate::enums::Enum;
 use crate::record::Record;
 use crate::tests_callers::assert_refused;
@@ -49,6 +49,19 @@ fn a_struct_is_a_tuple_of_its_parts(rt: HostRuntime) {
     let outcome = <Contact as Readable<LittleEndian>>::read_from_buffer(alloc, &bytes[..11]);
     let kind = "InputBufferIsTooSmall { actual_size: 11, expected_size: 12 }";
     assert_refused(&rt, alloc, outcome, kind);
+}
+
+#[test]
+fn a_struct_may_hold_a_map_and_a_set(rt: HostRuntime) {
+    let alloc = rt.alloc();
+    // Of two pairs with one key the second counts, and a map is written with each key once.
+    let bytes = b"\x02\0\0\0\x01\0\0\0a\x07\0\0\0\x01\0\0\0a\x08\0\0\0\x01\0\0\0\x09\0\0\0";
+    let read = <Directory as Readable<LittleEndian>>::read_from_buffer(alloc, bytes);
+    let directory = read.expect(&rt, "a directory");
+    assert!(rt; directory.numbers.len() == 1 && directory.marked.contains(&9));
+    let again = Writable::<LittleEndian>::write_to_vec(&directory, alloc).expect(&rt, "bytes");
+    let expected = b"\x01\0\0\0\x01\0\0\0a\x08\0\0\0\x01\0\0\0\x09\0\0\0";
+    assert!(rt; again.as_slice() == expected.as_slice());
 }
 
 /// Which of the eight it is.
