@@ -16,5 +16,5 @@ pub use speedy_read::private::{
 };
 pub use speedy_write::private::{
     write_length, write_length_u7, write_length_u8, write_length_u16, write_length_u32,
-    write_length_u64, write_length_u64_varint,
+    write_length_u64, write_length_u64_varint, write_to_stream_and_flush_with_ctx,
 };

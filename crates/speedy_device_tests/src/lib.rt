@@ -7,6 +7,8 @@ mod asserting;
 #[cfg(test)]
 mod devices;
 #[cfg(test)]
+mod failing;
+#[cfg(test)]
 mod lengths;
 #[cfg(test)]
 mod probes;

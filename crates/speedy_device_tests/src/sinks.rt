@@ -3,11 +3,12 @@ ghost use Rattle.std.specs.Prelude.{[], false};
 
 use crate::asserting::{assert_bytes, assert_ok, assert_same};
 use crate::devices::{FakeFiles, FileCall, FileCalls, KINDS, make_recorder};
+use crate::failing::Failing;
 use speedy::context::LittleEndian;
 use speedy::device::{Faults, Sink, VecSink};
 use speedy::endianness::Endianness;
 use speedy::error::Error;
-use speedy::private::{ErrorKind, get_error_kind};
+use speedy::private::{ErrorKind, get_error_kind, write_to_stream_and_flush_with_ctx};
 use speedy::readable::Readable;
 use speedy::writable::{Writable, WritingCollector};
 use speedy::writer::Writer;
@@ -162,6 +163,40 @@ fn no_form_over_a_sink_flushes_it(rt: HostRuntime) {
     assert_ok(&rt, outcome, ());
     assert_same(&rt, (sink.pushes, sink.flushes), (2, 0));
     assert_same(&rt, sink.settled, false);
+}
+
+#[test]
+fn the_flushing_form_flushes_once_behind_the_value(rt: HostRuntime) {
+    let alloc = rt.alloc();
+    let mut sink = make_tally();
+    let outcome = write_to_stream_and_flush_with_ctx(
+        &2_u16,
+        alloc,
+        Endianness::BigEndian,
+        &mut sink,
+    );
+    assert_ok(&rt, outcome, ());
+    assert_same(&rt, (sink.pushes, sink.flushes), (1, 1));
+    assert_same(&rt, sink.settled, true);
+}
+
+#[test]
+fn a_failed_call_of_the_flushing_form_is_answered_and_is_the_last(rt: HostRuntime) {
+    let alloc = rt.alloc();
+    for kind in KINDS {
+        for (fails_at, taken) in [(1, &[][..]), (2, &[0][..]), (3, &[0, 2][..])] {
+            let mut sink = Failing::new(VecSink::new(alloc), 1, fails_at, kind);
+            let outcome = write_to_stream_and_flush_with_ctx(
+                &2_u16,
+                alloc,
+                Endianness::BigEndian,
+                &mut sink,
+            );
+            assert_failed_call(&rt, outcome, kind);
+            assert_bytes(&rt, sink.inner.bytes(), taken);
+            assert_same(&rt, (sink.calls(), sink.flushes), (fails_at, fails_at / 3));
+        }
+    }
 }
 
 #[test]

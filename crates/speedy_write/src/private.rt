@@ -4,11 +4,37 @@ ghost use Rattle.speedy_base.specs.Error.{error_of};
 ghost use Rattle.speedy_layout.specs.Numbers.{unsigned_number, length_number};
 ghost use Rattle.speedy_layout.specs.Varint.{varint};
 ghost use Rattle.speedy_write.specs.Lengths.{WritesLength};
+ghost use Rattle.speedy_write.specs.WaysOfWriting.{WritesAndFlushes};
 ghost use Rattle.speedy_write.specs.Writing.{Writes, WritesNumber, RefusesFull};
 
+use crate::collectors::error_of_failed_call;
+use crate::writable::Writable;
 use crate::writer::Writer;
 use speedy_base::context::Context;
+use speedy_base::device::Sink;
 use speedy_base::error::{ErrorKind, error_out_of_range_length};
+use std::alloc::Global;
+
+/// Writes a value to a sink, as [`Writable::write_to_stream_with_ctx`] does, and flushes the sink.
+///
+/// Where it succeeds, the sink took the value, all of it was passed on, and no call failed. A failed flush is refused
+/// with its error as a failed push is, and no call is tried again. What is refused before the flush is not flushed.
+pub fn write_to_stream_and_flush_with_ctx<C: Context, T: Writable<C>, S: Sink>(
+    value: &T,
+    alloc: Global,
+    context: C,
+    sink: &mut S,
+) -> Result<(), C::Error>
+    ensures { let format = T.format (C.encoding context) in
+        WritesAndFlushes C.Error.from_gives format (T.seen value.now) result
+        (S.sink sink.old) (S.sink sink.new) }
+{
+    value.write_to_stream_with_ctx(alloc, context, sink)?;
+    match sink.flush() {
+        Ok(()) => Ok(()),
+        Err(error) => Err(error_of_failed_call(alloc, error)),
+    }
+}
 
 /// Writes a length as a `u32`. A longer one is refused as `OutOfRangeLength` before anything is written.
 #[inline]

@@ -5,12 +5,13 @@ ghost use Rattle.speedy_base.specs.Error.{error_of};
 ghost use Rattle.speedy_base.specs.Encoding.{plain_encoding};
 ghost use Rattle.speedy_base.specs.FailedCalls.{IsErrorOf};
 ghost use Rattle.speedy_write.specs.Writing.{Writes, WritesEach};
-ghost use Rattle.speedy_write.specs.WaysOfWriting.{Needs, IsShortest, Stands, WritesToBuffer, WritesToVec, WritesToStream, WritesAndFlushes, WritesToFile};
+ghost use Rattle.speedy_write.specs.WaysOfWriting.{Needs, IsShortest, Stands, WritesToBuffer, WritesToVec, WritesToStream, WritesToFile};
 
 use crate::collectors::{VecCollector, error_of_failed_call};
 pub use crate::collectors::{BufferCollector, SizeCalculatorCollector, WritingCollector};
 use crate::counting::CountingCollector;
 use crate::gathering::GatheringCollector;
+use crate::private::write_to_stream_and_flush_with_ctx;
 use crate::writer::Writer;
 use speedy_base::context::{Context, PlainContext};
 use speedy_base::device::{Counted, Sink};
@@ -220,7 +221,7 @@ pub trait Writable<C: Context>: Layout {
             WritesToFile C.Error.from_gives format (Self.seen self.now) result }
     {
         let mut sink = Counted::new(create_buffered(rt, alloc, path)?);
-        let outcome = write_and_flush(self, alloc, context, &mut sink);
+        let outcome = write_to_stream_and_flush_with_ctx(self, alloc, context, &mut sink);
         // The buffer's own drop would try once more to write what a failed call left.
         let (_file, _left) = sink.into_inner().into_parts();
         outcome
@@ -243,24 +244,6 @@ fn create_buffered<R: Files, P: AsPath, E: From<Error>>(
     match BufWriter::new(alloc, file) {
         Ok(buffered) => Ok(buffered),
         Err(_) => Err(error_out_of_memory()),
-    }
-}
-
-// Writes a value to a sink and flushes it. Where it succeeds, no call of the sink failed, and nothing waits.
-fn write_and_flush<C: Context, T: Writable<C>, S: Sink>(
-    value: &T,
-    alloc: Global,
-    context: C,
-    sink: &mut S,
-) -> Result<(), C::Error>
-    ensures { let format = T.format (C.encoding context) in
-        WritesAndFlushes C.Error.from_gives format (T.seen value.now) result
-        (S.sink sink.old) (S.sink sink.new) }
-{
-    value.write_to_stream_with_ctx(alloc, context, sink)?;
-    match sink.flush() {
-        Ok(()) => Ok(()),
-        Err(error) => Err(error_of_failed_call(alloc, error)),
     }
 }
 
