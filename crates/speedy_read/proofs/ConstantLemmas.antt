@@ -1,4 +1,4 @@
--- Bytes that are read a piece at a time and compared with a constant.
+-- Bytes that are read a chunk at a time and compared with a constant.
 use Rattle.std.specs.Prelude.{◌≡◌, ℕ, ◌+◌, ◌≤◌, List, ◌++◌, length, take, drop, Bool, true, false, IsTrue, ◌↔◌, Result, Ok, Err, IsErrAnd, refl}
 use Rattle.std.proofs.Common.{sym, ◌∙◌, ap₂, arith, inl, inr}
 use Rattle.std.proofs.lemmas.List.{length-append, length-take-le, take_all}
@@ -33,11 +33,11 @@ any_covers_constant encoding constant = record {
 }
 
 module _ {E : Type 0} {gives : Error → E → Type 0} {eof : E → Bool} (constant : List ℕ) (at size : ℕ) {old mid new : ReaderState} where
-  -- a piece more was read, and compared with the next one of the constant
-  pub piece_compared : {A : Type 0} {seen : A → List ℕ} {x : A} {same still : Bool} {bytes expected : List ℕ} (more : ℕ) → size ≡ more → at + more ≤ length constant → ComparedSoFar constant at same old mid → Reads gives eof seen (raw_bytes size) (Ok x) mid new
+  -- a chunk more was read, and compared with the next one of the constant
+  pub chunk_compared : {A : Type 0} {seen : A → List ℕ} {x : A} {same still : Bool} {bytes expected : List ℕ} (more : ℕ) → size ≡ more → at + more ≤ length constant → ComparedSoFar constant at same old mid → Reads gives eof seen (raw_bytes size) (Ok x) mid new
       → bytes ≡ seen x → expected ≡ take more (drop at constant) → (IsTrue still ↔ (IsTrue same × (bytes ≡ expected))) → ComparedSoFar constant (at + more) still old new
   unfolding raw_bytes
-  piece_compared {seen = seen} {x = x} more sized within so_far r read is decided =
+  chunk_compared {seen = seen} {x = x} more sized within so_far r read is decided =
       more_so_far so_far r (λ s t h k. (
         length-append s t ∙ ap₂ ◌+◌ h.0 (k.1 ∙ sized),
         (
@@ -51,11 +51,11 @@ module _ {E : Type 0} {gives : Error → E → Type 0} {eof : E → Bool} (const
         ),
       ))
 
-  -- a piece was refused
-  pub piece_refused : {A B : Type 0} {seen : A → List ℕ} {e : E} {same : Bool} {result : Result B E} → at + size ≤ length constant → ComparedSoFar constant at same old mid → IsErrAnd result (λ x. x ≡ e) → Reads gives eof seen (raw_bytes size) (Err e) mid new
+  -- a chunk was refused
+  pub comparison_refused : {A B : Type 0} {seen : A → List ℕ} {e : E} {same : Bool} {result : Result B E} → at + size ≤ length constant → ComparedSoFar constant at same old mid → IsErrAnd result (λ x. x ≡ e) → Reads gives eof seen (raw_bytes size) (Err e) mid new
       → Reads gives eof (λ _. constant) (constant_bytes old.encoding constant) result old new
   unfolding constant_bytes
-  piece_refused {e = e} within so_far passed r =
+  comparison_refused {e = e} within so_far passed r =
       let skipped : SkippedSoFar at old mid = record { kept = so_far.kept; got = Got-as (λ s h. h.0) so_far.got } in
       let short : Reads gives eof (λ (u : Unit {0}). u) (any_bytes (length constant)) (Err e) old new = chunk_refused size at within skipped refl r in
       refused_covered (any_covers_constant old.encoding constant) passed short

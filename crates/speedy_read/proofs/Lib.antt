@@ -3,7 +3,7 @@ pub mod NonZeroLemmas
 pub mod OwnedLemmas
 pub mod ListLemmas
 pub mod ByteLemmas
-pub mod StretchLemmas
+pub mod ChunkLemmas
 pub mod FlagLemmas
 pub mod TextLemmas
 pub mod VarintLemmas

@@ -1,10 +1,10 @@
 //! How flags, and values that a flag chooses, are read.
 ghost use Rattle.std.specs.Prelude.{◌+◌};
 
+use crate::chunks::Flags;
 use crate::many::ItemByItem;
 use crate::readable::{ReadFrom, ReadMany};
 use crate::reader::LendingReader;
-use crate::stretches::Flags;
 use speedy_base::context::Context;
 use speedy_base::error::error_not_written_form;
 use std::convert::AsSlice;

@@ -4,6 +4,7 @@
 pub mod addresses;
 pub mod buffer;
 pub mod buffer_reader;
+mod chunks;
 pub mod collections;
 pub mod copying_reader;
 pub mod cows;
@@ -23,9 +24,9 @@ pub mod private;
 pub mod ranges;
 pub mod readable;
 pub mod reader;
+mod room;
 pub mod sets;
 pub mod stream_reader;
-mod stretches;
 pub mod tag;
 pub mod texts;
 pub mod tuples;

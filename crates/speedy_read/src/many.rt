@@ -1,8 +1,7 @@
 //! Values that are read one after another, and what is made of them.
-ghost use Rattle.std.specs.Prelude.{◌≡◌, ◌*◌, ◌^◌, ◌<◌, ◌≤◌, ◌⊎◌, ℕ, ⊤, [], List, Some, IsSome, IfOk, length as count_of, vec_capacity, map, MatchResult, true, false};
+ghost use Rattle.std.specs.Prelude.{◌≡◌, ℕ, ⊤, List, Some, IsSome, length as count_of, map};
 ghost use Rattle.std.specs.Cow.{cow_slice_items};
 ghost use Rattle.std.specs.Option.{MatchOption};
-ghost use Rattle.speedy_base.specs.Error.{error_of};
 ghost use Rattle.speedy_layout.specs.Lists.{vector};
 ghost use Rattle.speedy_read.specs.Collections.{gatherer, Collects};
 ghost use Rattle.speedy_read.specs.Lending.{many_items};
@@ -11,7 +10,7 @@ ghost use Rattle.speedy_read.specs.Reading.{Reads};
 use crate::collections::{FromItems, collect_items};
 use crate::readable::ReadFrom;
 use crate::reader::LendingReader;
-use crate::stretches::push_in_steps;
+use crate::room::{push_in_steps, vec_for};
 use speedy_base::context::Context;
 use speedy_base::error::{ErrorKind, error_out_of_memory};
 use std::alloc::Global;
@@ -264,31 +263,4 @@ pub(crate) fn read_each<
         }
     }
     Ok(Many::Owned(items))
-}
-
-// An empty vector, with room for so many items where the reader says that their bytes are to come. Only there is
-// memory asked for.
-pub(crate) fn vec_for<T, L: AsSlice<u8> + Drop, C: Context, R: LendingReader<L, C>>(
-    reader: &R,
-    least: usize,
-    length: usize,
-) -> Result<Vec<T>, C::Error>
-    ensures empty { MatchResult result (λ v. v.items ≡ [])
-        (C.Error.from_gives (error_of ErrorKind.OutOfMemory)) }
-    ensures room { (0 < least) × (least * length < 2 ^ 64) × (R.can_read reader.now (least * length) ≡ Some true)
-        → IfOk result (λ v. length ≤ vec_capacity v) }
-    ensures asks { let told = R.can_read reader.now (least * length) ≡ Some true in
-        MatchResult result (λ v. (vec_capacity v ≡ 0) ⊎ told) (λ _. told) }
-{
-    let known = match least.checked_mul(length) {
-        Some(size) => least > 0 && reader.can_read_at_least(size) == Some(true),
-        None => false,
-    };
-    if !known {
-        return Ok(Vec::new(reader.alloc()));
-    }
-    match Vec::with_capacity(reader.alloc(), length) {
-        Ok(items) => Ok(items),
-        Err(_) => Err(error_out_of_memory()),
-    }
 }

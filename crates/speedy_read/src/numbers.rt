@@ -1,8 +1,8 @@
 //! How numbers are read.
+use crate::chunks::{Bytes, Numbers};
 use crate::many::ItemByItem;
 use crate::readable::{ReadFrom, ReadMany};
 use crate::reader::LendingReader;
-use crate::stretches::{Bytes, Numbers};
 use speedy_base::context::Context;
 use speedy_base::error::error_too_big_usize_for_this_architecture;
 use std::convert::AsSlice;

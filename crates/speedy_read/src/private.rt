@@ -10,6 +10,7 @@ ghost use Rattle.speedy_layout.specs.Varint.{varint};
 ghost use Rattle.speedy_read.specs.Reading.{Reads, ReadsUnsigned};
 
 use crate::reader::LendingReader;
+use crate::room::CONSTANT_CHUNK;
 use speedy_base::context::Context;
 use speedy_base::error::{
     Error, ErrorKind, error_expected_constant, error_invalid_str_utf8, error_invalid_string_utf8,
@@ -143,7 +144,7 @@ pub fn read_length_u64_varint<L: AsSlice<u8> + Drop, C: Context, R: LendingReade
 
 /// Takes just these bytes. Others of their number are refused as `ExpectedConstant`, fewer as an end of input.
 ///
-/// All of them are read, a piece at a time, before they are refused. No memory is asked for, and of no bytes none is read.
+/// All of them are read, a chunk at a time, before they are refused. No memory is asked for, and of no bytes none is read.
 pub fn read_constant<L: AsSlice<u8> + Drop, C: Context, R: LendingReader<L, C>>(
     reader: &mut R,
     constant: &'static [u8],
@@ -154,13 +155,13 @@ pub fn read_constant<L: AsSlice<u8> + Drop, C: Context, R: LendingReader<L, C>>(
     ensures nothing { constant.now ≡ [] →
         IsOk result × (R.state reader.new ≡ R.state reader.old) }
 {
-    let mut piece = [0u8; 64];
+    let mut chunk = [0; CONSTANT_CHUNK];
     let mut at = 0;
     let mut same = true;
     while at < constant.len() {
-        let size = (constant.len() - at).min(piece.len());
-        reader.read_bytes(&mut piece[..size])?;
-        same = are_still_the_same(same, &piece[..size], &constant[at..at + size]);
+        let size = (constant.len() - at).min(chunk.len());
+        reader.read_bytes(&mut chunk[..size])?;
+        same = are_still_the_same(same, &chunk[..size], &constant[at..at + size]);
         at += size;
     }
     if !same {

@@ -20,6 +20,7 @@ use crate::many::FromLent;
 use crate::owned_reader::OwnedReader;
 use crate::private::vec_to_string;
 use crate::readable::{ReadFrom, ReadMany};
+use crate::room::SKIPPED_CHUNK;
 use crate::until_end::gather_until_end;
 use speedy_base::context::Context;
 use speedy_base::endianness::Endianness;
@@ -61,7 +62,7 @@ pub trait LendingReader<L: AsSlice<u8> + Drop, C: Context> {
             (state self.old) (state self.new) }
         ensures nothing { length ≡ 0 → IsOk result × (state self.new ≡ state self.old) }
     {
-        let mut chunk = [0u8; 1024];
+        let mut chunk = [0; SKIPPED_CHUNK];
         let mut left = length;
         while left > 0 {
             let size = left.min(chunk.len());
@@ -539,7 +540,7 @@ pub trait LendingReader<L: AsSlice<u8> + Drop, C: Context> {
         state (with_context r c) ≡ record (state r) { encoding = C.encoding c } };
 }
 
-/// The bytes ended before a stretch that was to be lent.
+/// The bytes ended before so many as were to be lent.
 #[derive(Clone, Copy, Debug, PartialEq, Eq)]
 pub struct EndOfInput {}
 

@@ -1,7 +1,7 @@
 use Rattle.std.proofs.Common.{◌≡◌, ℕ, ◌+◌, ◌-◌, length, take, drop, refl, ◌∙◌, ap, arith}
 use Rattle.std.proofs.lemmas.List.{length-append, length-drop, length-take-le}
 use Rattle.speedy_read.proofs.ByteLemmas.{front_of}
-use Rattle.speedy_read.proofs.ConstantLemmas.{none_compared, piece_compared, piece_refused, constant_read, constant_differs}
+use Rattle.speedy_read.proofs.ConstantLemmas.{none_compared, chunk_compared, comparison_refused, constant_read, constant_differs}
 use Rattle.speedy_read.proofs.private.read_constant.Goals as goal
 
 pub loop-at-init : goal.loop-at-init
@@ -9,19 +9,19 @@ loop-at-init g c = (omega arith, refl, none_compared c.args.constant.now, λ _. 
 
 pub returns-in_err-read_bytes-clause-reads : goal.returns-in_err-read_bytes-clause-reads
 returns-in_err-read_bytes-clause-reads g c =
-    let size = length-take-le c.min-size.result c.loop-at.piece (omega (arith, c.loop-at.invariant.1)) in
-    piece_refused c.args.constant.now c.loop-at.at _ (omega (arith, size)) c.loop-at.invariant.2 c.from_residual.ensures.1 c.in_err-read_bytes.ensures
+    let size = length-take-le c.min-size.result c.loop-at.chunk (omega (arith, c.loop-at.invariant.1)) in
+    comparison_refused c.args.constant.now c.loop-at.at _ (omega (arith, size)) c.loop-at.invariant.2 c.from_residual.ensures.1 c.in_err-read_bytes.ensures
 
 pub loop-at-smaller : goal.loop-at-smaller
 loop-at-smaller g c = omega arith
 
 pub loop-at-preserved : goal.loop-at-preserved
 loop-at-preserved g c =
-    let size = length-take-le c.min-size.result c.loop-at.piece (omega (arith, c.loop-at.invariant.1)) in
+    let size = length-take-le c.min-size.result c.loop-at.chunk (omega (arith, c.loop-at.invariant.1)) in
     let back : (c.loop-at.at + c.min-size.result) - c.loop-at.at ≡ c.min-size.result = omega arith in (
       omega arith,
-      length-append c.read_bytes.new.output (drop c.min-size.result c.loop-at.piece) ∙ omega (arith, c.read_bytes.auto.output, length-drop c.min-size.result c.loop-at.piece, size),
-      piece_compared c.args.constant.now c.loop-at.at _ _ size (omega arith) c.loop-at.invariant.2 c.in_ok-read_bytes.ensures (front_of c.min-size.result c.read_bytes.new.output (drop c.min-size.result c.loop-at.piece) (c.read_bytes.auto.output ∙ size)) (ap (λ (n : ℕ). take n (drop c.loop-at.at c.args.constant.now)) back) c.are_still_the_same-same.ensures,
+      length-append c.read_bytes.new.output (drop c.min-size.result c.loop-at.chunk) ∙ omega (arith, c.read_bytes.auto.output, length-drop c.min-size.result c.loop-at.chunk, size),
+      chunk_compared c.args.constant.now c.loop-at.at _ _ size (omega arith) c.loop-at.invariant.2 c.in_ok-read_bytes.ensures (front_of c.min-size.result c.read_bytes.new.output (drop c.min-size.result c.loop-at.chunk) (c.read_bytes.auto.output ∙ size)) (ap (λ (n : ℕ). take n (drop c.loop-at.at c.args.constant.now)) back) c.are_still_the_same-same.ensures,
       λ none. let l = ap length none in absurd (omega arith),
     )
 

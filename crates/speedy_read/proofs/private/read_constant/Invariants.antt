@@ -5,7 +5,7 @@ use Rattle.speedy_read.proofs.private.read_constant.Given as goal
 
 abbrev pub invariant-loop-at : goal.invariant-loop-at
 invariant-loop-at g l =
-    (l.at ≤ length l.constant) × (length l.piece ≡ 64)
+    (l.at ≤ length l.constant) × (length l.chunk ≡ 64)
     × ComparedSoFar l.constant l.at l.same (g.R.LendingReader.state l.fn.reader) (g.R.LendingReader.state l.reader)
     × (l.constant ≡ [] → (l.reader ≡ l.fn.reader) × IsTrue l.same)
 

@@ -1,0 +1,344 @@
+//! Numbers and bytes of which many are read: a chunk at a time, in bounded steps of room.
+ghost use Rattle.std.specs.Prelude.{◌≡◌, ◌+◌, ◌-◌, ◌*◌, ◌<◌, ◌≤◌, List, length, map, false, not, nat_eq, IfOk, IsSome, MatchOption, MatchResult};
+ghost use Rattle.speedy_base.specs.Digits.{AreBytes};
+ghost use Rattle.speedy_base.specs.Error.{error_of};
+ghost use Rattle.speedy_layout.specs.FixedNumbers.{spelled_in};
+ghost use Rattle.speedy_layout.specs.Flags.{flag};
+ghost use Rattle.speedy_layout.specs.Format.{Each};
+ghost use Rattle.speedy_layout.specs.Lists.{vector};
+ghost use Rattle.speedy_layout.specs.Numbers.{unsigned_number};
+ghost use Rattle.speedy_read.specs.Lending.{many_items};
+ghost use Rattle.speedy_read.specs.Reading.{Reads};
+
+use crate::lent::lent_in_range;
+use crate::many::{AsBytes, Fills, FromLent, Many, Places, Strategy, read_each};
+use crate::readable::ReadFrom;
+use crate::reader::{EndOfInput, LendingReader};
+use crate::room::{CHUNK, SHORT_CHUNK, STEP, append_in_steps, open_chunk, vec_for};
+use speedy_base::context::Context;
+use speedy_base::endianness::Endianness;
+use speedy_base::error::{Error, ErrorKind, error_end_of_input, error_out_of_memory};
+use speedy_layout::fixed_numbers::{FixedNumber, append_each, take_each};
+use speedy_layout::layout::Layout;
+use std::alloc::{AllocError, Global};
+use std::convert::AsSlice;
+
+/// Numbers: chunks of digits, or all that the reader lends.
+pub struct Numbers {}
+
+impl<L: AsSlice<u8> + Drop, C: Context, T: FixedNumber + ReadFrom<L, C> + Drop> Strategy<L, C, T>
+    for Numbers {
+    fn read_many_lent<W: FromLent<L, T>, R: LendingReader<L, C>>(
+        reader: &mut R,
+        length: usize,
+    ) -> Result<Many<W, T>, C::Error> {
+        read_numbers::<W, T, L, C, R>(reader, length)
+    }
+
+    fn read_places<P: Places<L, C, T>, R: LendingReader<L, C>>(
+        reader: &mut R,
+    ) -> Option<Result<P, C::Error>>
+        ensures reads { MatchOption result (R.state reader.new ≡ R.state reader.old) (λ read.
+            Reads C.Error.from_gives C.Error.eof (λ p. map T.seen (P.shown p))
+            (vector P.count (T.format (R.state reader.old).encoding)) read
+            (R.state reader.old) (R.state reader.new)) }
+        ensures in_place { IsSome result }
+    {
+        let mut places = P::begun::<Numbers>();
+        match places.fill::<Numbers, R>(reader) {
+            Ok(()) => Some(Ok(places)),
+            Err(error) => Some(Err(error)),
+        }
+    }
+}
+
+impl<L: AsSlice<u8> + Drop, C: Context, T: FixedNumber + ReadFrom<L, C> + Drop> Fills<L, C, T>
+    for Numbers {
+    #[inline(always)]
+    fn first() -> T {
+        T::zero()
+    }
+
+    fn fill<R: LendingReader<L, C>>(reader: &mut R, places: &mut [T]) -> Result<(), C::Error> {
+        fill_numbers::<T, L, C, R>(reader, places)
+    }
+}
+
+/// Bytes: all that the reader lends, or chunks.
+pub struct Bytes {}
+
+impl<L: AsSlice<u8> + Drop, C: Context> Strategy<L, C, u8> for Bytes {
+    fn read_many_lent<W: FromLent<L, u8>, R: LendingReader<L, C>>(
+        reader: &mut R,
+        length: usize,
+    ) -> Result<Many<W, u8>, C::Error> {
+        match reader.read_bytes_borrowed(length) {
+            Some(Ok(bytes)) => {
+                lent_in_range(&bytes);
+                match W::from_lent::<AsBytes>(bytes, reader.alloc()) {
+                    Some(made) => Ok(Many::Made(made)),
+                    None => Err(error_out_of_memory()),
+                }
+            }
+            Some(Err(error)) => Err(error),
+            None => Ok(Many::Owned(read_byte_chunks::<L, C, R>(reader, length)?)),
+        }
+    }
+
+    fn read_places<P: Places<L, C, u8>, R: LendingReader<L, C>>(
+        reader: &mut R,
+    ) -> Option<Result<P, C::Error>>
+        ensures reads { MatchOption result (R.state reader.new ≡ R.state reader.old) (λ read.
+            Reads C.Error.from_gives C.Error.eof (λ p. map ⟦<u8 as Layout>⟧.seen (P.shown p))
+            (vector P.count (⟦<u8 as Layout>⟧.format (R.state reader.old).encoding)) read
+            (R.state reader.old) (R.state reader.new)) }
+        ensures in_place { IsSome result }
+    {
+        let mut places = P::begun::<Bytes>();
+        match places.fill::<Bytes, R>(reader) {
+            Ok(()) => Some(Ok(places)),
+            Err(error) => Some(Err(error)),
+        }
+    }
+}
+
+impl<L: AsSlice<u8> + Drop, C: Context> Fills<L, C, u8> for Bytes {
+    #[inline(always)]
+    fn first() -> u8 {
+        0
+    }
+
+    fn fill<R: LendingReader<L, C>>(reader: &mut R, places: &mut [u8]) -> Result<(), C::Error> {
+        reader.read_bytes(places)?;
+        are_in_range(places);
+        Ok(())
+    }
+}
+
+/// Flags: any byte is one, but where the written form is demanded.
+pub struct Flags {}
+
+impl<L: AsSlice<u8> + Drop, C: Context> Strategy<L, C, bool> for Flags {
+    fn read_many_lent<W: FromLent<L, bool>, R: LendingReader<L, C>>(
+        reader: &mut R,
+        length: usize,
+    ) -> Result<Many<W, bool>, C::Error> {
+        if reader.demands_written_form() {
+            read_each::<W, bool, L, C, R>(reader, length)
+        } else {
+            Ok(Many::Owned(read_flags::<L, C, R>(reader, length)?))
+        }
+    }
+
+    #[inline(always)]
+    fn read_places<P: Places<L, C, bool>, R: LendingReader<L, C>>(
+        _reader: &mut R,
+    ) -> Option<Result<P, C::Error>> {
+        None
+    }
+}
+
+// Reads so many flags, which any bytes are. Those that the reader lends until it is used again are taken at once.
+fn read_flags<L: AsSlice<u8> + Drop, C: Context, R: LendingReader<L, C>>(
+    reader: &mut R,
+    length: usize,
+) -> Result<Vec<bool>, C::Error>
+    requires { (R.state reader.old).encoding.strict ≡ false }
+    ensures { Reads C.Error.from_gives C.Error.eof (λ v. v.items)
+        (vector length (flag (R.state reader.old).encoding)) result
+        (R.state reader.old) (R.state reader.new) }
+{
+    let alloc = reader.alloc();
+    match reader.read_bytes_borrowed_from_reader(length) {
+        Some(Ok(bytes)) => flags_of(alloc, bytes),
+        Some(Err(EndOfInput {})) => Err(error_end_of_input()),
+        None => {
+            let bytes = read_byte_chunks::<L, C, R>(reader, length)?;
+            flags_of(alloc, &bytes)
+        }
+    }
+}
+
+// The flags that these bytes are.
+fn flags_of<E: From<Error>>(alloc: Global, bytes: &[u8]) -> Result<Vec<bool>, E>
+    ensures flags { MatchResult result (λ v. v.items ≡ map (λ n. not (nat_eq n 0)) bytes.now)
+        (E.from_gives (error_of ErrorKind.OutOfMemory)) }
+    ensures range { AreBytes bytes.now }
+{
+    are_in_range(bytes);
+    match bytes.iter().map(|byte| *byte != 0).collect(alloc) {
+        Ok(flags) => Ok(flags),
+        Err(_) => Err(error_out_of_memory()),
+    }
+}
+
+// What a proof knows of the bytes is their range, which the contents of an output don't show.
+#[inline(always)]
+fn are_in_range(_bytes: &[u8])
+    ensures { AreBytes _bytes.now }
+{}
+
+// Reads so many numbers. Those that the reader lends until it is used again are taken at once.
+pub(crate) fn read_numbers<
+    W: Drop,
+    T: FixedNumber + Drop,
+    L: AsSlice<u8> + Drop,
+    C: Context,
+    R: LendingReader<L, C>,
+>(reader: &mut R, count: usize) -> Result<Many<W, T>, C::Error>
+    ensures { (shown : W → List T) → Reads C.Error.from_gives C.Error.eof
+        (λ many. map T.seen (many_items shown many))
+        (vector count (T.format (R.state reader.old).encoding)) result
+        (R.state reader.old) (R.state reader.new) }
+{
+    // Numbers of more bytes than a `usize` counts are in no input.
+    let Some(size) = count.checked_mul(T::size()) else {
+        return Err(error_end_of_input());
+    };
+    let order = reader.endianness();
+    let alloc = reader.alloc();
+    match reader.read_bytes_borrowed_from_reader(size) {
+        Some(Ok(digits)) => match numbers_of(alloc, order, digits, count) {
+            Ok(numbers) => return Ok(Many::Owned(numbers)),
+            Err(_) => return Err(error_out_of_memory()),
+        },
+        Some(Err(EndOfInput {})) => return Err(error_end_of_input()),
+        None => {}
+    }
+    // A few numbers need no long chunk, which costs more to make than they cost to read.
+    let numbers = if size <= SHORT_CHUNK {
+        read_number_chunks(reader, count, &mut [0; SHORT_CHUNK])?
+    } else {
+        read_number_chunks(reader, count, &mut [0; CHUNK])?
+    };
+    Ok(Many::Owned(numbers))
+}
+
+// Reads a number into each place. Those that the reader lends until it is used again are taken at once.
+pub(crate) fn fill_numbers<
+    T: FixedNumber + Drop,
+    L: AsSlice<u8> + Drop,
+    C: Context,
+    R: LendingReader<L, C>,
+>(reader: &mut R, places: &mut [T]) -> Result<(), C::Error>
+    ensures { Reads C.Error.from_gives C.Error.eof (λ _. map T.seen places.new)
+        (vector (length places.old) (T.format (R.state reader.old).encoding)) result
+        (R.state reader.old) (R.state reader.new) }
+{
+    let Some(size) = places.len().checked_mul(T::size()) else {
+        return Err(error_end_of_input());
+    };
+    let order = reader.endianness();
+    match reader.read_bytes_borrowed_from_reader(size) {
+        Some(Ok(digits)) => {
+            take_each(places, order, digits);
+            return Ok(());
+        }
+        Some(Err(EndOfInput {})) => return Err(error_end_of_input()),
+        None => {}
+    }
+    if size <= SHORT_CHUNK {
+        fill_chunks(reader, places, &mut [0; SHORT_CHUNK])
+    } else {
+        fill_chunks(reader, places, &mut [0; CHUNK])
+    }
+}
+
+// Reads a number into each place, as many at a time as the chunk has room for.
+#[inline]
+fn fill_chunks<T: FixedNumber + Drop, L: AsSlice<u8> + Drop, C: Context, R: LendingReader<L, C>>(
+    reader: &mut R,
+    places: &mut [T],
+    chunk: &mut [u8],
+) -> Result<(), C::Error>
+    requires { T.least ≤ length chunk.old }
+    ensures { Reads C.Error.from_gives C.Error.eof (λ _. map T.seen places.new)
+        (vector (length places.old) (T.format (R.state reader.old).encoding)) result
+        (R.state reader.old) (R.state reader.new) }
+{
+    let most = chunk.len() / T::size();
+    let mut at = 0;
+    while at < places.len() {
+        let some = most.min(places.len() - at);
+        let digits = &mut chunk[..some * T::size()];
+        reader.read_bytes(digits)?;
+        take_each(&mut places[at..at + some], reader.endianness(), digits);
+        at += some;
+    }
+    Ok(())
+}
+
+// The numbers that these bytes spell, so many.
+fn numbers_of<T: FixedNumber + Drop>(
+    alloc: Global,
+    order: Endianness,
+    digits: &[u8],
+    count: usize,
+) -> Result<Vec<T>, AllocError>
+    requires { length digits.now ≡ count * T.least }
+    ensures { IfOk result (λ v. Each (spelled_in T.format order) (map T.seen v.items) digits.now) }
+{
+    let mut numbers = Vec::with_capacity(alloc, count)?;
+    append_each(&mut numbers, order, digits)?;
+    Ok(numbers)
+}
+
+// Reads so many numbers, as many at a time as the chunk has room for.
+#[inline]
+fn read_number_chunks<
+    T: FixedNumber + Drop,
+    L: AsSlice<u8> + Drop,
+    C: Context,
+    R: LendingReader<L, C>,
+>(reader: &mut R, count: usize, chunk: &mut [u8]) -> Result<Vec<T>, C::Error>
+    requires { T.least ≤ length chunk.old }
+    ensures { Reads C.Error.from_gives C.Error.eof (λ v. map T.seen v.items)
+        (vector count (T.format (R.state reader.old).encoding)) result
+        (R.state reader.old) (R.state reader.new) }
+{
+    let mut numbers = vec_for::<T, L, C, R>(reader, T::size(), count)?;
+    let most = STEP.min(chunk.len() / T::size());
+    let mut left = count;
+    while left > 0 {
+        let some = left.min(most);
+        let digits = &mut chunk[..some * T::size()];
+        reader.read_bytes(digits)?;
+        if append_in_steps(&mut numbers, reader.endianness(), digits, left).is_err() {
+            return Err(error_out_of_memory());
+        }
+        left -= some;
+    }
+    Ok(numbers)
+}
+
+// Reads so many bytes. The count may be any, so no more room is asked for than a step ahead of what was read, but where
+// the reader says that so many are there.
+pub(crate) fn read_byte_chunks<L: AsSlice<u8> + Drop, C: Context, R: LendingReader<L, C>>(
+    reader: &mut R,
+    length: usize,
+) -> Result<Vec<u8>, C::Error>
+    ensures { Reads C.Error.from_gives C.Error.eof (λ v. v.items)
+        (vector length (unsigned_number 1 (R.state reader.old).encoding)) result
+        (R.state reader.old) (R.state reader.new) }
+{
+    let mut bytes = vec_for::<u8, L, C, R>(reader, 1, length)?;
+    let mut left = length;
+    while left > 0 {
+        let start = length - left;
+        let Ok(size) = open_chunk(&mut bytes, left) else {
+            return Err(error_out_of_memory());
+        };
+        reader.read_bytes(&mut bytes.as_mut_slice()[start..])?;
+        left -= size;
+    }
+    Ok(in_range(bytes))
+}
+
+// What a proof knows of the bytes is their range, which the contents of a buffer don't show.
+#[inline]
+fn in_range(bytes: Vec<u8>) -> Vec<u8>
+    ensures same { result.items ≡ bytes.items }
+    ensures range { AreBytes result.items }
+{
+    bytes
+}

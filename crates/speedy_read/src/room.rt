@@ -1,0 +1,121 @@
+//! Room for what is read: how much memory is asked for, and when.
+ghost use Rattle.std.specs.Prelude.{◌≡◌, ◌+◌, ◌-◌, ◌*◌, ◌^◌, ◌<◌, ◌≤◌, ◌⊎◌, min, ◌++◌, ◌∷◌, [], ℕ, List, Some, length as count_of, vec_len, vec_capacity, map, replicate, true, IfOk, IsOk, OnOk, MatchResult};
+ghost use Rattle.speedy_base.specs.Error.{error_of};
+ghost use Rattle.speedy_layout.specs.FixedNumbers.{spelled_in};
+ghost use Rattle.speedy_layout.specs.Format.{Each};
+
+use crate::reader::LendingReader;
+use speedy_base::context::Context;
+use speedy_base::endianness::Endianness;
+use speedy_base::error::{ErrorKind, error_out_of_memory};
+use speedy_layout::fixed_numbers::{FixedNumber, append_each};
+use std::alloc::AllocError;
+use std::convert::AsSlice;
+
+/// How much room is asked for at a time where nobody says that the items are there, in items.
+pub(crate) const STEP: usize = 1024;
+
+/// The chunk of digits that numbers are read through, in bytes.
+pub(crate) const CHUNK: usize = 4096;
+
+/// The chunk for a few numbers, in bytes: the long one takes longer to make than they take to read.
+pub(crate) const SHORT_CHUNK: usize = 64;
+
+/// The chunk that bytes are skipped through, in bytes.
+pub(crate) const SKIPPED_CHUNK: usize = 1024;
+
+/// The chunk that bytes are read through to be compared with a constant, in bytes.
+pub(crate) const CONSTANT_CHUNK: usize = 64;
+
+// An empty vector, with room for so many items where the reader says that their bytes are to come. Only there is
+// memory asked for.
+pub(crate) fn vec_for<T, L: AsSlice<u8> + Drop, C: Context, R: LendingReader<L, C>>(
+    reader: &R,
+    least: usize,
+    length: usize,
+) -> Result<Vec<T>, C::Error>
+    ensures empty { MatchResult result (λ v. v.items ≡ [])
+        (C.Error.from_gives (error_of ErrorKind.OutOfMemory)) }
+    ensures room { (0 < least) × (least * length < 2 ^ 64) × (R.can_read reader.now (least * length) ≡ Some true)
+        → IfOk result (λ v. length ≤ vec_capacity v) }
+    ensures asks { let told = R.can_read reader.now (least * length) ≡ Some true in
+        MatchResult result (λ v. (vec_capacity v ≡ 0) ⊎ told) (λ _. told) }
+{
+    let known = match least.checked_mul(length) {
+        Some(size) => least > 0 && reader.can_read_at_least(size) == Some(true),
+        None => false,
+    };
+    if !known {
+        return Ok(Vec::new(reader.alloc()));
+    }
+    match Vec::with_capacity(reader.alloc(), length) {
+        Ok(items) => Ok(items),
+        Err(_) => Err(error_out_of_memory()),
+    }
+}
+
+// Where there is no room for so many items more, asks for some: for as many as are still to read, but no more than a
+// step.
+#[inline]
+fn make_room<T>(items: &mut Vec<T>, more: usize, left: usize) -> Result<(), AllocError>
+    ensures same { items.new.items ≡ items.old.items }
+    ensures grows { vec_capacity items.old ≤ vec_capacity items.new }
+    ensures in_room { vec_len items.old + more ≤ vec_capacity items.old → IsOk result }
+    ensures step { OnOk result (vec_capacity items.old < vec_len items.old + more
+        → vec_len items.old + min left 1024 ≤ vec_capacity items.new) }
+{
+    if items.capacity() - items.len() < more {
+        items.reserve(left.min(STEP))?;
+    }
+    Ok(())
+}
+
+// Adds an item, one of so many that are still to read.
+#[inline]
+pub(crate) fn push_in_steps<T>(items: &mut Vec<T>, item: T, left: usize) -> Result<(), AllocError>
+where
+    T: Drop,
+    ensures pushed { OnOk result (items.new.items ≡ items.old.items ++ item ∷ []) }
+    ensures in_room { vec_len items.old < vec_capacity items.old → IsOk result }
+    ensures step { OnOk result (vec_capacity items.old ≤ vec_len items.old
+        → vec_len items.old + min left 1024 ≤ vec_capacity items.new) }
+{
+    make_room(items, 1, left)?;
+    match items.push(item) {
+        Ok(()) => Ok(()),
+        Err(_) => Err(AllocError),
+    }
+}
+
+// Appends the numbers that these bytes spell, some of so many that are still to read.
+#[inline]
+pub(crate) fn append_in_steps<T: FixedNumber + Drop>(
+    numbers: &mut Vec<T>,
+    order: Endianness,
+    digits: &[u8],
+    left: usize,
+) -> Result<(), AllocError>
+    requires { (count : ℕ) × (count_of digits.now ≡ count * T.least) }
+    ensures { OnOk result ((more : List T) × (numbers.new.items ≡ numbers.old.items ++ more)
+        × Each (spelled_in T.format order) (map T.seen more) digits.now) }
+{
+    make_room(numbers, digits.len() / T::size(), left)?;
+    append_each(numbers, order, digits)
+}
+
+// Adds zeros for as many bytes as there is room for, at most so many. Where there is no room, a step of it is asked
+// for.
+#[inline]
+pub(crate) fn open_chunk(bytes: &mut Vec<u8>, left: usize) -> Result<usize, AllocError>
+    requires { 0 < left }
+    ensures zeros { IfOk result (λ size. (0 < size) × (size ≤ left)
+        × (bytes.new.items ≡ bytes.old.items ++ replicate size 0)) }
+    ensures all_room { IfOk result (λ size. min left (vec_capacity bytes.old - vec_len bytes.old) ≤ size) }
+    ensures step { IfOk result (λ size. vec_capacity bytes.old ≤ vec_len bytes.old
+        → min left 1024 ≤ size) }
+{
+    make_room(bytes, 1, left)?;
+    let size = left.min(bytes.capacity() - bytes.len());
+    bytes.resize(bytes.len() + size, 0)?;
+    Ok(size)
+}
