@@ -1,0 +1,156 @@
+#!/usr/bin/env python3
+"""Draws the ratios that tools/bench/run leaves as an SVG: one panel a way of reading or writing, one bar a case and order.
+usage: tools/bench/draw.py JSON.. > FILE
+
+Of several files the least figures count. A bar begins at 1, where both take the same time: one to the right says that this
+crate takes longer than the original, one to the left that it takes less. The scale is logarithmic, and the same in all
+panels. A figure of 0 or less says nothing (the read that is taken off a write took longer than it), and is drawn as a dash.
+"""
+import json
+import math
+import sys
+from html import escape
+
+PANELS = [
+    ("read_from_buffer", "read_from_buffer"),
+    ("read_unbuffered", "read_from_stream_unbuffered"),
+    ("read_buffered", "read_from_stream_buffered"),
+    ("write_to_buffer", "write_to_buffer"),
+    ("write_to_vec", "write_to_vec"),
+    ("write_to_stream", "write_to_stream"),
+    ("bytes_needed", "bytes_needed"),
+]
+ORDERS = [("le", "little byte order", "#2b6cb0"), ("be", "big byte order", "#dd8a1e")]
+INK, SOFT, GRID, PAPER = "#1f2328", "#57606a", "#d8dee4", "#ffffff"
+
+LABELS, BARS, END = 190, 290, 30        # the widths of a panel's labels, its bars, and the room for a number at either end
+ROW, BAR = 24, 9                        # the heights of a case's row and of each of its two bars
+MARGIN, HEAD, TITLE, AXIS = 20, 86, 26, 30
+COLUMNS = 2
+
+
+def least_figures(files):
+    """Returns (the original's, this crate's) least nanoseconds, by operation, case and order."""
+    figures = {}
+    for file in files:
+        with open(file) as text:
+            rows = json.load(text)
+        for row in rows:
+            key = row["op"], row["case"], row["order"]
+            original, port = figures.get(key, (math.inf, math.inf))
+            figures[key] = min(original, row["original_ns"]), min(port, row["port_ns"])
+    return figures
+
+
+def ratios_of(figures):
+    """Returns the ratio of each row, or None where its figures say nothing."""
+    return {key: port / original if port > 0 and original > 0 else None for key, (original, port) in figures.items()}
+
+
+def mean_of(ratios):
+    return math.exp(sum(map(math.log, ratios)) / len(ratios))
+
+
+def shown(ratio):
+    return f"{ratio:.0f}" if ratio >= 9.95 else f"{ratio:.1f}" if ratio >= 0.995 else f"{ratio:.2f}"
+
+
+class Scale:
+    """The logarithmic scale of all panels: from the power of two at or below the least ratio to that at or above the greatest."""
+
+    def __init__(self, ratios):
+        self.low = min(-1, math.floor(math.log2(min(ratios))))
+        self.high = max(1, math.ceil(math.log2(max(ratios))))
+
+    def at(self, ratio):
+        return BARS * (math.log2(ratio) - self.low) / (self.high - self.low)
+
+    def ticks(self):
+        step = 1 if self.high - self.low <= 8 else 2
+        return [2.0 ** power for power in range(self.low, self.high + 1) if power % step == 0]
+
+
+def text(x, y, words, size=11, ink=INK, anchor="start", weight="normal"):
+    return f'<text x="{x:.1f}" y="{y:.1f}" font-size="{size}" fill="{ink}" text-anchor="{anchor}" font-weight="{weight}">{escape(words)}</text>'
+
+
+def panel(x, y, name, rows, scale):
+    """Draws one panel: rows are (case, the ratio in each order)."""
+    known = [ratio for _, both in rows for ratio in both if ratio]
+    bars, bottom = x + LABELS, y + TITLE + ROW * len(rows)
+    yield text(x, y + 14, name, 13, weight="bold")
+    if known:
+        yield text(bars + BARS + END, y + 14, f"geometric mean {mean_of(known):.2f}", 11, SOFT, "end")
+    for tick in scale.ticks():
+        at = bars + scale.at(tick)
+        ink = INK if tick == 1 else GRID
+        yield f'<line x1="{at:.1f}" y1="{y + TITLE - 4}" x2="{at:.1f}" y2="{bottom}" stroke="{ink}" stroke-width="1"/>'
+        yield text(at, bottom + 14, f"{tick:g}" if tick >= 1 else f"1/{1 / tick:g}", 10, SOFT, "middle")
+    for place, (case, both) in enumerate(rows):
+        top = y + TITLE + ROW * place
+        yield text(bars - END, top + ROW / 2 + 3, case, 11, anchor="end")
+        for half, ((_, _, ink), ratio) in enumerate(zip(ORDERS, both)):
+            yield from bar(bars, top + 2 + half * (BAR + 1), ratio, ink, scale)
+
+
+def bar(bars, top, ratio, ink, scale):
+    """Draws a bar from 1 to a ratio, with the number at its end."""
+    one = bars + scale.at(1)
+    if ratio is None:
+        yield text(one + 4, top + BAR - 0.5, "–", 9, SOFT)
+        return
+    end = bars + scale.at(ratio)
+    yield f'<rect x="{min(one, end):.1f}" y="{top:.1f}" width="{max(abs(end - one), 1):.1f}" height="{BAR}" fill="{ink}"/>'
+    if ratio < 1:
+        yield text(end - 3, top + BAR - 0.5, shown(ratio), 9, INK, "end")
+    else:
+        yield text(end + 3, top + BAR - 0.5, shown(ratio), 9, INK)
+
+
+def legend():
+    yield text(MARGIN, 30, "Time of this crate, as a multiple of the original's", 17, weight="bold")
+    yield text(MARGIN, 50, "Logarithmic scale. A bar to the left of 1 is faster than the original, one to the right is slower.", 11, SOFT)
+    for place, (_, words, ink) in enumerate(ORDERS):
+        x = MARGIN + 150 * place
+        yield f'<rect x="{x}" y="60" width="11" height="11" fill="{ink}"/>'
+        yield text(x + 17, 70, words, 11)
+
+
+def draw(ratios):
+    """Returns the picture's lines."""
+    scale = Scale([ratio for ratio in ratios.values() if ratio])
+    panels = []
+    for op, name in PANELS:
+        cases = dict.fromkeys(case for of, case, _ in ratios if of == op)
+        rows = [(case, [ratios.get((op, case, order)) for order, _, _ in ORDERS]) for case in cases]
+        if rows:
+            panels.append((name, rows))
+    wide, drawn, y = LABELS + BARS + END + MARGIN, [], HEAD
+    for first in range(0, len(panels), COLUMNS):
+        beside = panels[first:first + COLUMNS]
+        for column, (name, rows) in enumerate(beside):
+            drawn.extend(panel(MARGIN + column * wide, y, name, rows, scale))
+        y += TITLE + ROW * max(len(rows) for _, rows in beside) + AXIS
+    width = MARGIN + wide * min(COLUMNS, len(panels))
+    return [
+        f'<svg xmlns="http://www.w3.org/2000/svg" viewBox="0 0 {width} {y}" width="{width}" height="{y}" '
+        'font-family="DejaVu Sans, Verdana, Helvetica, Arial, sans-serif">',
+        f'<rect width="{width}" height="{y}" rx="6" fill="{PAPER}"/>',
+        *legend(), *drawn, "</svg>",
+    ]
+
+
+def main():
+    if len(sys.argv) < 2 or sys.argv[1].startswith("-"):
+        print(__doc__.strip(), file=sys.stderr)
+        return 2
+    ratios = ratios_of(least_figures(sys.argv[1:]))
+    if not any(ratios.values()):
+        print("no row has two figures", file=sys.stderr)
+        return 1
+    print("\n".join(draw(ratios)))
+    return 0
+
+
+if __name__ == "__main__":
+    sys.exit(main())
