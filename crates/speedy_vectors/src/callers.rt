@@ -1,4 +1,5 @@
 //! Callers that stand on `speedy` alone, with the contracts and the proofs that a user writes.
+pub mod directory;
 pub mod files;
 pub mod headers;
 pub mod memory;

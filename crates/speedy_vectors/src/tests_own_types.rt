@@ -1,6 +1,7 @@
 //! Types of one's own: bytes that come from outside, and each way of reading them. What is refused, and what enums are
 //! written as, are lines of the tests of rows.
-use crate::callers::own_struct::{Contact, Directory};
+use crate::callers::directory::Directory;
+use crate::callers::own_struct::Contact;
 use crate::enums::Enum;
 use crate::record::Record;
 use crate::tests_callers::assert_refused;
