@@ -2,14 +2,20 @@
 use Rattle.std.specs.Prelude.{◌≡◌, ℕ, zero, suc, ◌+◌, ◌-◌, ◌*◌, ◌<◌, ◌≤◌, List, [], ◌∷◌, ◌++◌, length, map, take, Result, Ok, Err, MatchResult, OnOk, refl}
 use Rattle.std.proofs.Common.{drop, sym, ◌∙◌, ap, ap₂, subst, subst₂, arith}
 use Rattle.std.proofs.Math.ListN.{get_or, set}
-use Rattle.std.proofs.lemmas.List.{append_assoc, length-append, length-take-le, map-append, take_all, take_at, take_more, take_more_set}
+use Rattle.std.proofs.lemmas.List.{append_assoc, length-append, length-drop, length-take-le, map-append, take_all, take_at, take_more, take_more_set, take-append-drop}
 use borrow.Rule.Slice.PartMut.{put_mid, post_of}
 use denote.Ref.{Bor}
 use denote.Param.Members.{Mut, Called}
 use Rattle.std.specs.Iterator.{Drains}
 use Rattle.std.specs.Iterator.Adapters.{map_source, map_callee, map_steps}
 use Rattle.std.specs.Slice.Iter.{chunks_exact_rest, chunks_exact_size, chunks_exact_steps}
-use Rattle.speedy_layout.specs.Format.{Each}
+use Rattle.speedy_base.specs.declared.endianness.Endianness.{Endianness}
+use Rattle.speedy_base.specs.declared.endianness.Endianness.TheVariants.{LittleEndian, BigEndian}
+use Rattle.speedy_base.specs.Digits.{AreBytes, number}
+use Rattle.speedy_base.specs.DigitsLemmas.{AreBytes-append_parts}
+use Rattle.speedy_base.specs.Encoding.{Encoding}
+use Rattle.speedy_layout.specs.FixedNumbers.{Decodes, spelled_in}
+use Rattle.speedy_layout.specs.Format.{Format, Each}
 use Rattle.speedy_layout.specs.Lists.{each_more}
 
 -- where a number less than all is put, one more has room
@@ -30,6 +36,22 @@ take_parts (suc n) m (x ∷ xs) = let same : suc n + m ≡ suc (n + m) = omega a
 
 pub one_more_times : (width i at size : ℕ) → at ≡ i * width → size ≡ width → at + size ≡ (i + 1) * width
 one_more_times width i at size is same = let next : i + 1 ≡ suc i = omega arith in ap₂ ◌+◌ is same ∙ (let turned : i * width + width ≡ suc i * width = omega arith in turned ∙ ap (λ (n : ℕ). n * width) (sym next))
+
+-- the parts of bytes are bytes
+are_parts : (n : ℕ) (bytes : List ℕ) → AreBytes bytes → AreBytes (take n bytes) × AreBytes (drop n bytes)
+are_parts n bytes are = AreBytes-append_parts (take n bytes) (drop n bytes) (subst AreBytes (sym (take-append-drop n bytes)) are)
+
+-- what a number is encoded as spells it, and so do the bytes that it was decoded of
+module _ {A V : Type 0} {size : ℕ} (F : Encoding → Format V) (seen : A → V) {decoded : Endianness → List ℕ → A} (decodes : Decodes size F seen decoded) (order : Endianness) where
+  pub encoded_spells : {n : A} (bytes : List ℕ) → length bytes ≡ size → AreBytes bytes → decoded order bytes ≡ n → spelled_in F order (seen n) bytes
+  encoded_spells bytes sized are is = subst (λ (n : A). spelled_in F order (seen n) bytes) is (decodes order bytes sized are)
+
+  pub taken_spells : {n : A} (bytes : List ℕ) (at some : ℕ) → at + some ≤ length bytes → some ≡ size → AreBytes bytes
+      → let chunk = take (at + some - at) (drop at bytes) in n ≡ decoded order chunk → spelled_in F order (seen n) chunk
+  taken_spells bytes at some room same are is =
+      let chunk = take (at + some - at) (drop at bytes) in
+      let sized : length chunk ≡ size = length-take-le (at + some - at) (drop at bytes) (omega (arith, length-drop at bytes)) ∙ omega (arith, same) in
+      encoded_spells chunk sized (are_parts (at + some - at) (drop at bytes) (are_parts at bytes are).1).0 (sym is)
 
 module _ {A V : Type 0} (S : V → List ℕ → Type 0) (seen : A → V) where
   -- all are put
@@ -68,16 +90,21 @@ module _ {A V : Type 0} (S : V → List ℕ → Type 0) (seen : A → V) where
       let bytes : take (at + width) (put_mid at (at + width - at) output digits) ≡ front ++ digits = ap (take (at + width)) (sym (append_assoc front digits rest)) ∙ take_at (front ++ digits) rest (at + width) whole in
       subst (λ (b : List ℕ). Each S (map seen (take (i + 1) xs)) b) (sym bytes) (one_more xs i front digits within is put h)
 
--- a list of one byte
-pub the_only_byte : (xs : List ℕ) (b : ℕ) → length xs ≡ 1 → set xs 0 b ≡ b ∷ []
-the_only_byte [] b e = absurd (omega arith)
-the_only_byte (x ∷ []) b e = refl
-the_only_byte (x ∷ y ∷ xs) b e = absurd (omega arith)
+-- one byte is its number, in each order
+number_of_one : (order : Endianness) (b : ℕ) → number order (b ∷ []) ≡ b
+unfolding number
+number_of_one LittleEndian b = omega arith
+number_of_one BigEndian b = omega arith
 
-pub only_byte : (xs : List ℕ) → length xs ≡ 1 → xs ≡ get_or xs 0 0 ∷ []
-only_byte [] e = absurd (omega arith)
-only_byte (x ∷ []) e = refl
-only_byte (x ∷ y ∷ xs) e = absurd (omega arith)
+pub number_of_byte : (order : Endianness) (bytes : List ℕ) → length bytes ≡ 1 → get_or bytes 0 0 ≡ number order bytes
+number_of_byte order [] l = absurd (omega arith)
+number_of_byte order (b ∷ []) l = sym (number_of_one order b)
+number_of_byte order (b ∷ c ∷ bytes) l = absurd (omega arith)
+
+pub number_of_put : (order : Endianness) (bytes : List ℕ) (b : ℕ) → length bytes ≡ 1 → number order (set bytes 0 b) ≡ b
+number_of_put order [] b l = absurd (omega arith)
+number_of_put order (x ∷ []) b l = number_of_one order b
+number_of_put order (x ∷ y ∷ bytes) b l = absurd (omega arith)
 
 empty : (xs : List ℕ) → length xs ≡ 0 → xs ≡ []
 empty [] e = refl
@@ -88,28 +115,30 @@ none_left xs zero e l = empty xs (omega (arith, e))
 none_left xs (suc count) e l = absurd (omega (arith, e, l))
 
 -- what a function makes of each chunk of so many bytes, where the bytes are of whole chunks
-module _ {A F V : Type 0} (S : V → List ℕ → Type 0) (seen : A → V) (width : ℕ) (some : 0 < width) {g : Mut F (Bor (List ℕ) × Unit {0}) A} {f : F}
-    (taken : (x : Bor (List ℕ)) (r : A) (q : F) → length x.now ≡ width → Called g f (x, tt) r q → (q ≡ f) × S (seen r) x.now) where
+module _ {A F V : Type 0} (S : V → List ℕ → Type 0) (seen : A → V) (width : ℕ) (some : 0 < width) {decoded : List ℕ → A}
+    (decodes : (bytes : List ℕ) → length bytes ≡ width → AreBytes bytes → S (seen (decoded bytes)) bytes) {g : Mut F (Bor (List ℕ) × Unit {0}) A} {f : F}
+    (called : (x : Bor (List ℕ)) (r : A) (q : F) → length x.now ≡ width → Called g f (x, tt) r q → (q ≡ f) × (r ≡ decoded x.now)) where
   pub each_taken : (s : _) (count : ℕ) (xs : List A) → map_callee s ≡ f → chunks_exact_size (map_source s) ≡ width → length (chunks_exact_rest (map_source s)) ≡ count * width
-      → Drains (map_steps chunks_exact_steps g) s xs → Each S (map seen xs) (chunks_exact_rest (map_source s))
-  each_taken s count [] same size whole (u, (t, here, ended)) =
+      → AreBytes (chunks_exact_rest (map_source s)) → Drains (map_steps chunks_exact_steps g) s xs → Each S (map seen xs) (chunks_exact_rest (map_source s))
+  each_taken s count [] same size whole are (u, (t, here, ended)) =
       let at_end : length (chunks_exact_rest (map_source s)) < width = subst₂ (λ (m n : ℕ). m < n) (ap (λ x. length (chunks_exact_rest (map_source x))) (sym here)) (ap (λ x. chunks_exact_size (map_source x)) (sym here) ∙ size) ended.0.1.0 in
       none_left _ count whole at_end
-  each_taken s zero (x ∷ xs) same size whole (u, (t, (j, step, rest), ended)) =
+  each_taken s zero (x ∷ xs) same size whole are (u, (t, (j, step, rest), ended)) =
       let l = ap length step.1.1.0 ∙ length-append step.0.now (chunks_exact_rest (map_source j)) in absurd (omega (arith, l, step.1.1.1, size, whole, some))
-  each_taken s (suc count) (x ∷ xs) same size whole (u, (t, (j, step, rest), ended)) =
+  each_taken s (suc count) (x ∷ xs) same size whole are (u, (t, (j, step, rest), ended)) =
       let chunk = step.0.now in
       let left = chunks_exact_rest (map_source j) in
       let sized : length chunk ≡ width = step.1.1.1 ∙ size in
-      let called : Called g f (step.0, tt) x (map_callee j) = subst (λ (h : F). Called g h (step.0, tt) x (map_callee j)) same step.2 in
-      let made = taken step.0 x (map_callee j) sized called in
+      let call : Called g f (step.0, tt) x (map_callee j) = subst (λ (h : F). Called g h (step.0, tt) x (map_callee j)) same step.2 in
+      let parts = AreBytes-append_parts chunk left (subst AreBytes step.1.1.0 are) in
+      let made = called step.0 x (map_callee j) sized call in
       let l = ap length step.1.1.0 ∙ length-append chunk left in
       record {
         front = chunk;
         back = left;
         whole_is = step.1.1.0;
-        first_is = made.1;
-        second_is = each_taken j count xs made.0 (step.1.0 ∙ size) (omega (arith, l, sized, whole)) (u, (t, rest, ended));
+        first_is = subst (λ (y : A). S (seen y) chunk) (sym made.1) (decodes chunk sized parts.0);
+        second_is = each_taken j count xs made.0 (step.1.0 ∙ size) (omega (arith, l, sized, whole)) parts.1 (u, (t, rest, ended));
       }
 
 -- what holds where a call succeeded

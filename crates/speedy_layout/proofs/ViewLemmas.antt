@@ -4,8 +4,6 @@ use Rattle.std.proofs.Common.{sym, ◌∙◌, ap, ap₂, subst, arith}
 use Rattle.std.proofs.Math.Nat.{mul-add-div, div-eq_of_lt}
 use Rattle.std.proofs.lemmas.List.{drop-drop, length-drop}
 use Rattle.std.proofs.lemmas.Nat.{div-add-mod'}
-use Rattle.speedy_base.specs.declared.endianness.Endianness.TheVariants.{LittleEndian}
-use Rattle.speedy_base.specs.Digits.{number}
 use Rattle.speedy_layout.specs.Views.{decode_each, shown_items, length-shown_items}
 
 module _ {A : Type 0} (decoded : List ℕ → A) (size : ℕ) where
@@ -61,10 +59,3 @@ module _ {A : Type 0} (decoded : List ℕ → A) (size : ℕ) where
 -- a whole number of items
 pub whole_items : (size whole : ℕ) → whole % size ≡ 0 → whole ≡ whole / size * size
 whole_items size whole h = let parts = div-add-mod' whole size in omega arith
-
--- the number of one byte is that byte
-pub one_byte_number : (bytes : List ℕ) → length bytes ≡ 1 → get_or bytes 0 0 ≡ number LittleEndian bytes
-unfolding number
-one_byte_number [] l = absurd (omega arith)
-one_byte_number (b ∷ []) l = let none : b ≡ b + 256 * 0 = omega arith in none
-one_byte_number (b ∷ c ∷ bytes) l = absurd (omega arith)

@@ -3,13 +3,12 @@ use Rattle.std.specs.Prelude.{◌≡◌, ℕ, zero, suc, ◌*◌, ◌/◌, ◌<�
 use Rattle.std.proofs.Common.{sym, ◌∙◌, ap, subst, arith}
 use Rattle.std.proofs.Math.Nat.{mul-div_cancel}
 use Rattle.std.proofs.lemmas.List.{take-append-drop, length-append, length-take-le, length-drop}
-use Rattle.std.specs.Int.{Width, w8, byte_len, cast_unsigned, cast_signed}
+use Rattle.std.specs.Int.{w8, cast_unsigned}
 use Rattle.speedy_base.specs.declared.endianness.Endianness.{Endianness}
 use Rattle.speedy_base.specs.declared.endianness.Endianness.TheVariants.{LittleEndian}
-use Rattle.speedy_base.specs.Digits.{AreBytes, SpellsNumber, number}
+use Rattle.speedy_base.specs.Digits.{AreBytes, SpellsNumber}
 use Rattle.speedy_base.specs.DigitsLemmas.{AreBytes-append_parts, SpellsNumber-one_byte, SpellsNumber-is_one_byte}
 use Rattle.speedy_base.specs.Encoding.{Encoding, plain_encoding}
-use Rattle.speedy_base.specs.SignedLemmas.{SpellsSigned-cast_signed}
 use Rattle.speedy_layout.specs.Format.{Format, Each}
 use Rattle.speedy_layout.specs.Numbers.{unsigned_number, signed_number}
 
@@ -74,27 +73,7 @@ module _ {A V : Type 0} (decoded : List ℕ → A) (size : ℕ)
       let many : length bytes / size ≡ n = ap (λ k. k / size) l ∙ so_many_items n size some in
       subst (λ k. Each spells (map seen (decode_each decoded size k bytes)) bytes) (sym many) (each_decoded n bytes l are)
 
--- ---- what numbers are decoded
-
--- bytes of the width spell their number
-pub number_spelled : (width : ℕ) (bytes : List ℕ) → length bytes ≡ width → AreBytes bytes
-    → (unsigned_number width (plain_encoding LittleEndian)).spells (number LittleEndian bytes) bytes
-unfolding unsigned_number
-number_spelled width bytes l are = record { width_is = l; are_bytes = are; value_is = refl }
-
-pub signed_spelled : (w : Width) (bytes : List ℕ) → length bytes ≡ byte_len w → AreBytes bytes
-    → (signed_number w (plain_encoding LittleEndian)).spells (cast_signed w (number LittleEndian bytes)) bytes
-unfolding signed_number
-signed_spelled w bytes l are = SpellsSigned-cast_signed w LittleEndian (number LittleEndian bytes) bytes (record { width_is = l; are_bytes = are; value_is = refl })
-
--- a number has the bytes of its width
-pub number_size : (width : ℕ) (encoding : Encoding) (n : ℕ) (bytes : List ℕ) → (unsigned_number width encoding).spells n bytes → length bytes ≡ width
-unfolding unsigned_number
-number_size width encoding n bytes h = h.width_is
-
-pub signed_size : (w : Width) (encoding : Encoding) (z : ℤ) (bytes : List ℕ) → (signed_number w encoding).spells z bytes → length bytes ≡ byte_len w
-unfolding signed_number
-signed_size w encoding z bytes h = h.digits.width_is
+-- ---- bytes under each order
 
 -- a byte is the same number under each order
 byte_alike : (order : Endianness) (n : ℕ) (bytes : List ℕ) → SpellsNumber 1 LittleEndian n bytes → SpellsNumber 1 order n bytes

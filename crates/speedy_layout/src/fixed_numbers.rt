@@ -1,65 +1,72 @@
-//! Numbers of a fixed number of bytes, of which many are read or written at once.
-ghost use Rattle.std.specs.Prelude.{◌≡◌, ◌*◌, ◌++◌, ℕ, List, length, map, OnOk};
-ghost use Rattle.std.specs.Int.{w8, w16, w32, w64, w128};
-ghost use Rattle.speedy_layout.specs.FixedNumbers.{spelled_in, IsFixed, unsigned_fixed, signed_fixed};
+//! Numbers of a fixed number of bytes: how each is decoded and encoded, and so many of them.
+ghost use Rattle.std.specs.Prelude.{◌≡◌, ◌*◌, ◌++◌, ℕ, List, length, map, refl, OnOk};
+ghost use Rattle.std.specs.Int.{w8, w16, w32, w64, w128, cast_signed};
+ghost use Rattle.speedy_base.specs.declared.endianness.Endianness.{Endianness as Order};
+ghost use Rattle.speedy_base.specs.Digits.{AreBytes, number};
+ghost use Rattle.speedy_layout.specs.FixedNumbers.{spelled_in, IsFixed, Decodes, unsigned_fixed, unsigned_decodes, signed_fixed, signed_decodes};
 ghost use Rattle.speedy_layout.specs.Format.{Each};
 
 use crate::layout::Layout;
+use crate::view_items::FixedSize;
 use speedy_base::endianness::Endianness;
 use std::alloc::AllocError;
 
-/// A number whose bytes are its digits, always so many of them: what bulk reads and writes need of it.
-pub trait FixedNumber: Layout + Copy {
-    /// How many bytes a number has.
-    fn size() -> usize
-        ensures { result ≡ Self.least };
+/// A number whose bytes are its digits, always so many of them.
+pub trait FixedNumber: FixedSize + Layout + Copy + Drop {
+    /// The number that so many bytes spell in an order.
+    ghost decoded: { Order → List ℕ → Self };
 
     /// The number 0.
     fn zero() -> Self;
 
-    /// The number that these bytes spell.
-    fn taken(order: Endianness, bytes: &[u8]) -> Self
-        requires { length bytes.now ≡ Self.least }
-        ensures { spelled_in Self.format order (Self.seen result) bytes.now };
+    /// The number that so many bytes spell in the order.
+    fn decode(order: Endianness, bytes: &[u8]) -> Self
+        requires { length bytes.now ≡ Self.SIZE }
+        ensures { result ≡ decoded order bytes.now };
 
-    /// Puts the bytes of the number, which fill the output.
-    fn put(self, order: Endianness, output: &mut [u8])
-        requires { length output.old ≡ Self.least }
-        ensures { spelled_in Self.format order (Self.seen self) output.new };
+    /// Puts the bytes of the number, in the order, which fill the output.
+    fn encode(self, order: Endianness, output: &mut [u8])
+        requires { length output.old ≡ Self.SIZE }
+        ensures bytes { AreBytes output.new }
+        ensures number { decoded order output.new ≡ self };
+
+    /// They are its least size.
+    ghost least_is: { Self.least ≡ Self.SIZE };
 
     /// Its bytes are always so many, and the order alone decides them.
-    ghost is_fixed: { IsFixed Self.Layout.least Self.Layout.format };
+    ghost is_fixed: { IsFixed Self.SIZE Self.format };
+
+    /// Bytes spell the number that is decoded of them.
+    ghost decodes: { Decodes Self.SIZE Self.format Self.seen decoded };
 }
 
-impl FixedNumber for i8 {
-    #[inline(always)]
-    fn size() -> usize {
-        1
-    }
+impl FixedNumber for u8 {
+    ghost decoded = { number };
 
     #[inline(always)]
-    fn zero() -> i8 {
+    fn zero() -> u8 {
         0
     }
 
     #[inline(always)]
-    fn taken(_order: Endianness, bytes: &[u8]) -> i8 {
-        bytes[0].cast_signed()
+    fn decode(_order: Endianness, bytes: &[u8]) -> u8 {
+        bytes[0]
     }
 
     #[inline(always)]
-    fn put(self, _order: Endianness, output: &mut [u8]) {
-        output[0] = self.cast_unsigned();
+    fn encode(self, _order: Endianness, output: &mut [u8]) {
+        output[0] = self;
     }
 
-    ghost is_fixed = { signed_fixed w8 };
+    ghost least_is = { refl };
+
+    ghost is_fixed = { unsigned_fixed w8 };
+
+    ghost decodes = { unsigned_decodes w8 };
 }
 
 impl FixedNumber for u16 {
-    #[inline(always)]
-    fn size() -> usize {
-        2
-    }
+    ghost decoded = { number };
 
     #[inline(always)]
     fn zero() -> u16 {
@@ -67,23 +74,24 @@ impl FixedNumber for u16 {
     }
 
     #[inline(always)]
-    fn taken(order: Endianness, bytes: &[u8]) -> u16 {
+    fn decode(order: Endianness, bytes: &[u8]) -> u16 {
         order.read_u16(bytes)
     }
 
     #[inline(always)]
-    fn put(self, order: Endianness, output: &mut [u8]) {
+    fn encode(self, order: Endianness, output: &mut [u8]) {
         output.copy_from_slice(&order.bytes_of_u16(self));
     }
 
+    ghost least_is = { refl };
+
     ghost is_fixed = { unsigned_fixed w16 };
+
+    ghost decodes = { unsigned_decodes w16 };
 }
 
 impl FixedNumber for u32 {
-    #[inline(always)]
-    fn size() -> usize {
-        4
-    }
+    ghost decoded = { number };
 
     #[inline(always)]
     fn zero() -> u32 {
@@ -91,23 +99,24 @@ impl FixedNumber for u32 {
     }
 
     #[inline(always)]
-    fn taken(order: Endianness, bytes: &[u8]) -> u32 {
+    fn decode(order: Endianness, bytes: &[u8]) -> u32 {
         order.read_u32(bytes)
     }
 
     #[inline(always)]
-    fn put(self, order: Endianness, output: &mut [u8]) {
+    fn encode(self, order: Endianness, output: &mut [u8]) {
         output.copy_from_slice(&order.bytes_of_u32(self));
     }
 
+    ghost least_is = { refl };
+
     ghost is_fixed = { unsigned_fixed w32 };
+
+    ghost decodes = { unsigned_decodes w32 };
 }
 
 impl FixedNumber for u64 {
-    #[inline(always)]
-    fn size() -> usize {
-        8
-    }
+    ghost decoded = { number };
 
     #[inline(always)]
     fn zero() -> u64 {
@@ -115,23 +124,24 @@ impl FixedNumber for u64 {
     }
 
     #[inline(always)]
-    fn taken(order: Endianness, bytes: &[u8]) -> u64 {
+    fn decode(order: Endianness, bytes: &[u8]) -> u64 {
         order.read_u64(bytes)
     }
 
     #[inline(always)]
-    fn put(self, order: Endianness, output: &mut [u8]) {
+    fn encode(self, order: Endianness, output: &mut [u8]) {
         output.copy_from_slice(&order.bytes_of_u64(self));
     }
 
+    ghost least_is = { refl };
+
     ghost is_fixed = { unsigned_fixed w64 };
+
+    ghost decodes = { unsigned_decodes w64 };
 }
 
 impl FixedNumber for u128 {
-    #[inline(always)]
-    fn size() -> usize {
-        16
-    }
+    ghost decoded = { number };
 
     #[inline(always)]
     fn zero() -> u128 {
@@ -139,23 +149,49 @@ impl FixedNumber for u128 {
     }
 
     #[inline(always)]
-    fn taken(order: Endianness, bytes: &[u8]) -> u128 {
+    fn decode(order: Endianness, bytes: &[u8]) -> u128 {
         order.read_u128(bytes)
     }
 
     #[inline(always)]
-    fn put(self, order: Endianness, output: &mut [u8]) {
+    fn encode(self, order: Endianness, output: &mut [u8]) {
         output.copy_from_slice(&order.bytes_of_u128(self));
     }
 
+    ghost least_is = { refl };
+
     ghost is_fixed = { unsigned_fixed w128 };
+
+    ghost decodes = { unsigned_decodes w128 };
+}
+
+impl FixedNumber for i8 {
+    ghost decoded = { λ order bytes. cast_signed w8 (number order bytes) };
+
+    #[inline(always)]
+    fn zero() -> i8 {
+        0
+    }
+
+    #[inline(always)]
+    fn decode(order: Endianness, bytes: &[u8]) -> i8 {
+        u8::decode(order, bytes).cast_signed()
+    }
+
+    #[inline(always)]
+    fn encode(self, order: Endianness, output: &mut [u8]) {
+        u8::encode(self.cast_unsigned(), order, output);
+    }
+
+    ghost least_is = { refl };
+
+    ghost is_fixed = { signed_fixed w8 };
+
+    ghost decodes = { signed_decodes w8 };
 }
 
 impl FixedNumber for i16 {
-    #[inline(always)]
-    fn size() -> usize {
-        2
-    }
+    ghost decoded = { λ order bytes. cast_signed w16 (number order bytes) };
 
     #[inline(always)]
     fn zero() -> i16 {
@@ -163,23 +199,24 @@ impl FixedNumber for i16 {
     }
 
     #[inline(always)]
-    fn taken(order: Endianness, bytes: &[u8]) -> i16 {
+    fn decode(order: Endianness, bytes: &[u8]) -> i16 {
         order.read_i16(bytes)
     }
 
     #[inline(always)]
-    fn put(self, order: Endianness, output: &mut [u8]) {
-        self.cast_unsigned().put(order, output);
+    fn encode(self, order: Endianness, output: &mut [u8]) {
+        u16::encode(self.cast_unsigned(), order, output);
     }
 
+    ghost least_is = { refl };
+
     ghost is_fixed = { signed_fixed w16 };
+
+    ghost decodes = { signed_decodes w16 };
 }
 
 impl FixedNumber for i32 {
-    #[inline(always)]
-    fn size() -> usize {
-        4
-    }
+    ghost decoded = { λ order bytes. cast_signed w32 (number order bytes) };
 
     #[inline(always)]
     fn zero() -> i32 {
@@ -187,23 +224,24 @@ impl FixedNumber for i32 {
     }
 
     #[inline(always)]
-    fn taken(order: Endianness, bytes: &[u8]) -> i32 {
+    fn decode(order: Endianness, bytes: &[u8]) -> i32 {
         order.read_i32(bytes)
     }
 
     #[inline(always)]
-    fn put(self, order: Endianness, output: &mut [u8]) {
-        self.cast_unsigned().put(order, output);
+    fn encode(self, order: Endianness, output: &mut [u8]) {
+        u32::encode(self.cast_unsigned(), order, output);
     }
 
+    ghost least_is = { refl };
+
     ghost is_fixed = { signed_fixed w32 };
+
+    ghost decodes = { signed_decodes w32 };
 }
 
 impl FixedNumber for i64 {
-    #[inline(always)]
-    fn size() -> usize {
-        8
-    }
+    ghost decoded = { λ order bytes. cast_signed w64 (number order bytes) };
 
     #[inline(always)]
     fn zero() -> i64 {
@@ -211,23 +249,24 @@ impl FixedNumber for i64 {
     }
 
     #[inline(always)]
-    fn taken(order: Endianness, bytes: &[u8]) -> i64 {
+    fn decode(order: Endianness, bytes: &[u8]) -> i64 {
         order.read_i64(bytes)
     }
 
     #[inline(always)]
-    fn put(self, order: Endianness, output: &mut [u8]) {
-        self.cast_unsigned().put(order, output);
+    fn encode(self, order: Endianness, output: &mut [u8]) {
+        u64::encode(self.cast_unsigned(), order, output);
     }
 
+    ghost least_is = { refl };
+
     ghost is_fixed = { signed_fixed w64 };
+
+    ghost decodes = { signed_decodes w64 };
 }
 
 impl FixedNumber for i128 {
-    #[inline(always)]
-    fn size() -> usize {
-        16
-    }
+    ghost decoded = { λ order bytes. cast_signed w128 (number order bytes) };
 
     #[inline(always)]
     fn zero() -> i128 {
@@ -235,28 +274,32 @@ impl FixedNumber for i128 {
     }
 
     #[inline(always)]
-    fn taken(order: Endianness, bytes: &[u8]) -> i128 {
+    fn decode(order: Endianness, bytes: &[u8]) -> i128 {
         order.read_i128(bytes)
     }
 
     #[inline(always)]
-    fn put(self, order: Endianness, output: &mut [u8]) {
-        self.cast_unsigned().put(order, output);
+    fn encode(self, order: Endianness, output: &mut [u8]) {
+        u128::encode(self.cast_unsigned(), order, output);
     }
 
+    ghost least_is = { refl };
+
     ghost is_fixed = { signed_fixed w128 };
+
+    ghost decodes = { signed_decodes w128 };
 }
 
 /// Puts the bytes of the numbers, one after another, which fill the output.
 #[inline]
 pub fn put_each<T: FixedNumber>(numbers: &[T], order: Endianness, output: &mut [u8])
-    requires { length output.old ≡ length numbers.now * T.least }
+    requires { length output.old ≡ length numbers.now * T.SIZE }
     ensures { Each (spelled_in T.format order) (map T.seen numbers.now) output.new }
 {
     let mut at = 0;
     for number in numbers {
-        let end = at + T::size();
-        number.put(order, &mut output[at..end]);
+        let end = at + T::SIZE;
+        number.encode(order, &mut output[at..end]);
         at = end;
     }
 }
@@ -268,27 +311,27 @@ pub fn append_each<T: FixedNumber>(
     order: Endianness,
     bytes: &[u8],
 ) -> Result<(), AllocError>
-    requires { (count : ℕ) × (length bytes.now ≡ count * T.least) }
+    requires { (count : ℕ) × (length bytes.now ≡ count * T.SIZE) }
     ensures { OnOk result ((more : List T) × (numbers.new.items ≡ numbers.old.items ++ more)
         × Each (spelled_in T.format order) (map T.seen more) bytes.now) }
 {
     numbers.extend(
         bytes
-            .chunks_exact(T::size())
-            .map(|digits| T::taken(order, digits)),
+            .chunks_exact(T::SIZE)
+            .map(|digits| T::decode(order, digits)),
     )
 }
 
 /// Takes the number that these bytes spell into each place, one after another. The bytes are those of as many numbers.
 #[inline]
 pub fn take_each<T: FixedNumber>(places: &mut [T], order: Endianness, bytes: &[u8])
-    requires { length bytes.now ≡ length places.old * T.least }
+    requires { length bytes.now ≡ length places.old * T.SIZE }
     ensures { Each (spelled_in T.format order) (map T.seen places.new) bytes.now }
 {
     let mut at = 0;
     for place in places.iter_mut() {
-        let end = at + T::size();
-        *place = T::taken(order, &bytes[at..end]);
+        let end = at + T::SIZE;
+        *place = T::decode(order, &bytes[at..end]);
         at = end;
     }
 }
@@ -300,6 +343,6 @@ pub fn have_digits<T: FixedNumber>(numbers: &[T], order: Endianness)
 {
     let mut digits = [0; 16];
     for number in numbers {
-        number.put(order, &mut digits[..T::size()]);
+        number.encode(order, &mut digits[..T::SIZE]);
     }
 }

@@ -1,12 +1,12 @@
 //! Which items a view may show, and how each is decoded.
-ghost use Rattle.std.specs.Prelude.{◌≡◌, ◌<◌, ◌^◌, ℕ, List, length, refl};
-ghost use Rattle.std.proofs.Common.{lit<};
-ghost use Rattle.std.specs.Int.{w8, w16, w32, w64, w128, cast_signed};
-ghost use Rattle.speedy_base.specs.Digits.{AreBytes, number};
+ghost use Rattle.std.specs.Prelude.{◌≡◌, ◌<◌, ◌^◌, ℕ, List, length};
+ghost use Rattle.speedy_base.specs.Digits.{AreBytes};
 ghost use Rattle.speedy_base.specs.Encoding.{Encoding, plain_encoding};
 ghost use Rattle.speedy_base.specs.declared.endianness.Endianness.TheVariants.{LittleEndian as LittleOrder};
-ghost use Rattle.speedy_layout.specs.Views.{number_spelled, signed_spelled, number_size, signed_size, byte_number_alike, signed_byte_alike};
+ghost use Rattle.speedy_layout.specs.FixedNumbers.{few_bytes, size_of_fixed};
+ghost use Rattle.speedy_layout.specs.Views.{byte_number_alike, signed_byte_alike};
 
+use crate::fixed_numbers::FixedNumber;
 use crate::layout::Layout;
 use speedy_base::context::{Context, LittleEndian};
 use speedy_base::endianness::Endianness;
@@ -58,29 +58,30 @@ pub trait ZeroCopyable<C: Context>: ViewItem {
         (Self.format (C.encoding context)).spells v bytes };
 }
 
+// Any bytes of a number's width spell one.
+impl<T: FixedNumber> ViewItem for T {
+    ghost decoded = { T.decoded LittleOrder };
+
+    ghost some_bytes = { T.is_fixed.has_bytes };
+
+    ghost few_bytes = { few_bytes T.is_fixed };
+
+    ghost least_is = { T.least_is };
+
+    ghost one_size = { size_of_fixed T.is_fixed };
+
+    ghost decodes = { T.decodes LittleOrder };
+
+    #[inline(always)]
+    fn decode(bytes: &[u8]) -> T {
+        <T as FixedNumber>::decode(Endianness::LittleEndian, bytes)
+    }
+}
+
 impl FixedSize for u8 {
     const SIZE: usize = 1;
 
     ghost SIZE = { 1 };
-}
-
-impl ViewItem for u8 {
-    ghost decoded = { number LittleOrder };
-
-    ghost some_bytes = { lit< tt };
-
-    ghost few_bytes = { lit< tt };
-
-    ghost least_is = { refl };
-
-    ghost one_size = { number_size 1 };
-
-    ghost decodes = { number_spelled 1 };
-
-    #[inline(always)]
-    fn decode(bytes: &[u8]) -> u8 {
-        bytes[0]
-    }
 }
 
 impl<C: Context> ZeroCopyable<C> for u8 {
@@ -93,25 +94,6 @@ impl FixedSize for i8 {
     ghost SIZE = { 1 };
 }
 
-impl ViewItem for i8 {
-    ghost decoded = { λ bytes. cast_signed w8 (number LittleOrder bytes) };
-
-    ghost some_bytes = { lit< tt };
-
-    ghost few_bytes = { lit< tt };
-
-    ghost least_is = { refl };
-
-    ghost one_size = { signed_size w8 };
-
-    ghost decodes = { signed_spelled w8 };
-
-    #[inline(always)]
-    fn decode(bytes: &[u8]) -> i8 {
-        bytes[0].cast_signed()
-    }
-}
-
 impl<C: Context> ZeroCopyable<C> for i8 {
     ghost as_little = { λ context. signed_byte_alike (C.encoding context) };
 }
@@ -120,25 +102,6 @@ impl FixedSize for u16 {
     const SIZE: usize = 2;
 
     ghost SIZE = { 2 };
-}
-
-impl ViewItem for u16 {
-    ghost decoded = { number LittleOrder };
-
-    ghost some_bytes = { lit< tt };
-
-    ghost few_bytes = { lit< tt };
-
-    ghost least_is = { refl };
-
-    ghost one_size = { number_size 2 };
-
-    ghost decodes = { number_spelled 2 };
-
-    #[inline(always)]
-    fn decode(bytes: &[u8]) -> u16 {
-        Endianness::LittleEndian.read_u16(bytes)
-    }
 }
 
 impl ZeroCopyable<LittleEndian> for u16 {
@@ -151,25 +114,6 @@ impl FixedSize for i16 {
     ghost SIZE = { 2 };
 }
 
-impl ViewItem for i16 {
-    ghost decoded = { λ bytes. cast_signed w16 (number LittleOrder bytes) };
-
-    ghost some_bytes = { lit< tt };
-
-    ghost few_bytes = { lit< tt };
-
-    ghost least_is = { refl };
-
-    ghost one_size = { signed_size w16 };
-
-    ghost decodes = { signed_spelled w16 };
-
-    #[inline(always)]
-    fn decode(bytes: &[u8]) -> i16 {
-        Endianness::LittleEndian.read_i16(bytes)
-    }
-}
-
 impl ZeroCopyable<LittleEndian> for i16 {
     ghost as_little = { λ context v bytes spelled. spelled };
 }
@@ -178,25 +122,6 @@ impl FixedSize for u32 {
     const SIZE: usize = 4;
 
     ghost SIZE = { 4 };
-}
-
-impl ViewItem for u32 {
-    ghost decoded = { number LittleOrder };
-
-    ghost some_bytes = { lit< tt };
-
-    ghost few_bytes = { lit< tt };
-
-    ghost least_is = { refl };
-
-    ghost one_size = { number_size 4 };
-
-    ghost decodes = { number_spelled 4 };
-
-    #[inline(always)]
-    fn decode(bytes: &[u8]) -> u32 {
-        Endianness::LittleEndian.read_u32(bytes)
-    }
 }
 
 impl ZeroCopyable<LittleEndian> for u32 {
@@ -209,25 +134,6 @@ impl FixedSize for i32 {
     ghost SIZE = { 4 };
 }
 
-impl ViewItem for i32 {
-    ghost decoded = { λ bytes. cast_signed w32 (number LittleOrder bytes) };
-
-    ghost some_bytes = { lit< tt };
-
-    ghost few_bytes = { lit< tt };
-
-    ghost least_is = { refl };
-
-    ghost one_size = { signed_size w32 };
-
-    ghost decodes = { signed_spelled w32 };
-
-    #[inline(always)]
-    fn decode(bytes: &[u8]) -> i32 {
-        Endianness::LittleEndian.read_i32(bytes)
-    }
-}
-
 impl ZeroCopyable<LittleEndian> for i32 {
     ghost as_little = { λ context v bytes spelled. spelled };
 }
@@ -236,25 +142,6 @@ impl FixedSize for u64 {
     const SIZE: usize = 8;
 
     ghost SIZE = { 8 };
-}
-
-impl ViewItem for u64 {
-    ghost decoded = { number LittleOrder };
-
-    ghost some_bytes = { lit< tt };
-
-    ghost few_bytes = { lit< tt };
-
-    ghost least_is = { refl };
-
-    ghost one_size = { number_size 8 };
-
-    ghost decodes = { number_spelled 8 };
-
-    #[inline(always)]
-    fn decode(bytes: &[u8]) -> u64 {
-        Endianness::LittleEndian.read_u64(bytes)
-    }
 }
 
 impl ZeroCopyable<LittleEndian> for u64 {
@@ -267,25 +154,6 @@ impl FixedSize for i64 {
     ghost SIZE = { 8 };
 }
 
-impl ViewItem for i64 {
-    ghost decoded = { λ bytes. cast_signed w64 (number LittleOrder bytes) };
-
-    ghost some_bytes = { lit< tt };
-
-    ghost few_bytes = { lit< tt };
-
-    ghost least_is = { refl };
-
-    ghost one_size = { signed_size w64 };
-
-    ghost decodes = { signed_spelled w64 };
-
-    #[inline(always)]
-    fn decode(bytes: &[u8]) -> i64 {
-        Endianness::LittleEndian.read_i64(bytes)
-    }
-}
-
 impl ZeroCopyable<LittleEndian> for i64 {
     ghost as_little = { λ context v bytes spelled. spelled };
 }
@@ -296,25 +164,6 @@ impl FixedSize for u128 {
     ghost SIZE = { 16 };
 }
 
-impl ViewItem for u128 {
-    ghost decoded = { number LittleOrder };
-
-    ghost some_bytes = { lit< tt };
-
-    ghost few_bytes = { lit< tt };
-
-    ghost least_is = { refl };
-
-    ghost one_size = { number_size 16 };
-
-    ghost decodes = { number_spelled 16 };
-
-    #[inline(always)]
-    fn decode(bytes: &[u8]) -> u128 {
-        Endianness::LittleEndian.read_u128(bytes)
-    }
-}
-
 impl ZeroCopyable<LittleEndian> for u128 {
     ghost as_little = { λ context v bytes spelled. spelled };
 }
@@ -323,25 +172,6 @@ impl FixedSize for i128 {
     const SIZE: usize = 16;
 
     ghost SIZE = { 16 };
-}
-
-impl ViewItem for i128 {
-    ghost decoded = { λ bytes. cast_signed w128 (number LittleOrder bytes) };
-
-    ghost some_bytes = { lit< tt };
-
-    ghost few_bytes = { lit< tt };
-
-    ghost least_is = { refl };
-
-    ghost one_size = { signed_size w128 };
-
-    ghost decodes = { signed_spelled w128 };
-
-    #[inline(always)]
-    fn decode(bytes: &[u8]) -> i128 {
-        Endianness::LittleEndian.read_i128(bytes)
-    }
 }
 
 impl ZeroCopyable<LittleEndian> for i128 {

@@ -58,19 +58,19 @@ pub chunk_fits : {width some size size' room room' : ℕ} → 0 < width → some
 chunk_fits {some = some} positive within is is' same =
     subst₂ (λ (s r : ℕ). some * s ≤ r) (is ∙ sym is') (sym same) ((le-div_iff_mul-le (subst (λ (w : ℕ). 0 < w) (sym is) positive)).0 within)
 
-module _ {V : Type 0} {F : Encoding → Format V} {least : ℕ} (laws : (encoding : Encoding) → Laws encoding.strict least (F encoding)) (fixed : IsFixed least F) where
+module _ {V : Type 0} {F : Encoding → Format V} {least width : ℕ} (laws : (encoding : Encoding) → Laws encoding.strict least (F encoding)) (fixed : IsFixed width F) where
   -- digits spell the values
   each_stands : (encoding : Encoding) (vs : List V) (bytes : List ℕ) → Each (spelled_in F encoding.order) vs bytes → Each (F encoding).spells vs bytes
   each_stands encoding = each_as (λ v b h. (laws encoding).written_spells v b (fixed.writes encoding v b h))
 
-  each_sized : (encoding : Encoding) (vs : List V) (bytes : List ℕ) → Each (F encoding).spells vs bytes → length bytes ≡ length vs * least
+  each_sized : (encoding : Encoding) (vs : List V) (bytes : List ℕ) → Each (F encoding).spells vs bytes → length bytes ≡ length vs * width
   each_sized encoding vs bytes h = each_length fixed encoding.order vs bytes (each_as (fixed.spells encoding) vs bytes h)
 
   -- so many values are read where so many times their bytes are
-  fixed_covers : (n : ℕ) (encoding : Encoding) → Covers (any_bytes (n * least)) (vector n (F encoding))
+  fixed_covers : (n : ℕ) (encoding : Encoding) → Covers (any_bytes (n * width)) (vector n (F encoding))
   unfolding any_bytes vector owned_content repeat
   fixed_covers n encoding = record {
-    under = λ vs s h. (tt, each_sized encoding vs s h.1 ∙ ap (λ m. m * least) h.0);
+    under = λ vs s h. (tt, each_sized encoding vs s h.1 ∙ ap (λ m. m * width) h.0);
     names = λ kind h. absurd h;
     malformed = λ bytes are h. absurd h;
     asks = asks_nothing_more;
@@ -88,18 +88,18 @@ module _ {V : Type 0} {F : Encoding → Format V} {least : ℕ} (laws : (encodin
         subst (λ (vs : List V). Each S vs (s ++ t)) (sym (map-append seen xs more)) (each_append S (map seen xs) (map seen more) s t h (subst (λ (b : List ℕ). Each S (map seen more) b) k.0 stands)))
 
     -- where a chunk is refused, all are
-    pub numbers_refused : {C : Type 0} {seen' : C → List V} {e : E} {result : Result C E} (xs : List A) (some : ℕ) {size : ℕ} → length xs + some ≤ n → size ≡ some * least → ReadSoFar (Each (F encoding).spells (map seen xs)) old mid → IsErrAnd result (λ x. x ≡ e)
+    pub numbers_refused : {C : Type 0} {seen' : C → List V} {e : E} {result : Result C E} (xs : List A) (some : ℕ) {size : ℕ} → length xs + some ≤ n → size ≡ some * width → ReadSoFar (Each (F encoding).spells (map seen xs)) old mid → IsErrAnd result (λ x. x ≡ e)
         → Reads gives eof shown (raw_bytes size) (Err e) mid new → Reads gives eof seen' (vector n (F encoding)) result old new
     numbers_refused xs some {size} within sized so_far passed read =
-        let count = length xs * least in
-        let skipped : SkippedSoFar count old mid = record { kept = so_far.kept; got = Got-as (λ s h. each_sized encoding (map seen xs) s h ∙ ap (λ m. m * least) (length-map xs seen)) so_far.got } in
-        refused_covered (fixed_covers n encoding) passed (chunk_refused size {seen' = λ (u : Unit {0}). u} count (chunk_within least (length xs) some n size within sized) skipped refl read)
+        let count = length xs * width in
+        let skipped : SkippedSoFar count old mid = record { kept = so_far.kept; got = Got-as (λ s h. each_sized encoding (map seen xs) s h ∙ ap (λ m. m * width) (length-map xs seen)) so_far.got } in
+        refused_covered (fixed_covers n encoding) passed (chunk_refused size {seen' = λ (u : Unit {0}). u} count (chunk_within width (length xs) some n size within sized) skipped refl read)
 
 -- so many numbers were appended as their bytes were
-module _ {V A : Type 0} {F : Encoding → Format V} {least : ℕ} (fixed : IsFixed least F) (seen : A → V) where
-  pub count_of_digits : (order : Endianness) (more : List A) (bytes : List ℕ) (n : ℕ) → Each (spelled_in F order) (map seen more) bytes → length bytes ≡ n * least → length more ≡ n
+module _ {V A : Type 0} {F : Encoding → Format V} {width : ℕ} (fixed : IsFixed width F) (seen : A → V) where
+  pub count_of_digits : (order : Endianness) (more : List A) (bytes : List ℕ) (n : ℕ) → Each (spelled_in F order) (map seen more) bytes → length bytes ≡ n * width → length more ≡ n
   count_of_digits order more bytes n h l =
-      same_count fixed.has_bytes (length more) n (ap (λ m. m * least) (sym (length-map more seen)) ∙ (sym (each_length fixed order (map seen more) bytes h) ∙ l))
+      same_count fixed.has_bytes (length more) n (ap (λ m. m * width) (sym (length-map more seen)) ∙ (sym (each_length fixed order (map seen more) bytes h) ∙ l))
 
 -- what is put behind the first values
 pub put_behind : {A : Type 0} (xs new : List A) (at some : ℕ) → at ≤ length xs → length new ≡ some → take (at + some) (put_mid at (at + some - at) xs new) ≡ take at xs ++ new

@@ -26,7 +26,7 @@ use std::convert::AsSlice;
 /// Numbers: chunks of digits, or all that the reader lends.
 pub struct Numbers {}
 
-impl<L: AsSlice<u8> + Drop, C: Context, T: FixedNumber + ReadFrom<L, C> + Drop> Strategy<L, C, T>
+impl<L: AsSlice<u8> + Drop, C: Context, T: FixedNumber + ReadFrom<L, C>> Strategy<L, C, T>
     for Numbers {
     fn read_many_lent<W: FromLent<L, T>, R: LendingReader<L, C>>(
         reader: &mut R,
@@ -52,7 +52,7 @@ impl<L: AsSlice<u8> + Drop, C: Context, T: FixedNumber + ReadFrom<L, C> + Drop> 
     }
 }
 
-impl<L: AsSlice<u8> + Drop, C: Context, T: FixedNumber + ReadFrom<L, C> + Drop> Fills<L, C, T>
+impl<L: AsSlice<u8> + Drop, C: Context, T: FixedNumber + ReadFrom<L, C>> Fills<L, C, T>
     for Numbers {
     #[inline(always)]
     fn first() -> T {
@@ -181,7 +181,7 @@ fn are_in_range(_bytes: &[u8])
 // Reads so many numbers. Those that the reader lends until it is used again are taken at once.
 pub(crate) fn read_numbers<
     W: Drop,
-    T: FixedNumber + Drop,
+    T: FixedNumber,
     L: AsSlice<u8> + Drop,
     C: Context,
     R: LendingReader<L, C>,
@@ -192,7 +192,7 @@ pub(crate) fn read_numbers<
         (R.state reader.old) (R.state reader.new) }
 {
     // Numbers of more bytes than a `usize` counts are in no input.
-    let Some(size) = count.checked_mul(T::size()) else {
+    let Some(size) = count.checked_mul(T::SIZE) else {
         return Err(error_end_of_input());
     };
     let order = reader.endianness();
@@ -216,7 +216,7 @@ pub(crate) fn read_numbers<
 
 // Reads a number into each place. Those that the reader lends until it is used again are taken at once.
 pub(crate) fn fill_numbers<
-    T: FixedNumber + Drop,
+    T: FixedNumber,
     L: AsSlice<u8> + Drop,
     C: Context,
     R: LendingReader<L, C>,
@@ -225,7 +225,7 @@ pub(crate) fn fill_numbers<
         (vector (length places.old) (T.format (R.state reader.old).encoding)) result
         (R.state reader.old) (R.state reader.new) }
 {
-    let Some(size) = places.len().checked_mul(T::size()) else {
+    let Some(size) = places.len().checked_mul(T::SIZE) else {
         return Err(error_end_of_input());
     };
     let order = reader.endianness();
@@ -246,21 +246,21 @@ pub(crate) fn fill_numbers<
 
 // Reads a number into each place, as many at a time as the chunk has room for.
 #[inline]
-fn fill_chunks<T: FixedNumber + Drop, L: AsSlice<u8> + Drop, C: Context, R: LendingReader<L, C>>(
+fn fill_chunks<T: FixedNumber, L: AsSlice<u8> + Drop, C: Context, R: LendingReader<L, C>>(
     reader: &mut R,
     places: &mut [T],
     chunk: &mut [u8],
 ) -> Result<(), C::Error>
-    requires { T.least ≤ length chunk.old }
+    requires { T.SIZE ≤ length chunk.old }
     ensures { Reads C.Error.from_gives C.Error.eof (λ _. map T.seen places.new)
         (vector (length places.old) (T.format (R.state reader.old).encoding)) result
         (R.state reader.old) (R.state reader.new) }
 {
-    let most = chunk.len() / T::size();
+    let most = chunk.len() / T::SIZE;
     let mut at = 0;
     while at < places.len() {
         let some = most.min(places.len() - at);
-        let digits = &mut chunk[..some * T::size()];
+        let digits = &mut chunk[..some * T::SIZE];
         reader.read_bytes(digits)?;
         take_each(&mut places[at..at + some], reader.endianness(), digits);
         at += some;
@@ -269,13 +269,13 @@ fn fill_chunks<T: FixedNumber + Drop, L: AsSlice<u8> + Drop, C: Context, R: Lend
 }
 
 // The numbers that these bytes spell, so many.
-fn numbers_of<T: FixedNumber + Drop>(
+fn numbers_of<T: FixedNumber>(
     alloc: Global,
     order: Endianness,
     digits: &[u8],
     count: usize,
 ) -> Result<Vec<T>, AllocError>
-    requires { length digits.now ≡ count * T.least }
+    requires { length digits.now ≡ count * T.SIZE }
     ensures { IfOk result (λ v. Each (spelled_in T.format order) (map T.seen v.items) digits.now) }
 {
     let mut numbers = Vec::with_capacity(alloc, count)?;
@@ -285,23 +285,22 @@ fn numbers_of<T: FixedNumber + Drop>(
 
 // Reads so many numbers, as many at a time as the chunk has room for.
 #[inline]
-fn read_number_chunks<
-    T: FixedNumber + Drop,
-    L: AsSlice<u8> + Drop,
-    C: Context,
-    R: LendingReader<L, C>,
->(reader: &mut R, count: usize, chunk: &mut [u8]) -> Result<Vec<T>, C::Error>
-    requires { T.least ≤ length chunk.old }
+fn read_number_chunks<T: FixedNumber, L: AsSlice<u8> + Drop, C: Context, R: LendingReader<L, C>>(
+    reader: &mut R,
+    count: usize,
+    chunk: &mut [u8],
+) -> Result<Vec<T>, C::Error>
+    requires { T.SIZE ≤ length chunk.old }
     ensures { Reads C.Error.from_gives C.Error.eof (λ v. map T.seen v.items)
         (vector count (T.format (R.state reader.old).encoding)) result
         (R.state reader.old) (R.state reader.new) }
 {
-    let mut numbers = vec_for::<T, L, C, R>(reader, T::size(), count)?;
-    let most = STEP.min(chunk.len() / T::size());
+    let mut numbers = vec_for::<T, L, C, R>(reader, T::SIZE, count)?;
+    let most = STEP.min(chunk.len() / T::SIZE);
     let mut left = count;
     while left > 0 {
         let some = left.min(most);
-        let digits = &mut chunk[..some * T::size()];
+        let digits = &mut chunk[..some * T::SIZE];
         reader.read_bytes(digits)?;
         if append_in_steps(&mut numbers, reader.endianness(), digits, left).is_err() {
             return Err(error_out_of_memory());

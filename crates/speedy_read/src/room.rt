@@ -89,17 +89,17 @@ where
 
 // Appends the numbers that these bytes spell, some of so many that are still to read.
 #[inline]
-pub(crate) fn append_in_steps<T: FixedNumber + Drop>(
+pub(crate) fn append_in_steps<T: FixedNumber>(
     numbers: &mut Vec<T>,
     order: Endianness,
     digits: &[u8],
     left: usize,
 ) -> Result<(), AllocError>
-    requires { (count : ℕ) × (count_of digits.now ≡ count * T.least) }
+    requires { (count : ℕ) × (count_of digits.now ≡ count * T.SIZE) }
     ensures { OnOk result ((more : List T) × (numbers.new.items ≡ numbers.old.items ++ more)
         × Each (spelled_in T.format order) (map T.seen more) digits.now) }
 {
-    make_room(numbers, digits.len() / T::size(), left)?;
+    make_room(numbers, digits.len() / T::SIZE, left)?;
     append_each(numbers, order, digits)
 }
 

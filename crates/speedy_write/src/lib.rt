@@ -2,6 +2,7 @@
 #![tactic(auto)]
 
 pub mod addresses;
+mod chunks;
 mod collections;
 pub mod collectors;
 mod counting;
@@ -19,7 +20,6 @@ pub mod part;
 pub mod private;
 pub mod ranges;
 pub mod sets;
-mod stretches;
 pub mod tag;
 pub mod texts;
 pub mod tuples;

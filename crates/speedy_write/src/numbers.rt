@@ -1,7 +1,7 @@
 //! How numbers are written.
 ghost use Rattle.std.specs.Prelude.{◌<◌};
 
-use crate::stretches::write_numbers;
+use crate::chunks::write_numbers;
 use crate::writable::Writable;
 use crate::writer::Writer;
 use speedy_base::context::Context;
@@ -25,7 +25,7 @@ impl<C: Context> Writable<C> for u16 {
         writer.write_u16(*self)
     }
 
-    /// Writes the numbers by stretches of their digits.
+    /// Writes the numbers by chunks of their digits.
     fn write_many<W: Writer<C>>(items: &[u16], writer: &mut W) -> Result<(), C::Error> {
         write_numbers(items, writer)
     }
@@ -37,7 +37,7 @@ impl<C: Context> Writable<C> for u32 {
         writer.write_u32(*self)
     }
 
-    /// Writes the numbers by stretches of their digits.
+    /// Writes the numbers by chunks of their digits.
     fn write_many<W: Writer<C>>(items: &[u32], writer: &mut W) -> Result<(), C::Error> {
         write_numbers(items, writer)
     }
@@ -49,7 +49,7 @@ impl<C: Context> Writable<C> for u64 {
         writer.write_u64(*self)
     }
 
-    /// Writes the numbers by stretches of their digits.
+    /// Writes the numbers by chunks of their digits.
     fn write_many<W: Writer<C>>(items: &[u64], writer: &mut W) -> Result<(), C::Error> {
         write_numbers(items, writer)
     }
@@ -61,7 +61,7 @@ impl<C: Context> Writable<C> for u128 {
         writer.write_u128(*self)
     }
 
-    /// Writes the numbers by stretches of their digits.
+    /// Writes the numbers by chunks of their digits.
     fn write_many<W: Writer<C>>(items: &[u128], writer: &mut W) -> Result<(), C::Error> {
         write_numbers(items, writer)
     }
@@ -73,7 +73,7 @@ impl<C: Context> Writable<C> for i8 {
         writer.write_i8(*self)
     }
 
-    /// Writes the numbers by stretches of their digits.
+    /// Writes the numbers by chunks of their digits.
     fn write_many<W: Writer<C>>(items: &[i8], writer: &mut W) -> Result<(), C::Error> {
         write_numbers(items, writer)
     }
@@ -85,7 +85,7 @@ impl<C: Context> Writable<C> for i16 {
         writer.write_i16(*self)
     }
 
-    /// Writes the numbers by stretches of their digits.
+    /// Writes the numbers by chunks of their digits.
     fn write_many<W: Writer<C>>(items: &[i16], writer: &mut W) -> Result<(), C::Error> {
         write_numbers(items, writer)
     }
@@ -97,7 +97,7 @@ impl<C: Context> Writable<C> for i32 {
         writer.write_i32(*self)
     }
 
-    /// Writes the numbers by stretches of their digits.
+    /// Writes the numbers by chunks of their digits.
     fn write_many<W: Writer<C>>(items: &[i32], writer: &mut W) -> Result<(), C::Error> {
         write_numbers(items, writer)
     }
@@ -109,7 +109,7 @@ impl<C: Context> Writable<C> for i64 {
         writer.write_i64(*self)
     }
 
-    /// Writes the numbers by stretches of their digits.
+    /// Writes the numbers by chunks of their digits.
     fn write_many<W: Writer<C>>(items: &[i64], writer: &mut W) -> Result<(), C::Error> {
         write_numbers(items, writer)
     }
@@ -121,7 +121,7 @@ impl<C: Context> Writable<C> for i128 {
         writer.write_i128(*self)
     }
 
-    /// Writes the numbers by stretches of their digits.
+    /// Writes the numbers by chunks of their digits.
     fn write_many<W: Writer<C>>(items: &[i128], writer: &mut W) -> Result<(), C::Error> {
         write_numbers(items, writer)
     }

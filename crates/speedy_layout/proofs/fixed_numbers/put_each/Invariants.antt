@@ -6,5 +6,5 @@ use Rattle.speedy_layout.proofs.fixed_numbers.put_each.Given as goal
 -- the first numbers are put
 abbrev pub invariant-loop-number : goal.invariant-loop-number
 invariant-loop-number g l =
-    (l.at ≡ l.number-index * g.T.Layout.least) × (length l.output ≡ length l.numbers * g.T.Layout.least)
+    (l.at ≡ l.number-index * g.T.FixedSize.SIZE) × (length l.output ≡ length l.numbers * g.T.FixedSize.SIZE)
     × Each (spelled_in g.T.Layout.format l.order) (map g.T.Layout.seen (take l.number-index l.numbers)) (take l.at l.output)

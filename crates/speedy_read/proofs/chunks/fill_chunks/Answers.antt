@@ -35,5 +35,5 @@ returns-in_err-read_bytes g c =
     let at = c.loop-at.at in
     let count = length-take-le at c.loop-at.places c.loop-at.invariant.0 in
     numbers_refused g.met.T.Layout.layout_laws g.met.T.FixedNumber.is_fixed _ g.T.Layout.seen _ (take at c.loop-at.places) c.min-some.result (omega (arith, count, c.loop-at.invariant.0, c.loop-at.invariant.1))
-    (length-take-le (c.min-some.result * c.size-in-loop-at.result) c.loop-at.chunk (chunk_fits {some = c.min-some.result} g.met.T.FixedNumber.is_fixed.has_bytes (omega arith) c.size.ensures c.size-in-loop-at.ensures c.loop-at.auto.chunk) ∙ ap (λ n. c.min-some.result * n) c.size-in-loop-at.ensures)
+    (length-take-le (c.min-some.result * c.SIZE-in-loop-at.result) c.loop-at.chunk (chunk_fits {some = c.min-some.result} g.met.T.FixedNumber.is_fixed.has_bytes (omega arith) c.SIZE.ensures c.SIZE-in-loop-at.ensures c.loop-at.auto.chunk) ∙ ap (λ n. c.min-some.result * n) c.SIZE-in-loop-at.ensures)
     c.loop-at.invariant.2 c.from_residual.ensures.1 c.in_err-read_bytes.ensures

@@ -1,4 +1,4 @@
-use Rattle.std.proofs.Common.{◌∙◌, ◌*◌, [], Ok, Err, ap, arith, length, refl}
+use Rattle.std.proofs.Common.{◌∙◌, ◌*◌, [], Ok, Err, ap, arith, length, refl, sym}
 use Rattle.std.proofs.lemmas.List.{length-map}
 use Rattle.speedy_read.specs.ReadingLemmas.{input_ended, none_so_far}
 use Rattle.speedy_read.proofs.ListLemmas.{got_items, refused_early}
@@ -9,12 +9,12 @@ pub returns-in_default : goal.returns-in_default
 returns-in_default g c =
     refused_early (g.met.T.Layout.layout_laws _) _
     (input_ended g.C.Error.From.from_gives g.C.Error.IsEof.eof _ _ c.error_end_of_input.ensures (g.met.C.Context.keeps_eof _ _ c.error_end_of_input.ensures))
-    (λ told fit. past_usize (length c.args.places.now * c.size.result) _ _ c.in_default.ensures (ap (λ n. length c.args.places.now * n) c.size.ensures) fit)
+    (λ told fit. past_usize (length c.args.places.now * c.SIZE.result) _ _ c.in_default.ensures (ap (λ n. length c.args.places.now * n) (c.SIZE.ensures ∙ sym g.met.T.FixedNumber.least_is)) fit)
 
 pub take_each-requires : goal.take_each-requires
 take_each-requires g c =
     lent_length _ (lent_is _ (Ok c.in-Some-Ok.digits) c.in-Some-Ok.is c.in-Some-Ok.field-0-is c.read_bytes_borrowed_from_reader.follows.holds-at-none)
-    ∙ all_digits _ c.size.result c.in-Some.ensures.1 c.size.ensures
+    ∙ all_digits _ c.SIZE.result c.in-Some.ensures.1 c.SIZE.ensures
 
 pub returns-in-Some-Ok : goal.returns-in-Some-Ok
 returns-in-Some-Ok g c =
@@ -29,5 +29,5 @@ pub returns-in-Some-Err : goal.returns-in-Some-Err
 returns-in-Some-Err g c =
     let lent = lent_is _ (Err c.in-Some-Err.field-0-0) c.in-Some-Err.is c.in-Some-Err.field-0-is c.read_bytes_borrowed_from_reader.follows.holds-at-none in
     let e = c.error_end_of_input-in-Some-Err.ensures in
-    numbers_refused g.met.T.Layout.layout_laws g.met.T.FixedNumber.is_fixed _ g.T.Layout.seen _ [] _ (omega arith) (all_digits _ c.size.result c.in-Some.ensures.1 c.size.ensures) (none_so_far refl) refl
+    numbers_refused g.met.T.Layout.layout_laws g.met.T.FixedNumber.is_fixed _ g.T.Layout.seen _ [] _ (omega arith) (all_digits _ c.SIZE.result c.in-Some.ensures.1 c.SIZE.ensures) (none_so_far refl) refl
     (lent_refused _ (input_ended g.C.Error.From.from_gives g.C.Error.IsEof.eof _ _ e (g.met.C.Context.keeps_eof _ _ e)) lent)
