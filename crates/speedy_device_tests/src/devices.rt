@@ -1,7 +1,7 @@
 //! Sources and sinks: what they move, and what a failed call leaves.
 use crate::asserting::assert_same;
 use speedy::device::{Counted, Sink, Source};
-use std::alloc::{Allocator, Global};
+use std::alloc::Allocator;
 use std::cell::Cell;
 use std::fs::{Metadata, OpenFile, OpenOptions};
 use std::io;
@@ -58,53 +58,6 @@ impl Write for Device {
     }
 }
 
-/// A writer that keeps what it takes, at most so many bytes a call, and of which one call fails, counted from 1. It
-/// counts its calls, and its flushes apart.
-#[derive(Drop)]
-pub(crate) struct Recorder {
-    pub(crate) taken: Vec<u8>,
-    pub(crate) calls: usize,
-    pub(crate) flushes: usize,
-    most: usize,
-    fails_at: usize,
-    fails_with: io::ErrorKind,
-}
-
-pub(crate) fn make_recorder(
-    alloc: Global,
-    most: usize,
-    fails_at: usize,
-    fails_with: io::ErrorKind,
-) -> Counted<Recorder> {
-    Counted::new(Recorder {
-        taken: Vec::new(alloc),
-        calls: 0,
-        flushes: 0,
-        most,
-        fails_at,
-        fails_with,
-    })
-}
-
-impl Write for Recorder {
-    fn write(&mut self, buf: &[u8]) -> io::Result<usize> {
-        self.calls = self.calls.saturating_add(1);
-        if self.calls == self.fails_at {
-            return Err(io::Error::from(self.fails_with));
-        }
-        let count = buf.len().min(self.most);
-        if self.taken.extend_from_slice(&buf[..count]).is_err() {
-            return Err(io::Error::from(io::ErrorKind::OutOfMemory));
-        }
-        Ok(count)
-    }
-
-    fn flush(&mut self) -> io::Result<()> {
-        self.flushes = self.flushes.saturating_add(1);
-        Ok(())
-    }
-}
-
 /// What can be called of files.
 #[derive(Clone, Copy, Debug, PartialEq, Eq)]
 pub(crate) enum FileCall {
@@ -134,10 +87,10 @@ impl FileCalls {
     }
 }
 
-/// Files that hold nothing and keep nothing, of which each call of one name fails. They count their calls.
+/// Files that hold nothing and keep nothing, of which each call of one name fails with a kind. They count their calls.
 #[derive(Clone, Copy, Drop)]
 pub(crate) struct FakeFiles<'a> {
-    pub(crate) fails: Option<FileCall>,
+    pub(crate) fails: Option<(FileCall, io::ErrorKind)>,
     pub(crate) calls: &'a FileCalls,
 }
 
@@ -149,10 +102,10 @@ pub(crate) struct FakeFile<'a> {
 
 impl<'a> FakeFiles<'a> {
     fn call(&self, call: FileCall) -> io::Result<()> {
-        if self.fails == Some(call) {
-            return Err(io::Error::from(io::ErrorKind::Other));
+        match self.fails {
+            Some((name, kind)) if name == call => Err(io::Error::from(kind)),
+            _ => Ok(()),
         }
-        Ok(())
     }
 }
 

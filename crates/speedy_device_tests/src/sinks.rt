@@ -2,7 +2,7 @@
 ghost use Rattle.std.specs.Prelude.{[], false};
 
 use crate::asserting::{assert_bytes, assert_ok, assert_same};
-use crate::devices::{FakeFiles, FileCall, FileCalls, KINDS, make_recorder};
+use crate::devices::{FakeFiles, FileCall, FileCalls, KINDS};
 use crate::failing::Failing;
 use speedy::context::LittleEndian;
 use speedy::device::{Faults, Sink, VecSink};
@@ -40,16 +40,15 @@ fn assert_pushed_in<T: Writable<Endianness>>(
     let outcome = value.write_to_stream_with_ctx(alloc, order, &mut sink);
     assert_ok(rt, outcome, ());
     assert_bytes(rt, sink.bytes(), bytes);
-    let mut sink = make_recorder(alloc, 1, 0, io::ErrorKind::Other);
+    let mut sink = Failing::new(VecSink::new(alloc), 1, 0, io::ErrorKind::Other);
     let outcome = value.write_to_stream_with_ctx(alloc, order, &mut sink);
     assert_ok(rt, outcome, ());
-    let recorder = sink.into_inner();
-    assert_bytes(rt, recorder.taken.as_slice(), bytes);
-    assert_same(rt, recorder.flushes, 0);
+    assert_bytes(rt, sink.inner.bytes(), bytes);
+    assert_same(rt, (sink.calls(), sink.flushes), (bytes.len(), 0));
 }
 
-/// Asserts that in the order, where a push of one byte fails with the kind, its error is answered, the bytes before it
-/// were taken, and no other push comes after it.
+/// Asserts that in the order, where one call of the flushing form fails with the kind, its error is answered, the bytes
+/// before it were taken, and no call comes after it. It pushes a byte a call, and then flushes.
 fn assert_cut_off_in<T: Writable<Endianness>>(
     rt: &impl Abort,
     alloc: Global,
@@ -58,17 +57,17 @@ fn assert_cut_off_in<T: Writable<Endianness>>(
     bytes: &[u8],
     kind: io::ErrorKind,
 ) {
-    for count in 0..bytes.len() {
-        let mut sink = make_recorder(alloc, 1, count + 1, kind);
-        let outcome = value.write_to_stream_with_ctx(alloc, order, &mut sink);
+    for count in 0..=bytes.len() {
+        let mut sink = Failing::new(VecSink::new(alloc), 1, count + 1, kind);
+        let outcome = write_to_stream_and_flush_with_ctx(value, alloc, order, &mut sink);
         assert_failed_call(rt, outcome, kind);
-        let recorder = sink.into_inner();
-        assert_bytes(rt, recorder.taken.as_slice(), &bytes[..count]);
-        assert_same(rt, (recorder.calls, recorder.flushes), (count + 1, 0));
+        assert_bytes(rt, sink.inner.bytes(), &bytes[..count]);
+        let flushes = usize::from(count == bytes.len());
+        assert_same(rt, (sink.calls(), sink.flushes), (count + 1, flushes));
     }
 }
 
-/// Asserts that in both orders the value is pushed as the bytes, as far as no push fails.
+/// Asserts that in both orders the value is pushed as the bytes, as far as no call fails.
 fn assert_pushed<T: Writable<Endianness>>(
     rt: &impl Abort,
     alloc: Global,
@@ -181,25 +180,6 @@ fn the_flushing_form_flushes_once_behind_the_value(rt: HostRuntime) {
 }
 
 #[test]
-fn a_failed_call_of_the_flushing_form_is_answered_and_is_the_last(rt: HostRuntime) {
-    let alloc = rt.alloc();
-    for kind in KINDS {
-        for (fails_at, taken) in [(1, &[][..]), (2, &[0][..]), (3, &[0, 2][..])] {
-            let mut sink = Failing::new(VecSink::new(alloc), 1, fails_at, kind);
-            let outcome = write_to_stream_and_flush_with_ctx(
-                &2_u16,
-                alloc,
-                Endianness::BigEndian,
-                &mut sink,
-            );
-            assert_failed_call(&rt, outcome, kind);
-            assert_bytes(&rt, sink.inner.bytes(), taken);
-            assert_same(&rt, (sink.calls(), sink.flushes), (fails_at, fails_at / 3));
-        }
-    }
-}
-
-#[test]
 fn without_a_context_the_little_order_is_pushed(rt: HostRuntime) {
     let alloc = rt.alloc();
     let mut sink = VecSink::new(alloc);
@@ -221,16 +201,15 @@ fn write_in_both_orders(rt: &impl Abort, writer: &mut impl Writer<Endianness>) {
 #[test]
 fn a_collector_gives_its_sink_back(rt: HostRuntime) {
     let alloc = rt.alloc();
-    let mut sink = make_recorder(alloc, 9, 0, io::ErrorKind::Other);
+    let mut sink = Failing::new(VecSink::new(alloc), 9, 0, io::ErrorKind::Other);
     let mut writer = WritingCollector::new(alloc, Endianness::LittleEndian, &mut sink);
     assert_same(&rt, writer.can_write_at_least(0), None);
     assert_same(&rt, *writer.context(), Endianness::LittleEndian);
     write_in_both_orders(&rt, &mut writer);
     let outcome = 3_u8.write_to_stream_with_ctx(alloc, Endianness::BigEndian, writer.into_sink());
     assert_ok(&rt, outcome, ());
-    let recorder = sink.into_inner();
-    assert_bytes(&rt, recorder.taken.as_slice(), &[1, 0, 0, 2, 3]);
-    assert_same(&rt, recorder.calls, 3);
+    assert_bytes(&rt, sink.inner.bytes(), &[1, 0, 0, 2, 3]);
+    assert_same(&rt, sink.calls(), 3);
 }
 
 const PATH: &str = "speedy_tests_sinks.bin";
@@ -257,7 +236,7 @@ fn a_file_is_emptied_and_written(rt: HostRuntime) {
 }
 
 #[test]
-fn a_file_may_be_longer_than_the_buffer_before_it(rt: HostRuntime) {
+fn a_file_may_be_longer_than_the_room_before_it(rt: HostRuntime) {
     let alloc = rt.alloc();
     let path = "speedy_tests_sinks_long.bin";
     let bytes = vec![in alloc; 7_u8; 20_000].expect(&rt, "a vector");
@@ -276,34 +255,41 @@ fn a_file_that_cannot_be_made_is_refused(rt: HostRuntime) {
     assert_failed_call(&rt, outcome, io::ErrorKind::NotFound);
 }
 
-/// The outcome of writing two bytes to a file of which each call of this name fails, and how often it was written to and
-/// flushed.
-fn write_to_fake(alloc: Global, fails: Option<FileCall>) -> (Result<(), Error>, (u8, u8)) {
+/// The outcome of writing 16,004 bytes in pieces of 8 to a file of which each call of this name fails, and how often it
+/// was written to and flushed.
+fn write_to_fake(
+    rt: &impl Abort,
+    alloc: Global,
+    fails: Option<(FileCall, io::ErrorKind)>,
+) -> (Result<(), Error>, (u8, u8)) {
     let calls = FileCalls::none();
     let files = FakeFiles {
         fails,
         calls: &calls,
     };
-    let outcome = 2_u16.write_to_file_with_ctx(&files, alloc, Endianness::LittleEndian, "any");
+    let pairs = vec![in alloc; (1_u64, 2_u64); 1_000].expect(rt, "a vector");
+    let outcome = pairs.write_to_file_with_ctx(&files, alloc, Endianness::LittleEndian, "any");
     (outcome, (calls.writes.get(), calls.flushes.get()))
 }
 
 #[test]
 fn a_failed_call_of_a_file_is_answered_and_not_tried_again(rt: HostRuntime) {
-    for (call, expected) in [
-        (FileCall::Open, (0, 0)),
-        (FileCall::Write, (1, 0)),
-        (FileCall::Flush, (1, 1)),
-    ] {
-        let (outcome, found) = write_to_fake(rt.alloc(), Some(call));
-        assert_failed_call(&rt, outcome, io::ErrorKind::Other);
-        assert_same(&rt, found, expected);
+    for kind in KINDS {
+        for (call, expected) in [
+            (FileCall::Open, (0, 0)),
+            (FileCall::Write, (1, 0)),
+            (FileCall::Flush, (2, 1)),
+        ] {
+            let (outcome, found) = write_to_fake(&rt, rt.alloc(), Some((call, kind)));
+            assert_failed_call(&rt, outcome, kind);
+            assert_same(&rt, found, expected);
+        }
     }
 }
 
 #[test]
-fn a_file_is_flushed_once(rt: HostRuntime) {
-    let (outcome, found) = write_to_fake(rt.alloc(), None);
+fn a_file_is_written_by_its_room_and_flushed_once(rt: HostRuntime) {
+    let (outcome, found) = write_to_fake(&rt, rt.alloc(), None);
     assert_ok(&rt, outcome, ());
-    assert_same(&rt, found, (1, 1));
+    assert_same(&rt, found, (2, 1));
 }

@@ -394,8 +394,9 @@ fn a_file_is_read_as_a_stream(rt: HostRuntime) {
     assert!(rt; fs::remove_file(&rt, path).is_ok());
 }
 
-/// Files that hold nothing, of which each call of this name fails.
+/// Files that hold nothing, of which each call of this name fails as an interrupted one.
 fn make_files(fails: Option<FileCall>, calls: &FileCalls) -> FakeFiles<'_> {
+    let fails = fails.map(|call| (call, io::ErrorKind::Interrupted));
     FakeFiles { fails, calls }
 }
 
@@ -413,10 +414,10 @@ fn a_failed_read_of_a_file_is_answered_and_not_tried_again(rt: HostRuntime) {
     let calls = FileCalls::none();
     let files = make_files(Some(FileCall::Read), &calls);
     let outcome = <u16 as Readable<LittleEndian>>::read_from_file(&files, rt.alloc(), "any");
-    assert_device_refused(&rt, outcome, io::ErrorKind::Other);
+    assert_device_refused(&rt, outcome, io::ErrorKind::Interrupted);
     assert_same(&rt, calls.reads.get(), 1);
     let files = make_files(Some(FileCall::Open), &calls);
     let outcome = <u16 as Readable<LittleEndian>>::read_from_file(&files, rt.alloc(), "any");
-    assert_device_refused(&rt, outcome, io::ErrorKind::Other);
+    assert_device_refused(&rt, outcome, io::ErrorKind::Interrupted);
     assert_same(&rt, calls.reads.get(), 1);
 }

@@ -1,9 +1,8 @@
 -- Bytes that are gathered before they are pushed.
-use Rattle.std.specs.Prelude.{◌≡◌, ℕ, ◌+◌, List, [], ◌++◌, take, drop, slice_range, Result, Ok, Err, IsErrAnd, refl}
+use Rattle.std.specs.Prelude.{◌≡◌, ℕ, ◌+◌, List, [], ◌++◌, take, drop, Result, Ok, Err, IsErrAnd, refl}
 use Rattle.std.specs.Borrow.{GName}
 use Rattle.std.proofs.Common.{sym, ◌∙◌, ap, subst, inl}
 use Rattle.std.proofs.lemmas.List.{append_assoc, append-nil, drop-drop, take_rest}
-use Rattle.std.proofs.lemmas.Slice.{between_is}
 use Rattle.std.specs.declared.io.Error.{Error as StdIoError}
 use Rattle.speedy_base.specs.declared.device.Faults.{Faults}
 use Rattle.speedy_base.specs.declared.error.Error.{Error}
@@ -24,10 +23,10 @@ use Rattle.speedy_write.proofs.PushLemmas.{PushedSoFar, more_pushed}
 -- ---- what waits is pushed
 
 -- some more of it
-pub more_taken : {waited : List ℕ} (xs : List ℕ) (start end n : ℕ) {s t u : SinkState} → PushedSoFar waited (drop start (take end xs)) s t → Pushes (Ok n) t u (slice_range xs start end) → PushedSoFar waited (drop (start + n) (take end xs)) s u
+pub more_taken : {waited : List ℕ} (xs : List ℕ) (start end n : ℕ) {s t u : SinkState} → PushedSoFar waited (drop start (take end xs)) s t → Pushes (Ok n) t u (drop start (take end xs)) → PushedSoFar waited (drop (start + n) (take end xs)) s u
 more_taken {waited = waited} xs start end n {s = s} {t = t} {u = u} so_far p =
     let rest = drop start (take end xs) in
-    subst (λ (r : List ℕ). PushedSoFar waited r s u) (take_rest rest n ∙ drop-drop n start (take end xs)) (more_pushed so_far (subst (λ (b : List ℕ). Pushes (Ok n) t u b) (between_is xs start end) p))
+    subst (λ (r : List ℕ). PushedSoFar waited r s u) (take_rest rest n ∙ drop-drop n start (take end xs)) (more_pushed so_far p)
 
 module _ {E : Type 0} {gives : Error → E → Type 0} where
   -- all of it

@@ -7,6 +7,7 @@ use Rattle.speedy_base.specs.Device.{SinkState}
 use Rattle.speedy_base.specs.DeviceLemmas.{grown}
 use Rattle.speedy_base.specs.Encoding.{Encoding}
 use Rattle.speedy_base.specs.FailedCalls.{IsOfFailedCall}
+use Rattle.speedy_base.specs.MemoryDevices.{no_faults}
 use Rattle.speedy_layout.specs.Format.{Format}
 use Rattle.speedy_layout.specs.Laws.{Laws}
 use Rattle.speedy_write.specs.Writing.{WriterKind, WriterState, Unwritten, Writes}
@@ -15,9 +16,9 @@ use Rattle.speedy_write.specs.WaysOfWriting.{RefusesUnspelled, WritesToStream, W
 
 module _ {E : Type 0} {gives : Error → E → Type 0} {V : Type 0} {v : V} where
   -- what is written to a file is written to a sink and flushed
-  pub file_written : {L : Format V} (s t : SinkState) (result : Result (Unit {0}) E) → WritesAndFlushes gives L v result s t → WritesToFile gives L v result
-  file_written s t (Ok _) w = record { written = (s, t, w); refused = tt }
-  file_written s t (Err e) w = record { written = tt; refused = elim w.0.refused [ inl h ↦ inl (h.0, h.2) | inr h ↦ inr (inr h.1) ] }
+  pub file_written : {L : Format V} (s t : SinkState) (result : Result (Unit {0}) E) → s.faults ≡ no_faults → WritesAndFlushes gives L v result s t → WritesToFile gives L v result
+  file_written s t (Ok _) none w = record { written = (s, t, none, w); refused = tt }
+  file_written s t (Err e) none w = record { written = tt; refused = inr (s, t, none, w) }
 
   -- where space has no bound, what is not written has no spelling
   no_spelling : {L : Format V} {e : E} {old new : WriterState} → old.space ≡ None → Unwritten gives L v e old new → RefusesUnspelled gives L v e

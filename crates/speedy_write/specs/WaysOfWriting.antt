@@ -6,6 +6,7 @@ use Rattle.speedy_base.specs.declared.error.Error.{Error}
 use Rattle.speedy_base.specs.Error.{error_of}
 use Rattle.speedy_base.specs.Device.{SinkState, SinkKept}
 use Rattle.speedy_base.specs.FailedCalls.{HasGrown, IsErrorOf, IsOfFailedCall}
+use Rattle.speedy_base.specs.MemoryDevices.{no_faults}
 use Rattle.speedy_layout.specs.Format.{Format}
 use Rattle.speedy_write.specs.Collectors.{Takes}
 use Rattle.speedy_write.specs.Writing.{IsOutOfRange, Begun}
@@ -79,9 +80,10 @@ module _ {E : Type 0} (gives : Error → E → Type 0) where
   abbrev pub WritesAndFlushes : {V : Type 0} → Format V → V → Result (Unit {0}) E → SinkState → SinkState → Type 0
   WritesAndFlushes L v result old new = WritesToStream L v result old (record new { settled = old.settled }) × OnOk result (IsTrue new.settled)
 
-  -- What the ways of writing to a file answer. Which bytes a file took no contract can say.
+  -- What the ways of writing to a file do. Which bytes a file took no contract can say.
   pub record WritesToFile {V : Type 0} (L : Format V) (v : V) (result : Result (Unit {0}) E) : Type 0 where
-    -- what succeeds had some sink take a shortest written form, and pass all of it on
-    pub written : OnOk result ((old new : SinkState) × WritesAndFlushes L v result old new)
-    -- a refusal is what the error of a failed call became, or want of memory, or the value has no spelling
-    pub refused : IfErr result (λ e. ((error : StdIoError) × IsErrorOf gives error e) ⊎ (gives (error_of kinds.OutOfMemory) e ⊎ RefusesUnspelled L v e))
+    -- what succeeds was written to the file's sink, of which no call had failed, and that was flushed
+    pub written : OnOk result ((old new : SinkState) × (old.faults ≡ no_faults) × WritesAndFlushes L v result old new)
+    -- what is refused too, or the file could not be opened, and this is what the error of that call became
+    pub refused : IfErr result (λ e. ((error : StdIoError) × IsErrorOf gives error e)
+        ⊎ ((old new : SinkState) × (old.faults ≡ no_faults) × WritesAndFlushes L v result old new))

@@ -11,28 +11,28 @@ use speedy_base::device::Sink;
 use speedy_base::error::Error;
 use std::alloc::Global;
 
-/// Bytes that wait to be pushed.
+/// Bytes that wait to be pushed, in room that is lent.
 #[derive(Drop)]
-pub struct Waiting {
+pub struct Waiting<'b> {
     // What waits lies from `start` to `end`.
-    bytes: [u8; 256],
+    room: &'b mut [u8],
     start: usize,
     end: usize,
     ghost ordered: { start ≤ end },
-    ghost within: { end ≤ length bytes },
+    ghost within: { end ≤ length room.now },
 }
 
-impl Waiting {
+impl<'b> Waiting<'b> {
     ghost use Rattle.speedy_write.specs.CollectorModels.{waiting};
 
     // Nothing waits, and all room is free.
     #[inline]
-    fn none() -> Waiting
+    fn none(room: &'b mut [u8]) -> Waiting<'b>
         ensures waits { waiting result ≡ [] }
         ensures room { result.end ≡ 0 }
     {
         Waiting {
-            bytes: [0; 256],
+            room,
             start: 0,
             end: 0,
         }
@@ -41,20 +41,28 @@ impl Waiting {
     // Whether so many bytes more have room.
     #[inline(always)]
     fn has_room(&self, count: usize) -> bool
-        ensures { IsTrue result ↔ (self.now.end + count ≤ length self.now.bytes) }
+        ensures { IsTrue result ↔ (self.now.end + count ≤ length self.now.room.now) }
     {
-        count <= self.bytes.len() - self.end
+        count <= self.room.len() - self.end
     }
 
     // Has these wait too.
     #[inline(always)]
     fn add(&mut self, slice: &[u8])
-        requires { self.old.end + length slice.now ≤ length self.old.bytes }
+        requires { self.old.end + length slice.now ≤ length self.old.room.now }
         ensures { waiting self.new ≡ waiting self.old ++ slice.now }
     {
         let end = self.end + slice.len();
-        self.bytes[self.end..end].copy_from_slice(slice);
+        self.room[self.end..end].copy_from_slice(slice);
         self.end = end;
+    }
+
+    // What waits.
+    #[inline(always)]
+    fn bytes(&self) -> &[u8]
+        ensures { result.now ≡ waiting self.now }
+    {
+        &self.room[self.start..self.end]
     }
 
     // Pushes what waits. Where that succeeds, all room is free.
@@ -64,7 +72,7 @@ impl Waiting {
         ensures room { OnOk result (self.new.end ≡ 0) }
     {
         while self.start < self.end {
-            match sink.push(&self.bytes[self.start..self.end]) {
+            match sink.push(self.bytes()) {
                 Ok(count) => self.start += count,
                 Err(error) => return Err(error_of_failed_call(alloc, error)),
             }
@@ -75,7 +83,7 @@ impl Waiting {
     }
 }
 
-/// Pushes to a sink what is written, short writes together: 256 bytes at a time. What is longer is pushed as it is.
+/// Pushes to a sink what is written, short writes together, as many as have room. What is longer is pushed as it is.
 ///
 /// What was written last waits until [`push_waiting`](Self::push_waiting).
 #[derive(Drop)]
@@ -83,15 +91,20 @@ pub struct GatheringCollector<'s, S, C> {
     alloc: Global,
     context: C,
     sink: &'s mut S,
-    waiting: Waiting,
+    waiting: Waiting<'s>,
 }
 
 impl<'s, S, C: Drop> GatheringCollector<'s, S, C> {
     ghost use Rattle.speedy_write.specs.CollectorModels.{gathering_model};
 
-    /// Goes on behind what the sink took. Memory is asked for where a push fails, for its error.
+    /// Goes on behind what the sink took, and gathers in the room. Memory is asked for where a push fails, for its error.
     #[inline]
-    pub fn new(alloc: Global, context: C, sink: &'s mut S) -> GatheringCollector<'s, S, C>
+    pub fn new(
+        alloc: Global,
+        context: C,
+        sink: &'s mut S,
+        room: &'s mut [u8],
+    ) -> GatheringCollector<'s, S, C>
         ensures context { (gathering_model result).context ≡ context }
         ensures same_sink { (gathering_model result).sink_name ≡ sink.entry.ghost_name }
         ensures sink { (gathering_model result).sink ≡ sink.old }
@@ -101,7 +114,7 @@ impl<'s, S, C: Drop> GatheringCollector<'s, S, C> {
             alloc,
             context,
             sink,
-            waiting: Waiting::none(),
+            waiting: Waiting::none(room),
         }
     }
 
@@ -153,6 +166,7 @@ impl<'s, S: Sink, C: Context> Writer<C> for GatheringCollector<'s, S, C> {
 
     ghost with_context = { λ w c. record w { context = c } };
 
+    // The room is not given back, so its name is not told.
     ghost state = { λ w. sink_state (C.encoding w.context) w.sink.ghost_name (S.sink w.sink.now) };
 
     ghost appends = { λ a s b. Gathers (S.sink a.sink.now) (waiting a.waiting) s (S.sink b.sink.now) (waiting b.waiting) };

@@ -7,8 +7,7 @@ ghost use Rattle.speedy_write.specs.Lengths.{WritesLength};
 ghost use Rattle.speedy_write.specs.WaysOfWriting.{WritesAndFlushes};
 ghost use Rattle.speedy_write.specs.Writing.{Writes, WritesNumber, RefusesFull};
 
-use crate::collectors::error_of_failed_call;
-use crate::writable::Writable;
+use crate::writable::{SINK_ROOM, Writable, write_and_flush};
 use crate::writer::Writer;
 use speedy_base::context::Context;
 use speedy_base::device::Sink;
@@ -29,11 +28,7 @@ pub fn write_to_stream_and_flush_with_ctx<C: Context, T: Writable<C>, S: Sink>(
         WritesAndFlushes C.Error.from_gives format (T.seen value.now) result
         (S.sink sink.old) (S.sink sink.new) }
 {
-    value.write_to_stream_with_ctx(alloc, context, sink)?;
-    match sink.flush() {
-        Ok(()) => Ok(()),
-        Err(error) => Err(error_of_failed_call(alloc, error)),
-    }
+    write_and_flush(value, alloc, context, sink, &mut [0; SINK_ROOM])
 }
 
 /// Writes a length as a `u32`. A longer one is refused as `OutOfRangeLength` before anything is written.

@@ -1,17 +1,14 @@
 //! What can be written, and the ways of writing it.
 ghost use Rattle.std.specs.Prelude.{◌≡◌, ◌≤◌, ◌⊎◌, ℕ, List, length, IsTrue, MatchResult, IsOk, IfErr, OnOk};
-ghost use Rattle.std.specs.declared.io.Error.{Error as StdIoError};
 ghost use Rattle.speedy_base.specs.Error.{error_of};
 ghost use Rattle.speedy_base.specs.Encoding.{plain_encoding};
-ghost use Rattle.speedy_base.specs.FailedCalls.{IsErrorOf};
 ghost use Rattle.speedy_write.specs.Writing.{Writes, WritesEach};
-ghost use Rattle.speedy_write.specs.WaysOfWriting.{Needs, IsShortest, Stands, WritesToBuffer, WritesToVec, WritesToStream, WritesToFile};
+ghost use Rattle.speedy_write.specs.WaysOfWriting.{Needs, IsShortest, Stands, WritesToBuffer, WritesToVec, WritesToStream, WritesAndFlushes, WritesToFile};
 
 use crate::collectors::{VecCollector, error_of_failed_call};
 pub use crate::collectors::{BufferCollector, SizeCalculatorCollector, WritingCollector};
 use crate::counting::CountingCollector;
 use crate::gathering::GatheringCollector;
-use crate::private::write_to_stream_and_flush_with_ctx;
 use crate::writer::Writer;
 use speedy_base::context::{Context, PlainContext};
 use speedy_base::device::{Counted, Sink};
@@ -23,7 +20,6 @@ use speedy_base::error::{
 use speedy_layout::Layout;
 use std::alloc::Global;
 use std::fs;
-use std::io::BufWriter;
 use std::path::AsPath;
 use std::rt::Files;
 
@@ -176,18 +172,7 @@ pub trait Writable<C: Context>: Layout {
             WritesToStream C.Error.from_gives format (Self.seen self.now) result
             (S.sink sink.old) (S.sink sink.new) }
     {
-        let mut collector = GatheringCollector::new(alloc, context, sink);
-        match self.write_to(&mut collector) {
-            Ok(()) => {
-                let outcome = collector.push_waiting();
-                collector.into_sink();
-                outcome
-            }
-            Err(error) => {
-                collector.into_sink();
-                Err(error)
-            }
-        }
+        write_gathered(self, alloc, context, sink, &mut [0; SINK_ROOM])
     }
 
     /// Writes the value to a file, in the little byte order. The file is made or emptied, and flushed at the end.
@@ -208,8 +193,9 @@ pub trait Writable<C: Context>: Layout {
 
     /// Writes the value to a file, as the context says. The file is made or emptied, and flushed at the end.
     ///
-    /// A failed call of the file is answered, that of the flush too, but for an interrupted write, which the buffer
-    /// before the file tries again. After a refusal the file may hold a part of the value.
+    /// Short parts of the value are gathered, and written 8,192 bytes at a time. A failed call of the file is answered,
+    /// that of the flush too, and no call is tried again, an interrupted one neither. After a refusal the file may hold a
+    /// part of the value. Memory is asked for where a call fails, for its error.
     final fn write_to_file_with_ctx<R: Files, P: AsPath>(
         &self,
         rt: &R,
@@ -220,30 +206,62 @@ pub trait Writable<C: Context>: Layout {
         ensures { let format = Self.format (C.encoding context) in
             WritesToFile C.Error.from_gives format (Self.seen self.now) result }
     {
-        let mut sink = Counted::new(create_buffered(rt, alloc, path)?);
-        let outcome = write_to_stream_and_flush_with_ctx(self, alloc, context, &mut sink);
-        // The buffer's own drop would try once more to write what a failed call left.
-        let (_file, _left) = sink.into_inner().into_parts();
-        outcome
+        let file = match fs::create(rt, path) {
+            Ok(file) => file,
+            Err(error) => return Err(error_of_failed_call(alloc, error)),
+        };
+        let mut sink = Counted::new(file);
+        write_and_flush(self, alloc, context, &mut sink, &mut [0; FILE_ROOM])
     }
 }
 
-// Makes or empties the file, with a buffer in front of it.
-fn create_buffered<R: Files, P: AsPath, E: From<Error>>(
-    rt: &R,
+// How many bytes are gathered for a sink, and for a file, before they are pushed.
+pub(crate) const SINK_ROOM: usize = 256;
+
+const FILE_ROOM: usize = 8_192;
+
+// Writes a value to a sink. Its short parts are gathered in the room.
+fn write_gathered<C: Context, T: Writable<C>, S: Sink>(
+    value: &T,
     alloc: Global,
-    path: P,
-) -> Result<BufWriter<R::File>, E>
-    ensures { IfErr result (λ e. ((error : StdIoError) × IsErrorOf E.from_gives error e)
-        ⊎ E.from_gives (error_of ErrorKind.OutOfMemory) e) }
+    context: C,
+    sink: &mut S,
+    room: &mut [u8],
+) -> Result<(), C::Error>
+    ensures { let format = T.format (C.encoding context) in
+        WritesToStream C.Error.from_gives format (T.seen value.now) result
+        (S.sink sink.old) (S.sink sink.new) }
 {
-    let file = match fs::create(rt, path) {
-        Ok(file) => file,
-        Err(error) => return Err(error_of_failed_call(alloc, error)),
-    };
-    match BufWriter::new(alloc, file) {
-        Ok(buffered) => Ok(buffered),
-        Err(_) => Err(error_out_of_memory()),
+    let mut collector = GatheringCollector::new(alloc, context, sink, room);
+    match value.write_to(&mut collector) {
+        Ok(()) => {
+            let outcome = collector.push_waiting();
+            collector.into_sink();
+            outcome
+        }
+        Err(error) => {
+            collector.into_sink();
+            Err(error)
+        }
+    }
+}
+
+// Writes a value to a sink, and flushes the sink behind it. Short parts of the value are gathered in the room.
+pub(crate) fn write_and_flush<C: Context, T: Writable<C>, S: Sink>(
+    value: &T,
+    alloc: Global,
+    context: C,
+    sink: &mut S,
+    room: &mut [u8],
+) -> Result<(), C::Error>
+    ensures { let format = T.format (C.encoding context) in
+        WritesAndFlushes C.Error.from_gives format (T.seen value.now) result
+        (S.sink sink.old) (S.sink sink.new) }
+{
+    write_gathered(value, alloc, context, sink, room)?;
+    match sink.flush() {
+        Ok(()) => Ok(()),
+        Err(error) => Err(error_of_failed_call(alloc, error)),
     }
 }
 

@@ -6,7 +6,8 @@ ghost use Rattle.speedy.specs.WaysOfWriting.{WritesAndFlushes, WritesToFile};
 
 use crate::callers::streams::all_messages;
 use speedy::device::{Counted, Sink};
-use speedy::{Endianness, Error, Layout, LittleEndian, Writable};
+use speedy::private::write_to_stream_and_flush_with_ctx;
+use speedy::{Endianness, Error, Layout, LittleEndian};
 use std::alloc::Global;
 use std::fs::{File, Files, OpenOptions};
 
@@ -17,11 +18,7 @@ pub fn put_record<S: Sink>(alloc: Global, sink: &mut S, entry: &(u16, String)) -
         WritesAndFlushes ⟦<Error as From<Error>>⟧.from_gives format (layout.seen entry.now) result
         (S.sink sink.old) (S.sink sink.new) }
 {
-    Writable::<LittleEndian>::write_to_stream(entry, alloc, sink)?;
-    match sink.flush() {
-        Ok(()) => Ok(()),
-        Err(error) => Err(Error::from_io_error(alloc, error)),
-    }
+    write_to_stream_and_flush_with_ctx(entry, alloc, LittleEndian {}, sink)
 }
 
 /// Puts a record behind those that a file has. The file is made where there is none.

@@ -1,7 +1,7 @@
 use Rattle.std.proofs.Common.{ap, refl, arith}
 use Rattle.speedy_write.proofs.GatheringLemmas.{gathered_pushed, gathered_refused}
 use Rattle.speedy_write.proofs.StreamLemmas.{stream_written}
-use Rattle.speedy_write.proofs.writable.Writable.write_to_stream_with_ctx.Goals as goal
+use Rattle.speedy_write.proofs.writable.write_gathered.Goals as goal
 
 pub returns-in-Ok : goal.returns-in-Ok
 returns-in-Ok g c =
@@ -14,7 +14,7 @@ returns-in-Ok g c =
     let pushed_name = c.push_waiting-outcome.ensures.same_sink in
     let given_name = c.into_sink.ensures.same_sink in
     let given = c.into_sink.ensures.sink in
-    stream_written (g.met.Self.Layout.layout_laws _) {other = g.C.Context.encoding writer.context} {other_name = writer.sink.ghost_name} _ _ (ap g.C.Context.encoding made.context) (ap g.S.Sink.sink made.sink) (ap g.S.Sink.sink (grind arith)) outcome
+    stream_written (g.met.T.Layout.layout_laws _) {other = g.C.Context.encoding writer.context} {other_name = writer.sink.ghost_name} _ _ (ap g.C.Context.encoding made.context) (ap g.S.Sink.sink made.sink) (ap g.S.Sink.sink (grind arith)) outcome
     (gathered_pushed outcome written c.push_waiting-outcome.ensures.pushes)
 
 pub returns-in-Err : goal.returns-in-Err
@@ -26,4 +26,4 @@ returns-in-Err g c =
     let same_name = made.same_sink in
     let given_name = c.into_sink-in-Err.ensures.same_sink in
     let given = c.into_sink-in-Err.ensures.sink in
-    stream_written (g.met.Self.Layout.layout_laws _) {other = g.C.Context.encoding writer.context} {other_name = writer.sink.ghost_name} _ _ (ap g.C.Context.encoding made.context) (ap g.S.Sink.sink made.sink) (ap g.S.Sink.sink (grind arith)) _ (gathered_refused refl refused)
+    stream_written (g.met.T.Layout.layout_laws _) {other = g.C.Context.encoding writer.context} {other_name = writer.sink.ghost_name} _ _ (ap g.C.Context.encoding made.context) (ap g.S.Sink.sink made.sink) (ap g.S.Sink.sink (grind arith)) _ (gathered_refused refl refused)
