@@ -4,3 +4,4 @@ pub mod Line
 pub mod Answer
 pub mod Run
 pub mod Trees
+pub mod Packets

@@ -1,6 +1,7 @@
 //! Types of one's own: bytes that come from outside, and each way of reading them. What is refused, and what enums are
 //! written as, are lines of the tests of rows.
-use crate::callers::directory::Directory;
+use crate::callers::own_maps::Directory;
+use crate::callers::own_numbers::{Colour, Packet};
 use crate::callers::own_struct::Contact;
 use crate::enums::Enum;
 use crate::record::Record;
@@ -63,6 +64,21 @@ fn a_struct_may_hold_a_map_and_a_set(rt: HostRuntime) {
     let again = Writable::<LittleEndian>::write_to_vec(&directory, alloc).expect(&rt, "bytes");
     let expected = b"\x01\0\0\0\x01\0\0\0a\x08\0\0\0\x01\0\0\0\x09\0\0\0";
     assert!(rt; again.as_slice() == expected.as_slice());
+}
+
+#[test]
+fn tags_may_be_numbers_of_ones_own(rt: HostRuntime) {
+    let alloc = rt.alloc();
+    let read = <Colour as Readable<LittleEndian>>::read_from_buffer(alloc, &[5]);
+    assert!(rt; read.expect(&rt, "a colour") == Colour::Green);
+    let outcome = <Colour as Readable<LittleEndian>>::read_from_buffer(alloc, &[2]);
+    assert_refused(&rt, alloc, outcome, "InvalidEnumVariant");
+    let bytes = b"\x09\x02\0\0\0Hi\x07\0\0\0";
+    let read = <Packet as Readable<LittleEndian>>::read_from_buffer(alloc, bytes);
+    let packet = read.expect(&rt, "a packet");
+    assert!(rt; packet == Packet::Named(String::from_str(alloc, "Hi").expect(&rt, "a text"), 7));
+    let again = Writable::<LittleEndian>::write_to_vec(&packet, alloc).expect(&rt, "bytes");
+    assert!(rt; again.as_slice() == bytes.as_slice());
 }
 
 /// Which of the eight it is.
