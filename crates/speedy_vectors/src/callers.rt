@@ -4,6 +4,7 @@ pub mod headers;
 pub mod memory;
 pub mod own_maps;
 pub mod own_numbers;
+pub mod own_parts;
 pub mod own_struct;
 pub mod own_types;
 pub mod readme;

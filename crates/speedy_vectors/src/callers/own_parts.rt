@@ -1,0 +1,112 @@
+//! A struct of more than eleven parts: a tuple whose last part is one again. Of so many the search does not answer where
+//! reading is refused.
+ghost use Rattle.speedy.specs.Numbers.{unsigned_number_laws};
+ghost use Rattle.speedy.specs.TupleLaws.{tuple2_laws, tuple11_laws};
+
+use speedy::{
+    Context, ItemByItem, Layout, LendingReader, Part, ReadFrom, ReadMany, Writable, Writer,
+};
+use std::convert::AsSlice;
+
+/// A count for each month.
+#[derive(Drop)]
+pub struct Months {
+    pub january: u8,
+    pub february: u8,
+    pub march: u8,
+    pub april: u8,
+    pub may: u8,
+    pub june: u8,
+    pub july: u8,
+    pub august: u8,
+    pub september: u8,
+    pub october: u8,
+    pub november: u8,
+    pub december: u8,
+}
+
+/// What [`Months`] are read as.
+type Parts = (u8, u8, u8, u8, u8, u8, u8, u8, u8, u8, (u8, u8));
+
+impl Layout for Months {
+    ghost Seen = { ⟦<Parts as Layout>⟧.Seen };
+
+    ghost seen = { λ it. ⟦<Parts as Layout>⟧.seen (
+      it.january,
+      it.february,
+      it.march,
+      it.april,
+      it.may,
+      it.june,
+      it.july,
+      it.august,
+      it.september,
+      it.october,
+      (it.november, it.december),
+    ) };
+
+    ghost format = { ⟦<Parts as Layout>⟧.format };
+
+    ghost least = { 12 };
+
+    ghost layout_laws = { let byte = unsigned_number_laws 1 in
+        tuple11_laws byte byte byte byte byte byte byte byte byte byte (tuple2_laws byte byte) };
+}
+
+impl<L: AsSlice<u8> + Drop, C: Context> ReadFrom<L, C> for Months {
+    fn read_from<R: LendingReader<L, C>>(reader: &mut R) -> Result<Months, C::Error> {
+        let (
+            january,
+            february,
+            march,
+            april,
+            may,
+            june,
+            july,
+            august,
+            september,
+            october,
+            (november, december),
+        ) = reader.read_value()?;
+        Ok(Months {
+            january,
+            february,
+            march,
+            april,
+            may,
+            june,
+            july,
+            august,
+            september,
+            october,
+            november,
+            december,
+        })
+    }
+
+    fn minimum_bytes_needed() -> usize {
+        12
+    }
+}
+
+impl<L: AsSlice<u8> + Drop, C: Context> ReadMany<L, C> for Months {
+    type Strategy = ItemByItem<C>;
+}
+
+impl<C: Context> Writable<C> for Months {
+    fn write_to<W: Writer<C>>(&self, writer: &mut W) -> Result<(), C::Error> {
+        writer.write_value(&(
+            Part(&self.january),
+            Part(&self.february),
+            Part(&self.march),
+            Part(&self.april),
+            Part(&self.may),
+            Part(&self.june),
+            Part(&self.july),
+            Part(&self.august),
+            Part(&self.september),
+            Part(&self.october),
+            (Part(&self.november), Part(&self.december)),
+        ))
+    }
+}
