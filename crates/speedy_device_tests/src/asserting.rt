@@ -1,8 +1,9 @@
 //! What these tests assert. A test ends where one of these does not hold.
 use speedy::error::{Error, IsEof};
-use speedy::private::get_error_kind;
+use speedy::private::{ErrorKind, get_error_kind};
 use std::alloc::Global;
 use std::fmt::Debug;
+use std::io;
 use std::process::Abort;
 
 /// Asserts that two values are the same.
@@ -41,4 +42,22 @@ pub(crate) fn assert_refused<T: Drop>(
 pub(crate) fn assert_kind(rt: &impl Abort, alloc: Global, error: &Error, kind: &str) {
     let printed = format!(in alloc; "{:?}", get_error_kind(error)).expect(rt, "its kind");
     assert_same(rt, printed.as_str(), kind);
+}
+
+/// The kind of the device's error that the refusal holds.
+pub(crate) fn device_kind(error: &Error) -> Option<io::ErrorKind> {
+    match get_error_kind(error) {
+        ErrorKind::IoError(inner) => Some(inner.kind()),
+        _ => None,
+    }
+}
+
+/// Asserts that the outcome is the error of a failed call of a device, of this kind.
+pub(crate) fn assert_failed_call<T: Drop>(
+    rt: &impl Abort,
+    outcome: Result<T, Error>,
+    kind: io::ErrorKind,
+) {
+    let error = outcome.err().expect(rt, "a call failed");
+    assert_same(rt, device_kind(&error), Some(kind));
 }

@@ -9,6 +9,8 @@ mod devices;
 #[cfg(test)]
 mod failing;
 #[cfg(test)]
+mod faults;
+#[cfg(test)]
 mod lengths;
 #[cfg(test)]
 mod probes;

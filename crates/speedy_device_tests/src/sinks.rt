@@ -1,14 +1,14 @@
 //! Writing to sinks and to files: what is pushed, and what a failed call leaves.
 ghost use Rattle.std.specs.Prelude.{[], false};
 
-use crate::asserting::{assert_bytes, assert_ok, assert_same};
+use crate::asserting::{assert_bytes, assert_failed_call, assert_ok, assert_same};
 use crate::devices::{FakeFiles, FileCall, FileCalls, KINDS};
 use crate::failing::Failing;
 use speedy::context::LittleEndian;
 use speedy::device::{Faults, Sink, VecSink};
 use speedy::endianness::Endianness;
 use speedy::error::Error;
-use speedy::private::{ErrorKind, get_error_kind, write_to_stream_and_flush_with_ctx};
+use speedy::private::write_to_stream_and_flush_with_ctx;
 use speedy::readable::Readable;
 use speedy::writable::{Writable, WritingCollector};
 use speedy::writer::Writer;
@@ -16,16 +16,6 @@ use std::alloc::Global;
 use std::process::Abort;
 use std::rt::Files;
 use std::{fs, io};
-
-/// Asserts that the outcome is the error of a failed call, of this kind.
-fn assert_failed_call(rt: &impl Abort, outcome: Result<(), Error>, kind: io::ErrorKind) {
-    let error = outcome.err().expect(rt, "a call failed");
-    let found = match get_error_kind(&error) {
-        ErrorKind::IoError(inner) => Some(inner.kind()),
-        _ => None
-    };
-    assert_same(rt, found, Some(kind));
-}
 
 /// Asserts that in the order the value is pushed as the bytes, to a sink that takes all it is given and to one that
 /// takes a byte a push.
@@ -68,7 +58,7 @@ fn assert_cut_off_in<T: Writable<Endianness>>(
 }
 
 /// Asserts that in both orders the value is pushed as the bytes, as far as no call fails.
-fn assert_pushed<T: Writable<Endianness>>(
+pub(crate) fn assert_pushed<T: Writable<Endianness>>(
     rt: &impl Abort,
     alloc: Global,
     value: &T,

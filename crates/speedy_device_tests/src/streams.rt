@@ -1,7 +1,10 @@
 //! Reading from sources and files: what is answered, and what the source has left.
 ghost use Rattle.std.specs.Prelude.{[], false};
 
-use crate::asserting::{assert_bytes, assert_kind, assert_ok, assert_refused, assert_same};
+use crate::asserting::{
+    assert_bytes, assert_failed_call, assert_kind, assert_ok, assert_refused, assert_same,
+    device_kind,
+};
 use crate::devices::{FakeFiles, FileCall, FileCalls};
 use speedy::context::LittleEndian;
 use speedy::device::{Faults, Source};
@@ -67,20 +70,6 @@ impl Source for Pieces<'_> {
         self.left = left;
         Ok(count)
     }
-}
-
-/// The kind of the device's error that the refusal holds.
-fn device_kind(error: &Error) -> Option<io::ErrorKind> {
-    match get_error_kind(error) {
-        ErrorKind::IoError(inner) => Some(inner.kind()),
-        _ => None,
-    }
-}
-
-/// Asserts that the outcome is a refusal that holds a device's error of this kind.
-fn assert_device_refused<T: Drop>(rt: &impl Abort, outcome: Result<T, Error>, kind: io::ErrorKind) {
-    let error = outcome.err().expect(rt, "it is refused");
-    assert_same(rt, device_kind(&error), Some(kind));
 }
 
 /// Asserts that the outcome is a refusal that holds the system's error of this code, and that it is no end of the bytes.
@@ -379,7 +368,7 @@ fn a_failed_pull_is_answered_by_each_way_and_not_tried_again(rt: HostRuntime) {
 fn a_file_that_is_not_there_is_an_io_error(rt: HostRuntime) {
     let alloc = rt.alloc();
     let outcome = <u16 as Readable<LittleEndian>>::read_from_file(&rt, alloc, "no/such/file");
-    assert_device_refused(&rt, outcome, io::ErrorKind::NotFound);
+    assert_failed_call(&rt, outcome, io::ErrorKind::NotFound);
 }
 
 #[test]
@@ -414,10 +403,10 @@ fn a_failed_read_of_a_file_is_answered_and_not_tried_again(rt: HostRuntime) {
     let calls = FileCalls::none();
     let files = make_files(Some(FileCall::Read), &calls);
     let outcome = <u16 as Readable<LittleEndian>>::read_from_file(&files, rt.alloc(), "any");
-    assert_device_refused(&rt, outcome, io::ErrorKind::Interrupted);
+    assert_failed_call(&rt, outcome, io::ErrorKind::Interrupted);
     assert_same(&rt, calls.reads.get(), 1);
     let files = make_files(Some(FileCall::Open), &calls);
     let outcome = <u16 as Readable<LittleEndian>>::read_from_file(&files, rt.alloc(), "any");
-    assert_device_refused(&rt, outcome, io::ErrorKind::Interrupted);
+    assert_failed_call(&rt, outcome, io::ErrorKind::Interrupted);
     assert_same(&rt, calls.reads.get(), 1);
 }
