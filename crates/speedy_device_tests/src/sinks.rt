@@ -278,7 +278,7 @@ fn a_failed_call_of_a_file_is_answered_and_not_tried_again(rt: HostRuntime) {
 }
 
 #[test]
-fn a_file_is_written_by_its_room_and_flushed_once(rt: HostRuntime) {
+fn a_file_is_flushed_once(rt: HostRuntime) {
     let (outcome, found) = write_to_fake(&rt, rt.alloc(), None);
     assert_ok(&rt, outcome, ());
     assert_same(&rt, found, (2, 1));

@@ -14,16 +14,18 @@ struct Input<'a> {
     first: usize,
     most: usize,
     fails_at: u8,
+    fails_with: io::ErrorKind,
     calls: u8,
 }
 
-/// An output that takes at most so many bytes a call, and of which one call fails, counted from 1. It counts its
-/// flushes, and the calls that come after one.
+/// An output that takes at most so many bytes a call, and of which one call fails, counted from 1, a flush too. It
+/// counts its flushes, and the calls that come after one.
 #[derive(Drop)]
 struct Output {
     taken: Vec<u8>,
     most: usize,
     fails_at: u8,
+    fails_with: io::ErrorKind,
     calls: u8,
     flushes: u8,
     calls_after_a_flush: u8,
@@ -33,7 +35,7 @@ struct Output {
 #[derive(Clone, Copy, Debug, PartialEq, Eq)]
 enum End {
     Good,
-    Device,
+    Device(io::ErrorKind),
     Other,
 }
 
@@ -41,7 +43,7 @@ impl Read for Input<'_> {
     fn read(&mut self, buf: &mut [u8]) -> io::Result<usize> {
         self.calls = self.calls.saturating_add(1);
         if self.calls == self.fails_at {
-            return Err(io::Error::from(io::ErrorKind::ConnectionReset));
+            return Err(io::Error::from(self.fails_with));
         }
         let most = if self.calls == 1 {
             self.first
@@ -62,7 +64,7 @@ impl Write for Output {
             self.calls_after_a_flush = self.calls_after_a_flush.saturating_add(1);
         }
         if self.calls == self.fails_at {
-            return Err(io::Error::from(io::ErrorKind::BrokenPipe));
+            return Err(io::Error::from(self.fails_with));
         }
         let count = buf.len().min(self.most);
         if self.taken.extend_from_slice(&buf[..count]).is_err() {
@@ -72,7 +74,11 @@ impl Write for Output {
     }
 
     fn flush(&mut self) -> io::Result<()> {
+        self.calls = self.calls.saturating_add(1);
         self.flushes = self.flushes.saturating_add(1);
+        if self.calls == self.fails_at {
+            return Err(io::Error::from(self.fails_with));
+        }
         Ok(())
     }
 }
@@ -84,54 +90,46 @@ fn input_of(bytes: &[u8]) -> Input<'_> {
         first: 8192,
         most: 8192,
         fails_at: 0,
+        fails_with: io::ErrorKind::Other,
         calls: 0,
     }
 }
 
-/// How a run over an input ends, and the output by then, which takes at most so many bytes a call.
-fn run_over(alloc: Global, input: Input<'_>, most: usize, fails_at: u8) -> (End, Output) {
-    let mut input = Counted::new(input);
-    let mut output = Counted::new(Output {
+/// An output that takes at most so many bytes a call, and of which no call fails.
+fn output_of(alloc: Global, most: usize) -> Output {
+    Output {
         taken: Vec::new(alloc),
         most,
-        fails_at,
+        fails_at: 0,
+        fails_with: io::ErrorKind::Other,
         calls: 0,
         flushes: 0,
         calls_after_a_flush: 0,
-    });
+    }
+}
+
+/// How a run ends, and how often the input was read and the output by then.
+fn run_over(alloc: Global, input: Input<'_>, output: Output) -> (End, u8, Output) {
+    let mut input = Counted::new(input);
+    let mut output = Counted::new(output);
     let end = match run(alloc, &mut input, &mut output) {
         Ok(()) => End::Good,
         Err(error) => match get_error_kind(&error) {
-            ErrorKind::IoError(_) => End::Device,
+            ErrorKind::IoError(inner) => End::Device(inner.kind()),
             _ => End::Other,
         },
     };
-    (end, output.into_inner())
+    (end, input.into_inner().calls, output.into_inner())
 }
 
 /// Asserts that a run over the input ends well and answers this, in pushes of at most so many bytes, and that the
 /// output is flushed once, after all of them.
 fn assert_answered(rt: &impl Abort, alloc: Global, input: Input<'_>, most: usize, answers: &[u8]) {
-    let (end, output) = run_over(alloc, input, most, 0);
+    let (end, _, output) = run_over(alloc, input, output_of(alloc, most));
     assert_eq!(rt; end, End::Good);
     assert_eq!(rt; output.taken.as_slice(), answers);
     assert_eq!(rt; output.flushes, 1);
     assert_eq!(rt; output.calls_after_a_flush, 0);
-}
-
-/// Asserts that a run over the input ends with the failed call of a device, and that the output took this by then,
-/// in pushes of at most so many bytes, of which one fails.
-fn assert_cut_off(
-    rt: &impl Abort,
-    alloc: Global,
-    input: Input<'_>,
-    most: usize,
-    fails_at: u8,
-    answers: &[u8],
-) {
-    let (end, output) = run_over(alloc, input, most, fails_at);
-    assert_eq!(rt; end, End::Device);
-    assert_eq!(rt; output.taken.as_slice(), answers);
 }
 
 #[test]
@@ -204,25 +202,54 @@ fn the_output_is_flushed_once_after_the_last_push(rt: HostRuntime) {
         &b"x\ny"[..],
         &b"x\ny\n"[..],
     ] {
-        let (_, output) = run_over(rt.alloc(), input_of(bytes), 4, 0);
+        let (_, _, output) = run_over(rt.alloc(), input_of(bytes), output_of(rt.alloc(), 4));
         assert!(rt; output.flushes == 1, "at {bytes:?}");
         assert!(rt; output.calls_after_a_flush == 0, "at {bytes:?}");
     }
 }
 
+/// Three lines, and their answers.
+const LINES: [u8; 6] = *b"x\ny\nz\n";
+
+const ANSWERS: [u8; 27] = *b"bad line\nbad line\nbad line\n";
+
+/// The kinds with which a call fails: std's own loops would try the second again.
+const KINDS: [io::ErrorKind; 2] = [io::ErrorKind::Other, io::ErrorKind::Interrupted];
+
 #[test]
-fn a_failed_read_ends_the_run(rt: HostRuntime) {
-    let input = Input {
-        bytes: b"x\ny\nz\n",
-        first: 2,
-        most: 2,
-        fails_at: 3,
-        calls: 0,
-    };
-    assert_cut_off(&rt, rt.alloc(), input, 8192, 0, b"bad line\nbad line\n");
+fn each_failed_pull_ends_the_run_behind_the_answers_to_the_lines_before_it(rt: HostRuntime) {
+    let alloc = rt.alloc();
+    for fails_with in KINDS {
+        for count in 0..4_u8 {
+            let input = Input {
+                first: 2,
+                most: 2,
+                fails_at: count + 1,
+                fails_with,
+                ..input_of(&LINES)
+            };
+            let (end, pulls, output) = run_over(alloc, input, output_of(alloc, 8192));
+            assert_eq!(rt; end, End::Device(fails_with));
+            assert_eq!(rt; (pulls, output.flushes), (count + 1, 0));
+            assert_eq!(rt; output.taken.as_slice(), &ANSWERS[..9 * usize::from(count)]);
+        }
+    }
 }
 
 #[test]
-fn a_failed_write_ends_the_run(rt: HostRuntime) {
-    assert_cut_off(&rt, rt.alloc(), input_of(b"x\ny\nz\n"), 4, 2, b"bad ");
+fn each_failed_push_and_a_failed_flush_end_the_run(rt: HostRuntime) {
+    let alloc = rt.alloc();
+    for fails_with in KINDS {
+        for count in 0..10_u8 {
+            let output = Output {
+                fails_at: count + 1,
+                fails_with,
+                ..output_of(alloc, 3)
+            };
+            let (end, _, output) = run_over(alloc, input_of(&LINES), output);
+            assert_eq!(rt; end, End::Device(fails_with));
+            assert_eq!(rt; (output.calls, output.flushes), (count + 1, count / 9));
+            assert_eq!(rt; output.taken.as_slice(), &ANSWERS[..3 * usize::from(count)]);
+        }
+    }
 }
