@@ -2,6 +2,7 @@
 import os
 import re
 import subprocess
+import tempfile
 
 HERE = os.path.dirname(os.path.realpath(__file__))
 TOP = os.path.dirname(os.path.dirname(HERE))
@@ -52,7 +53,8 @@ class Programs:
     def __init__(self):
         self.folder = subprocess.run([HERE + '/build'], stdout=subprocess.PIPE, check=True, text=True).stdout.strip()
         self.shim = self.folder + '/shim.so'
-        self.scratch = self.folder + '/scratch'
+        self.scratch_folder = tempfile.TemporaryDirectory()
+        self.scratch = self.scratch_folder.name + '/scratch'
 
     def ways(self, lines, withhold=True, path=None):
         """The answers of the program of this folder to lines."""
@@ -116,7 +118,7 @@ def own_rows():
     for line in open(HERE + '/rows.txt'):
         if line.strip() and not line.startswith('#'):
             order, name, digits = line.split()
-            digits = spelled(digits)
+            digits = spelled(digits.strip('-'))
             rows.append(Row(order, name, digits, digits))
     return rows
 
