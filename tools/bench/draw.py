@@ -4,7 +4,8 @@ usage: tools/bench/draw.py JSON.. > FILE
 
 Of several files the least figures count. A bar begins at 1, where both take the same time: one to the right says that this
 crate takes longer than the original, one to the left that it takes less. The scale is logarithmic, and the same in all
-panels. A figure of 0 or less says nothing (the read that is taken off a write took longer than it), and is drawn as a dash.
+panels. A figure of 0 or less says nothing (the read that is taken off a write took longer than it), and neither does one of
+the original below 2 ns, for which the compiler left only a constant: such a row is drawn as a dash.
 """
 import json
 import math
@@ -27,6 +28,7 @@ LABELS, BARS, END = 190, 290, 30        # the widths of a panel's labels, its ba
 ROW, BAR = 24, 9                        # the heights of a case's row and of each of its two bars
 MARGIN, HEAD, TITLE, AXIS = 20, 86, 26, 30
 COLUMNS = 2
+CONSTANT = 2.0                          # the nanoseconds below which the original's loop has nothing left to do
 
 
 def least_figures(files):
@@ -44,7 +46,7 @@ def least_figures(files):
 
 def ratios_of(figures):
     """Returns the ratio of each row, or None where its figures say nothing."""
-    return {key: port / original if port > 0 and original > 0 else None for key, (original, port) in figures.items()}
+    return {key: port / original if port > 0 and original >= CONSTANT else None for key, (original, port) in figures.items()}
 
 
 def mean_of(ratios):
