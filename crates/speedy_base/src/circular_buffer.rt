@@ -36,7 +36,7 @@ impl Model for CircularBuffer {
 }
 
 impl CircularBuffer {
-    /// A buffer of this capacity, without bytes. One of capacity 0 takes no memory.
+    /// An empty buffer of this capacity. One of capacity 0 takes no memory.
     pub fn with_capacity(alloc: Global, capacity: usize) -> Result<CircularBuffer, AllocError>
         ensures empty { IfOk result
             (λ b. b ≡ record { bytes = []; capacity = capacity; room = [] }) }
@@ -52,7 +52,7 @@ impl CircularBuffer {
         })
     }
 
-    /// How many bytes are kept.
+    /// The number of bytes that are kept.
     #[inline]
     pub fn len(&self) -> usize
         ensures value { result ≡ length self.now.bytes }
@@ -69,7 +69,7 @@ impl CircularBuffer {
         self.start == self.end
     }
 
-    /// How many bytes can be kept.
+    /// The number of bytes that can be kept.
     #[inline]
     pub fn capacity(&self) -> usize
         ensures value { result ≡ self.now.capacity }
@@ -78,7 +78,7 @@ impl CircularBuffer {
         self.memory.len()
     }
 
-    /// Makes so many more bytes fit. Where they fit already it takes no memory, and where there is none nothing changes.
+    /// Makes room for `additional` more bytes. It takes no memory if they fit already. Out of memory changes nothing.
     pub fn reserve(&mut self, additional: usize) -> Result<(), AllocError>
         ensures bytes { OnOk result (self.new.bytes ≡ self.old.bytes) }
         ensures fits { OnOk result (length self.old.bytes + additional ≤ self.new.capacity) }
@@ -118,7 +118,7 @@ impl CircularBuffer {
         self.memory.slice_mut(end..end + count)
     }
 
-    /// Keeps the first bytes of the stretch that was lent last, so many, behind those that are kept.
+    /// Keeps the first `count` bytes of the stretch that was lent last, behind those that are kept.
     #[inline]
     pub fn appended(&mut self, count: usize)
         requires { count ≤ length self.old.room }
@@ -140,7 +140,7 @@ impl CircularBuffer {
         (&self.memory[self.start..self.end], None)
     }
 
-    /// The first bytes, so many. They lie in one stretch, so the second slice is always `None`.
+    /// The first `count` bytes. They lie in one stretch, so the second slice is always `None`.
     #[inline]
     pub fn as_slices_of_length(&self, count: usize) -> (&[u8], Option<&[u8]>)
         requires { count ≤ length self.now.bytes }
@@ -150,7 +150,7 @@ impl CircularBuffer {
         (&self.memory[self.start..self.start + count], None)
     }
 
-    /// Takes so many bytes from the front.
+    /// Takes `count` bytes from the front.
     #[inline]
     pub fn consume(&mut self, count: usize)
         requires { count ≤ length self.old.bytes }
@@ -160,7 +160,7 @@ impl CircularBuffer {
         self.lent = 0;
     }
 
-    /// Takes bytes from the front, as many as fill the output.
+    /// Takes bytes from the front, until the output is full.
     #[inline]
     pub fn consume_into(&mut self, output: &mut [u8])
         requires { length output.old ≤ length self.old.bytes }

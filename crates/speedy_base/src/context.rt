@@ -1,4 +1,4 @@
-//! Contexts: what reading and writing are told beside the bytes.
+//! The contexts of reads and writes: byte order, error, and whether only canonical encodings are read.
 ghost use Rattle.std.specs.Prelude.{◌≡◌};
 ghost use Rattle.std.proofs.Common.{ap};
 ghost use Rattle.speedy_base.specs.Encoding.{Encoding, plain_encoding, strict_encoding};
@@ -8,22 +8,21 @@ ghost use Rattle.speedy_base.specs.declared.endianness.Endianness.TheVariants.{L
 use crate::endianness::Endianness;
 use crate::error::{Error, IsEof};
 
-/// What values are read and written under.
+/// The context of a read or a write: its byte order, its error, and whether only canonical encodings are read.
 ///
-/// A context of one's own gives its order, and an error that every refusal converts to.
+/// A context of your own gives its order, and an error that every [`Error`] converts to.
 pub trait Context: Drop {
-    /// What reading and writing under this context refuse with.
+    /// The error of reads and writes under this context.
     type Error: From<Error> + IsEof + Drop;
 
-    /// What the context asks of the bytes.
+    /// The encoding under this context: the byte order, and whether only canonical encodings are read.
     ghost encoding: { Self → Encoding };
 
     /// The byte order of numbers.
     fn endianness(&self) -> Endianness
         ensures { result ≡ (encoding self.now).order };
 
-    /// Whether a value is read from its written form alone. Then other spellings of it are refused with
-    /// `NotWrittenForm`.
+    /// Whether only canonical encodings are read. Any other encoding is then the error `NotWrittenForm`.
     fn demands_written_form(&self) -> bool
         ensures { result ≡ (encoding self.now).strict };
 
@@ -31,9 +30,9 @@ pub trait Context: Drop {
     ghost keeps_eof: { (e : Refusal) (x : Self.Error) → Self.Error.from_gives e x → Self.Error.eof x ≡ is_eof_error e };
 }
 
-/// The context that the forms without a context argument mean.
+/// The context of calls that take none.
 pub trait PlainContext: Context {
-    /// The context itself, which asks for the little byte order alone.
+    /// The context itself: little endian, and any encoding is read.
     fn plain() -> Self
         ensures { Self.encoding result ≡ plain_encoding Endianness.LittleEndian };
 }
@@ -56,11 +55,11 @@ impl Context for Endianness {
     }
 }
 
-/// The context of the little byte order.
+/// The context of little endian.
 #[derive(Clone, Copy, Debug, Default, PartialEq, Eq)]
 pub struct LittleEndian {}
 
-/// The context of the big byte order.
+/// The context of big endian.
 #[derive(Clone, Copy, Debug, Default, PartialEq, Eq)]
 pub struct BigEndian {}
 
@@ -100,11 +99,11 @@ impl Context for BigEndian {
     }
 }
 
-/// The context of the little byte order that accepts the written form of a value alone.
+/// The context of little endian under which only canonical encodings are read.
 #[derive(Clone, Copy, Debug, Default, PartialEq, Eq)]
 pub struct StrictLittleEndian {}
 
-/// The context of the big byte order that accepts the written form of a value alone.
+/// The context of big endian under which only canonical encodings are read.
 #[derive(Clone, Copy, Debug, Default, PartialEq, Eq)]
 pub struct StrictBigEndian {}
 

@@ -1,4 +1,4 @@
-//! Where bytes come from and go to.
+//! Sources and sinks: where bytes come from and go to.
 ghost use Rattle.std.specs.Prelude.{◌≡◌, ◌≤◌, min, [], ◌++◌, length, take, drop, IsOk, IfOk, IfErr, OnOk, OnErr, false};
 ghost use Rattle.speedy_base.specs.FailedCalls.{OneFailed};
 ghost use Rattle.std.specs.IoError.{error_kind};
@@ -41,19 +41,19 @@ impl Faults {
     }
 }
 
-/// Where bytes come from.
+/// A source: where bytes come from.
 ///
 /// A source counts its failed calls, and keeps the error of the last one. It is the caller who decides whether to go
 /// on after one.
 pub trait Source {
     ghost source: { Self → SourceState };
 
-    /// Moves bytes to the front of the output, and says how many. What lies after them in the output may have changed too.
+    /// Moves bytes to the front of the output, and says how many. What lies behind them in the output may change too.
     fn pull(&mut self, output: &mut [u8]) -> Result<usize, io::Error>
         ensures { Pulls result (source self.old) (source self.new) output.new };
 }
 
-/// Where bytes go to.
+/// A sink: where bytes go to.
 ///
 /// A sink counts its failed calls, and keeps the error of the last one. It is the caller who decides whether to go on
 /// after one. A push passes nothing on that waited before: that is what a flush is for.
@@ -69,7 +69,7 @@ pub trait Sink {
         ensures { Flushes result (sink self.old) (sink self.new) };
 }
 
-/// Bytes in memory, which give themselves from the first on. The slice is then what is left.
+/// Bytes in memory as a source. The slice is then what is left of them.
 impl Source for &[u8] {
     ghost source = { λ s. bytes_source s.now };
 
@@ -98,7 +98,7 @@ impl Source for &[u8] {
     }
 }
 
-/// Keeps what it takes in memory.
+/// A sink that keeps in memory what it takes.
 #[derive(Drop)]
 pub struct VecSink {
     bytes: Vec<u8>,
@@ -160,8 +160,8 @@ impl Sink for VecSink {
     }
 }
 
-/// A reader or a writer of the standard library, with its failed calls, and whether it was flushed since it was last
-/// written to.
+/// A source or a sink made of a reader or a writer of the standard library. It keeps its failed calls, and whether it
+/// was flushed since it was last written to.
 #[derive(Drop)]
 pub struct Counted<S> {
     inner: S,
@@ -170,7 +170,7 @@ pub struct Counted<S> {
 }
 
 impl<S> Counted<S> {
-    /// With no failed call yet, and no flush: what was written before may wait.
+    /// A device with no failed call yet, and no flush: what was written before may still wait.
     pub fn new(inner: S) -> Counted<S>
         ensures same { counted_inner result ≡ inner }
         ensures no_faults { counted_faults result ≡ no_faults }
@@ -183,7 +183,7 @@ impl<S> Counted<S> {
         }
     }
 
-    /// What the calls went to. The count is lost.
+    /// The reader or writer inside. The count of failed calls is lost.
     pub fn into_inner(self) -> S
         ensures { result ≡ counted_inner self }
     {

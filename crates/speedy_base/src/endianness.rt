@@ -4,12 +4,12 @@ ghost use Rattle.std.specs.Int.{w16, w32, w64, w128};
 ghost use Rattle.speedy_base.specs.Digits.{SpellsNumber, swapped};
 ghost use Rattle.speedy_base.specs.Signed.{SpellsSigned};
 
-/// The order in which the base 256 digits of a number are written.
+/// A byte order: the order in which the base 256 digits of a number are written.
 #[derive(Clone, Copy, Debug, PartialEq, Eq, PartialOrd, Ord, Hash)]
 pub enum Endianness {
-    /// Least digit first.
+    /// Little endian: the least digit first.
     LittleEndian,
-    /// Greatest digit first.
+    /// Big endian: the greatest digit first.
     BigEndian,
 }
 
@@ -17,7 +17,7 @@ impl Endianness {
     /// The order of the machines that this library is built for, x86-64.
     pub const NATIVE: Endianness = Endianness::LittleEndian;
 
-    /// Whether numbers of the machine have to be reversed to lie in this order.
+    /// Whether the machine's numbers have to be reversed for this order.
     #[inline(always)]
     pub fn conversion_necessary(self) -> bool
         ensures { IsTrue result ↔ (self ≡ Endianness.BigEndian) }
@@ -25,7 +25,7 @@ impl Endianness {
         self != Endianness::NATIVE
     }
 
-    /// The number that two bytes spell in this order.
+    /// The number that two bytes encode in this order.
     #[inline]
     pub fn read_u16(self, slice: &[u8]) -> u16
         requires { length slice.now ≡ 2 }
@@ -38,7 +38,7 @@ impl Endianness {
         }
     }
 
-    /// The number that four bytes spell in this order.
+    /// The number that four bytes encode in this order.
     #[inline]
     pub fn read_u32(self, slice: &[u8]) -> u32
         requires { length slice.now ≡ 4 }
@@ -51,7 +51,7 @@ impl Endianness {
         }
     }
 
-    /// The number that eight bytes spell in this order.
+    /// The number that eight bytes encode in this order.
     #[inline]
     pub fn read_u64(self, slice: &[u8]) -> u64
         requires { length slice.now ≡ 8 }
@@ -65,7 +65,7 @@ impl Endianness {
         }
     }
 
-    /// The number that sixteen bytes spell in this order.
+    /// The number that sixteen bytes encode in this order.
     #[inline]
     pub fn read_u128(self, slice: &[u8]) -> u128
         requires { length slice.now ≡ 16 }
@@ -79,7 +79,7 @@ impl Endianness {
         }
     }
 
-    /// The signed number that two bytes spell in this order.
+    /// The signed number that two bytes encode in this order.
     #[inline]
     pub fn read_i16(self, slice: &[u8]) -> i16
         requires { length slice.now ≡ 2 }
@@ -88,7 +88,7 @@ impl Endianness {
         self.read_u16(slice).cast_signed()
     }
 
-    /// The signed number that four bytes spell in this order.
+    /// The signed number that four bytes encode in this order.
     #[inline]
     pub fn read_i32(self, slice: &[u8]) -> i32
         requires { length slice.now ≡ 4 }
@@ -97,7 +97,7 @@ impl Endianness {
         self.read_u32(slice).cast_signed()
     }
 
-    /// The signed number that eight bytes spell in this order.
+    /// The signed number that eight bytes encode in this order.
     #[inline]
     pub fn read_i64(self, slice: &[u8]) -> i64
         requires { length slice.now ≡ 8 }
@@ -106,7 +106,7 @@ impl Endianness {
         self.read_u64(slice).cast_signed()
     }
 
-    /// The signed number that sixteen bytes spell in this order.
+    /// The signed number that sixteen bytes encode in this order.
     #[inline]
     pub fn read_i128(self, slice: &[u8]) -> i128
         requires { length slice.now ≡ 16 }
@@ -115,7 +115,7 @@ impl Endianness {
         self.read_u128(slice).cast_signed()
     }
 
-    /// The two bytes that spell a number in this order.
+    /// The two bytes that encode a number in this order.
     #[inline]
     pub fn bytes_of_u16(self, value: u16) -> [u8; 2]
         ensures { SpellsNumber 2 self value result }
@@ -125,7 +125,7 @@ impl Endianness {
         turned.to_le_bytes()
     }
 
-    /// The four bytes that spell a number in this order.
+    /// The four bytes that encode a number in this order.
     #[inline]
     pub fn bytes_of_u32(self, value: u32) -> [u8; 4]
         ensures { SpellsNumber 4 self value result }
@@ -135,7 +135,7 @@ impl Endianness {
         turned.to_le_bytes()
     }
 
-    /// The eight bytes that spell a number in this order.
+    /// The eight bytes that encode a number in this order.
     #[inline]
     pub fn bytes_of_u64(self, value: u64) -> [u8; 8]
         ensures { SpellsNumber 8 self value result }
@@ -145,7 +145,7 @@ impl Endianness {
         turned.to_le_bytes()
     }
 
-    /// The sixteen bytes that spell a number in this order.
+    /// The sixteen bytes that encode a number in this order.
     #[inline]
     pub fn bytes_of_u128(self, value: u128) -> [u8; 16]
         ensures { SpellsNumber 16 self value result }

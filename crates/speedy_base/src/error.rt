@@ -1,4 +1,4 @@
-//! Refusals: their kinds, their texts, and what makes them.
+//! Errors: their kinds, their texts, and the functions that make them.
 ghost use Rattle.std.specs.Prelude.{◌≡◌, Bool, true};
 ghost use Rattle.std.specs.IoError.{error_kind};
 ghost use Rattle.speedy_base.specs.ErrorKind.{is_eof_kind, text_of, BecomesIo, EndsInput};
@@ -10,7 +10,7 @@ use std::fmt::InlineText;
 use std::mem::size_of;
 use std::{fmt, io};
 
-/// What went wrong in reading or writing.
+/// The kind of an error: what went wrong in reading or writing.
 #[derive(Debug, Drop)]
 pub enum ErrorKind {
     /// A number that should be a character is no Unicode scalar value.
@@ -50,26 +50,26 @@ pub enum ErrorKind {
         /// The name of the field.
         field_name: &'static str,
     },
-    /// Other bytes than a constant stand where it should.
+    /// Other bytes stand where a constant should.
     ExpectedConstant {
         /// The constant.
         constant: &'static [u8],
     },
-    /// A borrowed value is read from a reader that lends nothing.
+    /// A value that borrows is read from a reader that lends nothing.
     Unsized,
     /// Numbers lie in another byte order than a view of them needs.
     EndiannessMismatch,
-    /// Bytes spell a value, but another spelling of it is the written one, and the context demands that.
+    /// The encoding is not canonical, and the context reads only canonical ones.
     NotWrittenForm,
-    /// A source or a sink failed.
+    /// A call of a source or a sink failed, or a source ended too soon.
     IoError(Box<io::Error>),
-    /// A request for memory was refused.
+    /// Out of memory.
     OutOfMemory,
-    /// A user's own refusal, with its text.
+    /// An error of the user's own, with its text.
     Custom(String),
 }
 
-/// A refusal to read or to write. It is small, since it travels in the result of each read.
+/// The error of reading and writing. It is small, since it travels in the result of each read.
 #[derive(Debug, Drop)]
 pub struct Error {
     kind: ErrorKind,
@@ -92,8 +92,7 @@ impl Error {
         Error { kind }
     }
 
-    /// A user's own refusal with a text of kind `Custom`, or of kind `OutOfMemory` where the text found
-    /// no memory.
+    /// An error of the user's own, of kind `Custom` with its text; `OutOfMemory` where the text found no memory.
     pub fn custom(alloc: Global, message: &str) -> Error
         ensures { IsCustomOf message.now (kind_of result) }
     {
@@ -103,8 +102,7 @@ impl Error {
         }
     }
 
-    /// The refusal that stands for a failed call of a source or a sink; of kind `OutOfMemory` where its
-    /// box found no memory.
+    /// The `IoError` of a failed call of a source or a sink; `OutOfMemory` where its box found no memory.
     pub fn from_io_error(alloc: Global, error: io::Error) -> Error
         ensures { IsIoErrorOf error (kind_of result) }
     {
@@ -127,7 +125,7 @@ impl IsEof for Error {
     }
 }
 
-/// The kind of a refusal.
+/// The kind of an error.
 #[inline]
 pub fn get_error_kind(error: &Error) -> &ErrorKind
     ensures { result.now ≡ kind_of error.now }
@@ -367,7 +365,7 @@ pub fn error_expected_constant<T: From<Error>>(constant: &'static [u8]) -> T
     T::from(Error::new(ErrorKind::ExpectedConstant { constant }))
 }
 
-/// A borrowed value from a reader that lends nothing.
+/// A value that borrows, from a reader that lends nothing.
 #[cold]
 pub fn error_unsized<T: From<Error>>() -> T
     ensures { T.from_gives (error_of ErrorKind.Unsized) result }
@@ -383,7 +381,7 @@ pub fn error_endianness_mismatch<T: From<Error>>() -> T
     T::from(Error::new(ErrorKind::EndiannessMismatch))
 }
 
-/// A spelling that is not the written one, where the context demands that.
+/// An encoding that is not canonical, where the context reads only canonical ones.
 #[cold]
 pub fn error_not_written_form<T: From<Error>>() -> T
     ensures { T.from_gives (error_of ErrorKind.NotWrittenForm) result }
@@ -391,7 +389,7 @@ pub fn error_not_written_form<T: From<Error>>() -> T
     T::from(Error::new(ErrorKind::NotWrittenForm))
 }
 
-/// A refused request for memory.
+/// Out of memory.
 #[cold]
 pub fn error_out_of_memory<T: From<Error>>() -> T
     ensures { T.from_gives (error_of ErrorKind.OutOfMemory) result }

@@ -1,4 +1,4 @@
-//! What all of `speedy` speaks of: byte orders, contexts, refusals and devices.
+//! What all crates of `speedy` share: byte orders, contexts, errors and devices.
 #![tactic(auto)]
 
 pub mod circular_buffer;

@@ -1,4 +1,4 @@
-//! Numbers of the machine, turned into those that lie in a byte order, in place.
+//! Numbers of the machine, reversed in place for a byte order.
 ghost use Rattle.std.specs.Prelude.{◌≡◌, map, refl};
 ghost use Rattle.std.specs.Int.{w16, w32, w64, w128};
 ghost use Rattle.speedy_base.specs.declared.endianness.Endianness.{Endianness as Order};
