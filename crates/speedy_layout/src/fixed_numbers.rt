@@ -1,4 +1,4 @@
-//! Numbers of a fixed number of bytes: how each is decoded and encoded, and so many of them.
+//! Numbers of a fixed size: how one is decoded and encoded, and how many are.
 ghost use Rattle.std.specs.Prelude.{◌≡◌, ◌*◌, ◌++◌, ℕ, List, length, map, refl, OnOk};
 ghost use Rattle.std.specs.Int.{w8, w16, w32, w64, w128, cast_signed};
 ghost use Rattle.speedy_base.specs.declared.endianness.Endianness.{Endianness as Order};
@@ -11,32 +11,32 @@ use crate::view_items::FixedSize;
 use speedy_base::endianness::Endianness;
 use std::alloc::AllocError;
 
-/// A number whose bytes are its digits, always so many of them.
+/// A number of a fixed size, whose bytes are its digits.
 pub trait FixedNumber: FixedSize + Layout + Copy + Drop {
-    /// The number that so many bytes spell in an order.
+    /// The number that `SIZE` bytes encode in an order.
     ghost decoded: { Order → List ℕ → Self };
 
     /// The number 0.
     fn zero() -> Self;
 
-    /// The number that so many bytes spell in the order.
+    /// Decodes the number from `SIZE` bytes in the order.
     fn decode(order: Endianness, bytes: &[u8]) -> Self
         requires { length bytes.now ≡ Self.SIZE }
         ensures { result ≡ decoded order bytes.now };
 
-    /// Puts the bytes of the number, in the order, which fill the output.
+    /// Encodes the number in the order, which fills the output.
     fn encode(self, order: Endianness, output: &mut [u8])
         requires { length output.old ≡ Self.SIZE }
         ensures bytes { AreBytes output.new }
         ensures number { decoded order output.new ≡ self };
 
-    /// They are its least size.
+    /// The least size is `SIZE`.
     ghost least_is: { Self.least ≡ Self.SIZE };
 
-    /// Its bytes are always so many, and the order alone decides them.
+    /// An encoding always has `SIZE` bytes, and the order alone decides them.
     ghost is_fixed: { IsFixed Self.SIZE Self.format };
 
-    /// Bytes spell the number that is decoded of them.
+    /// Bytes encode the number that is decoded from them.
     ghost decodes: { Decodes Self.SIZE Self.format Self.seen decoded };
 }
 
@@ -290,7 +290,7 @@ impl FixedNumber for i128 {
     ghost decodes = { signed_decodes w128 };
 }
 
-/// Puts the bytes of the numbers, one after another, which fill the output.
+/// Encodes the numbers, one after another, which fills the output.
 #[inline]
 pub fn put_each<T: FixedNumber>(numbers: &[T], order: Endianness, output: &mut [u8])
     requires { length output.old ≡ length numbers.now * T.SIZE }
@@ -304,7 +304,7 @@ pub fn put_each<T: FixedNumber>(numbers: &[T], order: Endianness, output: &mut [
     }
 }
 
-/// Appends the numbers that these bytes spell one after another. The bytes are those of whole numbers.
+/// Appends the numbers that the bytes encode one after another. The bytes are those of whole numbers.
 #[inline]
 pub fn append_each<T: FixedNumber>(
     numbers: &mut Vec<T>,
@@ -322,7 +322,7 @@ pub fn append_each<T: FixedNumber>(
     )
 }
 
-/// Takes the number that these bytes spell into each place, one after another. The bytes are those of as many numbers.
+/// Fills the places with the numbers that the bytes encode one after another. The bytes are those of as many numbers.
 #[inline]
 pub fn take_each<T: FixedNumber>(places: &mut [T], order: Endianness, bytes: &[u8])
     requires { length bytes.now ≡ length places.old * T.SIZE }
@@ -336,7 +336,7 @@ pub fn take_each<T: FixedNumber>(places: &mut [T], order: Endianness, bytes: &[u
     }
 }
 
-/// Each of the numbers has digits in the order. It does nothing: what it puts is not read.
+/// Shows that each of the numbers has digits in the order. It does nothing else: what it puts is not read.
 #[inline]
 pub fn have_digits<T: FixedNumber>(numbers: &[T], order: Endianness)
     ensures { (bytes : List ℕ) × Each (spelled_in T.format order) (map T.seen numbers.now) bytes }

@@ -1,23 +1,23 @@
-//! The laws of layouts, as functions that a user's proof can cite. Their bodies are empty.
+//! The laws of layouts, as functions with empty bodies that a user's proof can cite.
 ghost use Rattle.std.specs.Prelude.{◌≡◌, ◌≤◌, ◌↔◌, List, ◌++◌, ℕ, length, [], false, IsTrue};
 ghost use Rattle.speedy_base.specs.Encoding.{Encoding};
 
 use crate::layout::Layout;
 use crate::same_key::SameKey;
 
-/// One list of bytes spells at most one value.
+/// Bytes encode at most one value.
 pub fn one_value<T: Layout>()
     ensures { (f : Encoding) (v w : T.Seen) (bytes : List ℕ) →
         (T.format f).spells v bytes → (T.format f).spells w bytes → v ≡ w }
 {}
 
-/// No spelling begins another.
+/// No encoding begins another: the encodings of a type are prefix-free.
 pub fn no_spelling_begins_another<T: Layout>()
     ensures { (f : Encoding) (v w : T.Seen) (bytes more : List ℕ) →
         (T.format f).spells v bytes → (T.format f).spells w (bytes ++ more) → more ≡ [] }
 {}
 
-/// What is written spells the value, and no spelling of it is shorter.
+/// What is written encodes the value, and no encoding of it is shorter.
 pub fn written_is_shortest<T: Layout>()
     ensures spells { (f : Encoding) (v : T.Seen) (bytes : List ℕ) →
         (T.format f).writes v bytes → (T.format f).spells v bytes }
@@ -25,33 +25,33 @@ pub fn written_is_shortest<T: Layout>()
         (T.format f).writes v bytes → (T.format f).spells v others → length bytes ≤ length others }
 {}
 
-/// A value that has a spelling has a written form.
+/// A value that has an encoding has a canonical one.
 pub fn spelled_is_written<T: Layout>()
     ensures { (f : Encoding) (v : T.Seen) (bytes : List ℕ) →
         (T.format f).spells v bytes → (written : List ℕ) × (T.format f).writes v written }
 {}
 
-/// No spelling is shorter than the type's least size.
+/// No encoding is shorter than the type's least size.
 pub fn no_spelling_is_below_least<T: Layout>()
     ensures { (f : Encoding) (v : T.Seen) (bytes : List ℕ) →
         (T.format f).spells v bytes → T.least ≤ length bytes }
 {}
 
-/// A value has one written form, where nothing in it is hashed.
+/// A value has one canonical encoding, where nothing in it is hashed.
 pub fn one_written_form<T: Layout>()
     ensures { (f : Encoding) (v : T.Seen) (bytes others : List ℕ) →
         (T.format f).asks.hashed ≡ false → (T.format f).writes v bytes → (T.format f).writes v others → bytes ≡ others }
 {}
 
-/// Two fronts of one list of bytes that spell are one front. They spell one value, and leave the same rest.
+/// Two prefixes of the same bytes that encode values are one prefix. They encode one value, and leave the same rest.
 pub fn one_front<T: Layout>()
     ensures { (f : Encoding) (v w : T.Seen) (bytes more others left : List ℕ) →
         (T.format f).spells v bytes → (T.format f).spells w others → bytes ++ more ≡ others ++ left →
         (v ≡ w) × (bytes ≡ others) × (more ≡ left) }
 {}
 
-/// Under a context that accepts the written form alone, what spells a value is a written form of it. So where
-/// nothing in it is hashed, what was read is written again as the very same bytes.
+/// Under a context that reads only canonical encodings, what encodes a value is one of these. So where nothing in it
+/// is hashed, what was read is written again as the very same bytes.
 pub fn written_form_alone<T: Layout>()
     ensures written { (f : Encoding) (v : T.Seen) (bytes : List ℕ) →
         IsTrue f.strict → (T.format f).spells v bytes → (T.format f).writes v bytes }
@@ -59,7 +59,7 @@ pub fn written_form_alone<T: Layout>()
         IsTrue f.strict → (T.format f).asks.hashed ≡ false → (T.format f).spells v bytes → (T.format f).writes v others → bytes ≡ others }
 {}
 
-/// Two values of a type that may be a key are equal exactly where the same is seen of them.
+/// Keys are equal exactly where the same is seen of them.
 pub fn equal_as_seen<T: SameKey>()
     ensures { (x y : T) → IsTrue (T.eq x y) ↔ (T.seen x ≡ T.seen y) }
 {}

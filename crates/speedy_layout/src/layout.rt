@@ -1,4 +1,4 @@
-//! The layout of each type: which bytes spell which values.
+//! The layout of a type: which bytes encode which values.
 ghost use Rattle.std.specs.Prelude.{ℕ};
 ghost use Rattle.speedy_base.specs.Encoding.{Encoding};
 ghost use Rattle.speedy_layout.specs.Format.{Format};
@@ -12,21 +12,21 @@ pub trait Lawful {
 
 impl<T> Lawful for T {}
 
-/// The layout of a type: which bytes spell which values, and which of these are written.
+/// The layout of a type: which bytes encode which values, and which of these are written.
 ///
-/// It has no function to run. A type of one's own gives these members from those of its parts.
+/// It has no function to run. A type of your own gives these members from those of its parts.
 pub trait Layout: Lawful {
     /// What is seen of a value. Two values are the same value where the same is seen of them.
     ghost Seen: { Type 0 };
 
     ghost seen: { Self → Seen };
 
-    /// Which bytes spell which values, under what a context asks of the bytes.
+    /// Which bytes encode which values, under a context's encoding.
     ghost format: { Encoding → Format Seen };
 
-    /// No spelling has fewer bytes.
+    /// The least size: no value is encoded in fewer bytes.
     ghost least: { ℕ };
 
-    /// One value for one list of bytes, no spelling that begins another, and a shortest one that is written.
+    /// The laws: bytes encode at most one value, the encodings are prefix-free, and a shortest one is written.
     ghost layout_laws: { (f : Encoding) → let always : Type 0 = Self.Always in Laws f.strict least (format f) };
 }

@@ -1,4 +1,4 @@
-//! What bytes mean: the layout of each type, with its laws.
+//! The layout of each type: which bytes encode which value, with its laws.
 #![tactic(auto)]
 
 pub mod addresses;

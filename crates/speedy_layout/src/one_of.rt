@@ -1,10 +1,10 @@
-//! One of several values, behind a number of four bytes that says which: 0 the first, 1 the second, and so on. An enum of
-//! one's own is one of these.
+//! One of several values, behind a tag of four bytes that says which: 0 the first, 1 the second, and so on. An enum of
+//! your own has the layout of one of these.
 ghost use Rattle.speedy_layout.specs.OneOf.{one_of2, one_of2_laws, one_of3, one_of3_laws, one_of4, one_of4_laws, one_of5, one_of5_laws, one_of6, one_of6_laws, one_of7, one_of7_laws, one_of8, one_of8_laws};
 
 use crate::layout::Layout;
 
-/// One of two values.
+/// One of two values, behind its tag.
 #[derive(Drop)]
 pub enum OneOf2<T0, T1> {
     First(T0),
@@ -28,7 +28,7 @@ impl<T0: Layout, T1: Layout> Layout for OneOf2<T0, T1> {
     ghost layout_laws = { one_of2_laws T0.layout_laws T1.layout_laws };
 }
 
-/// One of three values.
+/// One of three values, behind its tag.
 #[derive(Drop)]
 pub enum OneOf3<T0, T1, T2> {
     First(T0),
@@ -54,7 +54,7 @@ impl<T0: Layout, T1: Layout, T2: Layout> Layout for OneOf3<T0, T1, T2> {
     ghost layout_laws = { one_of3_laws T0.layout_laws T1.layout_laws T2.layout_laws };
 }
 
-/// One of four values.
+/// One of four values, behind its tag.
 #[derive(Drop)]
 pub enum OneOf4<T0, T1, T2, T3> {
     First(T0),
@@ -82,7 +82,7 @@ impl<T0: Layout, T1: Layout, T2: Layout, T3: Layout> Layout for OneOf4<T0, T1, T
     ghost layout_laws = { one_of4_laws T0.layout_laws T1.layout_laws T2.layout_laws T3.layout_laws };
 }
 
-/// One of five values.
+/// One of five values, behind its tag.
 #[derive(Drop)]
 pub enum OneOf5<T0, T1, T2, T3, T4> {
     First(T0),
@@ -113,7 +113,7 @@ impl<T0: Layout, T1: Layout, T2: Layout, T3: Layout, T4: Layout> Layout
     ghost layout_laws = { one_of5_laws T0.layout_laws T1.layout_laws T2.layout_laws T3.layout_laws T4.layout_laws };
 }
 
-/// One of six values.
+/// One of six values, behind its tag.
 #[derive(Drop)]
 pub enum OneOf6<T0, T1, T2, T3, T4, T5> {
     First(T0),
@@ -146,7 +146,7 @@ impl<T0: Layout, T1: Layout, T2: Layout, T3: Layout, T4: Layout, T5: Layout> Lay
     ghost layout_laws = { one_of6_laws T0.layout_laws T1.layout_laws T2.layout_laws T3.layout_laws T4.layout_laws T5.layout_laws };
 }
 
-/// One of seven values.
+/// One of seven values, behind its tag.
 #[derive(Drop)]
 pub enum OneOf7<T0, T1, T2, T3, T4, T5, T6> {
     First(T0),
@@ -181,7 +181,7 @@ impl<T0: Layout, T1: Layout, T2: Layout, T3: Layout, T4: Layout, T5: Layout, T6:
     ghost layout_laws = { one_of7_laws T0.layout_laws T1.layout_laws T2.layout_laws T3.layout_laws T4.layout_laws T5.layout_laws T6.layout_laws };
 }
 
-/// One of eight values.
+/// One of eight values, behind its tag.
 #[derive(Drop)]
 pub enum OneOf8<T0, T1, T2, T3, T4, T5, T6, T7> {
     First(T0),

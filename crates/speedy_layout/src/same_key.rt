@@ -1,4 +1,4 @@
-//! Keys: types whose equality tells apart just what is seen apart.
+//! Keys of maps and items of sets: types whose values are equal exactly where they are the same.
 ghost use Rattle.std.specs.Prelude.{◌≡◌, ◌↔◌, IsTrue, refl};
 ghost use Rattle.std.specs.Box.{boxed_slice_items, boxed_str_bytes};
 ghost use Rattle.std.specs.Cmp.{unsigned_Decides, signed_Decides, booleans_Decides};
@@ -32,7 +32,7 @@ use uuid::Uuid;
 /// A type whose values are equal exactly where they are the same value, as keys of maps and items of sets must
 /// be: else a map would hold two entries that a reader cannot tell apart, or lose one that it can.
 pub trait SameKey: Layout + Eq {
-    /// Two values are equal exactly where the same is seen of them.
+    /// Values are equal exactly where the same is seen of them.
     ghost same_key: { (x y : Self) → IsTrue (Self.eq x y) ↔ (Self.seen x ≡ Self.seen y) };
 }
 

@@ -1,12 +1,12 @@
-//! Numbers that say which variant of an enum a value is, where nothing stands behind them.
+//! Tags of enums whose variants have no parts.
 ghost use Rattle.std.specs.Prelude.{◌≡◌, ◌<◌, ℕ};
 ghost use Rattle.speedy_layout.specs.Tags.{tag, tag_laws};
 
 use crate::layout::Layout;
 
-/// A number of four bytes that is below `N`: which of `N` variants without parts a value is.
+/// The tag of an enum of `N` variants without parts: a number of four bytes, below `N`.
 ///
-/// Another number is refused with `InvalidEnumVariant`.
+/// Any other number is the error `InvalidEnumVariant`.
 #[derive(Drop)]
 pub struct Tag<const N: u32> {
     pub number: u32,

@@ -1,4 +1,4 @@
-//! The layout of tuples: the parts in order. A tuple of more than two parts is seen as its first part and the
+//! The layout of tuples: the parts in order. What is seen of more than two parts is the first part and the
 //! tuple of the others.
 ghost use Rattle.std.specs.Prelude.{◌+◌};
 ghost use Rattle.speedy_layout.specs.Laws.{saturated_size};

@@ -11,7 +11,7 @@ use crate::layout::Layout;
 pub struct VarInt64(u64);
 
 impl VarInt64 {
-    /// The bytes that are written: so many from the front of the array.
+    /// The canonical encoding: so many bytes from the front of the array.
     #[inline]
     pub fn encode(self) -> ([u8; 9], usize)
         ensures one_at_least { 1 ≤ result.1 }
@@ -32,7 +32,7 @@ impl VarInt64 {
         )
     }
 
-    /// Whether no fewer bytes than so many after the first one hold the number, which are the ones written.
+    /// Whether the canonical encoding has this many bytes after the first one.
     #[inline]
     pub fn is_written_with(self, more: usize) -> bool
         ensures { IsTrue result ↔ IsFewest more (varint_number self) }
@@ -40,7 +40,7 @@ impl VarInt64 {
         more_bytes(self.0) == more
     }
 
-    /// How many bytes follow the first one.
+    /// The number of bytes that follow the first one.
     #[inline]
     pub fn length_of(first: u8) -> usize
         ensures { StartsVarint result first }
@@ -48,7 +48,7 @@ impl VarInt64 {
         first.leading_ones() as usize
     }
 
-    /// The number that the first byte and those that follow it spell.
+    /// Decodes the first byte and those that follow it.
     #[inline]
     pub fn decode(first: u8, rest: &[u8]) -> VarInt64
         requires { StartsVarint (length rest.now) first }
@@ -63,7 +63,7 @@ impl VarInt64 {
     }
 }
 
-/// How many bytes have to follow the first one.
+/// The number of bytes that have to follow the first one.
 fn more_bytes(number: u64) -> usize
     ensures { IsFewest result number }
 {

@@ -11,48 +11,46 @@ use crate::layout::Layout;
 use speedy_base::context::{Context, LittleEndian};
 use speedy_base::endianness::Endianness;
 
-/// Values that all have the same number of bytes.
+/// Types whose values all have the same number of bytes.
 pub trait FixedSize {
-    /// How many bytes a value has.
+    /// The number of bytes of a value.
     const SIZE: usize;
 
     ghost SIZE: { ℕ };
 }
 
-/// Items that a view may show: all of one size, and any bytes of that size spell one.
+/// Items that a view may show: all of one size, and any bytes of that size encode one.
 pub trait ViewItem: FixedSize + Layout + Copy + Drop {
-    /// The item that so many bytes spell under the little order.
+    /// The item that `SIZE` bytes encode in little endian.
     ghost decoded: { List ℕ → Self };
 
-    /// The item that so many bytes spell under the little order.
+    /// The item that `SIZE` bytes encode in little endian.
     fn decode(bytes: &[u8]) -> Self
         requires { length bytes.now ≡ Self.SIZE }
         ensures { result ≡ decoded bytes.now };
 
-    /// An item has a byte at least, and fewer than 2^32.
+    /// An item has at least one byte, and fewer than 2^32.
     ghost some_bytes: { 0 < Self.SIZE };
 
     ghost few_bytes: { Self.SIZE < 2 ^ 32 };
 
-    /// They are its least size.
+    /// The least size is `SIZE`.
     ghost least_is: { Self.least ≡ Self.SIZE };
 
-    /// Under no encoding has a spelling of an item more bytes, or fewer.
+    /// Each encoding of an item has `SIZE` bytes.
     ghost one_size: { (e : Encoding) (v : Self.Seen) (bytes : List ℕ) →
         (Self.format e).spells v bytes → length bytes ≡ Self.SIZE };
 
-    /// Bytes spell the item that is decoded of them.
+    /// Bytes encode the item that is decoded from them.
     ghost decodes: { (bytes : List ℕ) → length bytes ≡ Self.SIZE → AreBytes bytes →
         (Self.format (plain_encoding LittleOrder)).spells (Self.seen (decoded bytes)) bytes };
 }
 
-/// The items of views that are read under such a context: what spells one under the little order spells
-/// it under the context too.
+/// Items of views that are read under a context: what encodes one in little endian encodes it under the context too.
 ///
-/// So it is with bytes under each context, and with wider numbers where the context's type means the
-/// little order.
+/// So it is with bytes under each context, and with wider numbers where the context's type means little endian.
 pub trait ZeroCopyable<C: Context>: ViewItem {
-    /// A spelling under the little order is one under the context.
+    /// An encoding in little endian is one under the context.
     ghost as_little: { (context : C) (v : Self.Seen) (bytes : List ℕ) →
         (Self.format (plain_encoding LittleOrder)).spells v bytes →
         (Self.format (C.encoding context)).spells v bytes };

@@ -1,4 +1,4 @@
-//! Views: bytes that are shown as the numbers that they spell, where they lie.
+//! Views: bytes that are shown where they lie, as the numbers that they encode.
 ghost use Rattle.std.specs.Prelude.{◌≡◌, ◌<◌, ◌≤◌, ◌*◌, ◌%◌, ℕ, List, length, map, get_or, Some, IfSome, MatchOption};
 ghost use Rattle.std.specs.Cmp.{on_equiv, on_per};
 ghost use Rattle.std.specs.Cmp.Lexicographic.{pointwise, lists_equiv, lists_per};
@@ -19,7 +19,7 @@ use std::fmt::{Debug, Formatter, Write};
 use std::iter::FusedIterator;
 use std::marker::PhantomData;
 
-/// A slice of numbers over the bytes that spell them under the little order.
+/// A slice of numbers over the bytes that encode them in little endian.
 ///
 /// Each is decoded when it is asked for, so the bytes may lie anywhere.
 #[derive(Drop)]
@@ -44,7 +44,7 @@ impl<'a, T: ViewItem> SliceView<'a, T> {
         }
     }
 
-    /// How many items there are.
+    /// The number of items.
     #[inline]
     pub fn len(&self) -> usize
         ensures { result ≡ length (shown_items T.decoded T.SIZE self.now.bytes.now) }
@@ -62,7 +62,7 @@ impl<'a, T: ViewItem> SliceView<'a, T> {
         item_at(self.bytes, index)
     }
 
-    /// The items, in order: those that the bytes of the view spell under the little order.
+    /// The items, in order: those that the bytes of the view encode in little endian.
     #[inline]
     pub fn iter(&self) -> ViewIter<'a, T>
         ensures shown { left_items T.decoded T.SIZE result
@@ -137,7 +137,7 @@ impl<'a, T: ViewItem> Layout for SliceView<'a, T> {
     ghost layout_laws = { λ f. borrowed_content_laws (list_laws f (T.layout_laws f)) };
 }
 
-/// An array of numbers over the bytes that spell them under the little order.
+/// An array of numbers over the bytes that encode them in little endian.
 ///
 /// Each is decoded when it is asked for, so the bytes may lie anywhere.
 #[derive(Drop)]
@@ -162,7 +162,7 @@ impl<'a, T: ViewItem, const N: usize> ArrayView<'a, T, N> {
         }
     }
 
-    /// How many items there are, which is `N`.
+    /// The number of items, which is `N`.
     #[inline]
     pub fn len(&self) -> usize
         ensures shown { result ≡ length (shown_items T.decoded T.SIZE self.now.bytes.now) }
@@ -181,7 +181,7 @@ impl<'a, T: ViewItem, const N: usize> ArrayView<'a, T, N> {
         item_at(self.bytes, index)
     }
 
-    /// The items, in order: those that the bytes of the view spell under the little order.
+    /// The items, in order: those that the bytes of the view encode in little endian.
     #[inline]
     pub fn iter(&self) -> ViewIter<'a, T>
         ensures shown { left_items T.decoded T.SIZE result
