@@ -14,9 +14,9 @@ use std::convert::AsSlice;
 /// A function that is generic in what it reads names its bytes by a type parameter, as `L: Buffer<C>` and
 /// `T: ReadFrom<L, C>`, and no lifetime.
 pub trait Buffer<C: Context>: AsSlice<u8> + Drop + Sized {
-    /// The value that a front of the bytes spells under the context, and how many bytes spell it.
+    /// Decodes a value from a prefix of the bytes, under the context, and says how many bytes that prefix has.
     ///
-    /// Bytes that are fewer than the type's least size are refused with `InputBufferIsTooSmall` and the count 0.
+    /// Fewer bytes than the type's least size are the error `InputBufferIsTooSmall`, with the count 0.
     fn read_with_length<T: ReadFrom<Self, C>>(
         self,
         alloc: Global,
@@ -25,9 +25,9 @@ pub trait Buffer<C: Context>: AsSlice<u8> + Drop + Sized {
         ensures { let format = T.format (C.encoding context) in
             AnswersBuffer C.Error.from_gives C.Error.eof T.seen T.least format result.0 result.1 (Self.items self) };
 
-    /// The value that a front of the bytes spells under the context.
+    /// Decodes a value from a prefix of the bytes, under the context.
     ///
-    /// Bytes that are fewer than the type's least size are refused with `InputBufferIsTooSmall`.
+    /// Fewer bytes than the type's least size are the error `InputBufferIsTooSmall`.
     final fn read_front<T: ReadFrom<Self, C>>(
         self,
         alloc: Global,

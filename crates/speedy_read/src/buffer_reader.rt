@@ -1,4 +1,4 @@
-//! Reading from bytes in memory.
+//! A reader of bytes in memory, which lends them.
 ghost use Rattle.std.specs.Prelude.{IsOk, ◌≡◌, ◌↔◌, [], IsTrue, length, nat_le, Some, OnErr, IfSome, IsSome, refl};
 ghost use Rattle.std.specs.Borrow.{sem, Lends};
 ghost use Rattle.std.specs.Io.BufRead.{Rests};
@@ -14,7 +14,7 @@ use speedy_base::error::error_end_of_input;
 use std::alloc::Global;
 use std::marker::PhantomData;
 
-/// Reads from bytes in memory, and lends parts of them.
+/// A reader of bytes in memory, which lends parts of them.
 #[derive(Drop)]
 pub struct BufferReader<'a, C> {
     context: C,
@@ -25,7 +25,7 @@ pub struct BufferReader<'a, C> {
 }
 
 impl<'a, C: Context> BufferReader<'a, C> {
-    /// A reader at the front of the buffer.
+    /// A reader at the beginning of the buffer.
     #[inline]
     pub fn new(alloc: Global, context: C, buffer: &'a [u8]) -> BufferReader<'a, C>
         ensures context { ⟦<BufferReader<'a, C> as LendingReader<&'a [u8], C>>⟧.at result
@@ -41,7 +41,7 @@ impl<'a, C: Context> BufferReader<'a, C> {
         }
     }
 
-    /// How many bytes are to come.
+    /// The number of bytes still to be read.
     #[inline]
     pub fn len(&self) -> usize
         ensures { result ≡ length
@@ -50,7 +50,7 @@ impl<'a, C: Context> BufferReader<'a, C> {
         self.rest.len()
     }
 
-    /// Whether no bytes are to come.
+    /// Whether all bytes were read.
     #[inline]
     pub fn is_empty(&self) -> bool
         ensures { IsTrue result

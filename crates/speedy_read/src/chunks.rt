@@ -1,4 +1,4 @@
-//! Numbers and bytes of which many are read: a chunk at a time, in bounded steps of room.
+//! Numbers, bytes and flags in bulk: a chunk at a time, into room that grows in bounded steps.
 ghost use Rattle.std.specs.Prelude.{◌≡◌, ◌+◌, ◌-◌, ◌*◌, ◌<◌, ◌≤◌, List, length, map, false, not, nat_eq, IfOk, IsSome, MatchOption, MatchResult};
 ghost use Rattle.speedy_base.specs.Digits.{AreBytes};
 ghost use Rattle.speedy_base.specs.Error.{error_of};
@@ -23,7 +23,7 @@ use speedy_layout::layout::Layout;
 use std::alloc::{AllocError, Global};
 use std::convert::AsSlice;
 
-/// Numbers: chunks of digits, or all that the reader lends.
+/// Reads numbers in bulk: a chunk of digits at a time, or all at once from what the reader lends.
 pub struct Numbers {}
 
 impl<L: AsSlice<u8> + Drop, C: Context, T: FixedNumber + ReadFrom<L, C>> Strategy<L, C, T>
@@ -64,7 +64,7 @@ impl<L: AsSlice<u8> + Drop, C: Context, T: FixedNumber + ReadFrom<L, C>> Fills<L
     }
 }
 
-/// Bytes: all that the reader lends, or chunks.
+/// Reads bytes in bulk: all at once from what the reader lends, or a chunk at a time.
 pub struct Bytes {}
 
 impl<L: AsSlice<u8> + Drop, C: Context> Strategy<L, C, u8> for Bytes {
@@ -115,7 +115,7 @@ impl<L: AsSlice<u8> + Drop, C: Context> Fills<L, C, u8> for Bytes {
     }
 }
 
-/// Flags: any byte is one, but where the written form is demanded.
+/// Reads flags in bulk: any byte is one, but where only canonical encodings are read.
 pub struct Flags {}
 
 impl<L: AsSlice<u8> + Drop, C: Context> Strategy<L, C, bool> for Flags {

@@ -1,4 +1,4 @@
-//! Collections, which are made of items that are read one after another.
+//! Collections that are made of items read one after another.
 ghost use Rattle.std.specs.Prelude.{◌≡◌, ◌++◌, ◌∷◌, ◌↔◌, List, [], map, IsTrue, IfOk, OnOk};
 ghost use Rattle.std.proofs.Common.{subst};
 ghost use Rattle.std.specs.BTreeMap as tree_map;
@@ -26,41 +26,40 @@ use std::collections::{BTreeMap, BTreeSet, HashMap, HashSet};
 use std::convert::AsSlice;
 use std::hash::{BuildHasher, Hash};
 
-/// What items are gathered to, one after another: a list, a set, a map.
+/// Collections that items are gathered to, one after another: a list, a set, a map.
 pub trait FromItems<T: Layout>: Sized + Drop {
-    /// What items gather to.
+    /// Which collection a list of items gathers to.
     ghost gathers: { List T → Self → Type 0 };
 
-    /// The lists of items that are written of what they gather to.
+    /// The lists of items that are canonical: a collection is written as these.
     ghost are_written: { List T → Type 0 };
 
-    /// No items.
+    /// An empty collection.
     fn empty(alloc: Global) -> Self
         ensures { gathers [] result };
 
-    /// Adds an item behind those that were added. It is refused for want of memory alone, and then the
-    /// collection can only be dropped.
+    /// Adds an item behind those that were added. The only error is out of memory, and after it the collection can only
+    /// be dropped.
     fn add(&mut self, item: T) -> Result<(), AllocError>
         ensures { OnOk result ((items : List T) → gathers items self.old
             → gathers (items ++ item ∷ []) self.new) };
 
-    /// Whether the items that were added, if they are written so, still are with this one after them.
+    /// Whether the items that were added, if they are canonical, still are with this one after them.
     fn accepts(&self, item: &T) -> bool
         ensures { (items : List T) → gathers items self.now → are_written items
             → IsTrue result ↔ are_written (items ++ item.now ∷ []) };
 
-    /// What all these items gather to, as if they were added one after another. It is refused for want of
-    /// memory alone.
+    /// Gathers all these items, as if they were added one after another. The only error is out of memory.
     fn gather(alloc: Global, items: Vec<T>) -> Result<Self, AllocError>
         ensures { IfOk result (gathers items.items) };
 
-    /// No items are written so.
+    /// No items at all are canonical.
     ghost none_written: { are_written [] };
 
-    /// And so are the first ones of items that are.
+    /// The first ones of items that are canonical are so too.
     ghost first_written: { (items more : List T) → are_written (items ++ more) → are_written items };
 
-    /// What is seen of the items says whether they are.
+    /// What is seen of the items decides whether they are canonical.
     ghost written_as_seen: { (items others : List T) →
         map T.seen items ≡ map T.seen others → are_written items → are_written others };
 }

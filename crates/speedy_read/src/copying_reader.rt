@@ -1,4 +1,4 @@
-//! Reading from bytes in memory that are not lent.
+//! A reader of bytes in memory that are not lent.
 ghost use Rattle.std.specs.Prelude.{IsOk, ◌≡◌, [], length, nat_le, Some, None, OnErr, IsSome, refl};
 ghost use Rattle.std.specs.Borrow.{sem, Lends};
 ghost use Rattle.std.specs.Io.BufRead.{Rests};
@@ -13,9 +13,9 @@ use speedy_base::context::Context;
 use speedy_base::error::error_end_of_input;
 use std::alloc::Global;
 
-/// Reads from bytes in memory, under a context that it borrows.
+/// A reader of bytes in memory that lends none of them, under a context that it borrows.
 ///
-/// Nothing is lent for longer than until its next use, so values that borrow are refused as `Unsized`.
+/// Nothing is lent for longer than until its next use, so a value that borrows is the error `Unsized`.
 #[derive(Drop)]
 pub struct CopyingBufferReader<'a, C> {
     context: &'a mut C,
@@ -26,7 +26,7 @@ pub struct CopyingBufferReader<'a, C> {
 impl<'a, C> CopyingBufferReader<'a, C> {
     ghost use Rattle.speedy_read.specs.CopyingModel.{copying_model};
 
-    /// A reader at the front of the buffer.
+    /// A reader at the beginning of the buffer.
     #[inline]
     pub fn new(alloc: Global, context: &'a mut C, buffer: &'a [u8]) -> CopyingBufferReader<'a, C>
         ensures same_context { (copying_model result).context_name ≡ context.entry.ghost_name }
@@ -40,7 +40,7 @@ impl<'a, C> CopyingBufferReader<'a, C> {
         }
     }
 
-    /// Gives the context back, and says how many bytes are to come.
+    /// Gives the context back, and says how many bytes were not read.
     #[inline]
     pub fn finish(self) -> usize
         ensures context { self.exit.0.now ≡ (copying_model self.entry).context }

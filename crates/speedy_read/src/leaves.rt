@@ -55,8 +55,8 @@ impl<L: AsSlice<u8> + Drop, C: Context> ReadMany<L, C> for Endianness {
 }
 
 impl<L: AsSlice<u8> + Drop, C: Context> ReadFrom<L, C> for Duration {
-    /// Reads seconds and nanoseconds. Nanoseconds of a second and more carry into the seconds, unless the context
-    /// demands the written form, which has fewer.
+    /// Reads seconds and nanoseconds. Nanoseconds of a second and more carry into the seconds, unless the context reads
+    /// only canonical encodings, which have fewer.
     #[inline]
     fn read_from<R: LendingReader<L, C>>(reader: &mut R) -> Result<Duration, C::Error> {
         let (seconds, nanos) = reader.read_value::<(u64, u32)>()?;

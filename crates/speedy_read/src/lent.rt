@@ -1,4 +1,4 @@
-//! What readers lend.
+//! What readers lend to values that borrow, and the marker of those that lend nothing.
 ghost use Rattle.std.specs.Prelude.{◌≡◌, false, [], IfOk, IsErrAnd};
 ghost use Rattle.speedy_base.specs.Digits.{AreBytes};
 ghost use Rattle.speedy_base.specs.Error.{error_of};
@@ -11,7 +11,7 @@ use speedy_base::context::Context;
 use speedy_base::error::{ErrorKind, error_unsized};
 use std::convert::AsSlice;
 
-/// What is lent where nothing is borrowed.
+/// What a reader lends that lends nothing: its `L`.
 #[derive(Clone, Copy, Debug, PartialEq, Eq)]
 pub struct Nothing {}
 

@@ -20,7 +20,7 @@ use std::marker::PhantomData;
 
 /// How the values of a type are read several at a time.
 pub trait Strategy<L: AsSlice<u8> + Drop, C: Context, T: ReadFrom<L, C>> {
-    /// Reads so many values, one after another, and makes what is asked for of lent bytes, or a vector.
+    /// Reads `length` values, one after another, into what is asked for where bytes are lent, or into a vector.
     fn read_many_lent<W: FromLent<L, T>, R: LendingReader<L, C>>(
         reader: &mut R,
         length: usize,
@@ -30,8 +30,8 @@ pub trait Strategy<L: AsSlice<u8> + Drop, C: Context, T: ReadFrom<L, C>> {
             (vector length (T.format (R.state reader.old).encoding)) result
             (R.state reader.old) (R.state reader.new) };
 
-    /// Reads as many values as there are places, into these, without a vector; `None` where that cannot be, and then
-    /// nothing is read.
+    /// Reads as many values as there are places, into these, without a vector. `None` where that cannot be: then nothing
+    /// is read.
     fn read_places<P: Places<L, C, T>, R: LendingReader<L, C>>(
         reader: &mut R,
     ) -> Option<Result<P, C::Error>>
@@ -41,7 +41,7 @@ pub trait Strategy<L: AsSlice<u8> + Drop, C: Context, T: ReadFrom<L, C>> {
             (R.state reader.old) (R.state reader.new)) };
 }
 
-/// Each value by itself. This serves any type.
+/// Reads each value by itself, which serves any type.
 ///
 /// It names the context, since a type that owns memory gets no proof of an impl whose strategy names no parameter of it.
 pub struct ItemByItem<C> {
@@ -69,14 +69,14 @@ pub trait Places<L: AsSlice<u8> + Drop, C: Context, T: ReadFrom<L, C>>: Sized + 
     /// The values in the places.
     ghost shown: { Self → List T };
 
-    /// How many places there are.
+    /// The number of places.
     ghost count: { ℕ };
 
-    /// All places have the value that the type begins with.
+    /// Places that all have the value that the type begins with.
     fn begun<F: Fills<L, C, T>>() -> Self
         ensures { count_of (shown result) ≡ count };
 
-    /// Reads a value into each place. After a refusal nothing is said of them.
+    /// Reads a value into each place. After an error nothing is said of them.
     fn fill<F: Fills<L, C, T>, R: LendingReader<L, C>>(
         &mut self,
         reader: &mut R,
@@ -92,19 +92,19 @@ pub trait Fills<L: AsSlice<u8> + Drop, C: Context, T: ReadFrom<L, C>> {
     /// The value that places begin with.
     fn first() -> T;
 
-    /// Reads a value into each place. After a refusal nothing is said of them.
+    /// Reads a value into each place. After an error nothing is said of them.
     fn fill<R: LendingReader<L, C>>(reader: &mut R, places: &mut [T]) -> Result<(), C::Error>
         ensures { Reads C.Error.from_gives C.Error.eof (λ _. map T.seen places.new)
             (vector (count_of places.old) (T.format (R.state reader.old).encoding)) result
             (R.state reader.old) (R.state reader.new) };
 }
 
-/// What types that are read implement besides, for several values at once.
+/// How several values of a type are read at once. Types implement it beside [`ReadFrom`].
 pub trait ReadMany<L: AsSlice<u8> + Drop, C: Context>: ReadFrom<L, C> {
     /// How several of its values are read: [`ItemByItem`] for a type of one's own.
     type Strategy: Strategy<L, C, Self>;
 
-    /// Reads so many values, one after another, into a vector.
+    /// Reads `length` values, one after another, into a vector.
     #[inline]
     final fn read_many<R: LendingReader<L, C>>(
         reader: &mut R,
@@ -117,7 +117,7 @@ pub trait ReadMany<L: AsSlice<u8> + Drop, C: Context>: ReadFrom<L, C> {
         Self::read_many_cow::<Vec<Self>, R>(reader, length)
     }
 
-    /// Reads so many values, one after another, into a cow or what else borrows what is lent.
+    /// Reads `length` values, one after another, into a cow or what else borrows what is lent.
     #[inline]
     final fn read_many_cow<W: FromLent<L, Self>, R: LendingReader<L, C>>(
         reader: &mut R,
@@ -134,10 +134,10 @@ pub trait ReadMany<L: AsSlice<u8> + Drop, C: Context>: ReadFrom<L, C> {
         }
     }
 
-    /// Reads so many values, one after another, and gathers them.
+    /// Reads `length` values, one after another, and gathers them.
     ///
-    /// Where the context demands the written form, items that are written of no collection are refused with
-    /// `NotWrittenForm`: a key that was there before, and in ordered ones one that does not come after it.
+    /// Where only canonical encodings are read, items that no collection is written as are the error `NotWrittenForm`: a
+    /// key that was there before, and in ordered ones one that does not come after it.
     final fn collect_many<F: FromItems<Self>, R: LendingReader<L, C>>(
         reader: &mut R,
         length: usize,
@@ -159,7 +159,7 @@ pub trait BytesAs<T: Drop> {
     fn values_of(bytes: &[u8]) -> &[T]
         ensures { result.now ≡ values bytes.now };
 
-    /// A copy of the values that the bytes are; `None` is want of memory.
+    /// A copy of the values that the bytes are; `None` is out of memory.
     fn copy_of(bytes: &[u8], alloc: Global) -> Option<Vec<T>>
         ensures { MatchOption result ⊤ (λ v. v.items ≡ values bytes.now) };
 }
@@ -189,7 +189,7 @@ pub trait FromLent<L: AsSlice<u8> + Drop, T: Drop>: Sized + Drop {
     fn from_values(values: Vec<T>) -> Self
         ensures { shown result ≡ values.items };
 
-    /// It borrows what was lent, or copies it; `None` is want of memory.
+    /// It borrows what was lent, or copies it; `None` is out of memory.
     fn from_lent<B: BytesAs<T>>(lent: L, alloc: Global) -> Option<Self>
         ensures { MatchOption result ⊤ (λ w. shown w ≡ B.values (L.items lent)) };
 }
@@ -231,7 +231,7 @@ impl<'a, T: Drop> FromLent<&'a [u8], T> for CowSlice<'a, T> {
     }
 }
 
-/// So many values: as what was made of lent bytes, or as a vector.
+/// Several values: as what was made of lent bytes, or as a vector.
 #[derive(Drop)]
 pub enum Many<W, T> {
     /// What was made of lent bytes.

@@ -1,4 +1,4 @@
-//! How one of several values is read: a number, and then the value that it says.
+//! How one of several values is read: a tag, and then the value that it says.
 use crate::many::ItemByItem;
 use crate::readable::{ReadFrom, ReadMany};
 use crate::reader::LendingReader;

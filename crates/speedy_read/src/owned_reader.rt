@@ -13,9 +13,9 @@ use std::alloc::Global;
 use std::convert::AsSlice;
 use std::marker::PhantomData;
 
-/// Reads values that borrow nothing, from any reader, which goes on behind them.
+/// A reader of values that borrow nothing, over any other reader, which goes on behind them.
 ///
-/// `L` is what that reader lends. None of it is passed on, so no value that is read here is refused as `Unsized`.
+/// `L` is what that reader lends. None of it is passed on, so no value that is read here is the error `Unsized`.
 #[derive(Drop)]
 pub struct OwnedReader<'a, L, R> {
     reader: &'a mut R,
@@ -25,7 +25,7 @@ pub struct OwnedReader<'a, L, R> {
 impl<'a, L, R> OwnedReader<'a, L, R> {
     ghost use Rattle.speedy_read.specs.OwnedModel.{owned_model};
 
-    /// A reader at the place of this one.
+    /// A reader that goes on where this one is.
     #[inline]
     pub fn new(reader: &'a mut R) -> OwnedReader<'a, L, R>
         ensures same_reader { (owned_model result).reader_name ≡ reader.entry.ghost_name }
@@ -37,7 +37,7 @@ impl<'a, L, R> OwnedReader<'a, L, R> {
         }
     }
 
-    /// The reader, which goes on behind what was read.
+    /// The reader below, which goes on behind what was read.
     #[inline]
     pub fn into_inner(self) -> &'a mut R
         ensures same_reader { result.ghost_name ≡ (owned_model self.entry).reader_name }

@@ -1,4 +1,4 @@
-//! What reading runs beside readers.
+//! What types written by hand are read with: lengths, constants and texts.
 ghost use Rattle.std.specs.Prelude.{◌≡◌, [], ℕ, ◌↔◌, IsTrue, IsOk, MatchResult};
 ghost use Rattle.std.specs.String.{string_bytes};
 ghost use Rattle.std.specs.Cow.{cow_slice_items, cow_str_bytes};
@@ -19,7 +19,7 @@ use speedy_base::error::{
 use std::borrow::{CowSlice, CowStr};
 use std::convert::AsSlice;
 
-/// The text whose UTF-8 the bytes are, without a copy, or a refusal with `InvalidUtf8`.
+/// The text whose UTF-8 the bytes are, without a copy, or the error `InvalidUtf8`.
 #[inline]
 pub fn vec_to_string<E: From<Error>>(vec: Vec<u8>) -> Result<String, E>
     ensures { MatchResult result (λ text. (string_bytes text ≡ vec.items) × IsUtf8 vec.items)
@@ -31,8 +31,7 @@ pub fn vec_to_string<E: From<Error>>(vec: Vec<u8>) -> Result<String, E>
     }
 }
 
-/// The text whose UTF-8 the bytes are, without a copy, or a refusal with `InvalidUtf8`. Bytes that are refused
-/// are dropped.
+/// The text whose UTF-8 the bytes are, without a copy, or the error `InvalidUtf8`, which drops them.
 #[inline]
 pub fn cow_bytes_to_cow_str<'a, E: From<Error>>(bytes: CowSlice<'a, u8>) -> Result<CowStr<'a>, E>
     ensures { let all = cow_slice_items bytes.entry in
@@ -57,7 +56,7 @@ pub(crate) fn bytes_to_str<E: From<Error>>(bytes: &[u8]) -> Result<&str, E>
     }
 }
 
-/// A length that is a `u32`.
+/// Reads a length that is a `u32`.
 #[inline]
 pub fn read_length<L: AsSlice<u8> + Drop, C: Context, R: LendingReader<L, C>>(
     reader: &mut R,
@@ -71,7 +70,7 @@ pub fn read_length<L: AsSlice<u8> + Drop, C: Context, R: LendingReader<L, C>>(
 // The greatest length of seven bits.
 const U7_MAX: u8 = 127;
 
-/// A length that is a byte of at most 127. Others are refused as `OutOfRangeLength`.
+/// Reads a length that is a byte of at most 127. Any other is the error `OutOfRangeLength`.
 #[inline]
 pub fn read_length_u7<L: AsSlice<u8> + Drop, C: Context, R: LendingReader<L, C>>(
     reader: &mut R,
@@ -87,7 +86,7 @@ pub fn read_length_u7<L: AsSlice<u8> + Drop, C: Context, R: LendingReader<L, C>>
     Ok(usize::from(length))
 }
 
-/// A length that is a `u8`.
+/// Reads a length that is a `u8`.
 #[inline]
 pub fn read_length_u8<L: AsSlice<u8> + Drop, C: Context, R: LendingReader<L, C>>(
     reader: &mut R,
@@ -98,7 +97,7 @@ pub fn read_length_u8<L: AsSlice<u8> + Drop, C: Context, R: LendingReader<L, C>>
     Ok(usize::from(reader.read_u8()?))
 }
 
-/// A length that is a `u16`, in the context's order.
+/// Reads a length that is a `u16`, in the context's order.
 #[inline]
 pub fn read_length_u16<L: AsSlice<u8> + Drop, C: Context, R: LendingReader<L, C>>(
     reader: &mut R,
@@ -109,7 +108,7 @@ pub fn read_length_u16<L: AsSlice<u8> + Drop, C: Context, R: LendingReader<L, C>
     Ok(usize::from(reader.read_u16()?))
 }
 
-/// A length that is a `u32`, in the context's order.
+/// Reads a length that is a `u32`, in the context's order.
 #[inline]
 pub fn read_length_u32<L: AsSlice<u8> + Drop, C: Context, R: LendingReader<L, C>>(
     reader: &mut R,
@@ -120,7 +119,7 @@ pub fn read_length_u32<L: AsSlice<u8> + Drop, C: Context, R: LendingReader<L, C>
     Ok(reader.read_u32()? as usize)
 }
 
-/// A length that is a `u64`, in the context's order. A `usize` has 64 bits, so that none is past it.
+/// Reads a length that is a `u64`, in the context's order. A `usize` has 64 bits, so none is past it.
 #[inline]
 pub fn read_length_u64<L: AsSlice<u8> + Drop, C: Context, R: LendingReader<L, C>>(
     reader: &mut R,
@@ -131,7 +130,7 @@ pub fn read_length_u64<L: AsSlice<u8> + Drop, C: Context, R: LendingReader<L, C>
     Ok(reader.read_u64()? as usize)
 }
 
-/// A length that is an integer of variable length. A `usize` has 64 bits, so that none is past it.
+/// Reads a length that is an integer of variable length. A `usize` has 64 bits, so none is past it.
 #[inline]
 pub fn read_length_u64_varint<L: AsSlice<u8> + Drop, C: Context, R: LendingReader<L, C>>(
     reader: &mut R,
@@ -142,9 +141,9 @@ pub fn read_length_u64_varint<L: AsSlice<u8> + Drop, C: Context, R: LendingReade
     Ok(reader.read_u64_varint()? as usize)
 }
 
-/// Takes just these bytes. Others of their number are refused as `ExpectedConstant`, fewer as an end of input.
+/// Reads just these bytes. Others of their number are the error `ExpectedConstant`, fewer an end of input.
 ///
-/// All of them are read, a chunk at a time, before they are refused. No memory is asked for, and of no bytes none is read.
+/// All of them are read, a chunk at a time, before that error. No memory is asked for, and of no bytes none is read.
 pub fn read_constant<L: AsSlice<u8> + Drop, C: Context, R: LendingReader<L, C>>(
     reader: &mut R,
     constant: &'static [u8],

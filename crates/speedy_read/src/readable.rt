@@ -1,4 +1,4 @@
-//! What types that are read do.
+//! Types that can be read, and the ways of reading them.
 ghost use Rattle.std.specs.Prelude.{◌≡◌, ℕ, true, false};
 ghost use Rattle.speedy_base.specs.Encoding.{plain_encoding};
 ghost use Rattle.speedy_read.specs.Reading.{Reads};
@@ -22,31 +22,30 @@ use std::convert::AsSlice;
 use std::fs::{File, Files};
 use std::path::AsPath;
 
-/// What types that are read implement, over what a reader lends.
+/// Types that can be read. `L` is what the reader lends.
 ///
-/// Most types are read whatever is lent; types that borrow are read where `L` is `&'a [u8]`. Users name
-/// the types that are read by [`Readable`].
+/// Most types are read whatever is lent; types that borrow are read where `L` is `&'a [u8]`. Types implement this trait,
+/// and users name them by [`Readable`].
 pub trait ReadFrom<L: AsSlice<u8> + Drop, C: Context>: Layout + Sized + Drop {
     /// Reads a value.
     ///
-    /// A value that is answered is spelled by a front of the bytes to come, and just that front is taken.
-    /// A clean refusal, neither want of memory nor a failed call of the device, means that no front
-    /// spells any value.
+    /// A value that is answered is encoded by a prefix of the bytes to come, and just that prefix is taken. An error that
+    /// is neither out of memory nor of a failed call means that no prefix encodes any value.
     fn read_from<R: LendingReader<L, C>>(reader: &mut R) -> Result<Self, C::Error>
         ensures { Reads C.Error.from_gives C.Error.eof Self.seen
             (Self.format (R.state reader.old).encoding) result
             (R.state reader.old) (R.state reader.new) };
 
-    /// The least size: no value is spelled by fewer bytes.
+    /// The least size: no value is encoded in fewer bytes.
     fn minimum_bytes_needed() -> usize
         ensures { result ≡ Self.least };
 }
 
-/// Types that are read from bytes, which may be lent for `'a`.
+/// Types that can be read from a buffer, a source or a file, with the ways of doing so. They may borrow for `'a`.
 pub trait Readable<'a, C: Context>: ReadMany<&'a [u8], C> {
-    /// The value that a front of the buffer spells in the little byte order.
+    /// Decodes a value from a prefix of the buffer, in little endian.
     ///
-    /// A buffer that is shorter than the type's least size is refused with `InputBufferIsTooSmall`.
+    /// A buffer that is shorter than the type's least size is the error `InputBufferIsTooSmall`.
     final fn read_from_buffer(alloc: Global, buffer: &'a [u8]) -> Result<Self, C::Error>
     where
         C: PlainContext,
@@ -56,9 +55,9 @@ pub trait Readable<'a, C: Context>: ReadMany<&'a [u8], C> {
         Self::read_from_buffer_with_ctx(alloc, C::plain(), buffer)
     }
 
-    /// The value that a front of the buffer spells in the little byte order, and how many bytes spell it.
+    /// Decodes a value from a prefix of the buffer, in little endian, and says how many bytes that prefix has.
     ///
-    /// A buffer that is shorter than the type's least size is refused with `InputBufferIsTooSmall` and the count 0.
+    /// A buffer that is shorter than the type's least size is the error `InputBufferIsTooSmall`, with the count 0.
     final fn read_with_length_from_buffer(
         alloc: Global,
         buffer: &'a [u8],
@@ -71,9 +70,9 @@ pub trait Readable<'a, C: Context>: ReadMany<&'a [u8], C> {
         Self::read_with_length_from_buffer_with_ctx(alloc, C::plain(), buffer)
     }
 
-    /// The value that a front of the buffer spells under the context.
+    /// Decodes a value from a prefix of the buffer, under the context.
     ///
-    /// A buffer that is shorter than the type's least size is refused with `InputBufferIsTooSmall`.
+    /// A buffer that is shorter than the type's least size is the error `InputBufferIsTooSmall`.
     final fn read_from_buffer_with_ctx(
         alloc: Global,
         context: C,
@@ -85,9 +84,9 @@ pub trait Readable<'a, C: Context>: ReadMany<&'a [u8], C> {
         Self::read_with_length_from_buffer_with_ctx(alloc, context, buffer).0
     }
 
-    /// The value that a front of the buffer spells under the context, and how many bytes spell it.
+    /// Decodes a value from a prefix of the buffer, under the context, and says how many bytes that prefix has.
     ///
-    /// A buffer that is shorter than the type's least size is refused with `InputBufferIsTooSmall` and the count 0.
+    /// A buffer that is shorter than the type's least size is the error `InputBufferIsTooSmall`, with the count 0.
     final fn read_with_length_from_buffer_with_ctx(
         alloc: Global,
         context: C,
@@ -105,8 +104,8 @@ pub trait Readable<'a, C: Context>: ReadMany<&'a [u8], C> {
         (result, buffer.len() - reader.len())
     }
 
-    /// As [`read_from_buffer`](Self::read_from_buffer), but nothing of the buffer is borrowed: types that
-    /// borrow are refused as `Unsized`.
+    /// As [`read_from_buffer`](Self::read_from_buffer), but nothing of the buffer is borrowed: a type
+    /// that borrows is the error `Unsized`.
     final fn read_from_buffer_copying_data(alloc: Global, buffer: &[u8]) -> Result<Self, C::Error>
     where
         C: PlainContext,
@@ -117,7 +116,7 @@ pub trait Readable<'a, C: Context>: ReadMany<&'a [u8], C> {
     }
 
     /// As [`read_with_length_from_buffer`](Self::read_with_length_from_buffer), but nothing of the buffer is
-    /// borrowed: types that borrow are refused as `Unsized`.
+    /// borrowed: a type that borrows is the error `Unsized`.
     final fn read_with_length_from_buffer_copying_data(
         alloc: Global,
         buffer: &[u8],
@@ -131,7 +130,7 @@ pub trait Readable<'a, C: Context>: ReadMany<&'a [u8], C> {
     }
 
     /// As [`read_from_buffer_with_ctx`](Self::read_from_buffer_with_ctx), but nothing of the buffer is
-    /// borrowed: types that borrow are refused as `Unsized`.
+    /// borrowed: a type that borrows is the error `Unsized`.
     final fn read_from_buffer_copying_data_with_ctx(
         alloc: Global,
         context: C,
@@ -144,7 +143,7 @@ pub trait Readable<'a, C: Context>: ReadMany<&'a [u8], C> {
     }
 
     /// As [`read_with_length_from_buffer_with_ctx`](Self::read_with_length_from_buffer_with_ctx), but nothing
-    /// of the buffer is borrowed: types that borrow are refused as `Unsized`.
+    /// of the buffer is borrowed: a type that borrows is the error `Unsized`.
     final fn read_with_length_from_buffer_copying_data_with_ctx(
         alloc: Global,
         context: C,
@@ -157,10 +156,10 @@ pub trait Readable<'a, C: Context>: ReadMany<&'a [u8], C> {
         Self::read_with_length_from_buffer_copying_data_with_ctx_mut(alloc, &mut context, buffer)
     }
 
-    /// The value that a front of the buffer spells under the context, and how many bytes spell it. Nothing of
-    /// the buffer is borrowed: types that borrow are refused as `Unsized`.
+    /// Decodes a value from a prefix of the buffer, under the context, and says how many bytes that prefix has. Nothing
+    /// is borrowed: a type that borrows is the error `Unsized`.
     ///
-    /// A buffer that is shorter than the type's least size is refused with `InputBufferIsTooSmall` and the count 0.
+    /// A buffer that is shorter than the type's least size is the error `InputBufferIsTooSmall`, with the count 0.
     final fn read_with_length_from_buffer_copying_data_with_ctx_mut(
         alloc: Global,
         context: &mut C,
@@ -181,9 +180,9 @@ pub trait Readable<'a, C: Context>: ReadMany<&'a [u8], C> {
         (result, length - left)
     }
 
-    /// The value that a front of what the source gives spells in the little byte order. Just that front is taken.
+    /// Decodes a value from the next bytes of the source, in little endian, and takes just these.
     ///
-    /// Nothing is borrowed: types that borrow are refused as `Unsized`. An end of the source is an `IoError` of kind
+    /// Nothing is borrowed: a type that borrows is the error `Unsized`. An end of the source is an `IoError` of kind
     /// `UnexpectedEof`.
     final fn read_from_stream_unbuffered<S: Source>(
         alloc: Global,
@@ -211,10 +210,10 @@ pub trait Readable<'a, C: Context>: ReadMany<&'a [u8], C> {
         read_stream(alloc, context, source, false)
     }
 
-    /// The value that a front of what the source gives spells in the little byte order. That front is taken, and at
-    /// most 8,191 bytes more, which are lost: it is for sources of one value.
+    /// Decodes a value from the next bytes of the source, in little endian. It takes at most 8,191 bytes more, which are
+    /// lost: it is for sources of one value.
     ///
-    /// Nothing is borrowed: types that borrow are refused as `Unsized`. An end of the source is `UnexpectedEndOfInput`
+    /// Nothing is borrowed: a type that borrows is the error `Unsized`. An end of the source is `UnexpectedEndOfInput`
     /// or, in a read of 8,192 bytes and more, an `IoError` of kind `UnexpectedEof`.
     final fn read_from_stream_buffered<S: Source>(
         alloc: Global,
@@ -242,7 +241,7 @@ pub trait Readable<'a, C: Context>: ReadMany<&'a [u8], C> {
         read_stream(alloc, context, source, true)
     }
 
-    /// The value that a front of the file spells in the little byte order.
+    /// Decodes a value from the first bytes of the file, in little endian.
     ///
     /// A file that cannot be opened is an `IoError`, and one that is too short an end of input, as of a stream.
     final fn read_from_file<R: Files, P: AsPath>(
@@ -280,14 +279,14 @@ pub trait Readable<'a, C: Context>: ReadMany<&'a [u8], C> {
 
 impl<'a, C: Context, T: ReadMany<&'a [u8], C>> Readable<'a, C> for T {}
 
-/// Types that are read where nothing is lent, so they borrow nothing and are never refused as `Unsized`: what
-/// Rust says by `for<'a> Readable<'a, C>`.
+/// Types that borrow nothing, so they can be read where nothing is lent and are never the error `Unsized`: what Rust
+/// says by `for<'a> Readable<'a, C>`.
 ///
-/// A generic function that makes its own buffer reads from it by these forms.
+/// A generic function that makes its own buffer reads from it by these calls.
 pub trait ReadableOwned<C: Context>: ReadMany<Nothing, C> {
-    /// The value that a front of the buffer spells in the little byte order.
+    /// Decodes a value from a prefix of the buffer, in little endian.
     ///
-    /// A buffer that is shorter than the type's least size is refused with `InputBufferIsTooSmall`.
+    /// A buffer that is shorter than the type's least size is the error `InputBufferIsTooSmall`.
     final fn read_owned(alloc: Global, buffer: &[u8]) -> Result<Self, C::Error>
     where
         C: PlainContext,
@@ -297,9 +296,9 @@ pub trait ReadableOwned<C: Context>: ReadMany<Nothing, C> {
         Self::read_owned_with_ctx(alloc, C::plain(), buffer)
     }
 
-    /// The value that a front of the buffer spells under the context.
+    /// Decodes a value from a prefix of the buffer, under the context.
     ///
-    /// A buffer that is shorter than the type's least size is refused with `InputBufferIsTooSmall`.
+    /// A buffer that is shorter than the type's least size is the error `InputBufferIsTooSmall`.
     final fn read_owned_with_ctx(alloc: Global, context: C, buffer: &[u8]) -> Result<Self, C::Error>
         ensures { (count : ℕ) × AnswersBuffer C.Error.from_gives C.Error.eof Self.seen Self.least
             (Self.format (C.encoding context)) result count buffer.now }
@@ -307,9 +306,9 @@ pub trait ReadableOwned<C: Context>: ReadMany<Nothing, C> {
         Self::read_owned_with_length_with_ctx(alloc, context, buffer).0
     }
 
-    /// The value that a front of the buffer spells under the context, and how many bytes spell it.
+    /// Decodes a value from a prefix of the buffer, under the context, and says how many bytes that prefix has.
     ///
-    /// A buffer that is shorter than the type's least size is refused with `InputBufferIsTooSmall` and the count 0.
+    /// A buffer that is shorter than the type's least size is the error `InputBufferIsTooSmall`, with the count 0.
     final fn read_owned_with_length_with_ctx(
         alloc: Global,
         context: C,

@@ -1,4 +1,4 @@
-//! What every reader does.
+//! Readers: where values are read from, and the reads that each has.
 ghost use Rattle.std.specs.Prelude.{◌≡◌, ℕ, ◌<◌, ◌≤◌, ◌*◌, ◌-◌, ◌^◌, ◌⊎◌, ◌↔◌, IsTrue, slice_index, List, length, length as count, map, Bool, Option, Some, false, IsOk, IsErrAnd};
 ghost use Rattle.std.specs.Borrow.{sem, Lends};
 ghost use Rattle.std.specs.Global.{Vec};
@@ -30,10 +30,10 @@ use speedy_layout::layout::Layout;
 use std::alloc::Global;
 use std::convert::AsSlice;
 
-/// What every reader does, over what it lends.
+/// Readers, with the calls of each. `L` is what the reader lends to values that borrow.
 ///
-/// `L` is what the reader lends: `&'a [u8]` for one that hands out parts of a buffer. Users name readers
-/// by [`Reader`]; a reader of one's own implements this trait.
+/// That is `&'a [u8]` for one that hands out parts of a buffer. Users name readers by [`Reader`]; a reader of your own
+/// implements this trait.
 pub trait LendingReader<L: AsSlice<u8> + Drop, C: Context> {
     /// The context that the reader holds, and the reader with another one.
     ghost at: { Self → C };
@@ -46,7 +46,7 @@ pub trait LendingReader<L: AsSlice<u8> + Drop, C: Context> {
     /// What the reader says of the number of bytes to come.
     ghost can_read: { Self → ℕ → Option Bool };
 
-    /// Fills the output with the next bytes. What a refused read leaves in the output is not said.
+    /// Fills the output with the next bytes. What an error leaves in the output is not said.
     fn read_bytes(&mut self, output: &mut [u8]) -> Result<(), C::Error>
         ensures { Reads C.Error.from_gives C.Error.eof (λ _. output.new)
             (raw_bytes (length output.old)) result (state self.old) (state self.new) };
@@ -56,7 +56,7 @@ pub trait LendingReader<L: AsSlice<u8> + Drop, C: Context> {
         ensures { Peeks C.Error.from_gives C.Error.eof (λ _. output.new)
             (raw_bytes (length output.old)) result (state self.old) (state self.new) };
 
-    /// Takes so many bytes. This body reads them, a chunk at a time. To take none is to do nothing.
+    /// Skips `length` bytes. This body reads them, a chunk at a time. To skip none is to do nothing.
     fn skip_bytes(&mut self, length: usize) -> Result<(), C::Error>
         ensures reads { Reads C.Error.from_gives C.Error.eof (λ x. x) (any_bytes length) result
             (state self.old) (state self.new) }
@@ -72,17 +72,17 @@ pub trait LendingReader<L: AsSlice<u8> + Drop, C: Context> {
         Ok(())
     }
 
-    /// Whether at least so many bytes are to come, where the reader knows.
+    /// Whether at least `size` bytes are to come, where the reader knows.
     fn can_read_at_least(&self, size: usize) -> Option<bool>
         ensures says { result ≡ can_read self.now size }
         ensures right { IsRight result (state self.now) size };
 
-    /// The next bytes, so many, which the reader lends; `None` where it lends nothing.
+    /// Takes the next `length` bytes and lends them; `None` where the reader lends nothing.
     fn read_bytes_borrowed(&mut self, length: usize) -> Option<Result<L, C::Error>>
         ensures { LendsBytes C.Error.from_gives C.Error.eof L.items length result
             (state self.old) (state self.new) };
 
-    /// The next bytes, so many, which are lent until the reader is used again; `None` where it cannot.
+    /// Takes the next bytes and lends them until the reader is used again; `None` where it cannot.
     fn read_bytes_borrowed_from_reader(
         &mut self,
         _length: usize,
@@ -93,14 +93,14 @@ pub trait LendingReader<L: AsSlice<u8> + Drop, C: Context> {
         None
     }
 
-    /// All bytes to come, which the reader lends; `None` where it cannot.
+    /// Takes all bytes to come and lends them; `None` where the reader cannot.
     fn read_bytes_borrowed_until_eof(&mut self) -> Option<L>
         ensures { LendsAll L.items result (state self.old) (state self.new) }
     {
         None
     }
 
-    /// Where values that own memory get it.
+    /// The allocator of values that own memory.
     fn alloc(&self) -> Global;
 
     /// The context.
@@ -120,7 +120,7 @@ pub trait LendingReader<L: AsSlice<u8> + Drop, C: Context> {
         self.context().endianness()
     }
 
-    /// Whether a value is read from its written form alone.
+    /// Whether only canonical encodings are read.
     #[inline]
     final fn demands_written_form(&self) -> bool
         ensures { result ≡ (state self.now).encoding.strict }
@@ -328,8 +328,8 @@ pub trait LendingReader<L: AsSlice<u8> + Drop, C: Context> {
         Ok(self.peek_u128()?.cast_signed())
     }
 
-    /// The next integer of variable length, which is spelled alike in both orders. A longer spelling than
-    /// the number needs is read too, unless the context demands the written form.
+    /// The next integer of variable length, which is encoded alike in both orders. More bytes than the number needs are
+    /// read too, unless the context reads only canonical encodings.
     #[inline]
     final fn read_u64_varint(&mut self) -> Result<u64, C::Error>
         ensures { Reads C.Error.from_gives C.Error.eof (λ x. x) (varint (state self.old).encoding)
@@ -350,7 +350,7 @@ pub trait LendingReader<L: AsSlice<u8> + Drop, C: Context> {
         Ok(u64::from(number))
     }
 
-    /// What [`read_u64_varint`](Self::read_u64_varint) answers, of which nothing is taken.
+    /// As [`read_u64_varint`](Self::read_u64_varint), but nothing is taken.
     #[inline]
     final fn peek_u64_varint(&mut self) -> Result<u64, C::Error>
         ensures { Peeks C.Error.from_gives C.Error.eof (λ x. x) (varint (state self.old).encoding)
@@ -393,10 +393,10 @@ pub trait LendingReader<L: AsSlice<u8> + Drop, C: Context> {
         value
     }
 
-    /// So many values, one after another.
+    /// The next `length` values, into a vector.
     ///
-    /// It is refused before any item where fewer bytes are to come than so many items have at least, if the
-    /// reader says so, and where that many bytes are past `usize::MAX`.
+    /// It is an error before any item where fewer bytes are to come than so many items have at least, if the reader says
+    /// so, and where that many bytes are past `usize::MAX`.
     #[inline]
     final fn read_vec<T: ReadMany<L, C>>(&mut self, length: usize) -> Result<Vec<T>, C::Error>
     where
@@ -414,10 +414,10 @@ pub trait LendingReader<L: AsSlice<u8> + Drop, C: Context> {
         T::read_many(self, length)
     }
 
-    /// So many values, one after another, as a cow or what else they go into: bytes are borrowed where the
-    /// reader lends, and all else is owned.
+    /// The next `length` values, into a cow or what else they go into: bytes are borrowed where the reader lends, and all
+    /// else is owned.
     ///
-    /// It is refused before any item where [`read_vec`](Self::read_vec) is.
+    /// It is an error before any item where [`read_vec`](Self::read_vec) is.
     #[inline]
     final fn read_cow<W: FromLent<L, T>, T: ReadMany<L, C>>(
         &mut self,
@@ -439,7 +439,7 @@ pub trait LendingReader<L: AsSlice<u8> + Drop, C: Context> {
         T::read_many_cow(self, length)
     }
 
-    /// What so many values gather to, one after another.
+    /// The next `length` values, gathered to a collection.
     #[inline]
     final fn read_collection<F: FromItems<T>, T: ReadMany<L, C>>(
         &mut self,
@@ -454,7 +454,7 @@ pub trait LendingReader<L: AsSlice<u8> + Drop, C: Context> {
         T::collect_many(self, length)
     }
 
-    /// What so many pairs of a key and a value gather to, one after another.
+    /// The next `length` pairs of a key and a value, gathered to a collection.
     #[inline]
     final fn read_key_value_collection<F: FromItems<(K, V)>, K: ReadFrom<L, C>, V: ReadFrom<L, C>>(
         &mut self,
@@ -470,11 +470,11 @@ pub trait LendingReader<L: AsSlice<u8> + Drop, C: Context> {
         <(K, V) as ReadMany<L, C>>::collect_many(self, length)
     }
 
-    /// Values until the bytes end, at most so many.
+    /// The values until the bytes end, into a vector.
     ///
-    /// Values are read until one is refused with an error that says that the input ended (`is_eof`): that is the end, and
-    /// no error. A value cut short at the end is left out; every other refusal is the answer. One value more than are
-    /// allowed is refused as `OutOfRangeLength`. A device whose failed call answers `UnexpectedEof` ends the values too.
+    /// Values are read until one fails with an error that says that the input ended (`is_eof`): that is the end, and no
+    /// error. A value cut short at the end is left out; every other error is the answer. One value more than are allowed
+    /// is the error `OutOfRangeLength`. A device whose failed call answers `UnexpectedEof` ends the values too.
     #[inline]
     final fn read_vec_until_eof<T: ReadFrom<L, C>>(
         &mut self,
@@ -489,8 +489,7 @@ pub trait LendingReader<L: AsSlice<u8> + Drop, C: Context> {
         gather_until_end::<Vec<T>, T, L, C, Self>(self, greatest)
     }
 
-    /// What [`read_vec_until_eof`](Self::read_vec_until_eof) answers, as a cow or what else they go into, which owns
-    /// them.
+    /// As [`read_vec_until_eof`](Self::read_vec_until_eof), into a cow or what else the values go into, which owns them.
     #[inline]
     final fn read_cow_until_eof<W: FromLent<L, T>, T: ReadFrom<L, C>>(
         &mut self,
@@ -505,8 +504,8 @@ pub trait LendingReader<L: AsSlice<u8> + Drop, C: Context> {
         Ok(W::from_values(self.read_vec_until_eof(greatest)?))
     }
 
-    /// What the values gather to that [`read_vec_until_eof`](Self::read_vec_until_eof) answers. Those that are read are
-    /// counted, not those that differ.
+    /// As [`read_vec_until_eof`](Self::read_vec_until_eof), gathered to a collection. Those that are read are counted, not
+    /// those that differ.
     #[inline]
     final fn read_collection_until_eof<F: FromItems<T>, T: ReadFrom<L, C>>(
         &mut self,
@@ -520,7 +519,7 @@ pub trait LendingReader<L: AsSlice<u8> + Drop, C: Context> {
         gather_until_end::<F, T, L, C, Self>(self, greatest)
     }
 
-    /// A text of so many bytes, which are refused with `InvalidUtf8` where they are none.
+    /// A text of `length` bytes. Bytes that are not UTF-8 are the error `InvalidUtf8`.
     #[inline]
     final fn read_string(&mut self, length: usize) -> Result<String, C::Error>
     where

@@ -12,7 +12,7 @@ use speedy_layout::fixed_numbers::{FixedNumber, append_each};
 use std::alloc::AllocError;
 use std::convert::AsSlice;
 
-/// How much room is asked for at a time where nobody says that the items are there, in items.
+/// How many items room is asked for at a time where nobody says that the items are there.
 pub(crate) const STEP: usize = 1024;
 
 /// The chunk of digits that numbers are read through, in bytes.

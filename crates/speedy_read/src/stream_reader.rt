@@ -1,4 +1,4 @@
-//! Reading from a source.
+//! The reader of a source.
 ghost use Rattle.std.specs.Prelude.{◌≡◌, ◌≤◌, ◌<◌, [], ◌++◌, length, max, false, true, nat_le, if◌then◌else◌, Some, None, IfOk, IsOk, refl};
 ghost use Rattle.std.specs.Borrow.{sem, Lends};
 ghost use Rattle.std.specs.Io.BufRead.{Rests};
@@ -22,15 +22,15 @@ use std::io;
 // How many bytes the ring of a new buffered reader has room for.
 const BUFFERED_CAPACITY: usize = 8192;
 
-/// Reads from a source, under a context that it holds.
+/// A reader of a source, under a context that it holds.
 ///
 /// A buffered reader asks for more bytes than are read, and keeps what is left over, 8,191 bytes at most, for its next
 /// reads. An unbuffered one asks for just what is read. Only a peek may hold more, and ask for memory. Nothing is lent,
-/// so values that borrow are refused as `Unsized`.
+/// so a value that borrows is the error `Unsized`.
 ///
-/// A failed call of the source is answered as it is, and not tried again. An end that is met while bytes are gathered
-/// for a read is `UnexpectedEndOfInput`; one that is met while they go straight to the output, as in all reads of an
-/// unbuffered reader, is an `IoError` of kind `UnexpectedEof`.
+/// The error of a failed call of the source is answered, and the call is not tried again. An end that is met while bytes
+/// are gathered for a read is `UnexpectedEndOfInput`. One that is met while they go straight to the output, as in all
+/// reads of an unbuffered reader, is an `IoError` of kind `UnexpectedEof`.
 #[derive(Drop)]
 pub struct StreamReader<'s, S, C> {
     context: C,
@@ -41,7 +41,7 @@ pub struct StreamReader<'s, S, C> {
 }
 
 impl<'s, S, C: Drop> StreamReader<'s, S, C> {
-    /// A reader at the place of the source. Only a buffered one takes memory here, for 8,192 bytes.
+    /// A reader of the source. Only a buffered one takes memory here, for 8,192 bytes.
     #[inline]
     pub fn new(
         alloc: Global,
@@ -157,7 +157,7 @@ fn fill_ring<S: Source>(
 }
 
 impl<'s, S: Source, C: Context> StreamReader<'s, S, C> {
-    /// The source, behind the bytes that the reader still holds of it: these are lost.
+    /// The source, behind the bytes that the reader still holds: these are lost.
     #[inline]
     pub fn into_source(self) -> &'s mut S
         ensures same_source { result.ghost_name ≡ (stream_model self.entry).source_name }

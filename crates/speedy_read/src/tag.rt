@@ -1,4 +1,4 @@
-//! How numbers that say which variant of an enum a value is are read.
+//! How the tags of enums without parts are read.
 ghost use Rattle.std.specs.Prelude.{◌<◌};
 
 use crate::many::ItemByItem;
