@@ -1,4 +1,4 @@
-//! Numbers of which many are written: their digits go to the writer by chunks.
+//! Numbers in bulk: their digits go to the writer a chunk at a time.
 ghost use Rattle.std.specs.Prelude.{◌≤◌, length};
 ghost use Rattle.speedy_write.specs.Writing.{WritesEach};
 

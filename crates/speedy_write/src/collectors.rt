@@ -1,4 +1,4 @@
-//! The writers that the ways of writing need: one into a buffer, one into a sink, and one that only counts.
+//! The writers of the ways of writing: into a buffer, into a vector, into a sink, and one that only counts.
 ghost use Rattle.std.specs.Prelude.{◌≡◌, ◌+◌, ◌-◌, ◌^◌, ◌≤◌, [], ◌∷◌, ◌++◌, length, vec_len, vec_capacity, Some, None, IsOk, IfErr, OnErr, IsSome, nat_le, refl};
 ghost use Rattle.speedy_base.specs.FailedCalls.{IsErrorOf, IsOfFailedCall};
 ghost use Rattle.speedy_write.specs.Writing.{WritesBytes, RefusesFull, CountsBytes};
@@ -13,7 +13,7 @@ use speedy_base::error::{Error, error_end_of_output_buffer, error_out_of_range_l
 use std::alloc::Global;
 use std::io;
 
-/// Writes to the front of a buffer.
+/// A writer to the beginning of a buffer.
 #[derive(Drop)]
 pub struct BufferCollector<'a, C> {
     context: &'a mut C,
@@ -25,7 +25,7 @@ pub struct BufferCollector<'a, C> {
 impl<'a, C> BufferCollector<'a, C> {
     ghost use Rattle.speedy_write.specs.CollectorModels.{buffer_model};
 
-    /// Has the whole buffer ahead.
+    /// A writer at the beginning of the buffer.
     #[inline]
     pub fn new(context: &'a mut C, buffer: &'a mut [u8]) -> BufferCollector<'a, C>
         ensures same_context { (buffer_model result).context_name ≡ context.entry.ghost_name }
@@ -110,7 +110,7 @@ impl<'a, C: Context> Writer<C> for BufferCollector<'a, C> {
     }
 }
 
-/// Writes behind the bytes of a vector, into room that it has.
+/// A writer behind the bytes of a vector, into room that it has.
 #[derive(Drop)]
 pub struct VecCollector<'a, C> {
     context: &'a mut C,
@@ -123,7 +123,7 @@ pub struct VecCollector<'a, C> {
 impl<'a, C> VecCollector<'a, C> {
     ghost use Rattle.speedy_write.specs.CollectorModels.{vec_model};
 
-    /// Has so much room ahead.
+    /// A writer into this much room of the vector.
     #[inline]
     pub fn new(context: &'a mut C, bytes: &'a mut Vec<u8>, room: usize) -> VecCollector<'a, C>
         requires { vec_len bytes.old + room ≤ vec_capacity bytes.old }
@@ -203,7 +203,7 @@ impl<'a, C: Context> Writer<C> for VecCollector<'a, C> {
     }
 }
 
-/// Pushes to a sink, each piece as it comes. Who wants fewer pushes puts a buffer in front of the sink.
+/// A writer to a sink, which pushes each piece as it comes. For fewer pushes put a buffer in front of the sink.
 #[derive(Drop)]
 pub struct WritingCollector<'s, S, C> {
     alloc: Global,
@@ -214,7 +214,7 @@ pub struct WritingCollector<'s, S, C> {
 impl<'s, S, C: Drop> WritingCollector<'s, S, C> {
     ghost use Rattle.speedy_write.specs.CollectorModels.{writing_model};
 
-    /// Goes on behind what the sink took. Memory is asked for where a push fails, for its error.
+    /// A writer behind what the sink took. Memory is asked for where a push fails, for its error.
     #[inline]
     pub fn new(alloc: Global, context: C, sink: &'s mut S) -> WritingCollector<'s, S, C>
         ensures context { (writing_model result).context ≡ context }
@@ -228,7 +228,7 @@ impl<'s, S, C: Drop> WritingCollector<'s, S, C> {
         }
     }
 
-    /// The sink, with all that was written. It was not flushed.
+    /// The sink, which took all that was written. It was not flushed.
     #[inline]
     pub fn into_sink(self) -> &'s mut S
         ensures same_sink { result.ghost_name ≡ (writing_model self.entry).sink_name }
@@ -259,7 +259,7 @@ impl<'s, S: Sink, C: Context> Writer<C> for WritingCollector<'s, S, C> {
 
     ghost appends_with = { λ a b s c h. (h, h) };
 
-    /// Pushes until all is taken. Of no bytes nothing is pushed.
+    /// Pushes the bytes until all are taken. Of no bytes nothing is pushed.
     ///
     /// The error is that of a push that failed, which is not tried again, an interrupted one too. The sink has then
     /// taken a beginning of the bytes.
@@ -322,7 +322,7 @@ pub(crate) fn push_all<S: Sink, E: From<Error>>(
     Ok(())
 }
 
-/// Writes nothing, and adds up how much it would be. Sums past `usize::MAX` are refused.
+/// A writer that only counts bytes. A sum past `usize::MAX` is an error.
 #[derive(Drop)]
 pub struct SizeCalculatorCollector<'a, C> {
     context: &'a mut C,
@@ -332,7 +332,7 @@ pub struct SizeCalculatorCollector<'a, C> {
 impl<'a, C> SizeCalculatorCollector<'a, C> {
     ghost use Rattle.speedy_write.specs.CollectorModels.{size_model};
 
-    /// Starts at zero.
+    /// A writer that has counted nothing yet.
     #[inline]
     pub fn new(context: &'a mut C) -> SizeCalculatorCollector<'a, C>
         ensures same_context { (size_model result).context_name ≡ context.entry.ghost_name }
@@ -382,7 +382,7 @@ impl<'a, C: Context> Writer<C> for SizeCalculatorCollector<'a, C> {
         Ok(())
     }
 
-    /// Adds so many bytes at once.
+    /// Adds `size` bytes at once.
     #[inline]
     fn count_bytes(&mut self, size: usize) -> Option<Result<(), C::Error>>
         ensures counts { let writer = ⟦<SizeCalculatorCollector<'a, C> as Writer<C>>⟧ in

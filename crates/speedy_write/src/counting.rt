@@ -1,4 +1,4 @@
-//! The writer that only counts, for the ways of writing.
+//! The writer that `bytes_needed` counts by.
 ghost use Rattle.std.specs.Prelude.{◌≡◌, ◌∷◌, [], ◌^◌, ◌-◌, ◌≤◌, None, IsSome, refl};
 ghost use Rattle.speedy_write.specs.Counting.{counting_state, CountAppends, count_nothing, count_additive};
 ghost use Rattle.speedy_write.specs.Writing.{CountsBytes};
@@ -6,9 +6,9 @@ ghost use Rattle.speedy_write.specs.Writing.{CountsBytes};
 use crate::writer::Writer;
 use speedy_base::context::Context;
 
-/// Adds up how many bytes are written, and keeps none of them.
+/// A writer that only counts bytes.
 ///
-/// The sum stays at `usize::MAX` once it is there. No write of bytes is refused, so a loop over many values has no way
+/// The sum stays at `usize::MAX` once it is there. No write of bytes is an error, so a loop over many values has no way
 /// out in it, and a compiler may add for several of them at once.
 #[derive(Drop)]
 pub struct CountingCollector<'a, C> {
@@ -20,7 +20,7 @@ pub struct CountingCollector<'a, C> {
 impl<'a, C> CountingCollector<'a, C> {
     ghost use Rattle.speedy_write.specs.CollectorModels.{counting_model};
 
-    /// Starts at zero.
+    /// A writer that has counted nothing yet.
     #[inline]
     pub fn new(context: &'a mut C) -> CountingCollector<'a, C>
         ensures same_context { (counting_model result).context_name ≡ context.entry.ghost_name }
@@ -67,7 +67,7 @@ impl<'a, C: Context> Writer<C> for CountingCollector<'a, C> {
         Ok(())
     }
 
-    /// Adds so many bytes at once.
+    /// Adds `size` bytes at once.
     #[inline(always)]
     fn count_bytes(&mut self, size: usize) -> Option<Result<(), C::Error>>
         ensures counts { let writer = ⟦<CountingCollector<'a, C> as Writer<C>>⟧ in

@@ -1,4 +1,4 @@
-//! A writer into a sink that gathers short writes and pushes them together.
+//! A writer to a sink that gathers short writes and pushes them together.
 ghost use Rattle.std.specs.Prelude.{◌≡◌, ◌+◌, ◌≤◌, ◌↔◌, [], ◌++◌, length, None, IsTrue, OnOk, refl};
 ghost use Rattle.speedy_write.specs.Collectors.{sink_state};
 ghost use Rattle.speedy_write.specs.Writing.{WritesBytes, RefusesFull};
@@ -83,7 +83,7 @@ impl<'b> Waiting<'b> {
     }
 }
 
-/// Pushes to a sink what is written, short writes together, as many as have room. What is longer is pushed as it is.
+/// A writer to a sink, which gathers short writes and pushes them together. What is longer is pushed as it is.
 ///
 /// What was written last waits until [`push_waiting`](Self::push_waiting).
 #[derive(Drop)]
@@ -97,7 +97,8 @@ pub struct GatheringCollector<'s, S, C> {
 impl<'s, S, C: Drop> GatheringCollector<'s, S, C> {
     ghost use Rattle.speedy_write.specs.CollectorModels.{gathering_model};
 
-    /// Goes on behind what the sink took, and gathers in the room. Memory is asked for where a push fails, for its error.
+    /// A writer behind what the sink took, which gathers in the room. Memory is asked for where a push fails, for its
+    /// error.
     #[inline]
     pub fn new(
         alloc: Global,
@@ -118,7 +119,7 @@ impl<'s, S, C: Drop> GatheringCollector<'s, S, C> {
         }
     }
 
-    /// The sink, with all that was pushed.
+    /// The sink, which took all that was pushed.
     #[inline]
     pub fn into_sink(self) -> &'s mut S
         ensures same_sink { result.ghost_name ≡ (gathering_model self.entry).sink_name }

@@ -1,4 +1,4 @@
-//! How one of several values is written: the number that says which, and then the value.
+//! How one of several values is written: the tag that says which, and then the value.
 use crate::part::Part;
 use crate::writable::Writable;
 use crate::writer::Writer;

@@ -1,4 +1,4 @@
-//! What writing runs beside writers.
+//! What types written by hand are written with: lengths, and a write that flushes.
 ghost use Rattle.std.specs.Prelude.{◌≡◌, ◌^◌, ◌<◌, ◌≤◌, IsErrAnd};
 ghost use Rattle.speedy_base.specs.Error.{error_of};
 ghost use Rattle.speedy_layout.specs.Numbers.{unsigned_number, length_number};
@@ -16,8 +16,8 @@ use std::alloc::Global;
 
 /// Writes a value to a sink, as [`Writable::write_to_stream_with_ctx`] does, and flushes the sink.
 ///
-/// Where it succeeds, the sink took the value, all of it was passed on, and no call failed. A failed flush is refused
-/// with its error as a failed push is, and no call is tried again. What is refused before the flush is not flushed.
+/// Where it succeeds, the sink took the value, all of it was passed on, and no call failed. The error of a failed flush is
+/// answered as that of a failed push is, and no call is tried again. After an earlier error there is no flush.
 pub fn write_to_stream_and_flush_with_ctx<C: Context, T: Writable<C>, S: Sink>(
     value: &T,
     alloc: Global,
@@ -31,7 +31,7 @@ pub fn write_to_stream_and_flush_with_ctx<C: Context, T: Writable<C>, S: Sink>(
     write_and_flush(value, alloc, context, sink, &mut [0; SINK_ROOM])
 }
 
-/// Writes a length as a `u32`. A longer one is refused as `OutOfRangeLength` before anything is written.
+/// Writes a length as a `u32`. A longer one is the error `OutOfRangeLength`, before anything is written.
 #[inline]
 pub fn write_length<C: Context, W: Writer<C>>(length: usize, writer: &mut W) -> Result<(), C::Error>
     ensures writes { WritesNumber C.Error.from_gives 4 length result
@@ -54,7 +54,7 @@ const U8_MAX: usize = 255;
 
 const U16_MAX: usize = 65535;
 
-/// Writes a length as a byte of at most 127. A longer one is refused as `OutOfRangeLength` before anything is written.
+/// Writes a length as a byte of at most 127. A longer one is the error `OutOfRangeLength`, before anything is written.
 #[inline]
 pub fn write_length_u7<C: Context, W: Writer<C>>(
     length: usize,
@@ -69,7 +69,7 @@ pub fn write_length_u7<C: Context, W: Writer<C>>(
     writer.write_u8(length as u8)
 }
 
-/// Writes a length as a `u8`. A longer one is refused as `OutOfRangeLength` before anything is written.
+/// Writes a length as a `u8`. A longer one is the error `OutOfRangeLength`, before anything is written.
 #[inline]
 pub fn write_length_u8<C: Context, W: Writer<C>>(
     length: usize,
@@ -84,7 +84,7 @@ pub fn write_length_u8<C: Context, W: Writer<C>>(
     writer.write_u8(length as u8)
 }
 
-/// Writes a length as a `u16`. A longer one is refused as `OutOfRangeLength` before anything is written.
+/// Writes a length as a `u16`. A longer one is the error `OutOfRangeLength`, before anything is written.
 #[inline]
 pub fn write_length_u16<C: Context, W: Writer<C>>(
     length: usize,

@@ -1,4 +1,4 @@
-//! How numbers that say which variant of an enum a value is are written.
+//! How the tags of enums without parts are written.
 use crate::writable::Writable;
 use crate::writer::Writer;
 use speedy_base::context::Context;

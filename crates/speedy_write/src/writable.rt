@@ -1,4 +1,4 @@
-//! What can be written, and the ways of writing it.
+//! Types that can be written, and the ways of writing them.
 ghost use Rattle.std.specs.Prelude.{◌≡◌, ◌≤◌, ◌⊎◌, ℕ, List, length, IsTrue, MatchResult, IsOk, IfErr, OnOk};
 ghost use Rattle.speedy_base.specs.Error.{error_of};
 ghost use Rattle.speedy_base.specs.Encoding.{plain_encoding};
@@ -23,13 +23,13 @@ use std::fs;
 use std::path::AsPath;
 use std::rt::Files;
 
-/// Values that can be written.
+/// Types that can be written, with the ways of doing so.
 ///
-/// A type of one's own gives `write_to` alone, from the writing of its parts.
+/// A type of your own gives `write_to` alone, from the writing of its parts.
 pub trait Writable<C: Context>: Layout {
     /// Writes the value. It takes no memory.
     ///
-    /// After a refusal the first parts of a written form may have been written.
+    /// After an error some first bytes of an encoding may have been written.
     fn write_to<W: Writer<C>>(&self, writer: &mut W) -> Result<(), C::Error>
         ensures { Writes C.Error.from_gives Self.format (Self.seen self.now) result
             (W.state writer.old) (W.state writer.new) (λ b. W.appends writer.old b writer.new) };
@@ -47,7 +47,7 @@ pub trait Writable<C: Context>: Layout {
         Ok(())
     }
 
-    /// How many bytes the value needs. `usize::MAX` bytes and more are refused as `OutOfRangeLength`.
+    /// The number of bytes that the value is written in. `usize::MAX` bytes and more are the error `OutOfRangeLength`.
     fn bytes_needed(&self, context: &mut C) -> Result<usize, C::Error>
         ensures encoding { C.encoding context.new ≡ C.encoding context.old }
         ensures needs { let format = Self.format (C.encoding context.old) in
@@ -63,9 +63,9 @@ pub trait Writable<C: Context>: Layout {
         Ok(size)
     }
 
-    /// Writes the value to the front of a buffer, in the little byte order.
+    /// Encodes the value into the beginning of a buffer, in little endian.
     ///
-    /// A buffer that is too short is refused as `OutputBufferIsTooSmall`, with both sizes in bytes.
+    /// A buffer that is too short is the error `OutputBufferIsTooSmall`, with both sizes in bytes.
     #[inline]
     final fn write_to_buffer(&self, buffer: &mut [u8]) -> Result<(), C::Error>
     where
@@ -77,9 +77,9 @@ pub trait Writable<C: Context>: Layout {
         self.write_to_buffer_with_ctx(C::plain(), buffer)
     }
 
-    /// Writes the value to the front of a buffer, as the context says.
+    /// Encodes the value into the beginning of a buffer, under the context.
     ///
-    /// A buffer that is too short is refused as `OutputBufferIsTooSmall`, with both sizes in bytes.
+    /// A buffer that is too short is the error `OutputBufferIsTooSmall`, with both sizes in bytes.
     #[inline]
     final fn write_to_buffer_with_ctx(&self, context: C, buffer: &mut [u8]) -> Result<(), C::Error>
         ensures { let format = Self.format (C.encoding context) in
@@ -90,9 +90,9 @@ pub trait Writable<C: Context>: Layout {
         self.write_to_buffer_with_ctx_mut(&mut context, buffer)
     }
 
-    /// Writes the value to the front of a buffer, as the context says.
+    /// Encodes the value into the beginning of a buffer, under the context.
     ///
-    /// A buffer that is too short is refused as `OutputBufferIsTooSmall`, with both sizes in bytes.
+    /// A buffer that is too short is the error `OutputBufferIsTooSmall`, with both sizes in bytes.
     final fn write_to_buffer_with_ctx_mut(
         &self,
         context: &mut C,
@@ -111,7 +111,7 @@ pub trait Writable<C: Context>: Layout {
         fill(self, context, buffer)
     }
 
-    /// Writes the value to a vector, in the little byte order.
+    /// Encodes the value into a vector, in little endian.
     #[inline]
     final fn write_to_vec(&self, alloc: Global) -> Result<Vec<u8>, C::Error>
     where
@@ -122,7 +122,7 @@ pub trait Writable<C: Context>: Layout {
         self.write_to_vec_with_ctx(alloc, C::plain())
     }
 
-    /// Writes the value to a vector, as the context says.
+    /// Encodes the value into a vector, under the context.
     #[inline]
     final fn write_to_vec_with_ctx(&self, alloc: Global, context: C) -> Result<Vec<u8>, C::Error>
         ensures { let format = Self.format (C.encoding context) in
@@ -132,7 +132,7 @@ pub trait Writable<C: Context>: Layout {
         self.write_to_vec_with_ctx_mut(alloc, &mut context)
     }
 
-    /// Writes the value to a vector, as the context says. The vector is requested once, at its length.
+    /// Encodes the value into a vector, under the context. The vector is requested once, at its length.
     final fn write_to_vec_with_ctx_mut(
         &self,
         alloc: Global,
@@ -146,7 +146,7 @@ pub trait Writable<C: Context>: Layout {
         fill_vec(self, alloc, context, needed)
     }
 
-    /// Writes the value to a sink, in the little byte order. The sink is not flushed.
+    /// Encodes the value to a sink, in little endian. The sink is not flushed.
     #[inline]
     final fn write_to_stream<S: Sink>(&self, alloc: Global, sink: &mut S) -> Result<(), C::Error>
     where
@@ -158,7 +158,7 @@ pub trait Writable<C: Context>: Layout {
         self.write_to_stream_with_ctx(alloc, C::plain(), sink)
     }
 
-    /// Writes the value to a sink, as the context says. The sink is not flushed.
+    /// Encodes the value to a sink, under the context. The sink is not flushed.
     ///
     /// Short parts of the value are gathered, and pushed 256 bytes at a time; longer ones are pushed as they are. Memory
     /// is asked for where a push fails, for its error.
@@ -175,7 +175,7 @@ pub trait Writable<C: Context>: Layout {
         write_gathered(self, alloc, context, sink, &mut [0; SINK_ROOM])
     }
 
-    /// Writes the value to a file, in the little byte order. The file is made or emptied, and flushed at the end.
+    /// Encodes the value to a file, in little endian. The file is made or emptied, and flushed at the end.
     #[inline]
     final fn write_to_file<R: Files, P: AsPath>(
         &self,
@@ -191,10 +191,10 @@ pub trait Writable<C: Context>: Layout {
         self.write_to_file_with_ctx(rt, alloc, C::plain(), path)
     }
 
-    /// Writes the value to a file, as the context says. The file is made or emptied, and flushed at the end.
+    /// Encodes the value to a file, under the context. The file is made or emptied, and flushed at the end.
     ///
     /// Short parts of the value are gathered, and written 8,192 bytes at a time. A failed call of the file is answered,
-    /// that of the flush too, and no call is tried again, an interrupted one neither. After a refusal the file may hold a
+    /// that of the flush too, and no call is tried again, an interrupted one neither. After an error the file may hold a
     /// part of the value. Memory is asked for where a call fails, for its error.
     final fn write_to_file_with_ctx<R: Files, P: AsPath>(
         &self,

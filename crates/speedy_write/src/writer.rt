@@ -1,4 +1,4 @@
-//! Writers: where the bytes of values go.
+//! Writers: where values are written, and the writes that each has.
 ghost use Rattle.std.specs.Prelude.{◌≡◌, ℕ, [], ◌++◌, List, Option, Bool};
 ghost use Rattle.std.specs.Borrow.{sem, Lends};
 ghost use Rattle.std.specs.Iterator.{IsFiniteIterable};
@@ -12,7 +12,7 @@ use speedy_base::context::Context;
 use speedy_base::endianness::Endianness;
 use speedy_layout::VarInt64;
 
-/// Where bytes are written.
+/// Writers, with the calls of each.
 pub trait Writer<C: Context> {
     /// The context that the writer holds.
     ghost at: { Self → C };
@@ -29,13 +29,13 @@ pub trait Writer<C: Context> {
     /// What the writer says of its space.
     ghost can_write: { Self → ℕ → Option Bool };
 
-    /// Writes all the bytes. A refused call may have written some of the first ones.
+    /// Writes all the bytes. After an error some of the first ones may have been written.
     fn write_bytes(&mut self, slice: &[u8]) -> Result<(), C::Error>
         ensures writes { WritesBytes C.Error.from_gives slice.now result
             (state self.old) (state self.new) (λ b. appends self.old b self.new) }
         ensures full { RefusesFull C.Error.from_gives result (state self.old) (state self.new) };
 
-    /// Counts so many bytes, where the writer counts them and keeps none. This body says `None`, and does nothing.
+    /// Counts `size` bytes, where the writer only counts. This body says `None`, and does nothing.
     #[inline(always)]
     fn count_bytes(&mut self, _size: usize) -> Option<Result<(), C::Error>>
         ensures { CountsBytes C.Error.from_gives _size result (self.new ≡ self.old)
@@ -54,7 +54,7 @@ pub trait Writer<C: Context> {
             (Lends Self.row C.row self.entry result (with_context self.old)) }
         ensures value { result.now ≡ at self.old };
 
-    /// Whether so many bytes fit, where the writer knows it.
+    /// Whether `size` bytes fit, where the writer knows it.
     fn can_write_at_least(&self, size: usize) -> Option<bool>
         ensures says { result ≡ can_write self.now size }
         ensures right { IsRight result size (state self.now).space };
