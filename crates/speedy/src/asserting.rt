@@ -1,4 +1,4 @@
-//! What tests assert of values, of their bytes and of refusals.
+//! What tests assert of values, of their bytes and of errors.
 //!
 //! A test ends where one of these does not hold. They answer nothing, so a test has no other way out than its end,
 //! which is what makes it quick to prove.
@@ -14,14 +14,14 @@ use std::alloc::Global;
 use std::fmt::Debug;
 use std::process::Abort;
 
-/// A spelling, with a byte behind it that is no part of it: the helpers look that it is not taken, and not written.
+/// An encoding, with a byte behind it that is no part of it: the helpers look that it is not taken, and not written.
 macro_rules! followed {
     ($($byte:expr),* $(,)?) => { &[$($byte,)* 9] };
 }
 
 pub(crate) use followed;
 
-/// A value, and its spellings in the little and in the big order, each with a byte behind it.
+/// A value, and its encodings in the little and in the big order, each with a byte behind it.
 macro_rules! row {
     ($value:expr, [$($little:expr),* $(,)?], [$($big:expr),* $(,)?] $(,)?) => {
         ($value, &[$($little,)* 9], &[$($big,)* 9])
@@ -81,7 +81,7 @@ pub(crate) fn assert_ok_items<T: PartialEq + Debug + Drop>(
     assert_same(rt, outcome.expect(rt, "a vector").as_slice(), expected);
 }
 
-/// Asserts that the outcome is a refusal of the kind, as `Debug` prints it, and that it is an end of the bytes just
+/// Asserts that the outcome is an error of the kind, as `Debug` prints it, and that it is an end of the bytes just
 /// where the kind is.
 pub(crate) fn assert_refused<T: Drop>(
     rt: &impl Abort,
@@ -100,7 +100,7 @@ pub(crate) fn assert_kind(rt: &impl Abort, alloc: Global, error: &Error, kind: &
     assert_same(rt, printed.as_str(), kind);
 }
 
-/// The spelling: all of the bytes but the last, which follows it.
+/// The encoding: all of the bytes but the last, which follows it.
 fn spelling_of<'a>(rt: &impl Abort, followed: &'a [u8]) -> &'a [u8] {
     let (_, spelling) = followed.split_last().expect(rt, "a byte that follows");
     spelling
@@ -111,7 +111,7 @@ fn make_buffer(rt: &impl Abort, alloc: Global, length: usize) -> Vec<u8> {
     vec![in alloc; 9; length].expect(rt, "a buffer")
 }
 
-/// Asserts that the buffer holds the spelling, and that the byte after it is left as it was made.
+/// Asserts that the buffer holds the encoding, and that the byte after it is left as it was made.
 fn assert_at_front(rt: &impl Abort, buffer: &[u8], spelling: &[u8]) {
     let (last, front) = buffer.split_last().expect(rt, "a byte that follows");
     assert_bytes(rt, front, spelling);
@@ -207,7 +207,7 @@ where
     assert_same(rt, length, count);
 }
 
-/// Asserts that under the context all but the last of the bytes spell the value, whatever is written of it.
+/// Asserts that under the context all but the last of the bytes encode the value, whatever is written of it.
 pub(crate) fn assert_spelled<'a, C: Context + Copy, T: Readable<'a, C> + PartialEq>(
     rt: &impl Abort,
     alloc: Global,
@@ -237,7 +237,7 @@ where
     assert_written_under(rt, alloc, context, &read, followed);
 }
 
-/// Asserts that under the context all but the last of the bytes spell the value, and that they are what is written of
+/// Asserts that under the context all but the last of the bytes encode the value, and that they are what is written of
 /// what was read.
 pub(crate) fn assert_encoding_under<'a, C, T>(
     rt: &impl Abort,
@@ -257,7 +257,7 @@ where
     assert_written_again(rt, alloc, context, outcome, followed);
 }
 
-/// Asserts that a byte less than the spelling is refused with the kind that it should be.
+/// Asserts that a byte less than the encoding is refused with the kind that it should be.
 fn assert_shorter_refused_by_kind<'a, T: Readable<'a, Endianness>>(
     rt: &impl Abort,
     alloc: Global,
@@ -281,7 +281,7 @@ fn assert_shorter_refused_by_kind<'a, T: Readable<'a, Endianness>>(
 }
 
 /// Asserts that each value and its bytes in the little and in the big order belong together, in each way of writing
-/// and of reading. The byte behind a spelling is not taken. No spelling is shorter than the least size, and one byte
+/// and of reading. The byte behind an encoding is not taken. No encoding is shorter than the least size, and one byte
 /// less is refused.
 pub(crate) fn assert_encoding<'a, T>(
     rt: &impl Abort,

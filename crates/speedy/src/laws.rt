@@ -1,4 +1,4 @@
-//! What a caller's proof can cite: functions with empty bodies, whose contracts are the laws.
+//! The laws that a caller's proof can cite: functions with empty bodies, whose contracts are the laws.
 pub use speedy_layout::laws::{
     equal_as_seen, no_spelling_begins_another, no_spelling_is_below_least, one_front, one_value,
     one_written_form, spelled_is_written, written_form_alone, written_is_shortest,

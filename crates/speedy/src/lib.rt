@@ -1,4 +1,4 @@
-//! Values to compact bytes and back, in either byte order, with every call proved.
+//! Encodes values to compact bytes and decodes them again, in either byte order, with every call proved.
 //!
 //! ```text
 //! let bytes = Writable::<LittleEndian>::write_to_vec(&258_u16, alloc)?;            // [2, 1]

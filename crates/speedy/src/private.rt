@@ -1,4 +1,4 @@
-//! What types written by hand are built of.
+//! What types written by hand are built of: errors, lengths, constants and texts.
 pub use speedy_base::error::{
     ErrorKind, error_end_of_input, error_end_of_output_buffer, error_endianness_mismatch,
     error_expected_constant, error_input_buffer_is_too_small, error_invalid_enum_variant,

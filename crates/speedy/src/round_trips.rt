@@ -10,7 +10,7 @@ use crate::writable::BufferCollector;
 use crate::{Context, Endianness, Layout, LendingReader, Readable, Writable, Writer};
 use std::alloc::Global;
 
-/// Reads what was written, as by another program: it is refused only for want of memory.
+/// Reads what was written, as by another program. Its only error is out of memory.
 fn read_written<'a, C: Context, T: Readable<'a, C>>(
     alloc: Global,
     context: C,
@@ -25,7 +25,7 @@ fn read_written<'a, C: Context, T: Readable<'a, C>>(
     T::read_from_buffer_with_ctx(alloc, context, bytes)
 }
 
-/// Reads a value that was written to the front, and says how many bytes are left.
+/// Reads a value that was written to the beginning, and says how many bytes are left.
 fn read_front<'a, C: Context, T: Readable<'a, C>>(
     alloc: Global,
     context: C,
@@ -44,7 +44,7 @@ fn read_front<'a, C: Context, T: Readable<'a, C>>(
     Ok((value, reader.len()))
 }
 
-/// Writes items one after the other to the front of a buffer, and reads them back by their number.
+/// Writes items one after the other to the beginning of a buffer, and reads them back by their number.
 fn slice_again<'a, C: Context + Copy, T: Writable<C> + Readable<'a, C>>(
     alloc: Global,
     context: C,

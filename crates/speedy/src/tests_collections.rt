@@ -68,7 +68,7 @@ fn items_are_gathered_by_their_type(rt: HostRuntime) {
     assert_same(&rt, items.as_slice(), &[2, 1, 2]);
 }
 
-/// Asserts that where the first of two items is no character, and the second one is missing, the first refusal is
+/// Asserts that where the first of two items is no character, and the second one is missing, the first error is
 /// answered.
 fn assert_first_refusal<F: FromItems<char>>(rt: &impl Abort, alloc: Global) {
     let mut reader = BufferReader::new(alloc, LittleEndian {}, &NO_CHARACTER[4..]);

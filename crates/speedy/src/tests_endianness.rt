@@ -16,7 +16,7 @@ const EIGHT: u64 = 0x0102_0304_0506_0708;
 
 const SIXTEEN: u128 = 0x0102_0304_0506_0708_090a_0b0c_0d0e_0f10;
 
-/// Asserts the order of the context, and whether it demands the written form.
+/// Asserts the order of the context, and whether it reads only canonical encodings.
 fn assert_context<C: Context>(rt: &impl Abort, context: C, order: Endianness, demands: bool) {
     assert_same(rt, context.endianness(), order);
     assert_same(rt, context.demands_written_form(), demands);

@@ -1,4 +1,4 @@
-//! Each refusal: its kind, its text, whether it is an end of the bytes, and its kind as an `io::Error`.
+//! Each error: its kind, its text, whether it is an end of the bytes, and its kind as an `io::Error`.
 use crate::asserting::{assert_kind, assert_same};
 use crate::error::*;
 use std::alloc::{AllocError, Global};
@@ -35,7 +35,7 @@ fn assert_error(
     }
 }
 
-/// Asserts the kind and the text of a refusal of what was read or written.
+/// Asserts the kind and the text of an error of what was read or written.
 fn assert_refusal(rt: &impl Abort, alloc: Global, error: Error, kind: &str, text: &str) {
     assert_error(
         rt,
@@ -48,7 +48,7 @@ fn assert_refusal(rt: &impl Abort, alloc: Global, error: Error, kind: &str, text
     );
 }
 
-/// Asserts the kind and the text of a refusal that says that the bytes ended.
+/// Asserts the kind and the text of an error that says that the bytes ended.
 fn assert_end(rt: &impl Abort, alloc: Global, error: Error, kind: &str, text: &str) {
     assert_error(
         rt,
@@ -61,7 +61,7 @@ fn assert_end(rt: &impl Abort, alloc: Global, error: Error, kind: &str, text: &s
     );
 }
 
-/// Asserts the kind and the text of a refusal that has nothing to do with the bytes.
+/// Asserts the kind and the text of an error that has nothing to do with the bytes.
 fn assert_other(rt: &impl Abort, alloc: Global, error: Error, kind: &str, text: &str) {
     assert_error(rt, alloc, error, kind, text, false, io::ErrorKind::Other);
 }

@@ -1,4 +1,4 @@
-//! Readers over a buffer: each of their calls once, and what is refused.
+//! Readers over a buffer: each of their calls once, and their errors.
 use crate::asserting::{assert_bytes, assert_ok, assert_ok_items, assert_refused, assert_same};
 use crate::context::{BigEndian, Context, LittleEndian};
 use crate::endianness::Endianness;

@@ -1,4 +1,4 @@
-//! Integers of variable length: how they are spelled, and signed numbers that become them.
+//! Integers of variable length: how they are encoded, and signed numbers that become them.
 use crate::asserting::{assert_bytes, assert_ok, assert_refused, assert_same, followed};
 use crate::endianness::Endianness;
 use crate::private::VarInt64;
@@ -49,7 +49,7 @@ fn assert_written_as(rt: &impl Abort, number: u64, spelling: &[u8]) {
     assert_bytes(rt, &bytes[..count], spelling);
 }
 
-/// Asserts that the bytes are as many as the first one says, that they spell the number, and whether they are what is
+/// Asserts that the bytes are as many as the first one says, that they encode the number, and whether they are what is
 /// written of it.
 fn assert_spells(rt: &impl Abort, bytes: &[u8], number: u64, is_written: bool) {
     let (first, rest) = bytes.split_first().expect(rt, "a first byte");

@@ -1,4 +1,4 @@
-//! Views show the items that their bytes spell under the little order, wherever the bytes lie, and are written in
+//! Views show the items that their bytes encode in little endian, wherever the bytes lie, and are written in
 //! either order.
 use crate::asserting::{assert_ok_items, assert_refused, assert_same};
 use crate::context::LittleEndian;

@@ -25,7 +25,7 @@ pub(crate) fn assert_ok<T: PartialEq + Debug + Drop>(
     assert_same(rt, outcome.expect(rt, "a value"), expected);
 }
 
-/// Asserts that the outcome is a refusal of the kind, as `Debug` prints it, and that it is an end of the bytes just
+/// Asserts that the outcome is an error of the kind, as `Debug` prints it, and that it is an end of the bytes just
 /// where the kind is.
 pub(crate) fn assert_refused<T: Drop>(
     rt: &impl Abort,
@@ -44,7 +44,7 @@ pub(crate) fn assert_kind(rt: &impl Abort, alloc: Global, error: &Error, kind: &
     assert_same(rt, printed.as_str(), kind);
 }
 
-/// The kind of the device's error that the refusal holds.
+/// The kind of the device's error within the error.
 pub(crate) fn device_kind(error: &Error) -> Option<io::ErrorKind> {
     match get_error_kind(error) {
         ErrorKind::IoError(inner) => Some(inner.kind()),

@@ -72,7 +72,7 @@ impl Source for Pieces<'_> {
     }
 }
 
-/// Asserts that the outcome is a refusal that holds the system's error of this code, and that it is no end of the bytes.
+/// Asserts that the outcome is an error that holds the system's error of this code, and that it is no end of the bytes.
 fn assert_fault<T: Drop>(rt: &impl Abort, outcome: Result<T, Error>, code: i32) {
     let error = outcome.err().expect(rt, "it is refused");
     let found = match get_error_kind(&error) {

@@ -25,7 +25,7 @@ enum Items {
     Set,
 }
 
-/// The value, or the kind of the refusal, as `Debug` prints it.
+/// The value, or the kind of the error, as `Debug` prints it.
 fn show<T: Debug + Drop>(rt: &impl Abort, alloc: Global, outcome: Result<T, Error>) -> String {
     let shown = match outcome {
         Ok(value) => format!(in alloc; "{value:?}"),
