@@ -1,4 +1,4 @@
-//! Answers of the program: what bytes spell, written again.
+//! Answers of the program: the value that bytes encode, written again.
 ghost use Rattle.std.specs.Prelude.{◌≡◌, ◌++◌, IfOk, MatchResult, Some};
 ghost use Rattle.std.specs.String.{string_bytes};
 ghost use Rattle.speedy.specs.Error.{error_of};
@@ -18,7 +18,7 @@ use std::fmt;
 
 /// The answer to a line, with its line feed. The line comes without one.
 ///
-/// The one refusal is want of memory.
+/// The only error is out of memory.
 pub fn answer_line(alloc: Global, line: &[u8]) -> Result<Vec<u8>, Error>
     ensures { MatchResult result (λ answer. AnswersLine line.now answer.items)
         (λ e. e ≡ error_of ErrorKind.OutOfMemory) }
@@ -53,7 +53,7 @@ fn hex_text(alloc: Global, bytes: &[u8]) -> Result<String, AllocError>
     hex::encode(alloc, bytes)
 }
 
-/// A kind of refusal, as the program names it.
+/// A kind of error, as the program names it.
 #[derive(Clone, Copy)]
 pub struct KindName<'a>(pub &'a ErrorKind);
 
@@ -109,7 +109,7 @@ fn refused_answer(alloc: Global, kind: &ErrorKind) -> Result<Vec<u8>, AllocError
     Ok(format!(in alloc; "refused {name}\n")?.into_bytes())
 }
 
-/// What bytes are answered, read as values of a type. It fails by want of memory alone.
+/// What bytes are answered, read as values of a type. Its only error is out of memory.
 pub(crate) fn answer_as<'a, T: Readable<'a, C> + Writable<C>, C: Context<Error = Error> + Copy>(
     alloc: Global,
     context: C,

@@ -1,4 +1,4 @@
-//! Enums of one's own, with and without parts. Each is one of the library's, and is proved with no answer.
+//! Enums of your own, with and without parts. Each is one of the library's, and is proved with no answer.
 ghost use Rattle.speedy.specs.Numbers.{unsigned_number_laws};
 ghost use Rattle.speedy.specs.OneOf.{one_of3_laws};
 ghost use Rattle.speedy.specs.Tags.{tag_laws};

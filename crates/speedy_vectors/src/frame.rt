@@ -19,7 +19,7 @@ use std::convert::AsSlice;
 const MAGIC: &'static [u8] = b"SP";
 
 /// Parts and a note: the constant `SP`, the number of parts as an integer of variable length, the parts, and the note
-/// behind its number of bytes, one byte. A longer note has no spelling.
+/// behind its number of bytes, one byte. A longer note has no encoding.
 #[derive(Debug, PartialEq, Drop)]
 pub struct Frame {
     pub parts: Vec<VarInt64>,

@@ -12,8 +12,8 @@ use speedy::Error;
 use speedy::private::{ErrorKind, error_out_of_memory};
 use std::alloc::Global;
 
-/// The orders that the program knows: how numbers lie, and whether values are read from their
-/// written form alone.
+/// The orders that the program knows: how numbers lie, and whether only canonical encodings are
+/// read.
 #[derive(Clone, Copy)]
 pub enum LineOrder {
     /// `le`.
@@ -69,7 +69,7 @@ fn bytes_from_hex(alloc: Global, hex: &[u8]) -> Result<Option<Vec<u8>>, Error>
     }
 }
 
-/// What a line says, or `None` where it is not of the form. The one refusal is want of memory.
+/// What a line says, or `None` where it is not of the form. The only error is out of memory.
 pub fn parse_line(alloc: Global, line: &[u8]) -> Result<Option<Line>, Error>
     ensures { MatchResult result
         (λ found. MatchOption found (IsBad line.now)

@@ -1,9 +1,9 @@
-//! The program that answers lines: bytes in, what they spell written again, or how they are refused.
+//! The program that answers lines: it decodes the bytes of each, and encodes the value again or names the error.
 //!
 //! A line is an order, a type's name and hexadecimal digits, with one space between two of them,
 //! as `le u16 0200`; `-` stands for no bytes. The orders are `le` and `be`, the little and the big
-//! byte order, and `sle` and `sbe`, the same with values read from their written form alone. Its
-//! answer is `ok`, the number of bytes that spell a value, and that value written again; or
+//! byte order, and `sle` and `sbe`, the same with only canonical encodings read. Its
+//! answer is `ok`, the number of bytes that encode a value, and that value written again; or
 //! `refused` and the kind; or `bad line`.
 #![tactic(auto)]
 

@@ -1,4 +1,4 @@
-//! A record of one's own: numbers, a text, a list that may point into what the record is read from, and an enum. It is
+//! A record of your own: numbers, a text, a list that may point into what the record is read from, and an enum. It is
 //! proved with no answer.
 ghost use Rattle.std.specs.Prelude.{◌≡◌};
 ghost use Rattle.speedy.specs.Lists.{list_laws};

@@ -10,7 +10,7 @@ use std::alloc::Global;
 use std::borrow::CowSlice;
 use std::process::Abort;
 
-/// Asserts that the outcome is a refusal of the kind, as `Debug` prints it.
+/// Asserts that the outcome is an error of the kind, as `Debug` prints it.
 pub(crate) fn assert_refused<T: Drop>(
     rt: &impl Abort,
     alloc: Global,

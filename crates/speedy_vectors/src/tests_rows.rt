@@ -17,8 +17,8 @@ fn written_by<'a>(rt: &impl Abort, answer: &'a str) -> Option<&'a str> {
     Some(written.split_once('\n').expect(rt, "a line feed").0)
 }
 
-/// Asserts of each answered value that its written form is answered the same under the strict
-/// order, and so is its line if it begins with that form. If it does not, the line is refused.
+/// Asserts of each answered value that its canonical encoding is answered the same under the strict
+/// order, and so is its line if it begins with that. If it does not, the line is refused.
 fn assert_strict_answers(rt: &impl Abort, alloc: Global, rows: &[(&str, &str)]) {
     for (line, answer) in rows {
         let Some(written) = written_by(rt, answer) else {

@@ -16,7 +16,7 @@ pub const LEVELS: usize = 16;
 
 /// A value, and the trees below it: the value, the number of children as a `u32`, the children.
 ///
-/// A tree of more than [`LEVELS`] levels has no spelling. It is refused with `OutOfRangeLength`.
+/// A tree of more than [`LEVELS`] levels has no encoding. It is refused with `OutOfRangeLength`.
 #[derive(Debug, PartialEq, Drop)]
 pub struct Tree {
     pub value: u8,

@@ -26,7 +26,7 @@ pub fn again(
     <Option<String> as Readable<Endianness>>::read_from_buffer_with_ctx(alloc, order, &bytes)
 }
 
-/// Writes any value to the front of a buffer, and reads it back.
+/// Writes any value to the beginning of a buffer, and reads it back.
 pub fn again_in<'a, C: Context + Copy, T: Writable<C> + Readable<'a, C>>(
     alloc: Global,
     context: C,
@@ -81,8 +81,8 @@ pub fn read_slice<L: AsSlice<u8> + Drop, C: Context, R: LendingReader<L, C>, T: 
     reader.read_vec(length)
 }
 
-/// Reads a value from the front of a buffer and writes it again. The context accepts the written form alone, so these
-/// are the very bytes that were read.
+/// Reads a value from a prefix of a buffer and writes it again. The context reads only canonical encodings, so these are
+/// the very bytes that were read.
 pub fn again_the_same_bytes(alloc: Global, bytes: &[u8]) -> Result<Vec<u8>, Error>
     ensures { let layout = ⟦<Option<String> as Layout>⟧ in
         let format = layout.format (strict_encoding Endianness.LittleEndian) in

@@ -1,4 +1,4 @@
-//! A struct of one's own with a map and a set: their laws ask for the order or the equality of the keys.
+//! A struct of your own with a map and a set: their laws ask for the order or the equality of the keys.
 ghost use Rattle.speedy.specs.Keys.{text_order, unsigned_key};
 ghost use Rattle.speedy.specs.Maps.{tree_map_laws};
 ghost use Rattle.speedy.specs.Numbers.{unsigned_number_laws};

@@ -1,5 +1,5 @@
 //! A struct of more than eleven parts: a tuple whose last part is one again. Of so many the search does not answer where
-//! reading is refused.
+//! reading fails.
 ghost use Rattle.speedy.specs.Numbers.{unsigned_number_laws};
 ghost use Rattle.speedy.specs.TupleLaws.{tuple2_laws, tuple11_laws};
 

@@ -1,4 +1,4 @@
-//! A struct of one's own: a tuple of its parts, which is proved with no answer.
+//! A struct of your own: a tuple of its parts, which is proved with no answer.
 ghost use Rattle.speedy.specs.Lists.{list_laws};
 ghost use Rattle.speedy.specs.Numbers.{unsigned_number_laws};
 ghost use Rattle.speedy.specs.Texts.{text_laws};

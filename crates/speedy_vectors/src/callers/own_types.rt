@@ -1,4 +1,4 @@
-//! Types of one's own: a leaf that tests what it reads, a struct of any part, and one that borrows.
+//! Types of your own: a leaf that tests what it reads, a struct of any part, and one that borrows.
 ghost use Rattle.std.specs.Prelude.{◌≡◌, ◌+◌, ℕ};
 ghost use Rattle.speedy.specs.Codes.{subset, subset_laws};
 ghost use Rattle.speedy.specs.Laws.{saturated_size};

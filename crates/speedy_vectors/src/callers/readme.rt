@@ -17,7 +17,7 @@ pub fn round_trip(alloc: Global, numbers: &Vec<u16>) -> Result<Vec<u16>, Error>
     <Vec<u16> as Readable<Endianness>>::read_from_buffer_with_ctx(alloc, order, &bytes)
 }
 
-/// A message's number and text, which a front of the bytes spells. The text is that of the bytes, where it lies.
+/// A message's number and text, which a prefix of the bytes encodes. The text is that of the bytes, where it lies.
 pub fn parse_message<'a>(alloc: Global, bytes: &'a [u8]) -> Result<(u16, &'a str), Error>
     ensures { let layout = ⟦<(u16, &'a str) as Layout>⟧ in
         let format = layout.format (plain_encoding Endianness.LittleEndian) in
@@ -27,7 +27,7 @@ pub fn parse_message<'a>(alloc: Global, bytes: &'a [u8]) -> Result<(u16, &'a str
     <(u16, &'a str) as Readable<LittleEndian>>::read_from_buffer(alloc, bytes)
 }
 
-/// The next message: a number and a text. The source has lost just the bytes that spell it.
+/// The next message: a number and a text. The source has lost just the bytes that encode it.
 pub fn next_message<S: Source>(alloc: Global, source: &mut S) -> Result<(u16, String), Error>
     ensures { let layout = ⟦<(u16, String) as Layout>⟧ in
         let format = layout.format (plain_encoding Endianness.LittleEndian) in

@@ -28,7 +28,7 @@ pub fn again_through_a_sink(
     <Option<String> as Readable<Endianness>>::read_from_buffer_with_ctx(alloc, order, bytes)
 }
 
-/// The next message: a number and a text. The source has lost just the bytes that spell it.
+/// The next message: a number and a text. The source has lost just the bytes that encode it.
 pub fn next_message<S: Source>(alloc: Global, source: &mut S) -> Result<(u16, String), Error>
     ensures { let layout = ⟦<(u16, String) as Layout>⟧ in
         let format = layout.format (plain_encoding Endianness.LittleEndian) in
@@ -60,7 +60,7 @@ pub fn two_messages_again(
     Ok((first_again, second_again))
 }
 
-/// The next message of a reader, or `None` where no byte is left. An end within a message is a refusal.
+/// The next message of a reader, or `None` where no byte is left. An end within a message is an error.
 pub fn next_or_end<L: AsSlice<u8> + Drop, R: LendingReader<L, LittleEndian>>(
     reader: &mut R,
 ) -> Result<Option<(u16, String)>, Error>

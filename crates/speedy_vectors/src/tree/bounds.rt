@@ -9,8 +9,8 @@ ghost use Rattle.speedy_vectors.specs.Trees.{Rose, FitsDigits, depth, view};
 use crate::tree::Tree;
 use speedy::{Context, Layout, Writable};
 
-/// A tree that is spelled has at most 16 levels, each one of those has a written form where its counts fit, and every
-/// refusal that the type names is the same.
+/// A tree that bytes encode has at most 16 levels, each one of those has a canonical encoding where its counts fit, and
+/// every error that the type names is the same.
 pub fn levels_are_bounded()
     ensures spelled { let format = ⟦<Tree as Layout>⟧.format in
         (f : Encoding) (r : Rose) (bytes : List ℕ) → (format f).spells r bytes → depth r ≤ 16 }
@@ -20,7 +20,7 @@ pub fn levels_are_bounded()
         (f : Encoding) (kind : ErrorKind) → (format f).names kind → kind ≡ OutOfRangeLength }
 {}
 
-/// How many bytes a tree of more levels needs: it is refused.
+/// How many bytes a tree of more levels needs: an error.
 pub fn bytes_of_deep_tree<C: Context>(tree: &Tree, context: &mut C) -> Result<usize, C::Error>
     requires { 16 < depth (view tree.now) }
     ensures { IsErrAnd result (λ e. C.Error.from_gives (error_of OutOfRangeLength) e) }
