@@ -12,12 +12,9 @@ use speedy_base::endianness::Endianness;
 use std::alloc::AllocError;
 
 /// A number of a fixed size, whose bytes are its digits.
-pub trait FixedNumber: FixedSize + Layout + Copy + Drop {
+pub trait FixedNumber: FixedSize + Layout + Copy + Default + Drop {
     /// The number that `SIZE` bytes encode in an order.
     ghost decoded: { Order → List ℕ → Self };
-
-    /// The number 0.
-    fn zero() -> Self;
 
     /// Decodes the number from `SIZE` bytes in the order.
     fn decode(order: Endianness, bytes: &[u8]) -> Self
@@ -44,11 +41,6 @@ impl FixedNumber for u8 {
     ghost decoded = { number };
 
     #[inline(always)]
-    fn zero() -> u8 {
-        0
-    }
-
-    #[inline(always)]
     fn decode(_order: Endianness, bytes: &[u8]) -> u8 {
         bytes[0]
     }
@@ -67,11 +59,6 @@ impl FixedNumber for u8 {
 
 impl FixedNumber for u16 {
     ghost decoded = { number };
-
-    #[inline(always)]
-    fn zero() -> u16 {
-        0
-    }
 
     #[inline(always)]
     fn decode(order: Endianness, bytes: &[u8]) -> u16 {
@@ -94,11 +81,6 @@ impl FixedNumber for u32 {
     ghost decoded = { number };
 
     #[inline(always)]
-    fn zero() -> u32 {
-        0
-    }
-
-    #[inline(always)]
     fn decode(order: Endianness, bytes: &[u8]) -> u32 {
         order.read_u32(bytes)
     }
@@ -117,11 +99,6 @@ impl FixedNumber for u32 {
 
 impl FixedNumber for u64 {
     ghost decoded = { number };
-
-    #[inline(always)]
-    fn zero() -> u64 {
-        0
-    }
 
     #[inline(always)]
     fn decode(order: Endianness, bytes: &[u8]) -> u64 {
@@ -144,11 +121,6 @@ impl FixedNumber for u128 {
     ghost decoded = { number };
 
     #[inline(always)]
-    fn zero() -> u128 {
-        0
-    }
-
-    #[inline(always)]
     fn decode(order: Endianness, bytes: &[u8]) -> u128 {
         order.read_u128(bytes)
     }
@@ -167,11 +139,6 @@ impl FixedNumber for u128 {
 
 impl FixedNumber for i8 {
     ghost decoded = { λ order bytes. cast_signed w8 (number order bytes) };
-
-    #[inline(always)]
-    fn zero() -> i8 {
-        0
-    }
 
     #[inline(always)]
     fn decode(order: Endianness, bytes: &[u8]) -> i8 {
@@ -194,11 +161,6 @@ impl FixedNumber for i16 {
     ghost decoded = { λ order bytes. cast_signed w16 (number order bytes) };
 
     #[inline(always)]
-    fn zero() -> i16 {
-        0
-    }
-
-    #[inline(always)]
     fn decode(order: Endianness, bytes: &[u8]) -> i16 {
         order.read_i16(bytes)
     }
@@ -217,11 +179,6 @@ impl FixedNumber for i16 {
 
 impl FixedNumber for i32 {
     ghost decoded = { λ order bytes. cast_signed w32 (number order bytes) };
-
-    #[inline(always)]
-    fn zero() -> i32 {
-        0
-    }
 
     #[inline(always)]
     fn decode(order: Endianness, bytes: &[u8]) -> i32 {
@@ -244,11 +201,6 @@ impl FixedNumber for i64 {
     ghost decoded = { λ order bytes. cast_signed w64 (number order bytes) };
 
     #[inline(always)]
-    fn zero() -> i64 {
-        0
-    }
-
-    #[inline(always)]
     fn decode(order: Endianness, bytes: &[u8]) -> i64 {
         order.read_i64(bytes)
     }
@@ -267,11 +219,6 @@ impl FixedNumber for i64 {
 
 impl FixedNumber for i128 {
     ghost decoded = { λ order bytes. cast_signed w128 (number order bytes) };
-
-    #[inline(always)]
-    fn zero() -> i128 {
-        0
-    }
 
     #[inline(always)]
     fn decode(order: Endianness, bytes: &[u8]) -> i128 {

@@ -56,7 +56,7 @@ impl<L: AsSlice<u8> + Drop, C: Context, T: FixedNumber + ReadFrom<L, C>> Fills<L
     for Numbers {
     #[inline(always)]
     fn first() -> T {
-        T::zero()
+        T::default()
     }
 
     fn fill<R: LendingReader<L, C>>(reader: &mut R, places: &mut [T]) -> Result<(), C::Error> {
