@@ -1,5 +1,5 @@
 -- What the collectors show.
-use Rattle.std.specs.Prelude.{ℕ, List, take, drop}
+use Rattle.std.specs.Prelude.{ℕ, ◌-◌, List, take, drop}
 use Rattle.std.specs.Borrow.{GName}
 use Rattle.speedy_write.specs.declared.collectors.BufferCollector.{BufferCollector}
 use Rattle.speedy_write.specs.declared.collectors.SizeCalculatorCollector.{SizeCalculatorCollector}
@@ -35,7 +35,13 @@ pub record VecModel (C : Type 0) : Type 0 where
   pub room : ℕ
 
 abbrev pub vec_model : {C : Type 0} → VecCollector C → VecModel C
-vec_model w = record { context = w.context.now; context_name = w.context.ghost_name; bytes = w.bytes.now.items; bytes_name = w.bytes.ghost_name; room = w.room }
+vec_model w = record {
+  context = w.context.now;
+  context_name = w.context.ghost_name;
+  bytes = take w.position w.bytes.now.items;
+  bytes_name = w.bytes.ghost_name;
+  room = w.most - w.position;
+}
 
 -- the context that the collector of sizes borrows, and the sum
 pub record SizeModel (C : Type 0) : Type 0 where

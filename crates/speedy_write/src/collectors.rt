@@ -1,5 +1,5 @@
 //! The writers of the ways of writing: into a buffer, into a vector, into a sink, and one that only counts.
-ghost use Rattle.std.specs.Prelude.{◌≡◌, ◌+◌, ◌-◌, ◌^◌, ◌≤◌, [], ◌∷◌, ◌++◌, length, vec_len, vec_capacity, Some, None, IsOk, IfErr, OnErr, IsSome, nat_le, refl};
+ghost use Rattle.std.specs.Prelude.{◌≡◌, ◌+◌, ◌-◌, ◌^◌, ◌≤◌, [], ◌∷◌, ◌++◌, length, vec_len, vec_capacity, Some, None, IsOk, IfErr, OnErr, IsSome, take, nat_le, refl};
 ghost use Rattle.speedy_base.specs.FailedCalls.{IsErrorOf, IsOfFailedCall};
 ghost use Rattle.speedy_write.specs.Writing.{WritesBytes, RefusesFull, CountsBytes};
 ghost use Rattle.speedy_write.specs.Pushing.{PushesAll};
@@ -114,10 +114,13 @@ impl<'a, C: Context> Writer<C> for BufferCollector<'a, C> {
 #[derive(Drop)]
 pub struct VecCollector<'a, C> {
     context: &'a mut C,
+    // What is written ends at `position`. Behind it lie zeros, which short writes overwrite.
     bytes: &'a mut Vec<u8>,
-    // How many bytes may still be written.
-    room: usize,
-    ghost has_room: { vec_len bytes.now + room ≤ vec_capacity bytes.now },
+    position: usize,
+    // How long the vector may become.
+    most: usize,
+    ghost has_room: { (position ≤ vec_len bytes.now) × (vec_len bytes.now ≤ most)
+        × (most ≤ vec_capacity bytes.now) },
 }
 
 impl<'a, C> VecCollector<'a, C> {
@@ -133,10 +136,12 @@ impl<'a, C> VecCollector<'a, C> {
         ensures bytes { (vec_model result).bytes ≡ bytes.old.items }
         ensures room { (vec_model result).room ≡ room }
     {
+        let position = bytes.len();
         VecCollector {
             context,
             bytes,
-            room,
+            position,
+            most: position + room,
         }
     }
 
@@ -147,44 +152,49 @@ impl<'a, C> VecCollector<'a, C> {
         ensures context { self.exit.0.now ≡ (vec_model self.entry).context }
         ensures bytes { self.exit.1.0.now.items ≡ (vec_model self.entry).bytes }
     {
-        self.room
+        let written = self.position;
+        let room = self.most - written;
+        self.bytes.truncate(written);
+        room
     }
 }
 
 impl<'a, C: Context> Writer<C> for VecCollector<'a, C> {
+    ghost use Rattle.speedy_write.specs.CollectorModels.{vec_model};
+
     ghost at = { λ w. w.context.now };
 
     ghost with_context = { λ w c. record w { context = record w.context { now = c } } };
 
     ghost state = { λ w. buffer_state (C.encoding w.context.now)
-        (w.context.ghost_name ∷ w.bytes.ghost_name ∷ []) w.room };
+        (w.context.ghost_name ∷ w.bytes.ghost_name ∷ []) (vec_model w).room };
 
-    ghost appends = { λ a s b. b.bytes.now.items ≡ a.bytes.now.items ++ s };
+    ghost appends = { λ a s b. (vec_model b).bytes ≡ (vec_model a).bytes ++ s };
 
-    ghost can_write = { λ w n. Some (nat_le n w.room) };
+    ghost can_write = { λ w n. Some (nat_le n (vec_model w).room) };
 
     ghost encoding_at = { λ w. refl };
 
     ghost state_with = { λ w c. refl };
 
-    ghost nothing = { λ w. vec_nothing w.bytes.now.items };
+    ghost nothing = { λ w. vec_nothing (vec_model w).bytes };
 
-    ghost additive = { λ a b c s t h k. vec_additive a.bytes.now.items s t h k };
+    ghost additive = { λ a b c s t h k. vec_additive (vec_model a).bytes s t h k };
 
     ghost appends_with = { λ a b s c h. (h, h) };
 
     #[inline]
     fn write_bytes(&mut self, slice: &[u8]) -> Result<(), C::Error> {
-        if slice.len() > self.room {
+        if slice.len() <= self.bytes.len() - self.position {
+            let next = self.position + slice.len();
+            self.bytes.as_mut_slice()[self.position..next].copy_from_slice(slice);
+        } else if slice.len() <= self.most - self.position {
+            append_past(&mut *self.bytes, self.position, slice, self.most);
+        } else {
             return Err(error_end_of_output_buffer());
         }
-        match self.bytes.extend_from_slice(slice) {
-            Ok(()) => {
-                self.room -= slice.len();
-                Ok(())
-            }
-            Err(_) => unreachable!(),
-        }
+        self.position += slice.len();
+        Ok(())
     }
 
     #[inline(always)]
@@ -199,7 +209,39 @@ impl<'a, C: Context> Writer<C> for VecCollector<'a, C> {
 
     #[inline(always)]
     fn can_write_at_least(&self, size: usize) -> Option<bool> {
-        Some(size <= self.room)
+        Some(size <= self.most - self.position)
+    }
+}
+
+static ZEROS: [u8; 512] = [0; 512];
+
+// Puts a slice at a position of a vector that may become so long, past which it ends. Behind a short slice zeros are
+// laid, as further ones may come.
+#[inline(never)]
+fn append_past(bytes: &mut Vec<u8>, position: usize, slice: &[u8], most: usize)
+    requires within { position ≤ vec_len bytes.old }
+    requires fits { position + length slice.now ≤ most }
+    requires room { most ≤ vec_capacity bytes.old }
+    ensures bytes { take (position + length slice.now) bytes.new.items ≡ take position bytes.old.items ++ slice.now }
+    ensures length { (position + length slice.now ≤ vec_len bytes.new) × (vec_len bytes.new ≤ most) }
+    ensures capacity { vec_capacity bytes.old ≤ vec_capacity bytes.new }
+{
+    bytes.truncate(position);
+    append(bytes, slice);
+    if slice.len() < ZEROS.len() {
+        let ahead = (most - bytes.len()).min(ZEROS.len());
+        append(bytes, &ZEROS[..ahead]);
+    }
+}
+
+// Appends a slice to a vector that has the room.
+fn append(bytes: &mut Vec<u8>, slice: &[u8])
+    requires { vec_len bytes.old + length slice.now ≤ vec_capacity bytes.old }
+    ensures bytes { bytes.new.items ≡ bytes.old.items ++ slice.now }
+    ensures capacity { vec_capacity bytes.old ≤ vec_capacity bytes.new }
+{
+    if bytes.extend_from_slice(slice).is_err() {
+        unreachable!();
     }
 }
 
