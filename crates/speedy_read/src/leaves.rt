@@ -1,4 +1,5 @@
 //! How characters, byte orders, durations and UUIDs are read.
+ghost use Rattle.speedy_layout.specs.Leaves.{seconds_and_nanos};
 ghost use Rattle.speedy_read.specs.Reading.{Reads};
 
 use crate::many::ItemByItem;
@@ -59,9 +60,13 @@ impl<L: AsSlice<u8> + Drop, C: Context> ReadFrom<L, C> for Duration {
     /// only canonical encodings, which have fewer.
     #[inline]
     fn read_from<R: LendingReader<L, C>>(reader: &mut R) -> Result<Duration, C::Error> {
-        let (seconds, nanos) = reader.read_value::<(u64, u32)>()?;
+        let (seconds, nanos) = read_seconds_and_nanos::<L, C, R>(reader)?;
         let is_written = nanos < 1_000_000_000;
-        if !is_written && reader.demands_written_form() {
+        // As a rule nothing carries, and the compiler leaves the divisions out here.
+        if is_written {
+            return Ok(Duration::new(seconds, nanos));
+        }
+        if reader.demands_written_form() {
             return Err(error_not_written_form());
         }
         let carried = (nanos / 1_000_000_000) as u64;
@@ -79,6 +84,21 @@ impl<L: AsSlice<u8> + Drop, C: Context> ReadFrom<L, C> for Duration {
 
 impl<L: AsSlice<u8> + Drop, C: Context> ReadMany<L, C> for Duration {
     type Strategy = ItemByItem<C>;
+}
+
+// Both numbers of a duration, by one read of their bytes.
+#[inline]
+fn read_seconds_and_nanos<L: AsSlice<u8> + Drop, C: Context, R: LendingReader<L, C>>(
+    reader: &mut R,
+) -> Result<(u64, u32), C::Error>
+    ensures { Reads C.Error.from_gives C.Error.eof (λ p. p)
+        (seconds_and_nanos (R.state reader.old).encoding) result
+        (R.state reader.old) (R.state reader.new) }
+{
+    let mut bytes = [0u8; 12];
+    reader.read_bytes(&mut bytes)?;
+    let order = reader.endianness();
+    Ok((order.read_u64(&bytes[..8]), order.read_u32(&bytes[8..])))
 }
 
 impl<L: AsSlice<u8> + Drop, C: Context> ReadFrom<L, C> for Uuid {

@@ -176,7 +176,10 @@ impl BytesAs<u8> for AsBytes {
 
     #[inline]
     fn copy_of(bytes: &[u8], alloc: Global) -> Option<Vec<u8>> {
-        bytes.to_vec(alloc).ok()
+        // `to_vec` copies by a loop, which takes half as long again.
+        let mut copy = Vec::with_capacity(alloc, bytes.len()).ok()?;
+        copy.extend_from_slice(bytes).ok()?;
+        Some(copy)
     }
 }
 
