@@ -14,7 +14,7 @@ use crate::lent::lent_in_range;
 use crate::many::{AsBytes, Fills, FromLent, Many, Places, Strategy, read_each};
 use crate::readable::ReadFrom;
 use crate::reader::{EndOfInput, LendingReader};
-use crate::room::{CHUNK, SHORT_CHUNK, STEP, append_in_steps, open_chunk, vec_for};
+use crate::room::{CHUNK, MIDDLE_CHUNK, SHORT_CHUNK, STEP, append_in_steps, open_chunk, vec_for};
 use speedy_base::context::Context;
 use speedy_base::endianness::Endianness;
 use speedy_base::error::{Error, ErrorKind, error_end_of_input, error_out_of_memory};
@@ -208,6 +208,8 @@ pub(crate) fn read_numbers<
     // A few numbers need no long chunk, which costs more to make than they cost to read.
     let numbers = if size <= SHORT_CHUNK {
         read_number_chunks(reader, count, &mut [0; SHORT_CHUNK])?
+    } else if size <= MIDDLE_CHUNK {
+        read_number_chunks(reader, count, &mut [0; MIDDLE_CHUNK])?
     } else {
         read_number_chunks(reader, count, &mut [0; CHUNK])?
     };
@@ -239,6 +241,8 @@ pub(crate) fn fill_numbers<
     }
     if size <= SHORT_CHUNK {
         fill_chunks(reader, places, &mut [0; SHORT_CHUNK])
+    } else if size <= MIDDLE_CHUNK {
+        fill_chunks(reader, places, &mut [0; MIDDLE_CHUNK])
     } else {
         fill_chunks(reader, places, &mut [0; CHUNK])
     }

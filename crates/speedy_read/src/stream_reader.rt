@@ -2,6 +2,9 @@
 ghost use Rattle.std.specs.Prelude.{◌≡◌, ◌≤◌, ◌<◌, [], ◌++◌, length, max, false, true, nat_le, if◌then◌else◌, Some, None, IfOk, IsOk, refl};
 ghost use Rattle.std.specs.Borrow.{sem, Lends};
 ghost use Rattle.std.specs.Io.BufRead.{Rests};
+ghost use Rattle.speedy_base.specs.Error.{IsNamed};
+ghost use Rattle.speedy_base.specs.ErrorKind.{EndsInput};
+ghost use Rattle.speedy_base.specs.FailedCalls.{IsErrorOf};
 ghost use Rattle.speedy_layout.specs.Texts.{raw_bytes};
 ghost use Rattle.speedy_read.specs.Lending.{readers_lifetime};
 ghost use Rattle.speedy_read.specs.Reading.{Reads, Peeks, IsRight, LendsUntilUsed};
@@ -156,6 +159,24 @@ fn fill_ring<S: Source>(
     Ok(true)
 }
 
+// What a read answers where a call of the source failed, and where the source ended. They are called, so that reads are
+// short enough to stand inline.
+#[cold]
+#[inline(never)]
+fn failed_call<E: From<Error>>(alloc: Global, error: io::Error) -> E
+    ensures { IsErrorOf E.from_gives error result }
+{
+    Error::from_io_error(alloc, error).into()
+}
+
+#[cold]
+#[inline(never)]
+fn ended<E: From<Error>>(alloc: Global) -> E
+    ensures { IsNamed E.from_gives (EndsInput true) result }
+{
+    error_end_of_stream(alloc)
+}
+
 impl<'s, S: Source, C: Context> StreamReader<'s, S, C> {
     /// The source, behind the bytes that the reader still holds: these are lost.
     #[inline]
@@ -177,7 +198,7 @@ impl<'s, S: Source, C: Context> StreamReader<'s, S, C> {
         match fill_ring(&mut self.ring, self.source, count, self.is_buffering) {
             Ok(true) => Ok(()),
             Ok(false) => Err(error_end_of_input()),
-            Err(error) => Err(Error::from_io_error(self.alloc, error).into()),
+            Err(error) => Err(failed_call(self.alloc, error)),
         }
     }
 
@@ -205,8 +226,8 @@ impl<'s, S: Source, C: Context> StreamReader<'s, S, C> {
         self.ring.consume_into(&mut output[..held]);
         match fill_list(self.source, &mut output[held..]) {
             Ok(true) => Ok(()),
-            Ok(false) => Err(error_end_of_stream(self.alloc)),
-            Err(error) => Err(Error::from_io_error(self.alloc, error).into()),
+            Ok(false) => Err(ended(self.alloc)),
+            Err(error) => Err(failed_call(self.alloc, error)),
         }
     }
 
@@ -221,8 +242,8 @@ impl<'s, S: Source, C: Context> StreamReader<'s, S, C> {
     {
         match fill_list(self.source, output) {
             Ok(true) => Ok(()),
-            Ok(false) => Err(error_end_of_stream(self.alloc)),
-            Err(error) => Err(Error::from_io_error(self.alloc, error).into()),
+            Ok(false) => Err(ended(self.alloc)),
+            Err(error) => Err(failed_call(self.alloc, error)),
         }
     }
 

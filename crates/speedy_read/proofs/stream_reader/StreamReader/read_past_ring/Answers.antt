@@ -60,11 +60,11 @@ returns-in-Ok-false g c =
     let all = c.len-held.ensures.value in
     let left = ring_left ring c.consume_into.new.self _ c.consume_into.ensures.rest (nothing_left output ring.bytes _ all c.requires) in
     past_ended ring c.consume_into.new.self left.0 left.1 c.in-Ok-false.field-0-test c.in-Ok-false.ensures
-    (device_ended g.C.Error.From.from_gives g.C.Error.IsEof.eof _ g.met.C.Context.keeps_eof c.error_end_of_stream.ensures)
+    (device_ended g.C.Error.From.from_gives g.C.Error.IsEof.eof _ g.met.C.Context.keeps_eof c.ended.ensures)
     (whole output ring.bytes _ all c.requires _ _ c.consume_into.ensures.output c.fill_list.auto.output)
 
 pub returns-in-Err : goal.returns-in-Err
 returns-in-Err g c =
     let ring = c.args.self.now.ring in
     let left = ring_left ring c.consume_into.new.self _ c.consume_into.ensures.rest (nothing_left c.args.output.now ring.bytes _ c.len-held.ensures.value c.requires) in
-    past_failed ring c.consume_into.new.self left.0 left.1 _ c.in-Err.ensures (c.from_io_error.result.kind, c.from_io_error.ensures, c.into.ensures)
+    past_failed ring c.consume_into.new.self left.0 left.1 _ c.in-Err.ensures c.failed_call.ensures

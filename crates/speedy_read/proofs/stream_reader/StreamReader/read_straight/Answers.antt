@@ -14,5 +14,5 @@ returns-in-Ok-false g c =
     let ring = c.args.self.now.ring in
     let none = c.requires.nothing_held in
     past_ended ring ring refl none c.in-Ok-false.field-0-test c.in-Ok-false.ensures
-    (device_ended g.C.Error.From.from_gives g.C.Error.IsEof.eof _ g.met.C.Context.keeps_eof c.error_end_of_stream.ensures)
+    (device_ended g.C.Error.From.from_gives g.C.Error.IsEof.eof _ g.met.C.Context.keeps_eof c.ended.ensures)
     (omega (arith, ap length none, c.fill_list.auto.output))
