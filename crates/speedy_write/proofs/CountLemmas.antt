@@ -1,14 +1,19 @@
--- What `bytes_needed` answers follows from what a write into a collector does that only counts.
-use Rattle.std.specs.Prelude.{◌≡◌, ℕ, ◌-◌, ◌^◌, ◌<◌, Bool, List, length, Ok}
+-- What `bytes_needed` answers follows from what a write into a collector does that only counts; and items that are counted one by one.
+use Rattle.std.specs.Prelude.{◌≡◌, ℕ, ◌+◌, ◌-◌, ◌^◌, ◌<◌, Bool, List, [], ◌∷◌, ◌++◌, length, map, take, Result, Ok, refl}
 use Rattle.std.specs.Borrow.{GName}
-use Rattle.std.proofs.Common.{subst, arith}
+use Rattle.std.proofs.Common.{sym, ◌∙◌, ap, subst, arith}
+use Rattle.std.proofs.Math.ListN.{get_or}
+use Rattle.std.proofs.lemmas.List.{length-append, length-map, map-append}
 use Rattle.speedy_base.specs.declared.error.Error.{Error}
 use Rattle.speedy_base.specs.Encoding.{Encoding}
-use Rattle.speedy_layout.specs.Format.{Format}
+use Rattle.speedy_layout.specs.Format.{Format, Each}
 use Rattle.speedy_layout.specs.Laws.{Laws}
-use Rattle.speedy_write.specs.Writing.{WriterState, Writes}
-use Rattle.speedy_write.specs.Counting.{counting_state, CountAppends}
+use Rattle.speedy_layout.specs.Lists.{each_more, repeat, repeat_laws}
+use Rattle.speedy_write.specs.Writing.{WriterState, Writes, WritesEach, WritesBytes}
+use Rattle.speedy_write.specs.Sequences.{form_written}
+use Rattle.speedy_write.specs.Counting.{counting_state, CountAppends, CountsEach}
 use Rattle.speedy_write.specs.WaysOfWriting.{Needs}
+use Rattle.speedy_write.proofs.ListLemmas.{first_items}
 
 -- all written forms of a value have one length
 one_length : {V : Type 0} {strict : Bool} {least : ℕ} {L : Format V} → Laws strict least L → (v : V) (b c : List ℕ) → L.writes v b → L.writes v c → length b ≡ length c
@@ -29,3 +34,44 @@ counted {gives = gives} {F = F} {v = v} {sum = sum} {size = size} {answered = an
       answers = λ bytes writes _. let same = one_length laws v put.bytes bytes put.is_written writes in omega (arith, long);
       refused = tt;
     }
+
+-- ---- items, one by one
+
+-- one more item is counted
+pub one_more_counted : {A V : Type 0} {x : A} {sum size : ℕ} (writes : V → List ℕ → Type 0) (seen : A → V) (items : List A) (i : ℕ) → i < length items → x ≡ get_or items i x → CountsEach writes (map seen (take i items)) sum
+    → ((bytes : List ℕ) × writes (seen x) bytes × (size ≡ length bytes)) → CountsEach writes (map seen (take (i + 1) items)) (sum + size)
+one_more_counted {x = x} writes seen items i within is h k = (
+  h.0 ++ k.0,
+  subst (λ vs. Each writes vs (h.0 ++ k.0)) (sym (ap (map seen) (first_items items i within is) ∙ map-append seen (take i items) (x ∷ [])))
+      (each_more writes (map seen (take i items)) (seen x) h.0 k.0 h.1 k.1),
+  let l = length-append h.0 k.0 in omega (arith, l, h.2, k.2),
+)
+
+-- a writer that counts the bytes of items does as it would in writing them
+pub items_counted : {E A V : Type 0} {gives : Error → E → Type 0} {F : Encoding → Format V} {least size : ℕ} {result : Result (Unit {0}) E} {old new : WriterState} {appended : List ℕ → Type 0} {encoding : Encoding} (seen : A → V) (items : List A)
+    → ((encoding : Encoding) → Laws encoding.strict least (F encoding)) → encoding ≡ old.encoding → CountsEach (F encoding).writes (map seen items) size → ((bytes : List ℕ) → length bytes ≡ size → WritesBytes gives bytes result old new appended)
+    → WritesEach gives F seen items result old new appended
+unfolding repeat
+items_counted {F = F} {size = size} {old = old} seen items laws same h told =
+    let k = subst (λ (e : Encoding). CountsEach (F e).writes (map seen items) size) same h in
+    form_written (λ e. repeat_laws (laws e) (length items)) (length-map items seen, k.1) (told k.0 k.2)
+
+-- ---- a writer whose context was lent
+
+-- what is written behind the one writer is written behind the other
+pub record StaysAs {W : Type 0} (state : W → WriterState) (appends : W → List ℕ → W → Type 0) (old new : W) : Type 0 where
+  pub state_is : state new ≡ state old
+  pub joins : (bytes : List ℕ) (w : W) → appends new bytes w → appends old bytes w
+
+pub stays_same : {W : Type 0} {state : W → WriterState} {appends : W → List ℕ → W → Type 0} {old : W} → StaysAs state appends old old
+stays_same = record { state_is = refl; joins = λ _ _ h. h }
+
+-- another context of the same encoding changes nothing that a write sees
+pub context_lent : {W C : Type 0} {state : W → WriterState} {appends : W → List ℕ → W → Type 0} {with_context : W → C → W} (at : W → C) (encoding : C → Encoding)
+    → ((w : W) → (state w).encoding ≡ encoding (at w)) → ((w : W) (c : C) → state (with_context w c) ≡ record (state w) { encoding = encoding c }) → ((w : W) → appends w [] w)
+    → ((a b c : W) (s t : List ℕ) → appends a s b → appends b t c → appends a (s ++ t) c) → ((a b : W) (s : List ℕ) (c : C) → appends a s b → appends a s (with_context b c) × appends (with_context a c) s b)
+    → (w : W) (c : C) → encoding c ≡ encoding (at w) → StaysAs state appends w (with_context w c)
+context_lent {state = state} {with_context = with_context} at encoding encoding_at state_with nothing additive appends_with w c same = record {
+  state_is = state_with w c ∙ ap (λ e. record (state w) { encoding = e }) (same ∙ sym (encoding_at w));
+  joins = λ bytes v h. additive w (with_context w c) v [] bytes (appends_with w w [] c (nothing w)).0 h;
+}

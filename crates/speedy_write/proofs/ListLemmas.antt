@@ -67,7 +67,7 @@ module _ {V : Type 0} (R : V → List ℕ → Type 0) where
       }
 
 -- the items as far as the next one, and all of them
-first_items : {A : Type 0} (items : List A) (i : ℕ) {x : A} → i < length items → x ≡ get_or items i x → take (i + 1) items ≡ take i items ++ x ∷ []
+pub first_items : {A : Type 0} (items : List A) (i : ℕ) {x : A} → i < length items → x ≡ get_or items i x → take (i + 1) items ≡ take i items ++ x ∷ []
 first_items items i {x} within is = take_more items i x within ∙ ap (λ y. take i items ++ y ∷ []) (sym is)
 
 all_items : {A : Type 0} (items : List A) (i : ℕ) {x : A} → i < length items → x ≡ get_or items i x → take i items ++ x ∷ drop (suc i) items ≡ items

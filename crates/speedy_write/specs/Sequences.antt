@@ -1,5 +1,5 @@
 -- Writes of parts make writes of wholes.
-use Rattle.std.specs.Prelude.{◌≡◌, ℕ, zero, ◌+◌, List, [], ◌++◌, length, Option, Some, None, Result, Ok, Err, IsErrAnd, refl, Bool}
+use Rattle.std.specs.Prelude.{◌≡◌, ℕ, zero, ◌+◌, List, [], ◌++◌, length, Option, Some, None, Result, Ok, Err, MatchResult, IsErrAnd, refl, Bool}
 use Rattle.std.proofs.Common.{sym, ◌∙◌, ap, subst, arith, inl, inr}
 use Rattle.std.proofs.lemmas.List.{append_assoc, length-append}
 use Rattle.speedy_base.specs.declared.error.ErrorKind.{ErrorKind}
@@ -12,7 +12,7 @@ use Rattle.speedy_layout.specs.Format.{Format, Parts, Asks}
 use Rattle.speedy_layout.specs.Laws.{Laws}
 use Rattle.speedy_layout.specs.Sequences.{sequence}
 use Rattle.speedy_layout.specs.Tuples.{unit}
-use Rattle.speedy_write.specs.Writing.{WriterKind, WriterState, IsOutOfRange, Fits, less, Kept, Put, Writes, WritesBytes}
+use Rattle.speedy_write.specs.Writing.{WriterKind, WriterState, IsOutOfRange, Fits, less, Kept, Put, Begun, Refused, Writes, WritesBytes}
 
 -- ---- spaces
 
@@ -133,6 +133,21 @@ module _ {E : Type 0} {gives : Error → E → Type 0} {V : Type 0} {F : Encodin
       → (F old.encoding).writes v bytes → WritesBytes gives bytes result old new appended → Writes gives F v result old new appended
   form_written {bytes = bytes} laws written =
       Writes-as (λ _ k. absurd k) (λ b e. subst ((F old.encoding).writes v) (sym e) written) (λ b k. (bytes, refl, one_length (laws old.encoding) v bytes b written k)) (λ _ _. (bytes, refl))
+
+  -- a state that is another one too, from which what was appended is said in other words
+  pub Writes-from : {other : WriterState} {more : List ℕ → Type 0} → old ≡ other → ((b : List ℕ) → appended b → more b)
+      → Writes gives F v result old new appended → Writes gives F v result other new more
+  Writes-from {more = more} same f w = subst (λ (s : WriterState). Writes gives F v result s new more) same (record {
+    kept = w.kept;
+    answer = by result w.answer;
+  }) where
+    by : (r : Result (Unit {0}) E) → MatchResult r (λ _. Put ((F old.encoding).writes v) old new appended) (λ e. Refused gives (F old.encoding) v e old new appended)
+        → MatchResult r (λ _. Put ((F old.encoding).writes v) old new more) (λ e. Refused gives (F old.encoding) v e old new more)
+    by (Ok _) p = record { bytes = p.bytes; is_written = p.is_written; is_appended = f p.bytes p.is_appended; fits = p.fits; space = p.space; no_fault = p.no_fault }
+    by (Err e) r = record {
+      beginning = λ b h. let x = r.beginning b h in record { front = x.front; rest = x.rest; is_written = x.is_written; is_appended = f x.front x.is_appended };
+      because = r.because;
+    }
 
   -- an encoding that was kept
   pub Writes-at : {before : WriterState} → Kept before old → Writes gives F v result old new appended

@@ -424,6 +424,11 @@ impl<'a, C: Context> Writer<C> for SizeCalculatorCollector<'a, C> {
         Ok(())
     }
 
+    #[inline(always)]
+    fn counts(&self) -> bool {
+        true
+    }
+
     /// Adds `size` bytes at once.
     #[inline]
     fn count_bytes(&mut self, size: usize) -> Option<Result<(), C::Error>>

@@ -67,6 +67,11 @@ impl<'a, C: Context> Writer<C> for CountingCollector<'a, C> {
         Ok(())
     }
 
+    #[inline(always)]
+    fn counts(&self) -> bool {
+        true
+    }
+
     /// Adds `size` bytes at once.
     #[inline(always)]
     fn count_bytes(&mut self, size: usize) -> Option<Result<(), C::Error>>

@@ -7,6 +7,7 @@ mod collections;
 pub mod collectors;
 mod counting;
 pub mod cows;
+mod each;
 pub mod flags;
 mod gathering;
 pub mod leaves;

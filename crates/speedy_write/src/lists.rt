@@ -3,6 +3,7 @@ ghost use Rattle.std.specs.Prelude.{◌<◌, map};
 ghost use Rattle.speedy_layout.specs.Lists.{list};
 ghost use Rattle.speedy_write.specs.Writing.{Writes};
 
+use crate::each::write_items;
 use crate::private::write_length;
 use crate::writable::Writable;
 use crate::writer::Writer;
@@ -43,7 +44,7 @@ impl<C: Context, T: Writable<C>, const N: usize> Writable<C> for SmallVec<T, N> 
 impl<C: Context, T: Writable<C>, const N: usize> Writable<C> for [T; N] {
     #[inline]
     fn write_to<W: Writer<C>>(&self, writer: &mut W) -> Result<(), C::Error> {
-        T::write_many(self.as_slice(), writer)
+        write_items(self.as_slice(), writer)
     }
 }
 
@@ -57,5 +58,5 @@ pub(crate) fn write_counted<C: Context, T: Writable<C>, W: Writer<C>>(
         (W.state writer.old) (W.state writer.new) (λ b. W.appends writer.old b writer.new) }
 {
     write_length(items.len(), writer)?;
-    T::write_many(items, writer)
+    write_items(items, writer)
 }

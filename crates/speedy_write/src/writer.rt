@@ -7,6 +7,7 @@ ghost use Rattle.std.specs.Int.{w8, w16, w32, w64, w128};
 ghost use Rattle.speedy_write.specs.Collections.{WritesItems};
 ghost use Rattle.speedy_write.specs.Writing.{WriterState, Writes, WritesEach, WritesBytes, WritesNumber, WritesSigned, RefusesFull, CountsBytes, IsRight};
 
+use crate::each::write_items;
 use crate::writable::Writable;
 use speedy_base::context::Context;
 use speedy_base::endianness::Endianness;
@@ -34,6 +35,12 @@ pub trait Writer<C: Context> {
         ensures writes { WritesBytes C.Error.from_gives slice.now result
             (state self.old) (state self.new) (λ b. appends self.old b self.new) }
         ensures full { RefusesFull C.Error.from_gives result (state self.old) (state self.new) };
+
+    /// Whether the writer counts bytes and keeps none. It is a hint: that it does, `count_bytes` says.
+    #[inline(always)]
+    fn counts(&self) -> bool {
+        false
+    }
 
     /// Counts `size` bytes, where the writer only counts. This body says `None`, and does nothing.
     #[inline(always)]
@@ -219,7 +226,7 @@ pub trait Writer<C: Context> {
         ensures { WritesEach C.Error.from_gives T.format T.seen slice.now result
             (state self.old) (state self.new) (λ b. appends self.old b self.new) }
     {
-        T::write_many(slice, self)
+        write_items(slice, self)
     }
 
     /// Writes the items of a collection, one after the other and with no count.

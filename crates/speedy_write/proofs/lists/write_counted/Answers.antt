@@ -11,4 +11,4 @@ returns-in_err-write_length g c = first_refused is_sequence (counts_items g.T.La
 pub returns : goal.returns
 unfolding list
 returns g c =
-    second_written is_sequence (counts_items g.T.Layout.seen c.args.items.now) (unsigned_number_laws 4) (g.met.W.Writer.additive _ _ _) c.in_ok-write_length.ensures.writes (items_written _ _ _ c.write_many.ensures)
+    second_written is_sequence (counts_items g.T.Layout.seen c.args.items.now) (unsigned_number_laws 4) (g.met.W.Writer.additive _ _ _) c.in_ok-write_length.ensures.writes (items_written _ _ _ c.write_items.ensures)

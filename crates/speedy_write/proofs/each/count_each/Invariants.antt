@@ -1,0 +1,11 @@
+use Rattle.std.proofs.Common.{◌≡◌, ◌*◌, ◌≤◌, map, take}
+use Rattle.speedy_write.specs.Counting.{CountsEach}
+use Rattle.speedy_write.proofs.each.count_each.Given as goal
+
+-- the sum is the length of the first items' bytes, and the encoding is as it was
+abbrev pub invariant-loop-item : goal.invariant-loop-item
+invariant-loop-item g l =
+    let encoding = g.C.Context.encoding in
+    let format = g.T.Layout.format (encoding l.fn.context) in
+    (encoding l.context ≡ encoding l.fn.context) × (l.sum ≤ l.item-index * 4294967295)
+    × CountsEach format.writes (map g.T.Layout.seen (take l.item-index l.items)) l.sum

@@ -1,0 +1,50 @@
+//! Items that are written one after another.
+ghost use Rattle.std.specs.Prelude.{◌≡◌, map, IfSome};
+ghost use Rattle.speedy_write.specs.Counting.{CountsEach};
+ghost use Rattle.speedy_write.specs.Writing.{WritesEach};
+
+use crate::writable::Writable;
+use crate::writer::Writer;
+use speedy_base::context::Context;
+
+// Writes the items, one after the other. A writer that counts is told of all at once.
+pub(crate) fn write_items<C: Context, T: Writable<C>, W: Writer<C>>(
+    items: &[T],
+    writer: &mut W,
+) -> Result<(), C::Error>
+    ensures { WritesEach C.Error.from_gives T.format T.seen items.now result
+        (W.state writer.old) (W.state writer.new) (λ b. W.appends writer.old b writer.new) }
+{
+    if writer.counts() {
+        if let Some(size) = count_each(items, writer.context_mut()) {
+            if let Some(counted) = writer.count_bytes(size) {
+                return counted;
+            }
+        }
+    }
+    T::write_many(items, writer)
+}
+
+// The most items that are counted together, and the most bytes of each: so the sum cannot wrap.
+const MOST: usize = 4_294_967_295;
+
+// How many bytes the items take, where there are not too many of them and all can be written.
+//
+// Each is counted from zero, so that a compiler sees where each takes as many, and multiplies.
+fn count_each<C: Context, T: Writable<C>>(items: &[T], context: &mut C) -> Option<usize>
+    ensures encoding { C.encoding context.new ≡ C.encoding context.old }
+    ensures counts { let format = T.format (C.encoding context.old) in
+        IfSome result (λ size. CountsEach format.writes (map T.seen items.now) size) }
+{
+    if items.len() > MOST {
+        return None;
+    }
+    let mut sum = 0;
+    for item in items {
+        match item.bytes_needed(context) {
+            Ok(size) if size <= MOST => sum += size,
+            _ => return None,
+        }
+    }
+    Some(sum)
+}
