@@ -218,6 +218,25 @@ module _ {A V : Type 0} {F : Encoding → Format V} {least size : ℕ} (laws : (
     chunk_refused {result = result} more is passed w =
         subst (λ (us : List A). WritesEach gives F seen us result old new whole) (sym is) (later_items_refused join seen done some more laws passed h (chunk_is_written some same digits w))
 
+-- ---- values, by chunks of their bytes
+
+module _ {E A V : Type 0} {gives : Error → E → Type 0} {F : Encoding → Format V} {least : ℕ} {mid new : WriterState} {back : List ℕ → Type 0} {order : Endianness} (laws : (encoding : Encoding) → Laws encoding.strict least (F encoding)) (seen : A → V) (some : List A) {b : List ℕ} (same : order ≡ mid.encoding.order)
+    (put : (encoding : Encoding) → order ≡ encoding.order → Each (F encoding).writes (map seen some) b) where
+  -- the bytes of values are written as they are
+  values_are_written : {result : Result (Unit {0}) E} → WritesBytes gives b result mid new back → WritesEach gives F seen some result mid new back
+  unfolding repeat
+  values_are_written w = form_written (λ e. repeat_laws (laws e) (length some)) (length-map some seen, put mid.encoding same) w
+
+  module _ {old : WriterState} {front whole : List ℕ → Type 0} (join : (a b : List ℕ) → front a → back b → whole (a ++ b)) (done : List A) (h : WritesEach gives F seen done (Ok tt) old mid front) where
+    -- one chunk more is written
+    pub values_written : {x : Unit {0}} → WritesBytes gives b (Ok x) mid new back → WritesEach gives F seen (done ++ some) (Ok tt) old new whole
+    values_written w = more_written F join seen done some h (values_are_written w)
+
+    -- where one is refused, all are
+    pub values_refused : {e : E} {result : Result (Unit {0}) E} {items : List A} (more : List A) → items ≡ done ++ (some ++ more) → IsErrAnd result (λ r. r ≡ e) → WritesBytes gives b (Err e) mid new back → WritesEach gives F seen items result old new whole
+    values_refused {result = result} more is passed w =
+        subst (λ (us : List A). WritesEach gives F seen us result old new whole) (sym is) (later_items_refused join seen done some more laws passed h (values_are_written w))
+
 -- bytes are written at once as they are item by item
 pub byte_items_written : {E : Type 0} {gives : Error → E → Type 0} {items : List ℕ} {result : Result (Unit {0}) E} {old new : WriterState} {appended : List ℕ → Type 0} → AreBytes items → WritesBytes gives items result old new appended → WritesEach gives (unsigned_number 1) (λ n. n) items result old new appended
 unfolding repeat unsigned_number

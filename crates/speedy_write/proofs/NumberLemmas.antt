@@ -1,6 +1,7 @@
 -- Writes of bytes make writes of numbers, and these make writes of signed numbers, at each width.
-use Rattle.std.specs.Prelude.{◌≡◌, ℕ, ℤ, ◌^◌, ◌≤◌, ◌<◌, List, Bool, Result, Err, refl}
+use Rattle.std.specs.Prelude.{◌≡◌, ℕ, ℤ, ◌^◌, ◌≤◌, ◌<◌, List, Bool, true, false, Result, Err, refl}
 use Rattle.std.proofs.Common.{subst, sym, ap, ◌∙◌, arith, inr, inl}
+use mir.Val.{bool_byte}
 use mir.ValLaws.{to_z-of_z}
 use Rattle.std.specs.Int.{Width, byte_len, cast_unsigned, cast_signed}
 use Rattle.std.specs.Int.RustNames.{FitsSigned}
@@ -12,6 +13,7 @@ use Rattle.speedy_base.specs.DigitsLemmas.{SpellsNumber-below}
 use Rattle.speedy_base.specs.Encoding.{Encoding}
 use Rattle.speedy_base.specs.Error.{error_of}
 use Rattle.speedy_layout.specs.Codes.{coding, subset_is_code, Accepts-exact_means}
+use Rattle.speedy_layout.specs.Flags.{written_flag}
 use Rattle.speedy_layout.specs.Format.{Format}
 use Rattle.speedy_layout.specs.Laws.{Laws}
 use Rattle.speedy_layout.specs.Numbers.{unsigned_number, unsigned_number_laws, signed_number, length_number, length_number_laws}
@@ -61,3 +63,8 @@ pub past_greatest_refused : {E : Type 0} {gives : Error → E → Type 0} (width
 unfolding coding
 past_greatest_refused width greatest {old = old} past given =
     unspelled_refused {F = length_number width greatest} (length_number_laws width greatest old.encoding) (λ b h. let means = Accepts-exact_means old.encoding.strict _ _ _ _ h.stands in let same = means.0 in let within = means.1 in omega arith) given
+
+-- std's byte of a flag is what the flag is written as
+pub bool_byte_is : (b : Bool) → bool_byte b ≡ written_flag b
+bool_byte_is true = refl
+bool_byte_is false = refl

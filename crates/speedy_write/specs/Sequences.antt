@@ -12,7 +12,7 @@ use Rattle.speedy_layout.specs.Format.{Format, Parts, Asks}
 use Rattle.speedy_layout.specs.Laws.{Laws}
 use Rattle.speedy_layout.specs.Sequences.{sequence}
 use Rattle.speedy_layout.specs.Tuples.{unit}
-use Rattle.speedy_write.specs.Writing.{WriterKind, WriterState, IsOutOfRange, Fits, less, Kept, Put, Begun, Refused, Writes, WritesBytes}
+use Rattle.speedy_write.specs.Writing.{WriterKind, WriterState, IsOutOfRange, Fits, less, Kept, Put, Refused, Writes, WritesBytes}
 
 -- ---- spaces
 

@@ -1,4 +1,5 @@
 //! How flags, and values that a flag chooses, are written.
+use crate::fixed::write_values;
 use crate::writable::Writable;
 use crate::writer::Writer;
 use speedy_base::context::Context;
@@ -7,6 +8,11 @@ impl<C: Context> Writable<C> for bool {
     #[inline(always)]
     fn write_to<W: Writer<C>>(&self, writer: &mut W) -> Result<(), C::Error> {
         writer.write_u8(u8::from(*self))
+    }
+
+    /// Writes the flags by chunks of their bytes.
+    fn write_many<W: Writer<C>>(items: &[bool], writer: &mut W) -> Result<(), C::Error> {
+        write_values(items, writer)
     }
 }
 

@@ -1,4 +1,5 @@
 //! How characters, byte orders, durations and UUIDs are written.
+use crate::fixed::write_values;
 use crate::writable::Writable;
 use crate::writer::Writer;
 use speedy_base::context::Context;
@@ -10,6 +11,11 @@ impl<C: Context> Writable<C> for char {
     #[inline(always)]
     fn write_to<W: Writer<C>>(&self, writer: &mut W) -> Result<(), C::Error> {
         writer.write_u32(*self as u32)
+    }
+
+    /// Writes the characters by chunks of their bytes.
+    fn write_many<W: Writer<C>>(items: &[char], writer: &mut W) -> Result<(), C::Error> {
+        write_values(items, writer)
     }
 }
 

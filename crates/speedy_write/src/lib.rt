@@ -8,6 +8,7 @@ pub mod collectors;
 mod counting;
 pub mod cows;
 mod each;
+mod fixed;
 pub mod flags;
 mod gathering;
 pub mod leaves;

@@ -1,0 +1,10 @@
+use Rattle.std.proofs.Common.{◌≡◌, ◌*◌, length, map, take}
+use Rattle.speedy_base.specs.Encoding.{Encoding}
+use Rattle.speedy_layout.specs.Format.{Each}
+use Rattle.speedy_write.proofs.fixed.put_values.Given as goal
+
+-- the first values are put
+abbrev pub invariant-loop-value : goal.invariant-loop-value
+invariant-loop-value g l =
+    (l.at ≡ l.value-index * g.T.FixedBytes.BYTES) × (length l.output ≡ length l.values * g.T.FixedBytes.BYTES)
+    × ((encoding : Encoding) → l.order ≡ encoding.order → Each (g.T.Layout.format encoding).writes (map g.T.Layout.seen (take l.value-index l.values)) (take l.at l.output))
