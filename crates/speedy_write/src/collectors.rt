@@ -395,6 +395,8 @@ impl<'a, C> SizeCalculatorCollector<'a, C> {
 }
 
 impl<'a, C: Context> Writer<C> for SizeCalculatorCollector<'a, C> {
+    const COUNTS: bool = true;
+
     ghost at = { λ w. w.context.now };
 
     ghost with_context = { λ w c. record w { context = record w.context { now = c } } };
@@ -422,11 +424,6 @@ impl<'a, C: Context> Writer<C> for SizeCalculatorCollector<'a, C> {
         }
         self.size += slice.len();
         Ok(())
-    }
-
-    #[inline(always)]
-    fn counts(&self) -> bool {
-        true
     }
 
     /// Adds `size` bytes at once.

@@ -41,6 +41,8 @@ impl<'a, C> CountingCollector<'a, C> {
 }
 
 impl<'a, C: Context> Writer<C> for CountingCollector<'a, C> {
+    const COUNTS: bool = true;
+
     ghost at = { λ w. w.context.now };
 
     ghost with_context = { λ w c. record w { context = record w.context { now = c } } };
@@ -65,11 +67,6 @@ impl<'a, C: Context> Writer<C> for CountingCollector<'a, C> {
     fn write_bytes(&mut self, slice: &[u8]) -> Result<(), C::Error> {
         self.size = self.size.saturating_add(slice.len());
         Ok(())
-    }
-
-    #[inline(always)]
-    fn counts(&self) -> bool {
-        true
     }
 
     /// Adds `size` bytes at once.

@@ -15,7 +15,7 @@ pub(crate) fn write_items<C: Context, T: Writable<C>, W: Writer<C>>(
     ensures { WritesEach C.Error.from_gives T.format T.seen items.now result
         (W.state writer.old) (W.state writer.new) (λ b. W.appends writer.old b writer.new) }
 {
-    if writer.counts() {
+    if W::COUNTS {
         if let Some(size) = count_each(items, writer.context_mut()) {
             if let Some(counted) = writer.count_bytes(size) {
                 return counted;

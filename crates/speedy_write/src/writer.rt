@@ -15,6 +15,9 @@ use speedy_layout::VarInt64;
 
 /// Writers, with the calls of each.
 pub trait Writer<C: Context> {
+    /// Whether `count_bytes` counts. It is a hint: nothing rests on it but speed.
+    const COUNTS: bool = false;
+
     /// The context that the writer holds.
     ghost at: { Self → C };
 
@@ -35,12 +38,6 @@ pub trait Writer<C: Context> {
         ensures writes { WritesBytes C.Error.from_gives slice.now result
             (state self.old) (state self.new) (λ b. appends self.old b self.new) }
         ensures full { RefusesFull C.Error.from_gives result (state self.old) (state self.new) };
-
-    /// Whether the writer counts bytes and keeps none. It is a hint: that it does, `count_bytes` says.
-    #[inline(always)]
-    fn counts(&self) -> bool {
-        false
-    }
 
     /// Counts `size` bytes, where the writer only counts. This body says `None`, and does nothing.
     #[inline(always)]

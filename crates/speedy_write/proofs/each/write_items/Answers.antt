@@ -2,7 +2,7 @@ use Rattle.std.proofs.Common.{◌∙◌, sym, ap, subst}
 use Rattle.speedy_write.specs.Sequences.{Writes-from}
 use Rattle.speedy_write.specs.Writing.{WriterState}
 use Rattle.speedy_write.proofs.CountLemmas.{StaysAs, stays_same, context_lent, items_counted}
-use Rattle.speedy_write.proofs.each.write_items.Goals.{then-counts+in-Some+in_default-count_bytes, then-counts+in_default, else-counts}
+use Rattle.speedy_write.proofs.each.write_items.Goals.{then-COUNTS+in-Some+in_default-count_bytes, then-COUNTS+in_default, else-COUNTS}
 use Rattle.speedy_write.proofs.each.write_items.Goals as goal
 
 pub returns-in-Some-count_bytes : goal.returns-in-Some-count_bytes
@@ -20,15 +20,15 @@ returns g c =
     let W = g.met.W.Writer in
     let w = c.args.writer.now in
     let stays = StaysAs g.W.Writer.state g.W.Writer.appends w in
-    let same : stays c.if-counts.writer = elim c.if-counts.branch [
-      | then-counts+in-Some+in_default-count_bytes h ↦
+    let same : stays c.if-COUNTS.writer = elim c.if-COUNTS.branch [
+      | then-COUNTS+in-Some+in_default-count_bytes h ↦
           let value = ap g.C.Context.encoding h.context_mut.ensures.value in
           let lent = context_lent g.W.Writer.at g.C.Context.encoding W.encoding_at W.state_with W.nothing W.additive W.appends_with w h.count_each.new.context (h.count_each.ensures.encoding ∙ value) in
           subst stays (sym (h.writer-is ∙ h.in_default-count_bytes.ensures)) lent
-      | then-counts+in_default h ↦
+      | then-COUNTS+in_default h ↦
           let value = ap g.C.Context.encoding h.context_mut.ensures.value in
           let lent = context_lent g.W.Writer.at g.C.Context.encoding W.encoding_at W.state_with W.nothing W.additive W.appends_with w h.count_each.new.context (h.count_each.ensures.encoding ∙ value) in
           subst stays (sym h.writer-is) lent
-      | else-counts h ↦ subst stays (sym h.writer-is) stays_same
+      | else-COUNTS h ↦ subst stays (sym h.writer-is) stays_same
     ] in
     Writes-from same.state_is (λ b. same.joins b _) c.write_many.ensures
