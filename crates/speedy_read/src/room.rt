@@ -60,7 +60,7 @@ pub(crate) fn vec_for<T, L: AsSlice<u8> + Drop, C: Context, R: LendingReader<L, 
 
 // Where there is no room for so many items more, asks for some: for as many as are still to read, but no more than a
 // step.
-#[inline]
+#[inline(always)]
 fn make_room<T>(items: &mut Vec<T>, more: usize, left: usize) -> Result<(), AllocError>
     ensures same { items.new.items ≡ items.old.items }
     ensures grows { vec_capacity items.old ≤ vec_capacity items.new }
@@ -75,7 +75,7 @@ fn make_room<T>(items: &mut Vec<T>, more: usize, left: usize) -> Result<(), Allo
 }
 
 // Adds an item, one of so many that are still to read.
-#[inline]
+#[inline(always)]
 pub(crate) fn push_in_steps<T>(items: &mut Vec<T>, item: T, left: usize) -> Result<(), AllocError>
 where
     T: Drop,

@@ -159,8 +159,7 @@ fn fill_ring<S: Source>(
     Ok(true)
 }
 
-// What a read answers where a call of the source failed, and where the source ended. They are called, so that reads are
-// short enough to stand inline.
+// What a read answers where a call of the source failed, and where the source ended.
 #[cold]
 #[inline(never)]
 fn failed_call<E: From<Error>>(alloc: Global, error: io::Error) -> E
@@ -247,7 +246,7 @@ impl<'s, S: Source, C: Context> StreamReader<'s, S, C> {
         }
     }
 
-    // Reads more than the ring holds.
+    // Reads more than the ring holds. It is called, so that reads of what the ring holds are short enough to stand inline.
     #[inline(never)]
     fn read_more(&mut self, output: &mut [u8]) -> Result<(), C::Error>
         requires { length self.old.ring.bytes < length output.old }
@@ -257,6 +256,8 @@ impl<'s, S: Source, C: Context> StreamReader<'s, S, C> {
     {
         if self.is_buffering && output.len() < self.ring.capacity() {
             self.read_ahead(output)
+        } else if self.ring.is_empty() {
+            self.read_straight(output)
         } else {
             self.read_past_ring(output)
         }
@@ -285,9 +286,6 @@ impl<'s, 'b, C: Context, S: Source> LendingReader<&'b [u8], C> for StreamReader<
         if output.len() <= self.ring.len() {
             self.ring.consume_into(output);
             return Ok(());
-        }
-        if !self.is_buffering && self.ring.is_empty() {
-            return self.read_straight(output);
         }
         self.read_more(output)
     }
