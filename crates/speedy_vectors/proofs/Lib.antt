@@ -1,4 +1,3 @@
-pub mod EachLemmas
 pub mod LineLemmas
 pub mod SplitLemmas
 pub mod AnswerLemmas

@@ -16,7 +16,7 @@ use Rattle.speedy.specs.Encoding.{Encoding}
 use Rattle.speedy.specs.FailedCalls.{IsOfFailedCall}
 use Rattle.speedy.specs.Format.{Each}
 use Rattle.speedy.specs.Writing.{WritesBytes}
-use Rattle.speedy_vectors.proofs.EachLemmas.{each_append}
+use Rattle.speedy.specs.Lists.{each_append}
 use Rattle.speedy_vectors.specs.Answer.{AnswersLine}
 use Rattle.speedy_vectors.specs.Split.{IsFreeOf, SplitsAt}
 use Rattle.speedy_vectors.specs.Run.{line_feed, with_first, lines_of, AnsweredAll, Answered, AnsweredPartly, itself, IsSinkFailure, Answering, IsRunFailure, Runs}

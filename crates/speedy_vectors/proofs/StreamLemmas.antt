@@ -19,7 +19,7 @@ use Rattle.speedy.specs.Reading.{ReaderKind, ReaderState, Excused, IsTold, PeekW
 use Rattle.speedy.specs.Texts.{text}
 use Rattle.speedy.specs.Tuples.{pair}
 use Rattle.speedy_vectors.specs.Run.{itself}
-use Rattle.speedy_vectors.proofs.EachLemmas.{each_append}
+use Rattle.speedy.specs.Lists.{each_append}
 
 -- a message, as its layout sees it, and its format
 abbrev pub seen_message : ℕ × String Global → ℕ × List ℕ
