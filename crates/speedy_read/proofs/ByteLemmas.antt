@@ -13,7 +13,7 @@ use Rattle.speedy_layout.specs.Lists.{vector, repeat}
 use Rattle.speedy_layout.specs.Numbers.{unsigned_number}
 use Rattle.speedy_layout.specs.Owned.{owned_content}
 use Rattle.speedy_layout.specs.Texts.{raw_bytes, any_bytes, each_byte, each_byte_is}
-use Rattle.speedy_layout.specs.Sequences.{asks_memory}
+use Rattle.speedy_layout.specs.Sequences.{asks_memory, asks_same}
 use Rattle.speedy_read.specs.Reading.{ReaderState, Reads, Unspelled}
 use Rattle.speedy_read.specs.ReadingLemmas.{Kept-after, IsTold-after, part_refused, Got-as, ReadSoFar, more_so_far, all_so_far, Reads-passed}
 use Rattle.speedy_read.specs.Codes.{Covers, refused_covered}
@@ -121,3 +121,21 @@ module _ {E : Type 0} {gives : Error → E → Type 0} {eof : E → Bool} {B : T
   unfolding vector owned_content repeat unsigned_number
   all_bytes {seen' = seen'} {y = y} encoding so_far l are =
       all_so_far so_far (λ s h. (l, subst (λ (x : List ℕ). Each (SpellsNumber 1 encoding.order) (seen' y) x) (sym h) (each_byte encoding.order (seen' y) are)))
+
+-- so many bytes are read where any are, so many
+any_cover_raw : (n : ℕ) → Covers (any_bytes n) (raw_bytes n)
+unfolding any_bytes raw_bytes
+any_cover_raw n = record { under = λ v s h. (tt, h.1); names = λ kind h. absurd h; malformed = λ bytes are h. absurd h; asks = asks_same }
+
+-- some bytes were read, and then the others of so many
+pub rest_read : {E : Type 0} {gives : Error → E → Type 0} {eof : E → Bool} {A : Type 0} {seen seen' : A → List ℕ} {old mid new : ReaderState} (size total : ℕ) (front : List ℕ) (result : Result A E)
+    → BytesSoFar front old mid → length front + size ≡ total → ((x : A) → seen' x ≡ front ++ seen x) → Reads gives eof seen (raw_bytes size) result mid new → Reads gives eof seen' (raw_bytes total) result old new
+unfolding raw_bytes
+rest_read {seen' = seen'} size total front (Ok x) so_far sized same read =
+    all_so_far
+    (more_so_far {more = λ s. (seen' x ≡ s) × (length s ≡ total)} so_far read
+    (λ s t h k. (same x ∙ ap₂ ◌++◌ (sym h) k.0, length-append s t ∙ (ap₂ ◌+◌ (ap length h) k.1 ∙ sized))))
+    (λ s h. h)
+rest_read size total front (Err e) so_far sized same read =
+    let skipped : SkippedSoFar (length front) _ _ = record { kept = so_far.kept; got = Got-as (λ s h. ap length h) so_far.got } in
+    refused_covered (any_cover_raw total) refl (chunk_refused size {seen' = λ (u : Unit {0}). u} (length front) (omega (arith, sized)) skipped refl read)

@@ -101,24 +101,8 @@ fn first_ring(alloc: Global, is_buffering: bool) -> Result<CircularBuffer, Alloc
     CircularBuffer::with_capacity(alloc, capacity)
 }
 
-// Pulls until the output is full, and says whether it is. One call does as a rule.
-#[inline(always)]
+// Pulls until the output is full, and says whether it is.
 fn fill_list<S: Source>(source: &mut S, output: &mut [u8]) -> Result<bool, io::Error>
-    ensures { FillsList output.new result (S.source source.old) (S.source source.new) }
-{
-    let first = source.pull(output)?;
-    if first == output.len() {
-        return Ok(true);
-    }
-    if first == 0 {
-        return Ok(false);
-    }
-    fill_rest(source, &mut output[first..])
-}
-
-// The same, by as many calls as it takes.
-#[inline(never)]
-fn fill_rest<S: Source>(source: &mut S, output: &mut [u8]) -> Result<bool, io::Error>
     ensures { FillsList output.new result (S.source source.old) (S.source source.new) }
 {
     let mut filled = 0;
@@ -230,9 +214,33 @@ impl<'s, S: Source, C: Context> StreamReader<'s, S, C> {
         }
     }
 
-    // Reads some bytes straight from the source: nothing is held of it.
+    // Reads some bytes straight from the source, by one call as a rule: nothing is held of it. It stands inline, so what
+    // is rare in it is called.
     #[inline(always)]
     fn read_straight(&mut self, output: &mut [u8]) -> Result<(), C::Error>
+        requires nothing_held { self.old.ring.bytes ≡ [] }
+        requires some { 0 < length output.old }
+        ensures { Reads C.Error.from_gives C.Error.eof (λ _. output.new)
+            (raw_bytes (length output.old)) result
+            (stream_state S.source C.encoding self.old) (stream_state S.source C.encoding self.new) }
+    {
+        match self.source.pull(output) {
+            Ok(first) => {
+                if first == output.len() {
+                    return Ok(());
+                }
+                if first == 0 {
+                    return Err(ended(self.alloc));
+                }
+                self.read_on(&mut output[first..])
+            }
+            Err(error) => Err(failed_call(self.alloc, error)),
+        }
+    }
+
+    // The same, by as many calls as it takes.
+    #[inline(never)]
+    fn read_on(&mut self, output: &mut [u8]) -> Result<(), C::Error>
         requires nothing_held { self.old.ring.bytes ≡ [] }
         requires some { 0 < length output.old }
         ensures { Reads C.Error.from_gives C.Error.eof (λ _. output.new)
@@ -246,7 +254,7 @@ impl<'s, S: Source, C: Context> StreamReader<'s, S, C> {
         }
     }
 
-    // Reads more than the ring holds. It is called, so that reads of what the ring holds are short enough to stand inline.
+    // Reads more than the ring holds.
     #[inline(never)]
     fn read_more(&mut self, output: &mut [u8]) -> Result<(), C::Error>
         requires { length self.old.ring.bytes < length output.old }
@@ -256,8 +264,6 @@ impl<'s, S: Source, C: Context> StreamReader<'s, S, C> {
     {
         if self.is_buffering && output.len() < self.ring.capacity() {
             self.read_ahead(output)
-        } else if self.ring.is_empty() {
-            self.read_straight(output)
         } else {
             self.read_past_ring(output)
         }
@@ -286,6 +292,9 @@ impl<'s, 'b, C: Context, S: Source> LendingReader<&'b [u8], C> for StreamReader<
         if output.len() <= self.ring.len() {
             self.ring.consume_into(output);
             return Ok(());
+        }
+        if !self.is_buffering && self.ring.is_empty() {
+            return self.read_straight(output);
         }
         self.read_more(output)
     }

@@ -1,5 +1,5 @@
 use Rattle.std.proofs.Common.{◌≡◌, ◌-◌, ◌≤◌, ◌++◌, length, take, IsTrue}
-use Rattle.speedy_read.proofs.stream_reader.fill_rest.Given as goal
+use Rattle.speedy_read.proofs.stream_reader.fill_list.Given as goal
 
 abbrev pub invariant-loop-filled : goal.invariant-loop-filled
 invariant-loop-filled g l =
