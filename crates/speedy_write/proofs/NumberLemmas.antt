@@ -1,5 +1,5 @@
 -- Writes of bytes make writes of numbers, and these make writes of signed numbers, at each width.
-use Rattle.std.specs.Prelude.{◌≡◌, ℕ, ℤ, ◌^◌, ◌≤◌, ◌<◌, List, Bool, true, false, Result, Err, refl}
+use Rattle.std.specs.Prelude.{◌≡◌, ℕ, ℤ, ◌^◌, ◌/◌, ◌%◌, ◌≤◌, ◌<◌, List, Bool, true, false, Result, Err, refl}
 use Rattle.std.proofs.Common.{subst, sym, ap, ◌∙◌, arith, inr, inl}
 use mir.Val.{bool_byte}
 use mir.ValLaws.{to_z-of_z}
@@ -16,6 +16,7 @@ use Rattle.speedy_layout.specs.Codes.{coding, subset_is_code, Accepts-exact_mean
 use Rattle.speedy_layout.specs.Flags.{written_flag}
 use Rattle.speedy_layout.specs.Format.{Format}
 use Rattle.speedy_layout.specs.Laws.{Laws}
+use Rattle.speedy_layout.specs.Leaves.{duration_code}
 use Rattle.speedy_layout.specs.Numbers.{unsigned_number, unsigned_number_laws, signed_number, length_number, length_number_laws}
 use Rattle.speedy_write.specs.Codes.{number_code_written}
 use Rattle.speedy_write.specs.Writing.{WriterState, Writes, WritesBytes, WritesNumber, WritesSigned}
@@ -68,3 +69,7 @@ past_greatest_refused width greatest {old = old} past given =
 pub bool_byte_is : (b : Bool) → bool_byte b ≡ written_flag b
 bool_byte_is true = refl
 bool_byte_is false = refl
+
+-- a duration is its whole seconds and the rest
+pub duration_is_chosen : (n seconds nanos : ℕ) → seconds ≡ n / 1_000_000_000 → nanos ≡ n % 1_000_000_000 → seconds < 2 ^ 64 → duration_code.chosen (seconds, nanos) n
+duration_is_chosen n seconds nanos s m small = (omega arith, omega arith, omega arith)

@@ -7,10 +7,10 @@ use speedy_base::context::Context;
 use speedy_layout::fixed_numbers::{FixedNumber, have_digits, put_each};
 
 /// The chunk of digits that numbers are written through, in bytes.
-const CHUNK: usize = 1024;
+pub(crate) const CHUNK: usize = 1024;
 
 /// The chunk for a few numbers, in bytes: the long one takes longer to make than they take to write.
-const SHORT_CHUNK: usize = 64;
+pub(crate) const SHORT_CHUNK: usize = 64;
 
 // Writes the numbers, one after the other. A writer that counts is told of all at once. It takes no memory.
 pub(crate) fn write_numbers<C: Context, T: FixedNumber, W: Writer<C>>(

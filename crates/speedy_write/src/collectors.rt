@@ -137,6 +137,7 @@ impl<'a, C> VecCollector<'a, C> {
         ensures room { (vec_model result).room ≡ room }
     {
         let position = bytes.len();
+        append(&mut *bytes, &ZEROS[..room.min(ZEROS.len())]);
         VecCollector {
             context,
             bytes,

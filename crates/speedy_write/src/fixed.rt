@@ -4,13 +4,16 @@ ghost use Rattle.speedy_base.specs.Encoding.{Encoding};
 ghost use Rattle.std.specs.Int.{w8, w32};
 ghost use Rattle.speedy_layout.specs.FixedNumbers.{unsigned_fixed};
 ghost use Rattle.speedy_layout.specs.Format.{Each};
+ghost use Rattle.speedy_write.specs.Lengths.{twelve_bytes};
 ghost use Rattle.speedy_write.specs.Writing.{WritesEach};
 
+use crate::chunks::{CHUNK, SHORT_CHUNK};
 use crate::writer::Writer;
 use speedy_base::context::Context;
 use speedy_base::endianness::Endianness;
 use speedy_layout::Layout;
 use speedy_layout::fixed_numbers::FixedNumber;
+use std::time::Duration;
 
 /// A value that is written as so many bytes, which the order alone decides.
 pub(crate) trait FixedBytes: Layout {
@@ -55,6 +58,21 @@ impl FixedBytes for char {
     }
 }
 
+impl FixedBytes for Duration {
+    const BYTES: usize = 12;
+
+    ghost BYTES = { 12 };
+
+    ghost few_bytes = { twelve_bytes };
+
+    #[inline(always)]
+    fn put(&self, order: Endianness, output: &mut [u8]) {
+        let (seconds, nanos) = output.split_at_mut(8);
+        put_number(self.as_secs(), order, seconds);
+        put_number(self.subsec_nanos(), order, nanos);
+    }
+}
+
 // Puts the bytes of a number.
 #[inline(always)]
 pub(crate) fn put_number<T: FixedNumber>(number: T, order: Endianness, output: &mut [u8])
@@ -79,11 +97,6 @@ fn put_values<T: FixedBytes>(values: &[T], order: Endianness, output: &mut [u8])
         at = end;
     }
 }
-
-/// The chunk that values are written through, in bytes; and that for a few values, which is made in less time.
-const CHUNK: usize = 1024;
-
-const SHORT_CHUNK: usize = 64;
 
 // Writes the values, one after the other. It takes no memory.
 pub(crate) fn write_values<C: Context, T: FixedBytes, W: Writer<C>>(

@@ -35,6 +35,11 @@ impl<C: Context> Writable<C> for Duration {
     fn write_to<W: Writer<C>>(&self, writer: &mut W) -> Result<(), C::Error> {
         (self.as_secs(), self.subsec_nanos()).write_to(writer)
     }
+
+    /// Writes the durations by chunks of their bytes.
+    fn write_many<W: Writer<C>>(items: &[Duration], writer: &mut W) -> Result<(), C::Error> {
+        write_values(items, writer)
+    }
 }
 
 impl<C: Context> Writable<C> for Uuid {

@@ -1,0 +1,14 @@
+use Rattle.std.proofs.Common.{refl}
+use Rattle.speedy_layout.specs.Codes.{coding}
+use Rattle.speedy_layout.specs.Numbers.{unsigned_number}
+use Rattle.speedy_layout.specs.Sequences.{sequence}
+use Rattle.speedy_write.proofs.NumberLemmas.{duration_is_chosen}
+use Rattle.speedy_write.proofs.fixed.DurationFixedBytes.put.Goals as goal
+
+pub returns : goal.returns
+unfolding coding sequence unsigned_number
+returns c e same = record {
+  code = (c.as_secs.result, c.subsec_nanos.result);
+  code_is = record { front = c.put_number.new.output; back = c.put_number-2.new.output; whole_is = refl; first_is = c.put_number.ensures e same; second_is = c.put_number-2.ensures e same };
+  stands = duration_is_chosen _ c.as_secs.result c.subsec_nanos.result c.as_secs.ensures c.subsec_nanos.ensures c.as_secs.type_inv;
+}
