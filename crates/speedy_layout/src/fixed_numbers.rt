@@ -237,20 +237,6 @@ impl FixedNumber for i128 {
     ghost decodes = { signed_decodes w128 };
 }
 
-/// Encodes the numbers, one after another, which fills the output.
-#[inline]
-pub fn put_each<T: FixedNumber>(numbers: &[T], order: Endianness, output: &mut [u8])
-    requires { length output.old ≡ length numbers.now * T.SIZE }
-    ensures { Each (spelled_in T.format order) (map T.seen numbers.now) output.new }
-{
-    let mut at = 0;
-    for number in numbers {
-        let end = at + T::SIZE;
-        number.encode(order, &mut output[at..end]);
-        at = end;
-    }
-}
-
 /// Appends the numbers that the bytes encode one after another. The bytes are those of whole numbers.
 #[inline]
 pub fn append_each<T: FixedNumber>(
@@ -280,16 +266,5 @@ pub fn take_each<T: FixedNumber>(places: &mut [T], order: Endianness, bytes: &[u
         let end = at + T::SIZE;
         *place = T::decode(order, &bytes[at..end]);
         at = end;
-    }
-}
-
-/// Shows that each of the numbers has digits in the order. It does nothing else: what it puts is not read.
-#[inline]
-pub fn have_digits<T: FixedNumber>(numbers: &[T], order: Endianness)
-    ensures { (bytes : List ℕ) × Each (spelled_in T.format order) (map T.seen numbers.now) bytes }
-{
-    let mut digits = [0; 16];
-    for number in numbers {
-        number.encode(order, &mut digits[..T::SIZE]);
     }
 }

@@ -9,10 +9,9 @@ use Rattle.speedy_base.specs.declared.endianness.Endianness.{Endianness}
 use Rattle.speedy_base.specs.Digits.{AreBytes}
 use Rattle.speedy_base.specs.Error.{passed_on}
 use Rattle.speedy_base.specs.Encoding.{Encoding}
-use Rattle.speedy_layout.specs.FixedNumbers.{IsFixed, spelled_in, each_length}
 use Rattle.speedy_layout.specs.Format.{Format, Parts, Each}
 use Rattle.speedy_layout.specs.Laws.{Laws}
-use Rattle.speedy_layout.specs.Lists.{each_append, each_as, repeat, repeat_laws}
+use Rattle.speedy_layout.specs.Lists.{each_append, repeat, repeat_laws}
 use Rattle.speedy_layout.specs.Numbers.{unsigned_number, unsigned_number_laws}
 use Rattle.speedy_layout.specs.Sequences.{sequence}
 use Rattle.speedy_layout.specs.Texts.{each_byte}
@@ -184,41 +183,11 @@ module _ {E : Type 0} {gives : Error → E → Type 0} {A V : Type 0} {F : Encod
       (λ b k. (b, turned R b k.1, refl)) (λ b k. (b, turned (F old.encoding).spells b k.1)) (both_refused laws h w) in
       subst (λ (r : Result (Unit {0}) E). WritesEach gives F seen (xs ++ (ys ++ more)) r old new whole) (passed_on result e passed) refused
 
--- ---- numbers, by chunks of their digits
+-- ---- values, by chunks of their bytes
 
 -- a chunk is cut off the rest
 pub cut_off : {A : Type 0} {items some more : List A} (rest done : List A) (n : ℕ) → some ≡ take n rest → more ≡ drop n rest → items ≡ done ++ rest → items ≡ done ++ (some ++ more)
 cut_off rest done n front back is = is ∙ ap (λ us. done ++ us) (sym (ap₂ ◌++◌ front back ∙ take-append-drop n rest))
-
-module _ {A V : Type 0} {F : Encoding → Format V} {least size : ℕ} (laws : (encoding : Encoding) → Laws encoding.strict least (F encoding)) (fixed : IsFixed size F) (seen : A → V) where
-  -- the digits of numbers are a written form of them
-  digits_written : (encoding : Encoding) (xs : List A) (b : List ℕ) → Each (spelled_in F encoding.order) (map seen xs) b → (repeat (length xs) (F encoding)).writes (map seen xs) b
-  unfolding repeat
-  digits_written encoding xs b h = (length-map xs seen, each_as (fixed.writes encoding) (map seen xs) b h)
-
-  -- which has so many bytes
-  pub digits_sized : (order : Endianness) (xs : List A) (b : List ℕ) (all width : ℕ) → Each (spelled_in F order) (map seen xs) b → all ≡ length xs * width → width ≡ size → length b ≡ all
-  digits_sized order xs b all width h is same =
-      each_length fixed order (map seen xs) b h ∙ (ap (λ n. n * size) (length-map xs seen) ∙ (ap (λ w. length xs * w) (sym same) ∙ sym is))
-
-  -- and so they are written as the numbers are
-  pub chunk_is_written : {E : Type 0} {gives : Error → E → Type 0} {result : Result (Unit {0}) E} {old new : WriterState} {appended : List ℕ → Type 0} {order : Endianness} (xs : List A) {b : List ℕ} → order ≡ old.encoding.order
-      → Each (spelled_in F order) (map seen xs) b → WritesBytes gives b result old new appended → WritesEach gives F seen xs result old new appended
-  chunk_is_written {old = old} xs {b} same h w =
-      form_written (λ e. repeat_laws (laws e) (length xs)) (digits_written old.encoding xs b (subst (λ (o : Endianness). Each (spelled_in F o) (map seen xs) b) same h)) w
-
-  module _ {E : Type 0} {gives : Error → E → Type 0} {old mid new : WriterState} {front back whole : List ℕ → Type 0} {order : Endianness} (join : (a b : List ℕ) → front a → back b → whole (a ++ b)) (done some : List A) {b : List ℕ} (same : order ≡ mid.encoding.order)
-      (digits : Each (spelled_in F order) (map seen some) b) (h : WritesEach gives F seen done (Ok tt) old mid front) where
-    -- one chunk more is written
-    pub chunk_written : {x : Unit {0}} → WritesBytes gives b (Ok x) mid new back → WritesEach gives F seen (done ++ some) (Ok tt) old new whole
-    chunk_written w = more_written F join seen done some h (chunk_is_written some same digits w)
-
-    -- where one is refused, all are
-    pub chunk_refused : {e : E} {result : Result (Unit {0}) E} {items : List A} (more : List A) → items ≡ done ++ (some ++ more) → IsErrAnd result (λ r. r ≡ e) → WritesBytes gives b (Err e) mid new back → WritesEach gives F seen items result old new whole
-    chunk_refused {result = result} more is passed w =
-        subst (λ (us : List A). WritesEach gives F seen us result old new whole) (sym is) (later_items_refused join seen done some more laws passed h (chunk_is_written some same digits w))
-
--- ---- values, by chunks of their bytes
 
 module _ {E A V : Type 0} {gives : Error → E → Type 0} {F : Encoding → Format V} {least : ℕ} {mid new : WriterState} {back : List ℕ → Type 0} {order : Endianness} (laws : (encoding : Encoding) → Laws encoding.strict least (F encoding)) (seen : A → V) (some : List A) {b : List ℕ} (same : order ≡ mid.encoding.order)
     (put : (encoding : Encoding) → order ≡ encoding.order → Each (F encoding).writes (map seen some) b) where

@@ -1,6 +1,5 @@
 -- Writes of lengths and constants.
 use Rattle.std.specs.Prelude.{ℕ, ◌<◌, ◌≤◌, List, Result, IsErrAnd, refl}
-use Rattle.std.proofs.Common.{arith}
 use Rattle.speedy_base.specs.declared.error.ErrorKind.TheVariants as kinds
 use Rattle.speedy_base.specs.declared.error.Error.{Error}
 use Rattle.speedy_base.specs.Error.{error_of}
@@ -24,7 +23,3 @@ pub constant_written : {E : Type 0} {gives : Error → E → Type 0} {constant :
 unfolding constant_bytes coding raw_bytes
 constant_written {constant = constant} w =
     form_written (λ encoding. constant_bytes_laws encoding constant) (record { code = constant; code_is = (refl, refl); stands = (refl, refl) }) w
-
--- a duration's bytes are few
-pub twelve_bytes : (0 < 12) × (12 ≤ 16)
-twelve_bytes = (omega arith, omega arith)

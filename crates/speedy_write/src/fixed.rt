@@ -1,13 +1,9 @@
 //! Values that are always written as as many bytes: many of them go to the writer by chunks.
 ghost use Rattle.std.specs.Prelude.{◌≡◌, ◌<◌, ◌≤◌, ◌*◌, ℕ, length, map};
 ghost use Rattle.speedy_base.specs.Encoding.{Encoding};
-ghost use Rattle.std.specs.Int.{w8, w32};
-ghost use Rattle.speedy_layout.specs.FixedNumbers.{unsigned_fixed};
 ghost use Rattle.speedy_layout.specs.Format.{Each};
-ghost use Rattle.speedy_write.specs.Lengths.{twelve_bytes};
 ghost use Rattle.speedy_write.specs.Writing.{WritesEach};
 
-use crate::chunks::{CHUNK, SHORT_CHUNK};
 use crate::writer::Writer;
 use speedy_base::context::Context;
 use speedy_base::endianness::Endianness;
@@ -15,61 +11,85 @@ use speedy_layout::Layout;
 use speedy_layout::fixed_numbers::FixedNumber;
 use std::time::Duration;
 
-/// A value that is written as so many bytes, which the order alone decides.
-pub(crate) trait FixedBytes: Layout {
-    /// How many bytes it is written as.
+/// How values of a type are put as bytes: always as so many, which the order alone decides.
+pub(crate) trait FixedBytes<T: Layout> {
+    /// How many bytes each is put as.
     const BYTES: usize;
 
     ghost BYTES: { ℕ };
 
-    /// There is a byte at least, and there are few.
-    ghost few_bytes: { (0 < Self.BYTES) × (Self.BYTES ≤ 16) };
+    /// Shows that there is a byte at least, and that there are few. It does nothing else.
+    fn has_few_bytes()
+        ensures { (0 < Self.BYTES) × (Self.BYTES ≤ 16) };
 
     /// Puts the bytes of the value, in the order, which fill the output.
-    fn put(&self, order: Endianness, output: &mut [u8])
+    fn put(value: &T, order: Endianness, output: &mut [u8])
         requires { length output.old ≡ Self.BYTES }
         ensures { (encoding : Encoding) → order ≡ encoding.order →
-            (Self.format encoding).writes (Self.seen self.now) output.new };
+            (T.format encoding).writes (T.seen value.now) output.new };
 }
 
-impl FixedBytes for bool {
+/// Numbers are put as their digits.
+pub(crate) struct Digits {}
+
+impl<T: FixedNumber> FixedBytes<T> for Digits {
+    const BYTES: usize = T::SIZE;
+
+    ghost BYTES = { T.SIZE };
+
+    #[inline(always)]
+    fn has_few_bytes() {}
+
+    #[inline(always)]
+    fn put(value: &T, order: Endianness, output: &mut [u8]) {
+        put_number(*value, order, output);
+    }
+}
+
+/// What is a code of numbers is put as their digits.
+pub(crate) struct Codes {}
+
+impl FixedBytes<bool> for Codes {
     const BYTES: usize = 1;
 
     ghost BYTES = { 1 };
 
-    ghost few_bytes = { ((unsigned_fixed w8).has_bytes, (unsigned_fixed w8).at_most) };
+    #[inline(always)]
+    fn has_few_bytes() {}
 
     #[inline(always)]
-    fn put(&self, order: Endianness, output: &mut [u8]) {
-        put_number(u8::from(*self), order, output);
+    fn put(value: &bool, order: Endianness, output: &mut [u8]) {
+        put_number(u8::from(*value), order, output);
     }
 }
 
-impl FixedBytes for char {
+impl FixedBytes<char> for Codes {
     const BYTES: usize = 4;
 
     ghost BYTES = { 4 };
 
-    ghost few_bytes = { ((unsigned_fixed w32).has_bytes, (unsigned_fixed w32).at_most) };
+    #[inline(always)]
+    fn has_few_bytes() {}
 
     #[inline(always)]
-    fn put(&self, order: Endianness, output: &mut [u8]) {
-        put_number(*self as u32, order, output);
+    fn put(value: &char, order: Endianness, output: &mut [u8]) {
+        put_number(*value as u32, order, output);
     }
 }
 
-impl FixedBytes for Duration {
+impl FixedBytes<Duration> for Codes {
     const BYTES: usize = 12;
 
     ghost BYTES = { 12 };
 
-    ghost few_bytes = { twelve_bytes };
+    #[inline(always)]
+    fn has_few_bytes() {}
 
     #[inline(always)]
-    fn put(&self, order: Endianness, output: &mut [u8]) {
+    fn put(value: &Duration, order: Endianness, output: &mut [u8]) {
         let (seconds, nanos) = output.split_at_mut(8);
-        put_number(self.as_secs(), order, seconds);
-        put_number(self.subsec_nanos(), order, nanos);
+        put_number(value.as_secs(), order, seconds);
+        put_number(value.subsec_nanos(), order, nanos);
     }
 }
 
@@ -85,51 +105,62 @@ pub(crate) fn put_number<T: FixedNumber>(number: T, order: Endianness, output: &
 
 // Puts the bytes of the values, one after another, which fill the output.
 #[inline]
-fn put_values<T: FixedBytes>(values: &[T], order: Endianness, output: &mut [u8])
-    requires { length output.old ≡ length values.now * T.BYTES }
+fn put_values<T: Layout, P: FixedBytes<T>>(values: &[T], order: Endianness, output: &mut [u8])
+    requires { length output.old ≡ length values.now * P.BYTES }
     ensures { (encoding : Encoding) → order ≡ encoding.order →
         Each (T.format encoding).writes (map T.seen values.now) output.new }
 {
     let mut at = 0;
     for value in values {
-        let end = at + T::BYTES;
-        value.put(order, &mut output[at..end]);
+        let end = at + P::BYTES;
+        P::put(value, order, &mut output[at..end]);
         at = end;
     }
 }
 
+/// The chunk that values are written through, in bytes.
+const CHUNK: usize = 1024;
+
+/// The chunk for a few values, in bytes: a longer one takes longer to make than they take to write.
+const SHORT_CHUNK: usize = 64;
+
+/// The chunk for many, in bytes: longer writes, of which there are fewer, take less time.
+const LONG_CHUNK: usize = 8192;
+
 // Writes the values, one after the other. It takes no memory.
-pub(crate) fn write_values<C: Context, T: FixedBytes, W: Writer<C>>(
+pub(crate) fn write_values<C: Context, T: Layout, P: FixedBytes<T>, W: Writer<C>>(
     values: &[T],
     writer: &mut W,
 ) -> Result<(), C::Error>
     ensures { WritesEach C.Error.from_gives T.format T.seen values.now result
         (W.state writer.old) (W.state writer.new) (λ b. W.appends writer.old b writer.new) }
 {
-    if values.len() <= 4 {
-        write_chunks(values, &mut [0; SHORT_CHUNK], writer)
-    } else {
-        write_chunks(values, &mut [0; CHUNK], writer)
+    P::has_few_bytes();
+    match values.len() {
+        0..=4 => write_chunks::<C, T, P, W>(values, &mut [0; SHORT_CHUNK], writer),
+        5..=8_191 => write_chunks::<C, T, P, W>(values, &mut [0; CHUNK], writer),
+        _ => write_chunks::<C, T, P, W>(values, &mut [0; LONG_CHUNK], writer),
     }
 }
 
 // Writes the values by chunks: as many at a time as the chunk has room for.
 #[inline]
-fn write_chunks<C: Context, T: FixedBytes, W: Writer<C>>(
+fn write_chunks<C: Context, T: Layout, P: FixedBytes<T>, W: Writer<C>>(
     values: &[T],
     chunk: &mut [u8],
     writer: &mut W,
 ) -> Result<(), C::Error>
-    requires { T.BYTES ≤ length chunk.old }
+    requires { P.BYTES ≤ length chunk.old }
     ensures { WritesEach C.Error.from_gives T.format T.seen values.now result
         (W.state writer.old) (W.state writer.new) (λ b. W.appends writer.old b writer.new) }
 {
-    let most = chunk.len() / T::BYTES;
+    P::has_few_bytes();
+    let most = chunk.len() / P::BYTES;
     let mut rest = values;
     while !rest.is_empty() {
         let (some, more) = rest.split_at(rest.len().min(most));
-        let bytes = &mut chunk[..some.len() * T::BYTES];
-        put_values(some, writer.endianness(), bytes);
+        let bytes = &mut chunk[..some.len() * P::BYTES];
+        put_values::<T, P>(some, writer.endianness(), bytes);
         writer.write_bytes(bytes)?;
         rest = more;
     }

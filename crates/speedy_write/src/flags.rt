@@ -1,5 +1,5 @@
 //! How flags, and values that a flag chooses, are written.
-use crate::fixed::write_values;
+use crate::fixed::{Codes, write_values};
 use crate::writable::Writable;
 use crate::writer::Writer;
 use speedy_base::context::Context;
@@ -12,7 +12,7 @@ impl<C: Context> Writable<C> for bool {
 
     /// Writes the flags by chunks of their bytes.
     fn write_many<W: Writer<C>>(items: &[bool], writer: &mut W) -> Result<(), C::Error> {
-        write_values(items, writer)
+        write_values::<C, bool, Codes, W>(items, writer)
     }
 }
 

@@ -1,5 +1,5 @@
 //! How characters, byte orders, durations and UUIDs are written.
-use crate::fixed::write_values;
+use crate::fixed::{Codes, write_values};
 use crate::writable::Writable;
 use crate::writer::Writer;
 use speedy_base::context::Context;
@@ -15,7 +15,7 @@ impl<C: Context> Writable<C> for char {
 
     /// Writes the characters by chunks of their bytes.
     fn write_many<W: Writer<C>>(items: &[char], writer: &mut W) -> Result<(), C::Error> {
-        write_values(items, writer)
+        write_values::<C, char, Codes, W>(items, writer)
     }
 }
 
@@ -38,7 +38,7 @@ impl<C: Context> Writable<C> for Duration {
 
     /// Writes the durations by chunks of their bytes.
     fn write_many<W: Writer<C>>(items: &[Duration], writer: &mut W) -> Result<(), C::Error> {
-        write_values(items, writer)
+        write_values::<C, Duration, Codes, W>(items, writer)
     }
 }
 

@@ -2,7 +2,6 @@
 #![tactic(auto)]
 
 pub mod addresses;
-mod chunks;
 mod collections;
 pub mod collectors;
 mod counting;

@@ -1,7 +1,7 @@
 //! How numbers are written.
 ghost use Rattle.std.specs.Prelude.{◌<◌};
 
-use crate::chunks::write_numbers;
+use crate::fixed::{Digits, write_values};
 use crate::writable::Writable;
 use crate::writer::Writer;
 use speedy_base::context::Context;
@@ -27,7 +27,7 @@ impl<C: Context> Writable<C> for u16 {
 
     /// Writes the numbers by chunks of their digits.
     fn write_many<W: Writer<C>>(items: &[u16], writer: &mut W) -> Result<(), C::Error> {
-        write_numbers(items, writer)
+        write_values::<C, u16, Digits, W>(items, writer)
     }
 }
 
@@ -39,7 +39,7 @@ impl<C: Context> Writable<C> for u32 {
 
     /// Writes the numbers by chunks of their digits.
     fn write_many<W: Writer<C>>(items: &[u32], writer: &mut W) -> Result<(), C::Error> {
-        write_numbers(items, writer)
+        write_values::<C, u32, Digits, W>(items, writer)
     }
 }
 
@@ -51,7 +51,7 @@ impl<C: Context> Writable<C> for u64 {
 
     /// Writes the numbers by chunks of their digits.
     fn write_many<W: Writer<C>>(items: &[u64], writer: &mut W) -> Result<(), C::Error> {
-        write_numbers(items, writer)
+        write_values::<C, u64, Digits, W>(items, writer)
     }
 }
 
@@ -63,7 +63,7 @@ impl<C: Context> Writable<C> for u128 {
 
     /// Writes the numbers by chunks of their digits.
     fn write_many<W: Writer<C>>(items: &[u128], writer: &mut W) -> Result<(), C::Error> {
-        write_numbers(items, writer)
+        write_values::<C, u128, Digits, W>(items, writer)
     }
 }
 
@@ -75,7 +75,7 @@ impl<C: Context> Writable<C> for i8 {
 
     /// Writes the numbers by chunks of their digits.
     fn write_many<W: Writer<C>>(items: &[i8], writer: &mut W) -> Result<(), C::Error> {
-        write_numbers(items, writer)
+        write_values::<C, i8, Digits, W>(items, writer)
     }
 }
 
@@ -87,7 +87,7 @@ impl<C: Context> Writable<C> for i16 {
 
     /// Writes the numbers by chunks of their digits.
     fn write_many<W: Writer<C>>(items: &[i16], writer: &mut W) -> Result<(), C::Error> {
-        write_numbers(items, writer)
+        write_values::<C, i16, Digits, W>(items, writer)
     }
 }
 
@@ -99,7 +99,7 @@ impl<C: Context> Writable<C> for i32 {
 
     /// Writes the numbers by chunks of their digits.
     fn write_many<W: Writer<C>>(items: &[i32], writer: &mut W) -> Result<(), C::Error> {
-        write_numbers(items, writer)
+        write_values::<C, i32, Digits, W>(items, writer)
     }
 }
 
@@ -111,7 +111,7 @@ impl<C: Context> Writable<C> for i64 {
 
     /// Writes the numbers by chunks of their digits.
     fn write_many<W: Writer<C>>(items: &[i64], writer: &mut W) -> Result<(), C::Error> {
-        write_numbers(items, writer)
+        write_values::<C, i64, Digits, W>(items, writer)
     }
 }
 
@@ -123,7 +123,7 @@ impl<C: Context> Writable<C> for i128 {
 
     /// Writes the numbers by chunks of their digits.
     fn write_many<W: Writer<C>>(items: &[i128], writer: &mut W) -> Result<(), C::Error> {
-        write_numbers(items, writer)
+        write_values::<C, i128, Digits, W>(items, writer)
     }
 }
 

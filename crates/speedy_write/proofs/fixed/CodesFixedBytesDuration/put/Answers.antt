@@ -3,7 +3,7 @@ use Rattle.speedy_layout.specs.Codes.{coding}
 use Rattle.speedy_layout.specs.Numbers.{unsigned_number}
 use Rattle.speedy_layout.specs.Sequences.{sequence}
 use Rattle.speedy_write.proofs.NumberLemmas.{duration_is_chosen}
-use Rattle.speedy_write.proofs.fixed.DurationFixedBytes.put.Goals as goal
+use Rattle.speedy_write.proofs.fixed.CodesFixedBytesDuration.put.Goals as goal
 
 pub returns : goal.returns
 unfolding coding sequence unsigned_number

@@ -1,7 +1,7 @@
 use Rattle.std.proofs.Common.{◌∙◌}
 use Rattle.speedy_layout.specs.Codes.{coding}
 use Rattle.speedy_write.proofs.NumberLemmas.{bool_byte_is}
-use Rattle.speedy_write.proofs.fixed.BoolFixedBytes.put.Goals as goal
+use Rattle.speedy_write.proofs.fixed.CodesFixedBytesBool.put.Goals as goal
 
 pub returns : goal.returns
 unfolding coding
