@@ -15,8 +15,8 @@ use std::convert::AsSlice;
 /// How many items room is asked for at a time where nobody says that the items are there.
 pub(crate) const STEP: usize = 1024;
 
-/// The chunk of digits that numbers are read through, in bytes: no less than the ring of a new buffered reader holds,
-/// so that the source fills it without a copy in the ring.
+/// The chunk of digits that numbers are read through, in bytes. A step of numbers of eight bytes fills it: no less than
+/// the ring of a new buffered reader holds, so that the source fills it without a copy in the ring.
 pub(crate) const CHUNK: usize = 8192;
 
 /// The chunk for fewer numbers, in bytes: the long one takes longer to make than they take to read.
