@@ -1,6 +1,8 @@
 #!/usr/bin/env python3
 """Draws the ratios that tools/bench/run leaves as an SVG: one panel a way of reading or writing, one bar a case and order.
-usage: tools/bench/draw.py JSON.. > FILE
+usage: tools/bench/draw.py [--overview] JSON.. > FILE
+
+With --overview each way is one line, with a dot a case and order, its mean and its worst case.
 
 Of several files the least figures count. A bar begins at 1, where both take the same time: one to the right says that this
 crate takes longer than the original, one to the left that it takes less. The scale is logarithmic, and the same in all
@@ -26,6 +28,7 @@ INK, SOFT, GRID, PAPER = "#1f2328", "#57606a", "#d8dee4", "#ffffff"
 
 LABELS, BARS, END = 190, 290, 30        # the widths of a panel's labels, its bars, and the room for a number at either end
 ROW, BAR = 24, 9                        # the heights of a case's row and of each of its two bars
+STRIP = 34                              # the height of a way's line in the overview
 MARGIN, HEAD, TITLE, AXIS = 20, 86, 26, 30
 COLUMNS = 2
 CONSTANT = 2.0                          # the nanoseconds below which the original's loop has nothing left to do
@@ -60,12 +63,13 @@ def shown(ratio):
 class Scale:
     """The logarithmic scale of all panels: from the power of two at or below the least ratio to that at or above the greatest."""
 
-    def __init__(self, ratios):
+    def __init__(self, ratios, width=BARS):
+        self.width = width
         self.low = min(-1, math.floor(math.log2(min(ratios))))
         self.high = max(1, math.ceil(math.log2(max(ratios))))
 
     def at(self, ratio):
-        return BARS * (math.log2(ratio) - self.low) / (self.high - self.low)
+        return self.width * (math.log2(ratio) - self.low) / (self.high - self.low)
 
     def ticks(self):
         step = 1 if self.high - self.low <= 8 else 2
@@ -109,13 +113,23 @@ def bar(bars, top, ratio, ink, scale):
         yield text(end + 3, top + BAR - 0.5, shown(ratio), 9, INK)
 
 
-def legend():
+def legend(words):
     yield text(MARGIN, 30, "Time of this crate, as a multiple of the original's", 17, weight="bold")
-    yield text(MARGIN, 50, "Logarithmic scale. A bar to the left of 1 is faster than the original, one to the right is slower.", 11, SOFT)
-    for place, (_, words, ink) in enumerate(ORDERS):
+    yield text(MARGIN, 50, "Logarithmic scale. " + words, 11, SOFT)
+    for place, (_, order, ink) in enumerate(ORDERS):
         x = MARGIN + 150 * place
         yield f'<rect x="{x}" y="60" width="11" height="11" fill="{ink}"/>'
-        yield text(x + 17, 70, words, 11)
+        yield text(x + 17, 70, order, 11)
+
+
+def picture(width, height, drawn):
+    """Returns the lines of a picture of this size."""
+    return [
+        f'<svg xmlns="http://www.w3.org/2000/svg" viewBox="0 0 {width} {height}" width="{width}" height="{height}" '
+        'font-family="DejaVu Sans, Verdana, Helvetica, Arial, sans-serif">',
+        f'<rect width="{width}" height="{height}" rx="6" fill="{PAPER}"/>',
+        *drawn, "</svg>",
+    ]
 
 
 def draw(ratios):
@@ -133,24 +147,56 @@ def draw(ratios):
         for column, (name, rows) in enumerate(beside):
             drawn.extend(panel(MARGIN + column * wide, y, name, rows, scale))
         y += TITLE + ROW * max(len(rows) for _, rows in beside) + AXIS
-    width = MARGIN + wide * min(COLUMNS, len(panels))
-    return [
-        f'<svg xmlns="http://www.w3.org/2000/svg" viewBox="0 0 {width} {y}" width="{width}" height="{y}" '
-        'font-family="DejaVu Sans, Verdana, Helvetica, Arial, sans-serif">',
-        f'<rect width="{width}" height="{y}" rx="6" fill="{PAPER}"/>',
-        *legend(), *drawn, "</svg>",
-    ]
+    words = "A bar to the left of 1 is faster than the original, one to the right is slower."
+    return picture(MARGIN + wide * min(COLUMNS, len(panels)), y, [*legend(words), *drawn])
+
+
+def strip(y, name, rows, scale):
+    """Draws one way of the overview: rows are (case, order, ratio)."""
+    left, middle = MARGIN + 190, y + STRIP / 2
+    for _, order, ratio in rows:
+        ink = next(ink for key, _, ink in ORDERS if key == order)
+        # The two orders lie a little apart, so that neither hides the other.
+        at = middle + (-4 if order == ORDERS[0][0] else 4)
+        yield f'<circle cx="{left + scale.at(ratio):.1f}" cy="{at:.1f}" r="3.2" fill="{ink}" fill-opacity="0.55"/>'
+    ratios = [ratio for _, _, ratio in rows]
+    mean, (case, _, worst) = mean_of(ratios), max(rows, key=lambda row: row[2])
+    at = left + scale.at(mean)
+    yield f'<line x1="{at:.1f}" y1="{middle - 11:.1f}" x2="{at:.1f}" y2="{middle + 11:.1f}" stroke="{INK}" stroke-width="2"/>'
+    yield text(left - 14, middle + 4, name, 12, anchor="end")
+    yield text(left + scale.width + 16, middle + 4, f"mean {mean:.2f}; worst {shown(worst)}, {case}", 11, SOFT)
+
+
+def draw_overview(ratios):
+    """Returns the lines of the overview: a way a line, with a dot a case and order."""
+    scale = Scale([ratio for ratio in ratios.values() if ratio], 420)
+    left, top, ways = MARGIN + 190, HEAD, []
+    for op, name in PANELS:
+        rows = [(case, order, ratio) for (of, case, order), ratio in ratios.items() if of == op and ratio]
+        if rows:
+            ways.append((name, rows))
+    bottom = top + STRIP * len(ways)
+    width, height = left + scale.width + 16 + 250 + MARGIN, bottom + AXIS
+    lines = []
+    for tick in scale.ticks():
+        at = left + scale.at(tick)
+        lines.append(f'<line x1="{at:.1f}" y1="{top}" x2="{at:.1f}" y2="{bottom}" stroke="{INK if tick == 1 else GRID}" stroke-width="1"/>')
+        lines.append(text(at, bottom + 14, f"{tick:g}" if tick >= 1 else f"1/{1 / tick:g}", 10, SOFT, "middle"))
+    for place, (name, rows) in enumerate(ways):
+        lines.extend(strip(top + STRIP * place, name, rows, scale))
+    return picture(width, height, [*legend("Each dot is a case; one to the left of 1 is faster than the original. The stroke is the geometric mean."), *lines])
 
 
 def main():
-    if len(sys.argv) < 2 or sys.argv[1].startswith("-"):
+    files = [argument for argument in sys.argv[1:] if argument != "--overview"]
+    if not files or files[0].startswith("-"):
         print(__doc__.strip(), file=sys.stderr)
         return 2
-    ratios = ratios_of(least_figures(sys.argv[1:]))
+    ratios = ratios_of(least_figures(files))
     if not any(ratios.values()):
         print("no row has two figures", file=sys.stderr)
         return 1
-    print("\n".join(draw(ratios)))
+    print("\n".join(draw_overview(ratios) if len(files) < len(sys.argv) - 1 else draw(ratios)))
     return 0
 
 
