@@ -20,18 +20,19 @@ LEAST_SIZES = {
     1: 'u8 i8 bool varint nonzero_u8 nonzero_i8 endianness opt_u16 res_u16_u8 opt_bool opt_varint res_u16_u16 res_string_vec '
        'opt_str opt_cow_map box_u8',
     2: 'u16 i16 nonzero_u16 nonzero_i16 tuple_1 box_u16 array_opt_u16_2',
-    4: 'u32 i32 nonzero_i32 nonzero_u32 char ipv4 range_u16 range_incl_u16 tuple_u16_u16 array_u16_2 array_view_u16_2 tag_3 '
+    3: 'tuple_u16_u8 tuple_3_u8',
+    4: 'u32 i32 nonzero_i32 nonzero_u32 char ipv4 range_u16 range_incl_u16 tuple_u16_u16 array_u8_4 array_u16_2 array_view_u16_2 tag_3 '
        'bytes_ref_4 array_view_i8_4 frame enum derived_enum one_of_2 one_of_3 one_of_4 one_of_5 one_of_6 one_of_7 one_of_8 '
        'string boxed_str box_string cow_str str_ref bytes_ref view_i8 view_u16 vec_u8 vec_u16 vec_u32 vec_u64 vec_u128 '
-       'vec_bool vec_char vec_unit vec_varint vec_duration vec_array_u16_4 vec_opt_string vec_string vec_vec_u16 vec_record '
+       'vec_bool vec_char vec_unit vec_varint vec_duration vec_array_u16_4 vec_opt_string vec_string vec_vec_u8 vec_vec_u16 vec_record '
        'vec_str boxed_u8 boxed_u16 boxed_strings small_vec_u16_4 small_strings_2 cow_u8 cow_u16 cow_u32 cow_u64 cow_strings '
        'set_u16 set_varint set_string hash_set_u16 hash_set_string index_set_u16 index_set_string map_u8_u8 map_u16_bool '
        'map_u16_u8 map_u8_map map_string_vec_u16 map_str_bytes hash_map_u16_bool hash_map_u16_u8 hash_map_string_vec_u16 '
        'index_map_u8_u8 index_map_string_u16 cow_set_u16 cow_hash_set_u16 cow_map_u16_u8 cow_hash_map_u16_u8',
     5: 'ip tree',
     7: 'tuple_u8_u16_u32',
-    8: 'u64 i64 usize nonzero_u64 nonzero_i64 array_u16_4 array_string_2 array_str_2 tuple_2_strings range_string '
-       'range_incl_string tuple_str_bytes',
+    8: 'u64 i64 usize nonzero_u64 nonzero_i64 array_u16_4 array_string_2 array_str_2 tuple_pairs tuple_2_strings '
+       'range_string range_incl_string tuple_str_bytes',
     12: 'duration',
     16: 'u128 i128 uuid ipv6',
     24: 'record',
@@ -44,7 +45,13 @@ LENDING_WAYS = ['buffer']
 OTHER_WAYS = ['copy', 'unbuffered', 'buffered']
 OWNED_WAYS = ['owned', 'owned-unbuffered']
 BY_BYTE_WAYS = ['unbuffered-by-byte', 'buffered-by-byte']
+PEEK_WAYS = LENDING_WAYS + OTHER_WAYS
 WRITE_WAYS = ['needed', 'to-buffer', 'to-vec', 'to-sink', 'to-vec-sink']
+
+
+# A number of each type, of 16 bytes as long as it is, and an integer of variable length. Each is peeked at nine times and read.
+_BYTES = '00000000000000400000000000c05e40'
+PEEKED = [(order, ''.join(2 * _BYTES[:2 * size] for size in (1, 2, 4, 8, 16)) + '00') for order in ('le', 'be')]
 
 
 class Programs:
@@ -143,6 +150,13 @@ def varint_rows():
 
 def all_rows():
     return test_rows() + own_rows() + varint_rows()
+
+
+def places(size):
+    """Where a spelling is cut: at each byte, and of a long one at its first and last bytes and some between."""
+    if size <= 100:
+        return range(size)
+    return sorted(set(list(range(40)) + list(range(size - 40, size)) + list(range(0, size, 499)) + [4, 1023, 1024, 1028]))
 
 
 def read_ways(name):
