@@ -13,9 +13,9 @@ use std::convert::AsSlice;
 
 /// What a reader lends that lends nothing: its `L`.
 #[derive(Clone, Copy, Debug, PartialEq, Eq)]
-pub struct Nothing {}
+pub struct NothingLent {}
 
-impl AsSlice<u8> for Nothing {
+impl AsSlice<u8> for NothingLent {
     ghost items = { λ _. [] };
 
     fn as_slice(&self) -> &[u8] {

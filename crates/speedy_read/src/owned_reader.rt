@@ -6,7 +6,7 @@ ghost use Rattle.speedy_layout.specs.Texts.{raw_bytes, any_bytes};
 ghost use Rattle.speedy_read.specs.Reading.{Reads, Peeks, IsRight};
 ghost use Rattle.speedy_read.specs.Buffers.{held_state};
 
-use crate::lent::Nothing;
+use crate::lent::NothingLent;
 use crate::reader::{EndOfInput, LendingReader};
 use speedy_base::context::Context;
 use std::alloc::Global;
@@ -47,7 +47,7 @@ impl<'a, L, R> OwnedReader<'a, L, R> {
     }
 }
 
-impl<'a, L: AsSlice<u8> + Drop, C: Context, R: LendingReader<L, C>> LendingReader<Nothing, C>
+impl<'a, L: AsSlice<u8> + Drop, C: Context, R: LendingReader<L, C>> LendingReader<NothingLent, C>
     for OwnedReader<'a, L, R> {
     ghost at = { λ r. R.at r.reader.now };
 
@@ -78,7 +78,7 @@ impl<'a, L: AsSlice<u8> + Drop, C: Context, R: LendingReader<L, C>> LendingReade
     }
 
     #[inline(always)]
-    fn read_bytes_borrowed(&mut self, _length: usize) -> Option<Result<Nothing, C::Error>> {
+    fn read_bytes_borrowed(&mut self, _length: usize) -> Option<Result<NothingLent, C::Error>> {
         None
     }
 

@@ -6,7 +6,7 @@ ghost use Rattle.speedy_read.specs.WaysOfReading.{AnswersBuffer, AnswersCopied, 
 
 pub use crate::buffer_reader::BufferReader;
 pub use crate::copying_reader::CopyingBufferReader;
-use crate::lent::Nothing;
+use crate::lent::NothingLent;
 pub use crate::many::ReadMany;
 pub use crate::owned_reader::OwnedReader;
 use crate::reader::LendingReader;
@@ -283,7 +283,7 @@ impl<'a, C: Context, T: ReadMany<&'a [u8], C>> Readable<'a, C> for T {}
 /// says by `for<'a> Readable<'a, C>`.
 ///
 /// A generic function that makes its own buffer reads from it by these calls.
-pub trait ReadableOwned<C: Context>: ReadMany<Nothing, C> {
+pub trait ReadableOwned<C: Context>: ReadMany<NothingLent, C> {
     /// Decodes a value from a prefix of the buffer, in little endian.
     ///
     /// A buffer that is shorter than the type's least size is the error `InputBufferIsTooSmall`.
@@ -328,4 +328,4 @@ pub trait ReadableOwned<C: Context>: ReadMany<Nothing, C> {
     }
 }
 
-impl<C: Context, T: ReadMany<Nothing, C>> ReadableOwned<C> for T {}
+impl<C: Context, T: ReadMany<NothingLent, C>> ReadableOwned<C> for T {}

@@ -15,7 +15,7 @@ ghost use Rattle.speedy_read.specs.UntilEnd.{ReadsUntilEnd};
 ghost use Rattle.speedy_read.specs.Reading.{ReaderState, Reads, ReadsUnsigned, ReadsSigned, Peeks, PeeksUnsigned, PeeksSigned, IsRight, LendsBytes, LendsAll, LendsUntilUsed};
 
 use crate::collections::FromItems;
-use crate::lent::Nothing;
+use crate::lent::NothingLent;
 use crate::many::FromLent;
 use crate::owned_reader::OwnedReader;
 use crate::private::vec_to_string;
@@ -381,7 +381,7 @@ pub trait LendingReader<L: AsSlice<u8> + Drop, C: Context> {
 
     /// The next value, of a type that borrows nothing, whatever the reader lends.
     #[inline]
-    final fn read_owned_value<T: ReadFrom<Nothing, C>>(&mut self) -> Result<T, C::Error>
+    final fn read_owned_value<T: ReadFrom<NothingLent, C>>(&mut self) -> Result<T, C::Error>
     where
         Self: Sized,
         ensures { Reads C.Error.from_gives C.Error.eof T.seen (T.format (state self.old).encoding)

@@ -1,7 +1,7 @@
 use Rattle.std.proofs.Common.{ap}
 use Rattle.speedy_read.specs.Buffers.{held_state}
 use Rattle.speedy_read.proofs.OwnedReaderLemmas.{held_reads}
-use Rattle.speedy_read.proofs.owned_reader.OwnedReaderLendingReaderNothing.skip_bytes.Goals as goal
+use Rattle.speedy_read.proofs.owned_reader.OwnedReaderLendingReaderNothingLent.skip_bytes.Goals as goal
 
 pub returns-clause-reads : goal.returns-clause-reads
 returns-clause-reads g c = held_reads _ c.skip_bytes.ensures.reads
