@@ -48,7 +48,7 @@ pub trait Writable<C: Context>: Layout {
     }
 
     /// The number of bytes that the value is written in. `usize::MAX` bytes and more are the error `OutOfRangeLength`.
-    fn bytes_needed(&self, context: &mut C) -> Result<usize, C::Error>
+    final fn bytes_needed(&self, context: &mut C) -> Result<usize, C::Error>
         ensures encoding { C.encoding context.new ≡ C.encoding context.old }
         ensures needs { let format = Self.format (C.encoding context.old) in
             Needs C.Error.from_gives format (Self.seen self.now) result }
