@@ -11,8 +11,8 @@ impl<C: Context> Writable<C> for bool {
     }
 
     /// Writes the flags by chunks of their bytes.
-    fn write_many<W: Writer<C>>(items: &[bool], writer: &mut W) -> Result<(), C::Error> {
-        write_values::<C, bool, Codes, W>(items, writer)
+    fn write_in_bulk<W: Writer<C>>(items: &[bool], writer: &mut W) -> Option<Result<(), C::Error>> {
+        Some(write_values::<C, bool, Codes, W>(items, writer))
     }
 }
 

@@ -14,8 +14,8 @@ impl<C: Context> Writable<C> for char {
     }
 
     /// Writes the characters by chunks of their bytes.
-    fn write_many<W: Writer<C>>(items: &[char], writer: &mut W) -> Result<(), C::Error> {
-        write_values::<C, char, Codes, W>(items, writer)
+    fn write_in_bulk<W: Writer<C>>(items: &[char], writer: &mut W) -> Option<Result<(), C::Error>> {
+        Some(write_values::<C, char, Codes, W>(items, writer))
     }
 }
 
@@ -37,8 +37,11 @@ impl<C: Context> Writable<C> for Duration {
     }
 
     /// Writes the durations by chunks of their bytes.
-    fn write_many<W: Writer<C>>(items: &[Duration], writer: &mut W) -> Result<(), C::Error> {
-        write_values::<C, Duration, Codes, W>(items, writer)
+    fn write_in_bulk<W: Writer<C>>(
+        items: &[Duration],
+        writer: &mut W,
+    ) -> Option<Result<(), C::Error>> {
+        Some(write_values::<C, Duration, Codes, W>(items, writer))
     }
 }
 

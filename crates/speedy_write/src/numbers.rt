@@ -14,8 +14,8 @@ impl<C: Context> Writable<C> for u8 {
 
     /// Writes all the bytes at once.
     #[inline]
-    fn write_many<W: Writer<C>>(items: &[u8], writer: &mut W) -> Result<(), C::Error> {
-        writer.write_bytes(items)
+    fn write_in_bulk<W: Writer<C>>(items: &[u8], writer: &mut W) -> Option<Result<(), C::Error>> {
+        Some(writer.write_bytes(items))
     }
 }
 
@@ -26,8 +26,8 @@ impl<C: Context> Writable<C> for u16 {
     }
 
     /// Writes the numbers by chunks of their digits.
-    fn write_many<W: Writer<C>>(items: &[u16], writer: &mut W) -> Result<(), C::Error> {
-        write_values::<C, u16, Digits, W>(items, writer)
+    fn write_in_bulk<W: Writer<C>>(items: &[u16], writer: &mut W) -> Option<Result<(), C::Error>> {
+        Some(write_values::<C, u16, Digits, W>(items, writer))
     }
 }
 
@@ -38,8 +38,8 @@ impl<C: Context> Writable<C> for u32 {
     }
 
     /// Writes the numbers by chunks of their digits.
-    fn write_many<W: Writer<C>>(items: &[u32], writer: &mut W) -> Result<(), C::Error> {
-        write_values::<C, u32, Digits, W>(items, writer)
+    fn write_in_bulk<W: Writer<C>>(items: &[u32], writer: &mut W) -> Option<Result<(), C::Error>> {
+        Some(write_values::<C, u32, Digits, W>(items, writer))
     }
 }
 
@@ -50,8 +50,8 @@ impl<C: Context> Writable<C> for u64 {
     }
 
     /// Writes the numbers by chunks of their digits.
-    fn write_many<W: Writer<C>>(items: &[u64], writer: &mut W) -> Result<(), C::Error> {
-        write_values::<C, u64, Digits, W>(items, writer)
+    fn write_in_bulk<W: Writer<C>>(items: &[u64], writer: &mut W) -> Option<Result<(), C::Error>> {
+        Some(write_values::<C, u64, Digits, W>(items, writer))
     }
 }
 
@@ -62,8 +62,8 @@ impl<C: Context> Writable<C> for u128 {
     }
 
     /// Writes the numbers by chunks of their digits.
-    fn write_many<W: Writer<C>>(items: &[u128], writer: &mut W) -> Result<(), C::Error> {
-        write_values::<C, u128, Digits, W>(items, writer)
+    fn write_in_bulk<W: Writer<C>>(items: &[u128], writer: &mut W) -> Option<Result<(), C::Error>> {
+        Some(write_values::<C, u128, Digits, W>(items, writer))
     }
 }
 
@@ -74,8 +74,8 @@ impl<C: Context> Writable<C> for i8 {
     }
 
     /// Writes the numbers by chunks of their digits.
-    fn write_many<W: Writer<C>>(items: &[i8], writer: &mut W) -> Result<(), C::Error> {
-        write_values::<C, i8, Digits, W>(items, writer)
+    fn write_in_bulk<W: Writer<C>>(items: &[i8], writer: &mut W) -> Option<Result<(), C::Error>> {
+        Some(write_values::<C, i8, Digits, W>(items, writer))
     }
 }
 
@@ -86,8 +86,8 @@ impl<C: Context> Writable<C> for i16 {
     }
 
     /// Writes the numbers by chunks of their digits.
-    fn write_many<W: Writer<C>>(items: &[i16], writer: &mut W) -> Result<(), C::Error> {
-        write_values::<C, i16, Digits, W>(items, writer)
+    fn write_in_bulk<W: Writer<C>>(items: &[i16], writer: &mut W) -> Option<Result<(), C::Error>> {
+        Some(write_values::<C, i16, Digits, W>(items, writer))
     }
 }
 
@@ -98,8 +98,8 @@ impl<C: Context> Writable<C> for i32 {
     }
 
     /// Writes the numbers by chunks of their digits.
-    fn write_many<W: Writer<C>>(items: &[i32], writer: &mut W) -> Result<(), C::Error> {
-        write_values::<C, i32, Digits, W>(items, writer)
+    fn write_in_bulk<W: Writer<C>>(items: &[i32], writer: &mut W) -> Option<Result<(), C::Error>> {
+        Some(write_values::<C, i32, Digits, W>(items, writer))
     }
 }
 
@@ -110,8 +110,8 @@ impl<C: Context> Writable<C> for i64 {
     }
 
     /// Writes the numbers by chunks of their digits.
-    fn write_many<W: Writer<C>>(items: &[i64], writer: &mut W) -> Result<(), C::Error> {
-        write_values::<C, i64, Digits, W>(items, writer)
+    fn write_in_bulk<W: Writer<C>>(items: &[i64], writer: &mut W) -> Option<Result<(), C::Error>> {
+        Some(write_values::<C, i64, Digits, W>(items, writer))
     }
 }
 
@@ -122,8 +122,8 @@ impl<C: Context> Writable<C> for i128 {
     }
 
     /// Writes the numbers by chunks of their digits.
-    fn write_many<W: Writer<C>>(items: &[i128], writer: &mut W) -> Result<(), C::Error> {
-        write_values::<C, i128, Digits, W>(items, writer)
+    fn write_in_bulk<W: Writer<C>>(items: &[i128], writer: &mut W) -> Option<Result<(), C::Error>> {
+        Some(write_values::<C, i128, Digits, W>(items, writer))
     }
 }
 

@@ -1,5 +1,5 @@
 //! Types that can be written, and the ways of writing them.
-ghost use Rattle.std.specs.Prelude.{◌≡◌, ◌≤◌, ◌⊎◌, ℕ, List, length, IsTrue, MatchResult, IsOk, IfErr, OnOk};
+ghost use Rattle.std.specs.Prelude.{◌≡◌, ◌≤◌, ◌⊎◌, ℕ, List, length, IsTrue, MatchOption, MatchResult, IsOk, IfErr, OnOk};
 ghost use Rattle.speedy_base.specs.Error.{error_of};
 ghost use Rattle.speedy_base.specs.Encoding.{plain_encoding};
 ghost use Rattle.speedy_write.specs.Writing.{Writes, WritesEach};
@@ -35,16 +35,31 @@ pub trait Writable<C: Context>: Layout {
             (W.state writer.old) (W.state writer.new) (λ b. W.appends writer.old b writer.new) };
 
     /// Writes the values, one after the other and with no count.
-    fn write_many<W: Writer<C>>(items: &[Self], writer: &mut W) -> Result<(), C::Error>
+    final fn write_many<W: Writer<C>>(items: &[Self], writer: &mut W) -> Result<(), C::Error>
     where
         Self: Sized,
         ensures { WritesEach C.Error.from_gives Self.format Self.seen items.now result
             (W.state writer.old) (W.state writer.new) (λ b. W.appends writer.old b writer.new) }
     {
+        if let Some(written) = Self::write_in_bulk(items, writer) {
+            return written;
+        }
         for item in items {
             item.write_to(writer)?;
         }
         Ok(())
+    }
+
+    /// Writes the values together, where that is faster than one by one. This body says `None`, and does nothing.
+    #[inline(always)]
+    fn write_in_bulk<W: Writer<C>>(_items: &[Self], _writer: &mut W) -> Option<Result<(), C::Error>>
+    where
+        Self: Sized,
+        ensures { MatchOption result (_writer.new ≡ _writer.old) (λ written.
+            WritesEach C.Error.from_gives Self.format Self.seen _items.now written
+            (W.state _writer.old) (W.state _writer.new) (λ b. W.appends _writer.old b _writer.new)) }
+    {
+        None
     }
 
     /// The number of bytes that the value is written in. `usize::MAX` bytes and more are the error `OutOfRangeLength`.

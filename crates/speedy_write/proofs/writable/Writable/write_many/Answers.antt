@@ -1,4 +1,6 @@
-use Rattle.std.proofs.Common.{arith}
+use Rattle.std.proofs.Common.{arith, sym, subst}
+use Rattle.speedy_write.specs.Sequences.{Writes-from}
+use Rattle.speedy_write.proofs.CountLemmas.{StaysAs, stays_same}
 use Rattle.speedy_write.proofs.ListLemmas.{no_items_written, one_more_written, items_refused}
 use Rattle.speedy_write.proofs.writable.Writable.write_many.Goals as goal
 
@@ -11,5 +13,7 @@ loop-item-preserved g c =
 
 pub returns-in_err-write_to : goal.returns-in_err-write_to
 returns-in_err-write_to g c =
-    items_refused (g.met.W.Writer.additive _ _ _) g.Self.Layout.seen c.args.items.now c.loop-item.item-index (omega arith) c.item-item.is
-    g.met.Self.Layout.layout_laws c.from_residual.ensures.1 c.loop-item.invariant c.in_err-write_to.ensures
+    let same = subst (StaysAs g.W.Writer.state g.W.Writer.appends c.args.writer.now) (sym c.in_default.ensures) stays_same in
+    Writes-from same.state_is (λ b. same.joins b _)
+    (items_refused (g.met.W.Writer.additive _ _ _) g.Self.Layout.seen c.args.items.now c.loop-item.item-index (omega arith) c.item-item.is
+    g.met.Self.Layout.layout_laws c.from_residual.ensures.1 c.loop-item.invariant c.in_err-write_to.ensures)
