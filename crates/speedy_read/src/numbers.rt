@@ -8,7 +8,7 @@ use speedy_base::error::error_too_big_usize_for_this_architecture;
 use std::convert::AsSlice;
 
 impl<L: AsSlice<u8> + Drop, C: Context> ReadFrom<L, C> for u8 {
-    #[inline]
+    #[inline(always)]
     fn read_from<R: LendingReader<L, C>>(reader: &mut R) -> Result<u8, C::Error> {
         reader.read_u8()
     }
@@ -24,7 +24,7 @@ impl<L: AsSlice<u8> + Drop, C: Context> ReadMany<L, C> for u8 {
 }
 
 impl<L: AsSlice<u8> + Drop, C: Context> ReadFrom<L, C> for u16 {
-    #[inline]
+    #[inline(always)]
     fn read_from<R: LendingReader<L, C>>(reader: &mut R) -> Result<u16, C::Error> {
         reader.read_u16()
     }
@@ -40,7 +40,7 @@ impl<L: AsSlice<u8> + Drop, C: Context> ReadMany<L, C> for u16 {
 }
 
 impl<L: AsSlice<u8> + Drop, C: Context> ReadFrom<L, C> for u32 {
-    #[inline]
+    #[inline(always)]
     fn read_from<R: LendingReader<L, C>>(reader: &mut R) -> Result<u32, C::Error> {
         reader.read_u32()
     }
@@ -56,7 +56,7 @@ impl<L: AsSlice<u8> + Drop, C: Context> ReadMany<L, C> for u32 {
 }
 
 impl<L: AsSlice<u8> + Drop, C: Context> ReadFrom<L, C> for u64 {
-    #[inline]
+    #[inline(always)]
     fn read_from<R: LendingReader<L, C>>(reader: &mut R) -> Result<u64, C::Error> {
         reader.read_u64()
     }
@@ -72,7 +72,7 @@ impl<L: AsSlice<u8> + Drop, C: Context> ReadMany<L, C> for u64 {
 }
 
 impl<L: AsSlice<u8> + Drop, C: Context> ReadFrom<L, C> for u128 {
-    #[inline]
+    #[inline(always)]
     fn read_from<R: LendingReader<L, C>>(reader: &mut R) -> Result<u128, C::Error> {
         reader.read_u128()
     }
@@ -88,7 +88,7 @@ impl<L: AsSlice<u8> + Drop, C: Context> ReadMany<L, C> for u128 {
 }
 
 impl<L: AsSlice<u8> + Drop, C: Context> ReadFrom<L, C> for i8 {
-    #[inline]
+    #[inline(always)]
     fn read_from<R: LendingReader<L, C>>(reader: &mut R) -> Result<i8, C::Error> {
         reader.read_i8()
     }
@@ -104,7 +104,7 @@ impl<L: AsSlice<u8> + Drop, C: Context> ReadMany<L, C> for i8 {
 }
 
 impl<L: AsSlice<u8> + Drop, C: Context> ReadFrom<L, C> for i16 {
-    #[inline]
+    #[inline(always)]
     fn read_from<R: LendingReader<L, C>>(reader: &mut R) -> Result<i16, C::Error> {
         reader.read_i16()
     }
@@ -120,7 +120,7 @@ impl<L: AsSlice<u8> + Drop, C: Context> ReadMany<L, C> for i16 {
 }
 
 impl<L: AsSlice<u8> + Drop, C: Context> ReadFrom<L, C> for i32 {
-    #[inline]
+    #[inline(always)]
     fn read_from<R: LendingReader<L, C>>(reader: &mut R) -> Result<i32, C::Error> {
         reader.read_i32()
     }
@@ -136,7 +136,7 @@ impl<L: AsSlice<u8> + Drop, C: Context> ReadMany<L, C> for i32 {
 }
 
 impl<L: AsSlice<u8> + Drop, C: Context> ReadFrom<L, C> for i64 {
-    #[inline]
+    #[inline(always)]
     fn read_from<R: LendingReader<L, C>>(reader: &mut R) -> Result<i64, C::Error> {
         reader.read_i64()
     }
@@ -152,7 +152,7 @@ impl<L: AsSlice<u8> + Drop, C: Context> ReadMany<L, C> for i64 {
 }
 
 impl<L: AsSlice<u8> + Drop, C: Context> ReadFrom<L, C> for i128 {
-    #[inline]
+    #[inline(always)]
     fn read_from<R: LendingReader<L, C>>(reader: &mut R) -> Result<i128, C::Error> {
         reader.read_i128()
     }
@@ -168,7 +168,7 @@ impl<L: AsSlice<u8> + Drop, C: Context> ReadMany<L, C> for i128 {
 }
 
 impl<L: AsSlice<u8> + Drop, C: Context> ReadFrom<L, C> for usize {
-    #[inline]
+    #[inline(always)]
     fn read_from<R: LendingReader<L, C>>(reader: &mut R) -> Result<usize, C::Error> {
         match usize::try_from(reader.read_u64()?) {
             Ok(number) => Ok(number),

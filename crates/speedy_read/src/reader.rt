@@ -129,7 +129,7 @@ pub trait LendingReader<L: AsSlice<u8> + Drop, C: Context> {
     }
 
     /// The next byte as a number in the context's order.
-    #[inline]
+    #[inline(always)]
     final fn read_u8(&mut self) -> Result<u8, C::Error>
         ensures { ReadsUnsigned C.Error.from_gives C.Error.eof 1 result
             (state self.old) (state self.new) }
@@ -140,7 +140,7 @@ pub trait LendingReader<L: AsSlice<u8> + Drop, C: Context> {
     }
 
     /// The next 2 bytes as a number in the context's order.
-    #[inline]
+    #[inline(always)]
     final fn read_u16(&mut self) -> Result<u16, C::Error>
         ensures { ReadsUnsigned C.Error.from_gives C.Error.eof 2 result
             (state self.old) (state self.new) }
@@ -151,7 +151,7 @@ pub trait LendingReader<L: AsSlice<u8> + Drop, C: Context> {
     }
 
     /// The next 4 bytes as a number in the context's order.
-    #[inline]
+    #[inline(always)]
     final fn read_u32(&mut self) -> Result<u32, C::Error>
         ensures { ReadsUnsigned C.Error.from_gives C.Error.eof 4 result
             (state self.old) (state self.new) }
@@ -162,7 +162,7 @@ pub trait LendingReader<L: AsSlice<u8> + Drop, C: Context> {
     }
 
     /// The next 8 bytes as a number in the context's order.
-    #[inline]
+    #[inline(always)]
     final fn read_u64(&mut self) -> Result<u64, C::Error>
         ensures { ReadsUnsigned C.Error.from_gives C.Error.eof 8 result
             (state self.old) (state self.new) }
@@ -173,7 +173,7 @@ pub trait LendingReader<L: AsSlice<u8> + Drop, C: Context> {
     }
 
     /// The next 16 bytes as a number in the context's order.
-    #[inline]
+    #[inline(always)]
     final fn read_u128(&mut self) -> Result<u128, C::Error>
         ensures { ReadsUnsigned C.Error.from_gives C.Error.eof 16 result
             (state self.old) (state self.new) }
@@ -184,7 +184,7 @@ pub trait LendingReader<L: AsSlice<u8> + Drop, C: Context> {
     }
 
     /// The next byte as a signed number.
-    #[inline]
+    #[inline(always)]
     final fn read_i8(&mut self) -> Result<i8, C::Error>
         ensures { ReadsSigned C.Error.from_gives C.Error.eof w8 result
             (state self.old) (state self.new) }
@@ -193,7 +193,7 @@ pub trait LendingReader<L: AsSlice<u8> + Drop, C: Context> {
     }
 
     /// The next 2 bytes as a signed number in the context's order.
-    #[inline]
+    #[inline(always)]
     final fn read_i16(&mut self) -> Result<i16, C::Error>
         ensures { ReadsSigned C.Error.from_gives C.Error.eof w16 result
             (state self.old) (state self.new) }
@@ -202,7 +202,7 @@ pub trait LendingReader<L: AsSlice<u8> + Drop, C: Context> {
     }
 
     /// The next 4 bytes as a signed number in the context's order.
-    #[inline]
+    #[inline(always)]
     final fn read_i32(&mut self) -> Result<i32, C::Error>
         ensures { ReadsSigned C.Error.from_gives C.Error.eof w32 result
             (state self.old) (state self.new) }
@@ -211,7 +211,7 @@ pub trait LendingReader<L: AsSlice<u8> + Drop, C: Context> {
     }
 
     /// The next 8 bytes as a signed number in the context's order.
-    #[inline]
+    #[inline(always)]
     final fn read_i64(&mut self) -> Result<i64, C::Error>
         ensures { ReadsSigned C.Error.from_gives C.Error.eof w64 result
             (state self.old) (state self.new) }
@@ -220,7 +220,7 @@ pub trait LendingReader<L: AsSlice<u8> + Drop, C: Context> {
     }
 
     /// The next 16 bytes as a signed number in the context's order.
-    #[inline]
+    #[inline(always)]
     final fn read_i128(&mut self) -> Result<i128, C::Error>
         ensures { ReadsSigned C.Error.from_gives C.Error.eof w128 result
             (state self.old) (state self.new) }
@@ -369,7 +369,7 @@ pub trait LendingReader<L: AsSlice<u8> + Drop, C: Context> {
     }
 
     /// The next value.
-    #[inline]
+    #[inline(always)]
     final fn read_value<T: ReadFrom<L, C>>(&mut self) -> Result<T, C::Error>
     where
         Self: Sized,
@@ -380,7 +380,7 @@ pub trait LendingReader<L: AsSlice<u8> + Drop, C: Context> {
     }
 
     /// The next value, of a type that borrows nothing, whatever the reader lends.
-    #[inline]
+    #[inline(always)]
     final fn read_owned_value<T: ReadFrom<NothingLent, C>>(&mut self) -> Result<T, C::Error>
     where
         Self: Sized,
@@ -397,7 +397,7 @@ pub trait LendingReader<L: AsSlice<u8> + Drop, C: Context> {
     ///
     /// It is an error before any item where fewer bytes are to come than so many items have at least, if the reader says
     /// so, and where that many bytes are past `usize::MAX`.
-    #[inline]
+    #[inline(always)]
     final fn read_vec<T: ReadMany<L, C>>(&mut self, length: usize) -> Result<Vec<T>, C::Error>
     where
         Self: Sized,

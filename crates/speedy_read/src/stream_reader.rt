@@ -238,9 +238,22 @@ impl<'s, S: Source, C: Context> StreamReader<'s, S, C> {
         }
     }
 
-    // The same, by as many calls as it takes.
-    #[inline(never)]
+    // The same, by as many calls as it takes. It passes on the answer of a call by its parts, so that a caller that it
+    // stands in has its own answer in registers where nothing was called.
+    #[inline(always)]
     fn read_on(&mut self, output: &mut [u8]) -> Result<(), C::Error>
+        requires nothing_held { self.old.ring.bytes ≡ [] }
+        requires some { 0 < length output.old }
+        ensures { Reads C.Error.from_gives C.Error.eof (λ _. output.new)
+            (raw_bytes (length output.old)) result
+            (stream_state S.source C.encoding self.old) (stream_state S.source C.encoding self.new) }
+    {
+        self.read_rest(output)?;
+        Ok(())
+    }
+
+    #[inline(never)]
+    fn read_rest(&mut self, output: &mut [u8]) -> Result<(), C::Error>
         requires nothing_held { self.old.ring.bytes ≡ [] }
         requires some { 0 < length output.old }
         ensures { Reads C.Error.from_gives C.Error.eof (λ _. output.new)
@@ -296,7 +309,9 @@ impl<'s, 'b, C: Context, S: Source> LendingReader<&'b [u8], C> for StreamReader<
         if !self.is_buffering && self.ring.is_empty() {
             return self.read_straight(output);
         }
-        self.read_more(output)
+        // By its parts, as in `read_on`.
+        self.read_more(output)?;
+        Ok(())
     }
 
     /// Fills the output with the next bytes, and takes none. What is not held yet is pulled into the ring, which may grow.

@@ -1,6 +1,6 @@
 use Rattle.std.proofs.Common.{ℕ, List, ◌++◌, length, sym, ap, refl, arith}
 use Rattle.speedy_read.proofs.StreamLemmas.{device_ended, past_read, past_ended}
-use Rattle.speedy_read.proofs.stream_reader.StreamReader.read_on.Goals as goal
+use Rattle.speedy_read.proofs.stream_reader.StreamReader.read_rest.Goals as goal
 
 pub returns-in-Ok-true : goal.returns-in-Ok-true
 returns-in-Ok-true g c =
