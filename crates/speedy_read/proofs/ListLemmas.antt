@@ -1,5 +1,5 @@
 -- Reads of items, one after another.
-use Rattle.std.specs.Prelude.{map, is_err, ◌≡◌, ℕ, ◌*◌, ◌-◌, ◌^◌, ◌<◌, List, [], ◌∷◌, ◌++◌, length, Bool, false, IsTrue, OnOk, Result, Ok, Err, IsErrAnd, refl}
+use Rattle.std.specs.Prelude.{map, ◌≡◌, ℕ, ◌*◌, ◌-◌, ◌^◌, ◌<◌, List, [], ◌∷◌, ◌++◌, length, Bool, false, IsTrue, Result, Ok, Err, IsErrAnd, refl}
 use Rattle.std.proofs.Common.{sym, ◌∙◌, ap, subst, arith, inl, inr}
 use Rattle.std.proofs.lemmas.List.{map-append, append_assoc, append-nil}
 use Rattle.speedy_base.specs.declared.error.ErrorKind.TheVariants as kinds
@@ -16,12 +16,11 @@ use Rattle.speedy_read.specs.Reading.{ReaderState, Kept, Reads, IsEnd}
 use Rattle.speedy_read.specs.ReadingLemmas.{fronts_nest, Kept-same, Kept-after, IsTold-after, part_refused, ends_early, ReadSoFar, more_so_far, all_so_far, Reads-passed}
 use Rattle.speedy_read.specs.Sequences.{Composes}
 use Rattle.speedy_read.specs.Counted.{counted_list_composes}
-use Rattle.speedy_read.proofs.ByteLemmas.{from_ok}
 use Rattle.speedy_read.proofs.OwnedLemmas.{memory_refused}
 
 -- what is seen of the items and one item more, which was added
-pub seen_added : {A E X V : Type 0} (seen : X → V) (r : Result A E) (xs zs : List X) (x : X) → is_err r ≡ false → OnOk r (zs ≡ xs ++ x ∷ []) → map seen zs ≡ map seen xs ++ seen x ∷ []
-seen_added seen r xs zs x went added = ap (map seen) (from_ok r went added) ∙ map-append seen xs (x ∷ [])
+pub seen_added : {X V : Type 0} (seen : X → V) (xs zs : List X) (x : X) → zs ≡ xs ++ x ∷ [] → map seen zs ≡ map seen xs ++ seen x ∷ []
+seen_added seen xs zs x added = ap (map seen) added ∙ map-append seen xs (x ∷ [])
 
 module _ {V : Type 0} {strict : Bool} {least : ℕ} {L : Format V} (laws : Laws strict least L) where
   -- where more items are spelled than were read, the next one is spelled by what is left

@@ -261,9 +261,10 @@ pub(crate) fn read_each<
     let mut items = vec_for::<T, L, C, R>(reader, T::minimum_bytes_needed(), length)?;
     for i in 0..length {
         let item = T::read_from(reader)?;
-        if push_in_steps(&mut items, item, length - i).is_err() {
-            return Err(error_out_of_memory());
-        }
+        items = match push_in_steps(items, item, length - i) {
+            Ok(more) => more,
+            Err(_) => return Err(error_out_of_memory()),
+        };
     }
     Ok(Many::Owned(items))
 }

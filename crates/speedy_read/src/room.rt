@@ -74,21 +74,38 @@ fn make_room<T>(items: &mut Vec<T>, more: usize, left: usize) -> Result<(), Allo
     Ok(())
 }
 
-// Adds an item, one of so many that are still to read.
+// Adds an item, one of so many that are still to read. The items go in and out by value, so that a loop keeps their
+// place and number in registers.
 #[inline(always)]
-pub(crate) fn push_in_steps<T>(items: &mut Vec<T>, item: T, left: usize) -> Result<(), AllocError>
-where
-    T: Drop,
-    ensures pushed { OnOk result (items.new.items ≡ items.old.items ++ item ∷ []) }
-    ensures in_room { vec_len items.old < vec_capacity items.old → IsOk result }
-    ensures step { OnOk result (vec_capacity items.old ≤ vec_len items.old
-        → vec_len items.old + min left 1024 ≤ vec_capacity items.new) }
+pub(crate) fn push_in_steps<T: Drop>(
+    items: Vec<T>,
+    item: T,
+    left: usize,
+) -> Result<Vec<T>, AllocError>
+    ensures pushed { IfOk result (λ v. v.items ≡ items.items ++ item ∷ []) }
+    ensures in_room { vec_len items < vec_capacity items → IsOk result }
+    ensures step { IfOk result (λ v. vec_capacity items ≤ vec_len items
+        → vec_len items + min left 1024 ≤ vec_capacity v) }
 {
-    make_room(items, 1, left)?;
-    match items.push(item) {
-        Ok(()) => Ok(()),
-        Err(_) => Err(AllocError),
-    }
+    let mut items = if items.len() < items.capacity() {
+        items
+    } else {
+        with_room(items, left)?
+    };
+    items.push_reserved(item);
+    Ok(items)
+}
+
+// Asks for room for as many items as are still to read, but no more than a step, and for one at least.
+#[cold]
+#[inline(never)]
+fn with_room<T: Drop>(mut items: Vec<T>, left: usize) -> Result<Vec<T>, AllocError>
+    ensures same { IfOk result (λ v. v.items ≡ items.items) }
+    ensures one { IfOk result (λ v. vec_len v < vec_capacity v) }
+    ensures step { IfOk result (λ v. vec_len items + min left 1024 ≤ vec_capacity v) }
+{
+    items.reserve(left.min(STEP).max(1))?;
+    Ok(items)
 }
 
 // Appends the numbers that these bytes spell, some of so many that are still to read.

@@ -1,4 +1,4 @@
-use Rattle.std.proofs.Common.{◌<◌, length, map, sym, ◌∙◌, ap, refl, arith}
+use Rattle.std.proofs.Common.{◌<◌, length, map, ◌∙◌, ap, refl, arith}
 use Rattle.std.proofs.lemmas.List.{length_push}
 use Rattle.speedy_read.specs.ReadingLemmas.{Kept-same, Kept-after, none_so_far}
 use Rattle.speedy_read.proofs.ListLemmas.{seen_added, item_more, got_items, refused_item, refused_room}
@@ -10,7 +10,7 @@ loop-i-init g c = rw c.in_ok-items.ensures.empty (refl, none_so_far refl)
 pub loop-i-preserved : goal.loop-i-preserved
 loop-i-preserved g c =
     let so_far = c.loop-i.invariant.1 in
-    let items = seen_added g.T.Layout.seen c.push_in_steps.result _ _ c.in_ok-item.item (sym c.if-is_err.ensures.value) c.push_in_steps.ensures.pushed in (
+    let items = seen_added g.T.Layout.seen _ _ c.in_ok-item.item c.in-Ok.ensures.pushed in (
       ap length items ∙ (length_push (map g.T.Layout.seen c.loop-i.items.items) (g.T.Layout.seen c.in_ok-item.item) ∙ omega (arith, c.loop-i.invariant.0)),
       item_more _ _ so_far (rw so_far.kept.encoding at c.in_ok-item.ensures) items,
     )
@@ -28,5 +28,5 @@ returns-in_err-item g c shown =
 pub returns-in_err-items : goal.returns-in_err-items
 returns-in_err-items g c shown = refused_room _ _ _ Kept-same refl c.from_residual.ensures.1 c.in_err-items.ensures.empty
 
-pub returns-then-is_err : goal.returns-then-is_err
-returns-then-is_err g c shown = refused_room _ _ _ (Kept-after c.loop-i.invariant.1.kept c.in_ok-item.ensures.kept) (c.in_ok-item.ensures.answer.no_fault ∙ c.loop-i.invariant.1.got.no_fault) refl c.error_out_of_memory.ensures
+pub returns-in-Err : goal.returns-in-Err
+returns-in-Err g c shown = refused_room _ _ _ (Kept-after c.loop-i.invariant.1.kept c.in_ok-item.ensures.kept) (c.in_ok-item.ensures.answer.no_fault ∙ c.loop-i.invariant.1.got.no_fault) refl c.error_out_of_memory.ensures
