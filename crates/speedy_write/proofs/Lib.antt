@@ -1,6 +1,7 @@
 pub mod CollectionLemmas
 pub mod CountLemmas
 pub mod FillLemmas
+pub mod FixedLemmas
 pub mod GatheringLemmas
 pub mod ListLemmas
 pub mod NonZeroLemmas

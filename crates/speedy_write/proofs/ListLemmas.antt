@@ -192,7 +192,7 @@ cut_off rest done n front back is = is ∙ ap (λ us. done ++ us) (sym (ap₂ �
 module _ {E A V : Type 0} {gives : Error → E → Type 0} {F : Encoding → Format V} {least : ℕ} {mid new : WriterState} {back : List ℕ → Type 0} {order : Endianness} (laws : (encoding : Encoding) → Laws encoding.strict least (F encoding)) (seen : A → V) (some : List A) {b : List ℕ} (same : order ≡ mid.encoding.order)
     (put : (encoding : Encoding) → order ≡ encoding.order → Each (F encoding).writes (map seen some) b) where
   -- the bytes of values are written as they are
-  values_are_written : {result : Result (Unit {0}) E} → WritesBytes gives b result mid new back → WritesEach gives F seen some result mid new back
+  pub values_are_written : {result : Result (Unit {0}) E} → WritesBytes gives b result mid new back → WritesEach gives F seen some result mid new back
   unfolding repeat
   values_are_written w = form_written (λ e. repeat_laws (laws e) (length some)) (length-map some seen, put mid.encoding same) w
 

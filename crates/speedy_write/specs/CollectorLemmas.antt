@@ -11,7 +11,7 @@ pub buffer_nothing : (p : ℕ) (A : List ℕ) → p ≤ length A → BufferAppen
 buffer_nothing p A h = record { end_is = omega arith; within = h; after_is = sym (take-append-drop p A) }
 
 -- a buffer keeps its length
-put_length : (p : ℕ) (A s : List ℕ) (q : ℕ) (B : List ℕ) → BufferAppends p A s q B → length B ≡ length A
+pub put_length : (p : ℕ) (A s : List ℕ) (q : ℕ) (B : List ℕ) → BufferAppends p A s q B → length B ≡ length A
 put_length p A s q B h =
     let x = h.end_is in
     let y = h.within in
@@ -22,7 +22,7 @@ put_length p A s q B h =
     omega arith
 
 -- the parts of a buffer that bytes were put into
-part_front : (p : ℕ) (A s : List ℕ) (q : ℕ) → q ≡ p + length s → q ≤ length A → take q (take p A ++ (s ++ drop q A)) ≡ take p A ++ s
+pub part_front : (p : ℕ) (A s : List ℕ) (q : ℕ) → q ≡ p + length s → q ≤ length A → take q (take p A ++ (s ++ drop q A)) ≡ take p A ++ s
 part_front p A s q e h =
     let front : length (take p A ++ s) ≡ q = length-append (take p A) s ∙ (let l = length-take p A in omega arith) in
     ap (take q) (sym (append_assoc (take p A) s (drop q A))) ∙ take_at (take p A ++ s) (drop q A) q front

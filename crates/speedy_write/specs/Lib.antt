@@ -4,6 +4,7 @@ pub mod Collectors
 pub mod Counting
 pub mod CollectorLemmas
 pub mod CollectorModels
+pub mod FixedBytes
 pub mod Gathering
 pub mod Sequences
 pub mod Codes

@@ -1,15 +1,17 @@
 //! The writers of the ways of writing: into a buffer, into a vector, into a sink, and one that only counts.
-ghost use Rattle.std.specs.Prelude.{◌≡◌, ◌+◌, ◌-◌, ◌^◌, ◌≤◌, [], ◌∷◌, ◌++◌, length, vec_len, vec_capacity, Some, None, IsOk, IfErr, OnErr, IsSome, take, nat_le, refl};
+ghost use Rattle.std.specs.Prelude.{◌≡◌, ◌+◌, ◌-◌, ◌^◌, ◌≤◌, ℕ, [], ◌∷◌, ◌++◌, length, vec_len, vec_capacity, Some, None, IsOk, IfErr, OnErr, IsSome, take, nat_le, refl};
 ghost use Rattle.speedy_base.specs.FailedCalls.{IsErrorOf, IsOfFailedCall};
 ghost use Rattle.speedy_write.specs.Writing.{WritesBytes, RefusesFull, CountsBytes};
 ghost use Rattle.speedy_write.specs.Pushing.{PushesAll};
 ghost use Rattle.speedy_write.specs.Collectors.{buffer_state, BufferAppends, size_state, SizeAppends, sink_state, Takes};
 ghost use Rattle.speedy_write.specs.CollectorLemmas.{buffer_nothing, buffer_additive, vec_nothing, vec_additive, size_nothing, size_additive, sink_nothing, sink_additive};
 
+use crate::fixed::{FixedBytes, put_values_at};
 use crate::writer::Writer;
 use speedy_base::context::Context;
 use speedy_base::device::Sink;
 use speedy_base::error::{Error, error_end_of_output_buffer, error_out_of_range_length};
+use speedy_layout::Layout;
 use std::alloc::Global;
 use std::io;
 
@@ -92,6 +94,19 @@ impl<'a, C: Context> Writer<C> for BufferCollector<'a, C> {
         self.buffer[self.position..end].copy_from_slice(slice);
         self.position = end;
         Ok(())
+    }
+
+    /// Puts the values where they are to stand, if they fit.
+    #[inline]
+    fn put_fixed<T: Layout, P: FixedBytes<T>>(&mut self, values: &[T]) -> bool {
+        P::has_few_bytes();
+        let room = self.buffer.len() - self.position;
+        if values.len() > room / P::BYTES {
+            return false;
+        }
+        let order = self.context.endianness();
+        self.position = put_values_at::<T, P>(values, order, &mut *self.buffer, self.position);
+        true
     }
 
     #[inline(always)]
@@ -198,6 +213,26 @@ impl<'a, C: Context> Writer<C> for VecCollector<'a, C> {
         Ok(())
     }
 
+    /// Puts the values where they are to stand, if they fit and are not too many to lay zeros for first.
+    #[inline]
+    fn put_fixed<T: Layout, P: FixedBytes<T>>(&mut self, values: &[T]) -> bool {
+        P::has_few_bytes();
+        let room = (self.most - self.position).min(MOST_ZEROS);
+        if values.len() > room / P::BYTES {
+            return false;
+        }
+        let next = self.position + values.len() * P::BYTES;
+        reach(&mut *self.bytes, next, self.most);
+        let order = self.context.endianness();
+        self.position = put_values_at::<T, P>(
+            values,
+            order,
+            self.bytes.as_mut_slice(),
+            self.position,
+        );
+        true
+    }
+
     #[inline(always)]
     fn context(&self) -> &C {
         &*self.context
@@ -215,6 +250,38 @@ impl<'a, C: Context> Writer<C> for VecCollector<'a, C> {
 }
 
 static ZEROS: [u8; 512] = [0; 512];
+
+// The most zeros that are laid for values to be put there: more would leave the processor's cache before they are.
+const MOST_ZEROS: usize = 16_384;
+
+// Lays zeros behind a vector where it ends before `least`. It may become `most` long.
+#[inline(always)]
+fn reach(bytes: &mut Vec<u8>, least: usize, most: usize)
+    requires within { (least ≤ most) × (vec_len bytes.old ≤ most) }
+    requires room { most ≤ vec_capacity bytes.old }
+    ensures bytes { (n : ℕ) → n ≤ vec_len bytes.old → take n bytes.new.items ≡ take n bytes.old.items }
+    ensures length { (least ≤ vec_len bytes.new) × (vec_len bytes.new ≤ most) }
+    ensures capacity { vec_capacity bytes.old ≤ vec_capacity bytes.new }
+{
+    if bytes.len() < least {
+        lay_zeros(bytes, least, most);
+    }
+}
+
+// Lays zeros behind a vector up to `least`, and some ahead. It may become `most` long.
+#[inline(never)]
+fn lay_zeros(bytes: &mut Vec<u8>, least: usize, most: usize)
+    requires within { (vec_len bytes.old ≤ least) × (least ≤ most) }
+    requires room { most ≤ vec_capacity bytes.old }
+    ensures bytes { (n : ℕ) → n ≤ vec_len bytes.old → take n bytes.new.items ≡ take n bytes.old.items }
+    ensures length { (least ≤ vec_len bytes.new) × (vec_len bytes.new ≤ most) }
+    ensures capacity { vec_capacity bytes.old ≤ vec_capacity bytes.new }
+{
+    let ahead = (most - least).min(ZEROS.len());
+    if bytes.resize(least + ahead, 0).is_err() {
+        unreachable!();
+    }
+}
 
 // Puts a slice at a position of a vector that may become so long, past which it ends. Behind a short slice zeros are
 // laid, as further ones may come.

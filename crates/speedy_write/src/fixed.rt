@@ -1,7 +1,8 @@
 //! Values that are always written as as many bytes: many of them go to the writer by chunks.
-ghost use Rattle.std.specs.Prelude.{◌≡◌, ◌<◌, ◌≤◌, ◌*◌, ℕ, length, map};
+ghost use Rattle.std.specs.Prelude.{◌≡◌, ◌<◌, ◌≤◌, ◌+◌, ◌*◌, ℕ, length, map};
 ghost use Rattle.speedy_base.specs.Encoding.{Encoding};
 ghost use Rattle.speedy_layout.specs.Format.{Each};
+ghost use Rattle.speedy_write.specs.FixedBytes.{PutsAt};
 ghost use Rattle.speedy_write.specs.Writing.{WritesEach};
 
 use crate::writer::Writer;
@@ -12,7 +13,7 @@ use speedy_layout::fixed_numbers::FixedNumber;
 use std::time::Duration;
 
 /// How values of a type are put as bytes: always as so many, which the order alone decides.
-pub(crate) trait FixedBytes<T: Layout> {
+pub trait FixedBytes<T: Layout> {
     /// How many bytes each is put as.
     const BYTES: usize;
 
@@ -118,6 +119,37 @@ fn put_values<T: Layout, P: FixedBytes<T>>(values: &[T], order: Endianness, outp
     }
 }
 
+// Puts the bytes of the values from a place of the buffer on, and says where they end.
+#[inline(always)]
+pub(crate) fn put_values_at<T: Layout, P: FixedBytes<T>>(
+    values: &[T],
+    order: Endianness,
+    buffer: &mut [u8],
+    at: usize,
+) -> usize
+    requires { at + length values.now * P.BYTES ≤ length buffer.old }
+    ensures { PutsAt T.format T.seen values.now P.BYTES order at buffer.old result buffer.new }
+{
+    let end = at + values.len() * P::BYTES;
+    put_values::<T, P>(values, order, &mut buffer[at..end]);
+    end
+}
+
+// Writes the values, one after the other. It takes no memory.
+#[inline]
+pub(crate) fn write_values<C: Context, T: Layout, P: FixedBytes<T>, W: Writer<C>>(
+    values: &[T],
+    writer: &mut W,
+) -> Result<(), C::Error>
+    ensures { WritesEach C.Error.from_gives T.format T.seen values.now result
+        (W.state writer.old) (W.state writer.new) (λ b. W.appends writer.old b writer.new) }
+{
+    if writer.put_fixed::<T, P>(values) {
+        return Ok(());
+    }
+    write_by_chunks::<C, T, P, W>(values, writer)
+}
+
 /// The chunk that values are written through, in bytes.
 const CHUNK: usize = 1024;
 
@@ -127,8 +159,10 @@ const SHORT_CHUNK: usize = 64;
 /// The chunk for many, in bytes: longer writes, of which there are fewer, take less time.
 const LONG_CHUNK: usize = 8192;
 
-// Writes the values, one after the other. It takes no memory.
-pub(crate) fn write_values<C: Context, T: Layout, P: FixedBytes<T>, W: Writer<C>>(
+// Writes the values through a chunk, which is as long as pays for so many of them. It stands apart: a caller that has it
+// within pays at each call for the longest.
+#[inline(never)]
+fn write_by_chunks<C: Context, T: Layout, P: FixedBytes<T>, W: Writer<C>>(
     values: &[T],
     writer: &mut W,
 ) -> Result<(), C::Error>

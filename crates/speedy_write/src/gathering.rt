@@ -1,14 +1,18 @@
 //! A writer to a sink that gathers short writes and pushes them together.
-ghost use Rattle.std.specs.Prelude.{◌≡◌, ◌+◌, ◌≤◌, ◌↔◌, [], ◌++◌, length, None, IsTrue, OnOk, refl};
+ghost use Rattle.std.specs.Prelude.{◌≡◌, ◌+◌, ◌*◌, ◌≤◌, ◌↔◌, [], ◌++◌, length, None, IsTrue, OnOk, refl};
 ghost use Rattle.speedy_write.specs.Collectors.{sink_state};
+ghost use Rattle.speedy_write.specs.FixedBytes.{PutsBehind};
 ghost use Rattle.speedy_write.specs.Writing.{WritesBytes, RefusesFull};
 ghost use Rattle.speedy_write.specs.Gathering.{Gathers, PushesWaiting, gathers_nothing, gathers_additive};
 
 use crate::collectors::{error_of_failed_call, push_all};
+use crate::fixed::{FixedBytes, put_values_at};
 use crate::writer::Writer;
 use speedy_base::context::Context;
 use speedy_base::device::Sink;
+use speedy_base::endianness::Endianness;
 use speedy_base::error::Error;
+use speedy_layout::Layout;
 use std::alloc::Global;
 
 /// Bytes that wait to be pushed, in room that is lent.
@@ -55,6 +59,15 @@ impl<'b> Waiting<'b> {
         let end = self.end + slice.len();
         self.room[self.end..end].copy_from_slice(slice);
         self.end = end;
+    }
+
+    // Has the bytes of these values wait too.
+    #[inline(always)]
+    fn add_values<T: Layout, P: FixedBytes<T>>(&mut self, values: &[T], order: Endianness)
+        requires { self.old.end + length values.now * P.BYTES ≤ length self.old.room.now }
+        ensures { PutsBehind T.format T.seen values.now order (waiting self.old) (waiting self.new) }
+    {
+        self.end = put_values_at::<T, P>(values, order, &mut *self.room, self.end);
     }
 
     // What waits.
@@ -197,6 +210,19 @@ impl<'s, S: Sink, C: Context> Writer<C> for GatheringCollector<'s, S, C> {
             return Ok(());
         }
         self.write_past(slice)
+    }
+
+    /// Puts the values where others wait, if they have room there.
+    #[inline]
+    fn put_fixed<T: Layout, P: FixedBytes<T>>(&mut self, values: &[T]) -> bool {
+        P::has_few_bytes();
+        let room = self.waiting.room.len() - self.waiting.end;
+        if values.len() > room / P::BYTES {
+            return false;
+        }
+        self.waiting
+            .add_values::<T, P>(values, self.context.endianness());
+        true
     }
 
     #[inline(always)]

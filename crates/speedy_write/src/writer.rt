@@ -1,5 +1,5 @@
 //! Writers: where values are written, and the writes that each has.
-ghost use Rattle.std.specs.Prelude.{◌≡◌, ℕ, [], ◌++◌, List, Option, Bool};
+ghost use Rattle.std.specs.Prelude.{◌≡◌, ℕ, [], ◌++◌, List, Option, Bool, false, IsTrue, Ok};
 ghost use Rattle.std.specs.Borrow.{sem, Lends};
 ghost use Rattle.std.specs.Iterator.{IsFiniteIterable};
 ghost use Rattle.speedy_layout.specs.Varint.{varint};
@@ -8,10 +8,11 @@ ghost use Rattle.speedy_write.specs.Collections.{WritesItems};
 ghost use Rattle.speedy_write.specs.Writing.{WriterState, Writes, WritesEach, WritesBytes, WritesNumber, WritesSigned, RefusesFull, CountsBytes, IsRight};
 
 use crate::each::write_items;
+use crate::fixed::FixedBytes;
 use crate::writable::Writable;
 use speedy_base::context::Context;
 use speedy_base::endianness::Endianness;
-use speedy_layout::VarInt64;
+use speedy_layout::{Layout, VarInt64};
 
 /// Writers, with the calls of each.
 pub trait Writer<C: Context> {
@@ -46,6 +47,19 @@ pub trait Writer<C: Context> {
             (state self.old) (state self.new) (λ b. appends self.old b self.new) }
     {
         None
+    }
+
+    /// Writes values that each take as many bytes, where the writer puts them at once in the room that it has, and says
+    /// whether it did. This body says that it did not, and does nothing.
+    #[inline(always)]
+    fn put_fixed<T: Layout, P: FixedBytes<T>>(&mut self, _values: &[T]) -> bool
+    where
+        Self: Sized,
+        ensures puts { IsTrue result → WritesEach C.Error.from_gives T.format T.seen _values.now (Ok tt)
+            (state self.old) (state self.new) (λ b. appends self.old b self.new) }
+        ensures unchanged { result ≡ false → self.new ≡ self.old }
+    {
+        false
     }
 
     /// The context that numbers are written under.
