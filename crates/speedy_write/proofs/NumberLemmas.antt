@@ -1,5 +1,5 @@
 -- Writes of bytes make writes of numbers, and these make writes of signed numbers, at each width.
-use Rattle.std.specs.Prelude.{◌≡◌, ℕ, ℤ, ◌^◌, ◌/◌, ◌%◌, ◌≤◌, ◌<◌, List, Bool, true, false, Result, Err, refl}
+use Rattle.std.specs.Prelude.{◌≡◌, ℕ, ℤ, ◌^◌, ◌/◌, ◌%◌, ◌≤◌, ◌<◌, List, [], ◌∷◌, Bool, true, false, Result, Err, refl}
 use Rattle.std.proofs.Common.{subst, sym, ap, ◌∙◌, arith, inr, inl}
 use mir.Val.{bool_byte}
 use mir.ValLaws.{to_z-of_z}
@@ -8,8 +8,9 @@ use Rattle.std.specs.Int.RustNames.{FitsSigned}
 use Rattle.speedy_base.specs.declared.error.ErrorKind.TheVariants as kinds
 use Rattle.speedy_base.specs.declared.error.Error.{Error}
 use Rattle.speedy_base.specs.declared.endianness.Endianness.{Endianness}
-use Rattle.speedy_base.specs.Digits.{SpellsNumber}
-use Rattle.speedy_base.specs.DigitsLemmas.{SpellsNumber-below}
+use Rattle.speedy_base.specs.Digits.{SpellsNumber, digits}
+use Rattle.speedy_base.specs.declared.endianness.Endianness.TheVariants.{LittleEndian}
+use Rattle.speedy_base.specs.DigitsLemmas.{SpellsNumber-below, SpellsNumber-digits}
 use Rattle.speedy_base.specs.Encoding.{Encoding}
 use Rattle.speedy_base.specs.Error.{error_of}
 use Rattle.speedy_layout.specs.Codes.{coding, subset_is_code, Accepts-exact_means}
@@ -18,6 +19,7 @@ use Rattle.speedy_layout.specs.Format.{Format}
 use Rattle.speedy_layout.specs.Laws.{Laws}
 use Rattle.speedy_layout.specs.Leaves.{duration_code}
 use Rattle.speedy_layout.specs.Numbers.{unsigned_number, unsigned_number_laws, signed_number, length_number, length_number_laws}
+use Rattle.speedy_layout.specs.Varint.{varint, prefixed_written}
 use Rattle.speedy_write.specs.Codes.{number_code_written}
 use Rattle.speedy_write.specs.Writing.{WriterState, Writes, WritesBytes, WritesNumber, WritesSigned}
 use Rattle.speedy_write.specs.Sequences.{Kept-same, Writes-as, form_written}
@@ -73,3 +75,16 @@ bool_byte_is false = refl
 -- a duration is its whole seconds and the rest
 pub duration_is_chosen : (n seconds nanos : ℕ) → seconds ≡ n / 1_000_000_000 → nanos ≡ n % 1_000_000_000 → seconds < 2 ^ 64 → duration_code.chosen (seconds, nanos) n
 duration_is_chosen n seconds nanos s m small = (omega arith, omega arith, omega arith)
+
+-- a small number is written as itself
+no_digits : SpellsNumber 0 LittleEndian 0 []
+unfolding digits
+no_digits = SpellsNumber-digits 0 LittleEndian 0 (omega arith)
+
+pub small_written : (encoding : Encoding) (n : ℕ) → n < 128 → (varint encoding).writes n (n ∷ [])
+unfolding varint coding
+small_written encoding n small = record {
+  code = ((0, n), 0);
+  code_is = prefixed_written encoding 0 n 0 n [] (record { at_most_eight = omega arith; low_is_below = small; byte_is = omega arith }) no_digits;
+  stands = (record { at_most_eight = omega arith; enough = small; no_shorter = λ j less. absurd (omega arith) }, omega arith, omega arith);
+}
