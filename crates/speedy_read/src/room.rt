@@ -90,10 +90,21 @@ pub(crate) fn push_in_steps<T: Drop>(
     let mut items = if items.len() < items.capacity() {
         items
     } else {
-        with_room(items, left)?
+        grown(items, left)?
     };
     items.push_reserved(item);
     Ok(items)
+}
+
+// The same as `with_room`. It stands in line, so that the place of the answer is made only where there is a call.
+#[inline(always)]
+fn grown<T: Drop>(items: Vec<T>, left: usize) -> Result<Vec<T>, AllocError>
+    ensures same { IfOk result (λ v. v.items ≡ items.items) }
+    ensures one { IfOk result (λ v. vec_len v < vec_capacity v) }
+    ensures step { IfOk result (λ v. vec_len items + min left 1024 ≤ vec_capacity v) }
+{
+    let roomy = with_room(items, left)?;
+    Ok(roomy)
 }
 
 // Asks for room for as many items as are still to read, but no more than a step, and for one at least.

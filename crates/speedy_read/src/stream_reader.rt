@@ -267,9 +267,20 @@ impl<'s, S: Source, C: Context> StreamReader<'s, S, C> {
         }
     }
 
-    // Reads more than the ring holds.
-    #[inline(never)]
+    // Reads more than the ring holds. Its answer goes as that of `read_on`.
+    #[inline(always)]
     fn read_more(&mut self, output: &mut [u8]) -> Result<(), C::Error>
+        requires { length self.old.ring.bytes < length output.old }
+        ensures { Reads C.Error.from_gives C.Error.eof (λ _. output.new)
+            (raw_bytes (length output.old)) result
+            (stream_state S.source C.encoding self.old) (stream_state S.source C.encoding self.new) }
+    {
+        self.read_elsewhere(output)?;
+        Ok(())
+    }
+
+    #[inline(never)]
+    fn read_elsewhere(&mut self, output: &mut [u8]) -> Result<(), C::Error>
         requires { length self.old.ring.bytes < length output.old }
         ensures { Reads C.Error.from_gives C.Error.eof (λ _. output.new)
             (raw_bytes (length output.old)) result
@@ -309,9 +320,7 @@ impl<'s, 'b, C: Context, S: Source> LendingReader<&'b [u8], C> for StreamReader<
         if !self.is_buffering && self.ring.is_empty() {
             return self.read_straight(output);
         }
-        // By its parts, as in `read_on`.
-        self.read_more(output)?;
-        Ok(())
+        self.read_more(output)
     }
 
     /// Fills the output with the next bytes, and takes none. What is not held yet is pulled into the ring, which may grow.
