@@ -74,6 +74,9 @@ pub use Rattle.speedy_write.specs.CollectorLemmas
 pub use Rattle.speedy_write.specs.CollectorModels
 pub use Rattle.speedy_write.specs.Collectors
 pub use Rattle.speedy_write.specs.Counted as WriteCounted
+pub use Rattle.speedy_write.specs.Counting
+pub use Rattle.speedy_write.specs.FixedBytes
+pub use Rattle.speedy_write.specs.Gathering as WriteGathering
 pub use Rattle.speedy_write.specs.Lengths
 pub use Rattle.speedy_write.specs.Pushing
 pub use Rattle.speedy_write.specs.Sequences as WriteSequences
