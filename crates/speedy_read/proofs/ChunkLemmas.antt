@@ -43,7 +43,7 @@ same_count some (suc m) zero e = absurd (omega (arith, some, e))
 same_count some (suc m) (suc n) e = ap suc (same_count some m n (omega (arith, e)))
 
 -- a chunk of so many numbers among all
-within_all : (width k n : ℕ) → k ≤ n → k * width ≤ n * width
+pub within_all : (width k n : ℕ) → k ≤ n → k * width ≤ n * width
 within_all width zero n l = omega arith
 within_all width (suc k) zero l = absurd (omega arith)
 within_all width (suc k) (suc n) l = let less = within_all width k n (omega arith) in omega (arith, less)

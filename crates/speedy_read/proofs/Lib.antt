@@ -14,6 +14,7 @@ pub mod CollectionLemmas
 pub mod LentLemmas
 pub mod ViewLemmas
 pub mod OwnedReaderLemmas
+pub mod StepLemmas
 pub mod StreamLemmas
 pub mod UntilEndLemmas
 pub mod UntilEndLaws

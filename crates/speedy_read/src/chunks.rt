@@ -14,7 +14,9 @@ use crate::lent::lent_in_range;
 use crate::many::{AsBytes, Fills, FromLent, Many, Places, Strategy, read_each};
 use crate::readable::ReadFrom;
 use crate::reader::{EndOfInput, LendingReader};
-use crate::room::{CHUNK, MIDDLE_CHUNK, SHORT_CHUNK, STEP, append_in_steps, open_chunk, vec_for};
+use crate::room::{
+    CHUNK, LEAST_CHUNK, MIDDLE_CHUNK, SHORT_CHUNK, append_in_steps, open_chunk, vec_for,
+};
 use speedy_base::context::Context;
 use speedy_base::endianness::Endianness;
 use speedy_base::error::{Error, ErrorKind, error_end_of_input, error_out_of_memory};
@@ -239,7 +241,9 @@ pub(crate) fn fill_numbers<
         Some(Err(EndOfInput {})) => return Err(error_end_of_input()),
         None => {}
     }
-    if size <= SHORT_CHUNK {
+    if size <= LEAST_CHUNK {
+        fill_chunks(reader, places, &mut [0; LEAST_CHUNK])
+    } else if size <= SHORT_CHUNK {
         fill_chunks(reader, places, &mut [0; SHORT_CHUNK])
     } else if size <= MIDDLE_CHUNK {
         fill_chunks(reader, places, &mut [0; MIDDLE_CHUNK])
@@ -300,7 +304,7 @@ fn read_number_chunks<T: FixedNumber, L: AsSlice<u8> + Drop, C: Context, R: Lend
         (R.state reader.old) (R.state reader.new) }
 {
     let mut numbers = vec_for::<T, L, C, R>(reader, T::SIZE, count)?;
-    let most = STEP.min(chunk.len() / T::SIZE);
+    let most = chunk.len() / T::SIZE;
     let mut left = count;
     while left > 0 {
         let some = left.min(most);

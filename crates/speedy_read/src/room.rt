@@ -15,8 +15,8 @@ use std::convert::AsSlice;
 /// How many items room is asked for at a time where nobody says that the items are there.
 pub(crate) const STEP: usize = 1024;
 
-/// The chunk of digits that numbers are read through, in bytes. A step of numbers of eight bytes fills it: no less than
-/// the ring of a new buffered reader holds, so that the source fills it without a copy in the ring.
+/// The chunk of digits that numbers are read through, in bytes: no less than the ring of a new buffered reader holds, so
+/// that the source fills it without a copy in the ring.
 pub(crate) const CHUNK: usize = 8192;
 
 /// The chunk for fewer numbers, in bytes: the long one takes longer to make than they take to read.
@@ -24,6 +24,9 @@ pub(crate) const MIDDLE_CHUNK: usize = 2048;
 
 /// The chunk for a few numbers, in bytes.
 pub(crate) const SHORT_CHUNK: usize = 64;
+
+/// The chunk for an array of few numbers, in bytes: the widest number fills it.
+pub(crate) const LEAST_CHUNK: usize = 16;
 
 /// The chunk that bytes are skipped through, in bytes.
 pub(crate) const SKIPPED_CHUNK: usize = 1024;
@@ -119,7 +122,8 @@ fn with_room<T: Drop>(mut items: Vec<T>, left: usize) -> Result<Vec<T>, AllocErr
     Ok(items)
 }
 
-// Appends the numbers that these bytes spell, some of so many that are still to read.
+// Appends the numbers that these bytes spell, some of so many that are still to read. Room for them is asked for by
+// steps too.
 #[inline]
 pub(crate) fn append_in_steps<T: FixedNumber>(
     numbers: &mut Vec<T>,
@@ -131,8 +135,15 @@ pub(crate) fn append_in_steps<T: FixedNumber>(
     ensures { OnOk result ((more : List T) × (numbers.new.items ≡ numbers.old.items ++ more)
         × Each (spelled_in T.format order) (map T.seen more) digits.now) }
 {
-    make_room(numbers, digits.len() / T::SIZE, left)?;
-    append_each(numbers, order, digits)
+    let count = digits.len() / T::SIZE;
+    let mut at = 0;
+    while at < count {
+        let some = STEP.min(count - at);
+        make_room(numbers, some, left.saturating_sub(at))?;
+        append_each(numbers, order, &digits[at * T::SIZE..(at + some) * T::SIZE])?;
+        at += some;
+    }
+    Ok(())
 }
 
 // Adds zeros for as many bytes as there is room for, at most so many. Where there is no room, a step of it is asked
