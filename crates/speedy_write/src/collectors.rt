@@ -251,6 +251,9 @@ impl<'a, C: Context> Writer<C> for VecCollector<'a, C> {
 
 static ZEROS: [u8; 512] = [0; 512];
 
+// How many zeros are laid ahead: more would be lost too often, where what is written next is long.
+const AHEAD: usize = 2_048;
+
 // The most zeros that are laid for values to be put there: more would leave the processor's cache before they are.
 const MOST_ZEROS: usize = 16_384;
 
@@ -277,7 +280,7 @@ fn lay_zeros(bytes: &mut Vec<u8>, least: usize, most: usize)
     ensures length { (least ≤ vec_len bytes.new) × (vec_len bytes.new ≤ most) }
     ensures capacity { vec_capacity bytes.old ≤ vec_capacity bytes.new }
 {
-    let ahead = (most - least).min(ZEROS.len());
+    let ahead = (most - least).min(AHEAD);
     if bytes.resize(least + ahead, 0).is_err() {
         unreachable!();
     }
@@ -297,8 +300,8 @@ fn append_past(bytes: &mut Vec<u8>, position: usize, slice: &[u8], most: usize)
     bytes.truncate(position);
     append(bytes, slice);
     if slice.len() < ZEROS.len() {
-        let ahead = (most - bytes.len()).min(ZEROS.len());
-        append(bytes, &ZEROS[..ahead]);
+        let end = bytes.len();
+        lay_zeros(bytes, end, most);
     }
 }
 
