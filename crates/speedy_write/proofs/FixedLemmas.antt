@@ -1,19 +1,22 @@
 -- Values that are put where they are to stand are written.
-use Rattle.std.specs.Prelude.{◌≡◌, ℕ, ◌-◌, ◌+◌, ◌≤◌, List, ◌++◌, length, take, drop, map, Result, Ok, Some, refl}
+use Rattle.std.specs.Prelude.{◌≡◌, ℕ, ◌+◌, ◌-◌, ◌*◌, ◌≤◌, List, [], ◌∷◌, ◌++◌, length, map, take, drop, Ok, Some, refl}
+use borrow.Rule.Slice.PartMut.{put_mid}
+use native.Mathlib.Nat.{add-mul}
 use Rattle.std.specs.Borrow.{GName}
-use Rattle.std.proofs.Common.{◌∙◌, ap, arith}
-use Rattle.std.proofs.lemmas.List.{drop-append-le, length-take-le}
+use Rattle.std.proofs.Common.{◌∙◌, sym, subst, ap, arith}
+use Rattle.std.proofs.lemmas.List.{append-nil, drop-append-le, length-take-le, map-append, take_all}
+use Rattle.std.proofs.lemmas.Slice.{take-put_mid}
 use Rattle.speedy_base.specs.declared.endianness.Endianness.{Endianness}
 use Rattle.speedy_base.specs.declared.error.Error.{Error}
 use Rattle.speedy_base.specs.Device.{SinkState}
 use Rattle.speedy_base.specs.Encoding.{Encoding}
-use Rattle.speedy_layout.specs.Format.{Format}
+use Rattle.speedy_layout.specs.Format.{Format, Each}
 use Rattle.speedy_layout.specs.Laws.{Laws}
+use Rattle.speedy_layout.specs.Lists.{each_append}
 use Rattle.speedy_write.specs.CollectorLemmas.{put_length, part_front}
 use Rattle.speedy_write.specs.Collectors.{buffer_state, sink_state, BufferAppends}
 use Rattle.speedy_write.specs.FixedBytes.{PutsAt, PutsBehind}
 use Rattle.speedy_write.specs.Gathering.{Gathers}
-use Rattle.speedy_write.specs.Sequences.{Kept-same}
 use Rattle.speedy_write.specs.Writing.{WritesEach, WritesBytes}
 use Rattle.speedy_write.proofs.GatheringLemmas.{waits_too}
 use Rattle.speedy_write.proofs.ListLemmas.{values_are_written}
@@ -55,3 +58,27 @@ put_behind {at = at} {end = end} {buffer = buffer} seen values start p begins li
 -- values that wait are written
 pub values_wait : {E A V : Type 0} {gives : Error → E → Type 0} {F : Encoding → Format V} {least : ℕ} {encoding : Encoding} {order : Endianness} {name : GName} {v w : List ℕ} {s : SinkState} (laws : (encoding : Encoding) → Laws encoding.strict least (F encoding)) (seen : A → V) (values : List A) → order ≡ encoding.order → PutsBehind F seen values order v w → WritesEach gives F seen values (Ok tt) (sink_state encoding name s) (sink_state encoding name s) (λ b. Gathers s v b s w)
 values_wait laws seen values same p = values_are_written laws seen values same p.is_written (waits_too p.bytes p.all_is)
+
+-- ---- values that go through a chunk
+
+module _ {A V : Type 0} (R : V → List ℕ → Type 0) (seen : A → V) where
+  -- a chunk of them is put behind those before
+  pub chunk_put : (done some : List A) (at k : ℕ) (output bytes put : List ℕ) → put ≡ bytes → at ≤ length output → Each R (map seen done) (take at output) → Each R (map seen some) bytes → Each R (map seen (done ++ some)) (take (at + length bytes) (put_mid at k output put))
+  chunk_put done some at k output bytes put same within h p =
+      let together = each_append R (map seen done) (map seen some) (take at output) put h (subst (Each R (map seen some)) (sym same) p) in
+      let front = take-put_mid at k output put (at + length bytes) (ap (λ (l : List ℕ). at + length l) (sym same)) within in
+      subst (λ (vs : List V). Each R vs (take (at + length bytes) (put_mid at k output put))) (sym (map-append seen done some)) (subst (Each R (map seen done ++ map seen some)) (sym front) together)
+
+  -- with the last of them all are put
+  pub all_chunks_put : (values done rest : List A) (at size : ℕ) (output : List ℕ) → length rest ≡ 0 → at + length rest * size ≡ length output → values ≡ done ++ rest → Each R (map seen done) (take at output) → Each R (map seen values) output
+  all_chunks_put values done [] at size output none ends is h =
+      let whole : take at output ≡ output = take_all at output (omega (arith, ends)) in
+      subst (λ (vs : List A). Each R (map seen vs) output) (sym (is ∙ append-nil done)) (subst (Each R (map seen done)) whole h)
+  all_chunks_put values done (x ∷ rest) at size output none ends is h = absurd (omega (arith, none))
+
+-- what is left of the output behind one more chunk
+pub chunk_ends : (at rest some more size bytes total : ℕ) → at + rest * size ≡ total → rest ≡ some + more → bytes ≡ some * size → (at + bytes) + more * size ≡ total
+chunk_ends at rest some more size bytes total ends parts taken =
+    let both = add-mul some more size in
+    let whole : rest * size ≡ (some + more) * size = ap (λ (n : ℕ). n * size) parts in
+    omega (arith, ends, both, whole, taken)

@@ -131,8 +131,38 @@ pub(crate) fn put_values_at<T: Layout, P: FixedBytes<T>>(
     ensures { PutsAt T.format T.seen values.now P.BYTES order at buffer.old result buffer.new }
 {
     let end = at + values.len() * P::BYTES;
-    put_values::<T, P>(values, order, &mut buffer[at..end]);
+    if order == Endianness::LittleEndian && P::BYTES <= 8 && values.len() >= LEAST_COPIED {
+        put_by_chunks::<T, P>(values, order, &mut buffer[at..end]);
+    } else {
+        put_values::<T, P>(values, order, &mut buffer[at..end]);
+    }
     end
+}
+
+/// So many values at least are put by chunks where their bytes are those in memory, as of numbers in the little order.
+const LEAST_COPIED: usize = 64;
+
+// Puts the bytes of the values through a chunk. Nothing else can lie in that, so a compiler sees where it copies memory,
+// and then copies it to the output at once.
+#[inline(always)]
+fn put_by_chunks<T: Layout, P: FixedBytes<T>>(values: &[T], order: Endianness, output: &mut [u8])
+    requires { length output.old ≡ length values.now * P.BYTES }
+    ensures { (encoding : Encoding) → order ≡ encoding.order →
+        Each (T.format encoding).writes (map T.seen values.now) output.new }
+{
+    P::has_few_bytes();
+    let mut chunk = [0; CHUNK];
+    let mut rest = values;
+    let mut at = 0;
+    while !rest.is_empty() {
+        let (some, more) = rest.split_at(rest.len().min(CHUNK / P::BYTES));
+        let bytes = &mut chunk[..some.len() * P::BYTES];
+        put_values::<T, P>(some, order, bytes);
+        let end = at + bytes.len();
+        output[at..end].copy_from_slice(bytes);
+        at = end;
+        rest = more;
+    }
 }
 
 // Writes the values, one after the other. It takes no memory.
