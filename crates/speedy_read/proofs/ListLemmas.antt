@@ -1,5 +1,5 @@
 -- Reads of items, one after another.
-use Rattle.std.specs.Prelude.{map, ◌≡◌, ℕ, ◌*◌, ◌-◌, ◌^◌, ◌<◌, List, [], ◌∷◌, ◌++◌, length, Bool, false, IsTrue, Result, Ok, Err, IsErrAnd, refl}
+use Rattle.std.specs.Prelude.{map, ◌≡◌, ℕ, ◌*◌, ◌-◌, ◌^◌, ◌<◌, List, [], ◌∷◌, ◌++◌, length, Bool, IsTrue, Result, Ok, Err, IsErrAnd, refl}
 use Rattle.std.proofs.Common.{sym, ◌∙◌, ap, subst, arith, inl, inr}
 use Rattle.std.proofs.lemmas.List.{map-append, append_assoc, append-nil}
 use Rattle.speedy_base.specs.declared.error.ErrorKind.TheVariants as kinds
