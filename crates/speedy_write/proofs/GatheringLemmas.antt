@@ -113,6 +113,14 @@ module _ {E : Type 0} {gives : Error → E → Type 0} where
           };
         }
 
+    -- it waits alone where what waited was pushed
+    pub waits_in_front : {t : SinkState} {x : List ℕ} → PushesWaiting gives (Ok tt) v w s t → x ≡ slice → WritesBytes gives slice (Ok tt) (sink_state encoding name s) (sink_state encoding name t) (λ b. Gathers s v b t x)
+    waits_in_front p is = waits_alone p (is ∙ sym (ap (λ (l : List ℕ). l ++ slice) p.none_left))
+
+    -- or it is pushed itself, and nothing waits
+    pub pushed_past : {t u : SinkState} {x : List ℕ} (result : Result (Unit {0}) E) → PushesWaiting gives (Ok tt) v w s t → PushesAll gives slice result t u → x ≡ [] → WritesBytes gives slice result (sink_state encoding name s) (sink_state encoding name u) (λ b. Gathers s v b u x)
+    pushed_past {u = u} result p q none = subst (λ (x : List ℕ). WritesBytes gives slice result (sink_state encoding name s) (sink_state encoding name u) (λ b. Gathers s v b u x)) (p.none_left ∙ sym none) (pushed_too result p q)
+
 -- ---- a value is written and what waits is pushed: so the sink took it
 
 -- what was taken of a beginning is one

@@ -1,5 +1,7 @@
 //! A writer to a sink that gathers short writes and pushes them together.
-ghost use Rattle.std.specs.Prelude.{◌≡◌, ◌+◌, ◌*◌, ◌≤◌, ◌↔◌, [], ◌++◌, length, None, IsTrue, OnOk, refl};
+ghost use Rattle.std.specs.Borrow.{GName};
+ghost use Rattle.std.specs.Prelude.{◌≡◌, ◌+◌, ◌*◌, ◌≤◌, ◌↔◌, [], ◌++◌, length, take, drop, None, IsTrue, OnOk, refl};
+ghost use Rattle.speedy_base.specs.Encoding.{Encoding};
 ghost use Rattle.speedy_write.specs.Collectors.{sink_state};
 ghost use Rattle.speedy_write.specs.FixedBytes.{PutsBehind};
 ghost use Rattle.speedy_write.specs.Writing.{WritesBytes, RefusesFull};
@@ -70,29 +72,126 @@ impl<'b> Waiting<'b> {
         self.end = put_values_at::<T, P>(values, order, &mut *self.room, self.end);
     }
 
-    // What waits.
+    // All the room.
     #[inline(always)]
-    fn bytes(&self) -> &[u8]
-        ensures { result.now ≡ waiting self.now }
+    fn all_room(&self) -> &[u8]
+        ensures { result.now ≡ self.now.room.now }
     {
-        &self.room[self.start..self.end]
+        &*self.room
     }
 
     // Pushes what waits. Where that succeeds, all room is free.
+    #[inline(always)]
     fn push_to<S: Sink, E: From<Error>>(&mut self, alloc: Global, sink: &mut S) -> Result<(), E>
         ensures pushes { PushesWaiting E.from_gives result (waiting self.old) (waiting self.new)
             (S.sink sink.old) (S.sink sink.new) }
         ensures room { OnOk result (self.new.end ≡ 0) }
     {
-        while self.start < self.end {
-            match sink.push(self.bytes()) {
-                Ok(count) => self.start += count,
-                Err(error) => return Err(error_of_failed_call(alloc, error)),
+        let (from, to) = (self.start, self.end);
+        let (start, outcome) = push_range(alloc, self.all_room(), from, to, sink);
+        match outcome {
+            Ok(()) => {
+                self.start = 0;
+                self.end = 0;
+                Ok(())
+            }
+            Err(error) => {
+                self.start = start;
+                Err(error)
             }
         }
-        self.start = 0;
-        self.end = 0;
-        Ok(())
+    }
+
+    // Writes bytes for which there is no room where others wait: these are pushed first.
+    #[inline(always)]
+    fn write_past<S: Sink, E: From<Error>>(
+        &mut self,
+        alloc: Global,
+        slice: &[u8],
+        sink: &mut S,
+    ) -> Result<(), E>
+        ensures { (encoding : Encoding) (name : GName) → WritesBytes E.from_gives slice.now result
+            (sink_state encoding name (S.sink sink.old)) (sink_state encoding name (S.sink sink.new))
+            (λ b. Gathers (S.sink sink.old) (waiting self.old) b (S.sink sink.new) (waiting self.new)) }
+    {
+        let (start, end, outcome) = push_past(
+            alloc,
+            &mut *self.room,
+            self.start,
+            self.end,
+            slice,
+            sink,
+        );
+        self.start = start;
+        self.end = end;
+        outcome
+    }
+}
+
+// What waits in a range of a room.
+#[inline(always)]
+fn waiting_in(room: &[u8], start: usize, end: usize) -> &[u8]
+    requires { (start ≤ end) × (end ≤ length room.now) }
+    ensures { result.now ≡ drop start (take end room.now) }
+{
+    &room[start..end]
+}
+
+// Pushes what waits in a range of a room, and says where the rest of it begins.
+//
+// The range goes in and out by value, here and below: a writer that lent its own could not be kept in registers.
+#[inline(never)]
+fn push_range<S: Sink, E: From<Error>>(
+    alloc: Global,
+    room: &[u8],
+    start: usize,
+    end: usize,
+    sink: &mut S,
+) -> (usize, Result<(), E>)
+    requires { (start ≤ end) × (end ≤ length room.now) }
+    ensures pushes { PushesWaiting E.from_gives result.1 (drop start (take end room.now))
+        (drop result.0 (take end room.now)) (S.sink sink.old) (S.sink sink.new) }
+    ensures range { result.0 ≤ end }
+{
+    let mut at = start;
+    while at < end {
+        match sink.push(waiting_in(room, at, end)) {
+            Ok(count) => at += count,
+            Err(error) => return (at, Err(error_of_failed_call(alloc, error))),
+        }
+    }
+    (at, Ok(()))
+}
+
+// Pushes what waits in a range of a room. Then it has other bytes wait, or pushes them where they have no room. It says
+// which range waits.
+#[inline(never)]
+fn push_past<S: Sink, E: From<Error>>(
+    alloc: Global,
+    room: &mut [u8],
+    start: usize,
+    end: usize,
+    slice: &[u8],
+    sink: &mut S,
+) -> (usize, usize, Result<(), E>)
+    requires { (start ≤ end) × (end ≤ length room.old) }
+    ensures writes { (encoding : Encoding) (name : GName) → WritesBytes E.from_gives slice.now result.2
+        (sink_state encoding name (S.sink sink.old)) (sink_state encoding name (S.sink sink.new))
+        (λ b. Gathers (S.sink sink.old) (drop start (take end room.old)) b
+        (S.sink sink.new) (drop result.0 (take result.1 room.new))) }
+    ensures range { (result.0 ≤ result.1) × (result.0 ≤ end) × (result.1 ≤ length room.new) }
+{
+    let count = slice.len();
+    let (rest, outcome) = push_range::<S, E>(alloc, &*room, start, end, &mut *sink);
+    match outcome {
+        Ok(()) => {
+            if count > room.len() {
+                return (0, 0, push_all(alloc, slice, sink));
+            }
+            room[..count].copy_from_slice(slice);
+            (0, count, Ok(()))
+        }
+        Err(error) => (rest, end, Err(error)),
     }
 }
 
@@ -146,7 +245,7 @@ impl<'s, S: Sink, C: Context> GatheringCollector<'s, S, C> {
     ghost use Rattle.speedy_write.specs.CollectorModels.{gathering_model};
 
     /// Pushes what waits. The error is that of a push that failed, which is not tried again.
-    #[inline]
+    #[inline(always)]
     pub fn push_waiting(&mut self) -> Result<(), C::Error>
         ensures pushes { PushesWaiting C.Error.from_gives result
             (gathering_model self.old).waits (gathering_model self.new).waits
@@ -157,19 +256,13 @@ impl<'s, S: Sink, C: Context> GatheringCollector<'s, S, C> {
     }
 
     // Writes bytes for which there is no room where others wait.
-    #[inline(never)]
+    #[inline(always)]
     fn write_past(&mut self, slice: &[u8]) -> Result<(), C::Error>
         ensures { let writer = ⟦<GatheringCollector<'s, S, C> as Writer<C>>⟧ in
             WritesBytes C.Error.from_gives slice.now result (writer.state self.old)
             (writer.state self.new) (λ b. writer.appends self.old b self.new) }
     {
-        self.waiting
-            .push_to::<S, C::Error>(self.alloc, &mut *self.sink)?;
-        if self.waiting.has_room(slice.len()) {
-            self.waiting.add(slice);
-            return Ok(());
-        }
-        push_all(self.alloc, slice, &mut *self.sink)
+        self.waiting.write_past(self.alloc, slice, &mut *self.sink)
     }
 }
 
