@@ -1,3 +1,4 @@
+pub mod ArrayLemmas
 pub mod CollectionLemmas
 pub mod CountLemmas
 pub mod FillLemmas

@@ -1,5 +1,5 @@
 //! How lists are written.
-ghost use Rattle.std.specs.Prelude.{◌<◌, map};
+ghost use Rattle.std.specs.Prelude.{◌≡◌, ◌<◌, length, map, All};
 ghost use Rattle.speedy_layout.specs.Lists.{list};
 ghost use Rattle.speedy_write.specs.Writing.{Writes};
 
@@ -45,6 +45,36 @@ impl<C: Context, T: Writable<C>, const N: usize> Writable<C> for [T; N] {
     #[inline]
     fn write_to<W: Writer<C>>(&self, writer: &mut W) -> Result<(), C::Error> {
         write_items(self.as_slice(), writer)
+    }
+
+    /// Writes the items of all the arrays together, where that is faster than one by one.
+    #[inline]
+    fn write_in_bulk<W: Writer<C>>(
+        items: &[[T; N]],
+        writer: &mut W,
+    ) -> Option<Result<(), C::Error>> {
+        // Items without bytes may be more than a `usize` counts.
+        items.len().checked_mul(N)?;
+        are_whole(items);
+        T::write_in_bulk(items.as_flattened(), writer)
+    }
+}
+
+// Shows that an array has as many items as its type says. It does nothing else.
+#[inline]
+fn is_whole<T, const N: usize>(array: &[T; N])
+    ensures { length array.now ≡ N }
+{
+    let _items = array.as_slice();
+}
+
+// Shows it of each of these. It does nothing else, so a compiler leaves the loop out.
+#[inline]
+fn are_whole<T, const N: usize>(arrays: &[[T; N]])
+    ensures { All (λ array. length array ≡ N) arrays.now }
+{
+    for array in arrays {
+        is_whole(array);
     }
 }
 
