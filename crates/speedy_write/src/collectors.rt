@@ -1,7 +1,7 @@
 //! The writers of the ways of writing: into a buffer, into a vector, into a sink, and one that only counts.
-ghost use Rattle.std.specs.Prelude.{◌≡◌, ◌+◌, ◌-◌, ◌^◌, ◌≤◌, ℕ, [], ◌∷◌, ◌++◌, length, vec_len, vec_capacity, Some, None, IsOk, IfErr, OnErr, IsSome, take, nat_le, refl};
+ghost use Rattle.std.specs.Prelude.{◌≡◌, ◌+◌, ◌-◌, ◌*◌, ◌^◌, ◌≤◌, ℕ, [], ◌∷◌, ◌++◌, length, vec_len, vec_capacity, Some, None, Ok, IsOk, IfErr, OnErr, IsSome, IsTrue, false, take, nat_le, refl};
 ghost use Rattle.speedy_base.specs.FailedCalls.{IsErrorOf, IsOfFailedCall};
-ghost use Rattle.speedy_write.specs.Writing.{WritesBytes, RefusesFull, CountsBytes};
+ghost use Rattle.speedy_write.specs.Writing.{WritesBytes, WritesEach, RefusesFull, CountsBytes, Fits};
 ghost use Rattle.speedy_write.specs.Pushing.{PushesAll};
 ghost use Rattle.speedy_write.specs.Collectors.{buffer_state, BufferAppends, size_state, SizeAppends, sink_state, Takes};
 ghost use Rattle.speedy_write.specs.CollectorLemmas.{buffer_nothing, buffer_additive, vec_nothing, vec_additive, size_nothing, size_additive, sink_nothing, sink_additive};
@@ -98,7 +98,14 @@ impl<'a, C: Context> Writer<C> for BufferCollector<'a, C> {
 
     /// Puts the values where they are to stand, if they fit.
     #[inline]
-    fn put_fixed<T: Layout, P: FixedBytes<T>>(&mut self, values: &[T]) -> bool {
+    fn put_fixed<T: Layout, P: FixedBytes<T>>(&mut self, values: &[T]) -> bool
+        ensures puts { let writer = ⟦<BufferCollector<'a, C> as Writer<C>>⟧ in
+            IsTrue result → WritesEach C.Error.from_gives T.format T.seen values.now (Ok tt)
+            (writer.state self.old) (writer.state self.new) (λ b. writer.appends self.old b self.new) }
+        ensures unchanged { result ≡ false → self.new ≡ self.old }
+        ensures fits { let writer = ⟦<BufferCollector<'a, C> as Writer<C>>⟧ in
+            Fits (length values.now * P.BYTES) (writer.state self.old).space → IsTrue result }
+    {
         P::has_few_bytes();
         let room = self.buffer.len() - self.position;
         if values.len() > room / P::BYTES {
@@ -213,9 +220,17 @@ impl<'a, C: Context> Writer<C> for VecCollector<'a, C> {
         Ok(())
     }
 
-    /// Puts the values where they are to stand, if they fit and are not too many to lay zeros for first.
+    /// Puts the values where they are to stand, if they fit and are not too many to lay zeros for first: at most 16 KiB.
     #[inline]
-    fn put_fixed<T: Layout, P: FixedBytes<T>>(&mut self, values: &[T]) -> bool {
+    fn put_fixed<T: Layout, P: FixedBytes<T>>(&mut self, values: &[T]) -> bool
+        ensures puts { let writer = ⟦<VecCollector<'a, C> as Writer<C>>⟧ in
+            IsTrue result → WritesEach C.Error.from_gives T.format T.seen values.now (Ok tt)
+            (writer.state self.old) (writer.state self.new) (λ b. writer.appends self.old b self.new) }
+        ensures unchanged { result ≡ false → self.new ≡ self.old }
+        ensures fits { let writer = ⟦<VecCollector<'a, C> as Writer<C>>⟧ in
+            length values.now * P.BYTES ≤ 16384 → Fits (length values.now * P.BYTES) (writer.state self.old).space
+            → IsTrue result }
+    {
         P::has_few_bytes();
         let room = (self.most - self.position).min(MOST_ZEROS);
         if values.len() > room / P::BYTES {

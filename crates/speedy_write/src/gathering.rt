@@ -1,10 +1,10 @@
 //! A writer to a sink that gathers short writes and pushes them together.
 ghost use Rattle.std.specs.Borrow.{GName};
-ghost use Rattle.std.specs.Prelude.{◌≡◌, ◌+◌, ◌*◌, ◌≤◌, ◌↔◌, [], ◌++◌, length, take, drop, None, IsTrue, OnOk, refl};
+ghost use Rattle.std.specs.Prelude.{◌≡◌, ◌+◌, ◌-◌, ◌*◌, ◌≤◌, ◌↔◌, [], ◌++◌, length, take, drop, None, Ok, IsTrue, false, OnOk, refl};
 ghost use Rattle.speedy_base.specs.Encoding.{Encoding};
 ghost use Rattle.speedy_write.specs.Collectors.{sink_state};
 ghost use Rattle.speedy_write.specs.FixedBytes.{PutsBehind};
-ghost use Rattle.speedy_write.specs.Writing.{WritesBytes, RefusesFull};
+ghost use Rattle.speedy_write.specs.Writing.{WritesBytes, WritesEach, RefusesFull};
 ghost use Rattle.speedy_write.specs.Gathering.{Gathers, PushesWaiting, gathers_nothing, gathers_additive};
 
 use crate::collectors::{error_of_failed_call, push_all};
@@ -307,7 +307,14 @@ impl<'s, S: Sink, C: Context> Writer<C> for GatheringCollector<'s, S, C> {
 
     /// Puts the values where others wait, if they have room there.
     #[inline]
-    fn put_fixed<T: Layout, P: FixedBytes<T>>(&mut self, values: &[T]) -> bool {
+    fn put_fixed<T: Layout, P: FixedBytes<T>>(&mut self, values: &[T]) -> bool
+        ensures puts { let writer = ⟦<GatheringCollector<'s, S, C> as Writer<C>>⟧ in
+            IsTrue result → WritesEach C.Error.from_gives T.format T.seen values.now (Ok tt)
+            (writer.state self.old) (writer.state self.new) (λ b. writer.appends self.old b self.new) }
+        ensures unchanged { result ≡ false → self.new ≡ self.old }
+        ensures fits { let held = self.old.waiting in
+            length values.now * P.BYTES ≤ length held.room.now - held.end → IsTrue result }
+    {
         P::has_few_bytes();
         let room = self.waiting.room.len() - self.waiting.end;
         if values.len() > room / P::BYTES {
