@@ -5,7 +5,7 @@ use crate::writer::Writer;
 use speedy_base::context::Context;
 
 impl<C: Context> Writable<C> for bool {
-    #[inline(always)]
+    #[inline]
     fn write_to<W: Writer<C>>(&self, writer: &mut W) -> Result<(), C::Error> {
         writer.write_u8(u8::from(*self))
     }

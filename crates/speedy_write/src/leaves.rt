@@ -8,7 +8,7 @@ use std::time::Duration;
 use uuid::Uuid;
 
 impl<C: Context> Writable<C> for char {
-    #[inline(always)]
+    #[inline]
     fn write_to<W: Writer<C>>(&self, writer: &mut W) -> Result<(), C::Error> {
         writer.write_u32(*self as u32)
     }
@@ -20,7 +20,7 @@ impl<C: Context> Writable<C> for char {
 }
 
 impl<C: Context> Writable<C> for Endianness {
-    #[inline(always)]
+    #[inline]
     fn write_to<W: Writer<C>>(&self, writer: &mut W) -> Result<(), C::Error> {
         let number = match *self {
             Endianness::LittleEndian => 0,
@@ -46,7 +46,7 @@ impl<C: Context> Writable<C> for Duration {
 }
 
 impl<C: Context> Writable<C> for Uuid {
-    #[inline(always)]
+    #[inline]
     fn write_to<W: Writer<C>>(&self, writer: &mut W) -> Result<(), C::Error> {
         let bytes = self.into_bytes();
         writer.write_bytes(&bytes)

@@ -7,56 +7,56 @@ use std::num::{
 };
 
 impl<C: Context> Writable<C> for NonZeroU8 {
-    #[inline(always)]
+    #[inline]
     fn write_to<W: Writer<C>>(&self, writer: &mut W) -> Result<(), C::Error> {
         writer.write_u8(self.get())
     }
 }
 
 impl<C: Context> Writable<C> for NonZeroU16 {
-    #[inline(always)]
+    #[inline]
     fn write_to<W: Writer<C>>(&self, writer: &mut W) -> Result<(), C::Error> {
         writer.write_u16(self.get())
     }
 }
 
 impl<C: Context> Writable<C> for NonZeroU32 {
-    #[inline(always)]
+    #[inline]
     fn write_to<W: Writer<C>>(&self, writer: &mut W) -> Result<(), C::Error> {
         writer.write_u32(self.get())
     }
 }
 
 impl<C: Context> Writable<C> for NonZeroU64 {
-    #[inline(always)]
+    #[inline]
     fn write_to<W: Writer<C>>(&self, writer: &mut W) -> Result<(), C::Error> {
         writer.write_u64(self.get())
     }
 }
 
 impl<C: Context> Writable<C> for NonZeroI8 {
-    #[inline(always)]
+    #[inline]
     fn write_to<W: Writer<C>>(&self, writer: &mut W) -> Result<(), C::Error> {
         writer.write_i8(self.get())
     }
 }
 
 impl<C: Context> Writable<C> for NonZeroI16 {
-    #[inline(always)]
+    #[inline]
     fn write_to<W: Writer<C>>(&self, writer: &mut W) -> Result<(), C::Error> {
         writer.write_i16(self.get())
     }
 }
 
 impl<C: Context> Writable<C> for NonZeroI32 {
-    #[inline(always)]
+    #[inline]
     fn write_to<W: Writer<C>>(&self, writer: &mut W) -> Result<(), C::Error> {
         writer.write_i32(self.get())
     }
 }
 
 impl<C: Context> Writable<C> for NonZeroI64 {
-    #[inline(always)]
+    #[inline]
     fn write_to<W: Writer<C>>(&self, writer: &mut W) -> Result<(), C::Error> {
         writer.write_i64(self.get())
     }

@@ -7,7 +7,7 @@ use crate::writer::Writer;
 use speedy_base::context::Context;
 
 impl<C: Context> Writable<C> for u8 {
-    #[inline(always)]
+    #[inline]
     fn write_to<W: Writer<C>>(&self, writer: &mut W) -> Result<(), C::Error> {
         writer.write_u8(*self)
     }
@@ -20,7 +20,7 @@ impl<C: Context> Writable<C> for u8 {
 }
 
 impl<C: Context> Writable<C> for u16 {
-    #[inline(always)]
+    #[inline]
     fn write_to<W: Writer<C>>(&self, writer: &mut W) -> Result<(), C::Error> {
         writer.write_u16(*self)
     }
@@ -32,7 +32,7 @@ impl<C: Context> Writable<C> for u16 {
 }
 
 impl<C: Context> Writable<C> for u32 {
-    #[inline(always)]
+    #[inline]
     fn write_to<W: Writer<C>>(&self, writer: &mut W) -> Result<(), C::Error> {
         writer.write_u32(*self)
     }
@@ -44,7 +44,7 @@ impl<C: Context> Writable<C> for u32 {
 }
 
 impl<C: Context> Writable<C> for u64 {
-    #[inline(always)]
+    #[inline]
     fn write_to<W: Writer<C>>(&self, writer: &mut W) -> Result<(), C::Error> {
         writer.write_u64(*self)
     }
@@ -56,7 +56,7 @@ impl<C: Context> Writable<C> for u64 {
 }
 
 impl<C: Context> Writable<C> for u128 {
-    #[inline(always)]
+    #[inline]
     fn write_to<W: Writer<C>>(&self, writer: &mut W) -> Result<(), C::Error> {
         writer.write_u128(*self)
     }
@@ -68,7 +68,7 @@ impl<C: Context> Writable<C> for u128 {
 }
 
 impl<C: Context> Writable<C> for i8 {
-    #[inline(always)]
+    #[inline]
     fn write_to<W: Writer<C>>(&self, writer: &mut W) -> Result<(), C::Error> {
         writer.write_i8(*self)
     }
@@ -80,7 +80,7 @@ impl<C: Context> Writable<C> for i8 {
 }
 
 impl<C: Context> Writable<C> for i16 {
-    #[inline(always)]
+    #[inline]
     fn write_to<W: Writer<C>>(&self, writer: &mut W) -> Result<(), C::Error> {
         writer.write_i16(*self)
     }
@@ -92,7 +92,7 @@ impl<C: Context> Writable<C> for i16 {
 }
 
 impl<C: Context> Writable<C> for i32 {
-    #[inline(always)]
+    #[inline]
     fn write_to<W: Writer<C>>(&self, writer: &mut W) -> Result<(), C::Error> {
         writer.write_i32(*self)
     }
@@ -104,7 +104,7 @@ impl<C: Context> Writable<C> for i32 {
 }
 
 impl<C: Context> Writable<C> for i64 {
-    #[inline(always)]
+    #[inline]
     fn write_to<W: Writer<C>>(&self, writer: &mut W) -> Result<(), C::Error> {
         writer.write_i64(*self)
     }
@@ -116,7 +116,7 @@ impl<C: Context> Writable<C> for i64 {
 }
 
 impl<C: Context> Writable<C> for i128 {
-    #[inline(always)]
+    #[inline]
     fn write_to<W: Writer<C>>(&self, writer: &mut W) -> Result<(), C::Error> {
         writer.write_i128(*self)
     }
@@ -128,7 +128,7 @@ impl<C: Context> Writable<C> for i128 {
 }
 
 impl<C: Context> Writable<C> for usize {
-    #[inline(always)]
+    #[inline]
     fn write_to<W: Writer<C>>(&self, writer: &mut W) -> Result<(), C::Error> {
         writer.write_u64(*self as u64)
     }

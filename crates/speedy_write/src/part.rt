@@ -23,7 +23,7 @@ impl<'t, T: Layout> Layout for Part<'t, T> {
 }
 
 impl<'t, C: Context, T: Writable<C>> Writable<C> for Part<'t, T> {
-    #[inline(always)]
+    #[inline]
     fn write_to<W: Writer<C>>(&self, writer: &mut W) -> Result<(), C::Error> {
         writer.write_value(self.0)
     }

@@ -104,7 +104,7 @@ pub trait Writer<C: Context> {
     }
 
     /// Writes a byte.
-    #[inline(always)]
+    #[inline]
     final fn write_u8(&mut self, value: u8) -> Result<(), C::Error>
         ensures writes { WritesNumber C.Error.from_gives 1 value result
             (state self.old) (state self.new) (λ b. appends self.old b self.new) }
@@ -114,7 +114,7 @@ pub trait Writer<C: Context> {
     }
 
     /// Writes two bytes, in the context's order.
-    #[inline(always)]
+    #[inline]
     final fn write_u16(&mut self, value: u16) -> Result<(), C::Error>
         ensures writes { WritesNumber C.Error.from_gives 2 value result
             (state self.old) (state self.new) (λ b. appends self.old b self.new) }
@@ -125,7 +125,7 @@ pub trait Writer<C: Context> {
     }
 
     /// Writes four bytes, in the context's order.
-    #[inline(always)]
+    #[inline]
     final fn write_u32(&mut self, value: u32) -> Result<(), C::Error>
         ensures writes { WritesNumber C.Error.from_gives 4 value result
             (state self.old) (state self.new) (λ b. appends self.old b self.new) }
@@ -151,7 +151,7 @@ pub trait Writer<C: Context> {
     }
 
     /// Writes eight bytes, in the context's order.
-    #[inline(always)]
+    #[inline]
     final fn write_u64(&mut self, value: u64) -> Result<(), C::Error>
         ensures writes { WritesNumber C.Error.from_gives 8 value result
             (state self.old) (state self.new) (λ b. appends self.old b self.new) }
@@ -162,7 +162,7 @@ pub trait Writer<C: Context> {
     }
 
     /// Writes sixteen bytes, in the context's order.
-    #[inline(always)]
+    #[inline]
     final fn write_u128(&mut self, value: u128) -> Result<(), C::Error>
         ensures writes { WritesNumber C.Error.from_gives 16 value result
             (state self.old) (state self.new) (λ b. appends self.old b self.new) }
@@ -173,7 +173,7 @@ pub trait Writer<C: Context> {
     }
 
     /// Writes a signed number as a byte.
-    #[inline(always)]
+    #[inline]
     final fn write_i8(&mut self, value: i8) -> Result<(), C::Error>
         ensures writes { WritesSigned C.Error.from_gives w8 value result
             (state self.old) (state self.new) (λ b. appends self.old b self.new) }
@@ -183,7 +183,7 @@ pub trait Writer<C: Context> {
     }
 
     /// Writes a signed number as two bytes, in the context's order.
-    #[inline(always)]
+    #[inline]
     final fn write_i16(&mut self, value: i16) -> Result<(), C::Error>
         ensures writes { WritesSigned C.Error.from_gives w16 value result
             (state self.old) (state self.new) (λ b. appends self.old b self.new) }
@@ -193,7 +193,7 @@ pub trait Writer<C: Context> {
     }
 
     /// Writes a signed number as four bytes, in the context's order.
-    #[inline(always)]
+    #[inline]
     final fn write_i32(&mut self, value: i32) -> Result<(), C::Error>
         ensures writes { WritesSigned C.Error.from_gives w32 value result
             (state self.old) (state self.new) (λ b. appends self.old b self.new) }
@@ -203,7 +203,7 @@ pub trait Writer<C: Context> {
     }
 
     /// Writes a signed number as eight bytes, in the context's order.
-    #[inline(always)]
+    #[inline]
     final fn write_i64(&mut self, value: i64) -> Result<(), C::Error>
         ensures writes { WritesSigned C.Error.from_gives w64 value result
             (state self.old) (state self.new) (λ b. appends self.old b self.new) }
@@ -213,7 +213,7 @@ pub trait Writer<C: Context> {
     }
 
     /// Writes a signed number as sixteen bytes, in the context's order.
-    #[inline(always)]
+    #[inline]
     final fn write_i128(&mut self, value: i128) -> Result<(), C::Error>
         ensures writes { WritesSigned C.Error.from_gives w128 value result
             (state self.old) (state self.new) (λ b. appends self.old b self.new) }
@@ -223,7 +223,7 @@ pub trait Writer<C: Context> {
     }
 
     /// Writes a value.
-    #[inline(always)]
+    #[inline]
     final fn write_value<T: Writable<C>>(&mut self, item: &T) -> Result<(), C::Error>
     where
         Self: Sized,
