@@ -7,7 +7,9 @@ use crate::laws::{written_is_answered, written_is_read, written_items_are_read};
 use crate::private::ErrorKind;
 use crate::readable::BufferReader;
 use crate::writable::BufferCollector;
-use crate::{Context, Endianness, Layout, LendingReader, Readable, Writable, Writer};
+use crate::{
+    Context, Endianness, Layout, LendingReader, ReadFrom, ReadMany, Readable, Writable, Writer,
+};
 use std::alloc::Global;
 
 /// Reads what was written, as by another program. Its only error is out of memory.
@@ -26,7 +28,7 @@ fn read_written<'a, C: Context, T: Readable<'a, C>>(
 }
 
 /// Reads a value that was written to the beginning, and says how many bytes are left.
-fn read_front<'a, C: Context, T: Readable<'a, C>>(
+fn read_front<'a, C: Context, T: ReadFrom<&'a [u8], C>>(
     alloc: Global,
     context: C,
     bytes: &'a [u8],
@@ -45,7 +47,7 @@ fn read_front<'a, C: Context, T: Readable<'a, C>>(
 }
 
 /// Writes items one after the other to the beginning of a buffer, and reads them back by their number.
-fn slice_again<'a, C: Context + Copy, T: Writable<C> + Readable<'a, C>>(
+fn slice_again<'a, C: Context + Copy, T: Writable<C> + ReadMany<&'a [u8], C>>(
     alloc: Global,
     context: C,
     items: &[T],

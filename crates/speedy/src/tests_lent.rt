@@ -1,5 +1,5 @@
 //! What is lent: borrowed values and cows, and readers that copy.
-use crate::asserting::{assert_bytes, assert_ok, assert_ok_items, assert_refused, assert_same};
+use crate::asserting::{assert_bytes, assert_ok, assert_refused, assert_same};
 use crate::context::LittleEndian;
 use crate::endianness::Endianness;
 use crate::error::Error;
@@ -18,13 +18,6 @@ fn a_text_is_not_borrowed_where_nothing_is_lent(rt: HostRuntime) {
     let alloc = rt.alloc();
     let outcome = <&str as Readable<LittleEndian>>::read_from_buffer_copying_data(alloc, &HI);
     assert_refused(&rt, alloc, outcome, "Unsized");
-    let outcome = <&str as Readable<LittleEndian>>::read_from_buffer_copying_data(alloc, &[]);
-    assert_refused(
-        &rt,
-        alloc,
-        outcome,
-        "InputBufferIsTooSmall { actual_size: 0, expected_size: 4 }",
-    );
 }
 
 /// Asserts that it borrows the bytes or not.
@@ -35,18 +28,17 @@ fn assert_borrows(rt: &impl Abort, cow: CowSlice<'_, u8>, bytes: &[u8], borrows:
 
 #[test]
 fn cows_borrow_bytes_where_they_are_lent(rt: HostRuntime) {
-    let alloc = rt.alloc();
-    let outcome = <CowSlice<u8> as Readable<LittleEndian>>::read_from_buffer(alloc, &HI);
-    assert_borrows(&rt, outcome.expect(&rt, "a cow"), &[72, 105], true);
+    let mut reader = BufferReader::new(rt.alloc(), LittleEndian {}, &HI);
+    let cow = reader.read_value().expect(&rt, "a cow");
+    assert_borrows(&rt, cow, &[72, 105], true);
 }
 
 #[test]
 fn cows_own_bytes_where_they_are_copied(rt: HostRuntime) {
-    let alloc = rt.alloc();
-    let outcome = <CowSlice<u8> as Readable<LittleEndian>>::read_from_buffer_copying_data(
-        alloc, &HI,
-    );
-    assert_borrows(&rt, outcome.expect(&rt, "a cow"), &[72, 105], false);
+    let mut context = LittleEndian {};
+    let mut reader = CopyingBufferReader::new(rt.alloc(), &mut context, &HI);
+    let cow = reader.read_value().expect(&rt, "a cow");
+    assert_borrows(&rt, cow, &[72, 105], false);
 }
 
 /// Asserts that the reader has these two numbers, and a byte after them.
@@ -87,12 +79,17 @@ fn assert_hi(rt: &impl Abort, outcome: Result<CowStr<'_>, Error>, borrows: bool)
 #[test]
 fn cows_of_texts(rt: HostRuntime) {
     let alloc = rt.alloc();
-    let outcome = <CowStr as Readable<LittleEndian>>::read_from_buffer(alloc, &HI);
-    assert_hi(&rt, outcome, true);
-    let outcome = <CowStr as Readable<LittleEndian>>::read_from_buffer_copying_data(alloc, &HI);
-    assert_hi(&rt, outcome, false);
+    let mut reader = BufferReader::new(alloc, LittleEndian {}, &HI);
+    assert_hi(&rt, reader.read_value(), true);
+    let mut context = LittleEndian {};
+    let mut reader = CopyingBufferReader::new(alloc, &mut context, &HI);
+    assert_hi(&rt, reader.read_value(), false);
+}
+
+#[test]
+fn a_cow_that_is_no_text_is_refused(rt: HostRuntime) {
     let outcome: Result<CowStr, Error> = cow_bytes_to_cow_str(CowSlice::Borrowed(&[255]));
-    assert_refused(&rt, alloc, outcome, "InvalidUtf8");
+    assert_refused(&rt, rt.alloc(), outcome, "InvalidUtf8");
 }
 
 /// Asserts that the reader lends all that is left, and then nothing.
@@ -123,8 +120,6 @@ fn a_buffer_lends_its_bytes(rt: HostRuntime) {
 fn a_copying_reader_lends_until_its_next_use(rt: HostRuntime) {
     let mut order = Endianness::BigEndian;
     let mut reader = CopyingBufferReader::new(rt.alloc(), &mut order, &[0, 1, 2, 3, 4]);
-    assert!(rt; reader.read_bytes_borrowed(2).is_none());
-    assert!(rt; reader.read_bytes_borrowed_until_eof().is_none());
     let lent = reader
         .read_bytes_borrowed_from_reader(1)
         .expect(&rt, "it lends");
@@ -135,61 +130,43 @@ fn a_copying_reader_lends_until_its_next_use(rt: HostRuntime) {
     assert!(rt; lent.is_err());
     assert_ok(&rt, reader.read_u16(), 0x0102);
     assert_same(&rt, reader.finish(), 2);
-    assert_same(&rt, order, Endianness::BigEndian);
+}
+
+#[test]
+fn a_copying_reader_lends_nothing_for_longer(rt: HostRuntime) {
+    let mut order = Endianness::BigEndian;
+    let mut reader = CopyingBufferReader::new(rt.alloc(), &mut order, &[0, 1, 2, 3, 4]);
+    assert!(rt; reader.read_bytes_borrowed(2).is_none());
+    assert!(rt; reader.read_bytes_borrowed_until_eof().is_none());
+    assert_same(&rt, reader.finish(), 5);
+}
+
+/// Asserts that the value is read of any buffer, of so many bytes at the front.
+fn assert_read_owned<T: ReadableOwned<LittleEndian> + PartialEq>(
+    rt: &impl Abort,
+    alloc: Global,
+    value: &T,
+    bytes: &[u8],
+    count: usize,
+) {
+    let read = T::read_owned(alloc, bytes).expect(rt, "a value");
+    assert!(rt; read == *value);
+    let (outcome, length) = T::read_owned_with_length_with_ctx(alloc, LittleEndian {}, bytes);
+    assert!(rt; outcome.expect(rt, "a value") == *value);
+    assert_same(rt, length, count);
 }
 
 #[test]
 fn owned_values_are_read_from_any_buffer(rt: HostRuntime) {
-    let alloc = rt.alloc();
-    let text = <String as ReadableOwned<LittleEndian>>::read_owned(alloc, &HI);
-    assert_same(&rt, text.expect(&rt, "a text").as_str(), "Hi");
-    let big = Endianness::BigEndian;
-    let (outcome, count) = <u16 as ReadableOwned<Endianness>>::read_owned_with_length_with_ctx(
-        alloc,
-        big,
-        &[1, 2, 3],
-    );
-    assert_ok(&rt, outcome, 0x0102);
-    assert_same(&rt, count, 2);
+    assert_read_owned::<u16>(&rt, rt.alloc(), &0x0201, &[1, 2, 3], 2);
 }
 
 #[test]
 fn owned_values_are_read_from_any_reader(rt: HostRuntime) {
     let mut order = Endianness::BigEndian;
-    let mut reader = CopyingBufferReader::new(rt.alloc(), &mut order, &[1, 2, 0, 0, 0, 1, 7]);
+    let mut reader = CopyingBufferReader::new(rt.alloc(), &mut order, &[1, 2]);
     let number: Result<u16, Error> = reader.read_owned_value();
     assert_ok(&rt, number, 0x0102);
-    let numbers: Result<Vec<u8>, Error> = reader.read_owned_value();
-    assert_ok_items(&rt, numbers, &[7]);
     assert_same(&rt, reader.finish(), 0);
-}
-
-#[test]
-fn the_ways_that_copy_answer_alike(rt: HostRuntime) {
-    let alloc = rt.alloc();
-    let bytes = [1, 2, 3];
-    let (outcome, count) = <u16 as Readable<
-        LittleEndian,
-    >>::read_with_length_from_buffer_copying_data(alloc, &bytes);
-    assert_ok(&rt, outcome, 0x0201);
-    assert_same(&rt, count, 2);
-    let big = Endianness::BigEndian;
-    let outcome = u16::read_from_buffer_copying_data_with_ctx(alloc, big, &bytes);
-    assert_ok(&rt, outcome, 0x0102);
-    let (outcome, count) = u16::read_with_length_from_buffer_copying_data_with_ctx(
-        alloc, big, &bytes,
-    );
-    assert_ok(&rt, outcome, 0x0102);
-    assert_same(&rt, count, 2);
-}
-
-#[test]
-fn a_lent_context_keeps_its_order(rt: HostRuntime) {
-    let mut order = Endianness::BigEndian;
-    let (outcome, count) = <u16 as Readable<
-        Endianness,
-    >>::read_with_length_from_buffer_copying_data_with_ctx_mut(rt.alloc(), &mut order, &[1, 2, 3]);
-    assert_ok(&rt, outcome, 0x0102);
-    assert_same(&rt, count, 2);
     assert_same(&rt, order, Endianness::BigEndian);
 }

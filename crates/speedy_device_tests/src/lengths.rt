@@ -255,10 +255,10 @@ fn lengths_are_the_same_where_they_are_equal(rt: HostRuntime) {
     assert!(rt; are_lengths_the_same(65535, &65535_u16));
 }
 
-/// Peeks at a number of each type, and then reads one.
-struct PeekNumbers {}
+/// Peeks at an unsigned number of each width but the widest, and then reads one.
+struct PeekUnsigned {}
 
-impl Probe for PeekNumbers {
+impl Probe for PeekUnsigned {
     fn read<L: AsSlice<u8> + Drop, R: LendingReader<L, Endianness>>(
         &self,
         rt: &impl Abort,
@@ -266,17 +266,29 @@ impl Probe for PeekNumbers {
         reader: &mut R,
     ) {
         assert_ok(rt, reader.peek_u8(), 0xff);
-        assert_ok(rt, reader.peek_i8(), -1);
         assert_ok(rt, reader.peek_u16(), 0xfffe);
-        assert_ok(rt, reader.peek_i16(), -2);
         assert_ok(rt, reader.peek_u32(), 0xfffe_fdfc);
-        assert_ok(rt, reader.peek_i32(), -66052);
         assert_ok(rt, reader.peek_u64(), 0xfffe_fdfc_fbfa_f9f8);
-        assert_ok(rt, reader.peek_i64(), -283_686_952_306_184);
-        assert_refused(rt, alloc, reader.peek_u128(), "UnexpectedEndOfInput");
-        assert_refused(rt, alloc, reader.peek_i128(), "UnexpectedEndOfInput");
         assert_ok(rt, reader.read_u64(), 0xfffe_fdfc_fbfa_f9f8);
         assert_refused(rt, alloc, reader.peek_u8(), "UnexpectedEndOfInput");
+    }
+}
+
+/// Peeks at a signed number of each width but the widest, and then reads one.
+struct PeekSigned {}
+
+impl Probe for PeekSigned {
+    fn read<L: AsSlice<u8> + Drop, R: LendingReader<L, Endianness>>(
+        &self,
+        rt: &impl Abort,
+        _alloc: Global,
+        reader: &mut R,
+    ) {
+        assert_ok(rt, reader.peek_i8(), -1);
+        assert_ok(rt, reader.peek_i16(), -2);
+        assert_ok(rt, reader.peek_i32(), -66052);
+        assert_ok(rt, reader.peek_i64(), -283_686_952_306_184);
+        assert_ok(rt, reader.read_i64(), -283_686_952_306_184);
     }
 }
 
@@ -317,7 +329,8 @@ fn a_peek_answers_what_the_next_read_does(rt: HostRuntime) {
     let alloc = rt.alloc();
     let big = Endianness::BigEndian;
     let bytes = [0xff, 0xfe, 0xfd, 0xfc, 0xfb, 0xfa, 0xf9, 0xf8];
-    read_by_each(&rt, alloc, big, &bytes, &PeekNumbers {});
+    read_by_each(&rt, alloc, big, &bytes, &PeekUnsigned {});
+    read_by_each(&rt, alloc, big, &bytes, &PeekSigned {});
     let mut wide = [255; 16];
     wide[15] = 254;
     read_by_each(&rt, alloc, big, &wide, &PeekWide {});

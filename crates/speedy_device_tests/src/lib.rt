@@ -9,8 +9,6 @@ mod devices;
 #[cfg(test)]
 mod failing;
 #[cfg(test)]
-mod faults;
-#[cfg(test)]
 mod lengths;
 #[cfg(test)]
 mod probes;

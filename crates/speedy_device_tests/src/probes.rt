@@ -1,5 +1,5 @@
 //! The same bytes read by each reader.
-use crate::streams::make_pieces;
+use crate::failing::make_pieces;
 use speedy::endianness::Endianness;
 use speedy::readable::{BufferReader, CopyingBufferReader, StreamReader};
 use speedy::reader::LendingReader;
@@ -34,7 +34,7 @@ pub(crate) fn read_by_each(
         &mut CopyingBufferReader::new(alloc, &mut held, bytes),
     );
     for is_buffering in [false, true] {
-        let mut source = make_pieces(bytes, 1, None);
+        let mut source = make_pieces(bytes, 1);
         let reader = StreamReader::new(alloc, order, &mut source, is_buffering);
         probe.read(rt, alloc, &mut reader.expect(rt, "a reader"));
     }

@@ -14,12 +14,11 @@ use speedy::writable::{Writable, WritingCollector};
 use speedy::writer::Writer;
 use std::alloc::Global;
 use std::process::Abort;
-use std::rt::Files;
 use std::{fs, io};
 
 /// Asserts that in the order the value is pushed as the bytes, to a sink that takes all it is given and to one that
 /// takes a byte a push.
-fn assert_pushed_in<T: Writable<Endianness>>(
+fn assert_pushed<T: Writable<Endianness>>(
     rt: &impl Abort,
     alloc: Global,
     order: Endianness,
@@ -39,7 +38,7 @@ fn assert_pushed_in<T: Writable<Endianness>>(
 
 /// Asserts that in the order, where one call of the flushing form fails with the kind, its error is answered, the bytes
 /// before it were taken, and no call comes after it. It pushes a byte a call, and then flushes.
-fn assert_cut_off_in<T: Writable<Endianness>>(
+fn assert_cut_off<T: Writable<Endianness>>(
     rt: &impl Abort,
     alloc: Global,
     order: Endianness,
@@ -57,32 +56,19 @@ fn assert_cut_off_in<T: Writable<Endianness>>(
     }
 }
 
-/// Asserts that in both orders the value is pushed as the bytes, as far as no call fails.
-pub(crate) fn assert_pushed<T: Writable<Endianness>>(
-    rt: &impl Abort,
-    alloc: Global,
-    value: &T,
-    little: &[u8],
-    big: &[u8],
-) {
-    for (order, bytes) in [
-        (Endianness::LittleEndian, little),
-        (Endianness::BigEndian, big),
-    ] {
-        assert_pushed_in(rt, alloc, order, value, bytes);
-        for kind in KINDS {
-            assert_cut_off_in(rt, alloc, order, value, bytes, kind);
-        }
-    }
-}
-
 #[test]
-fn a_vector_is_pushed(rt: HostRuntime) {
+fn a_vector_is_pushed_as_far_as_no_call_fails(rt: HostRuntime) {
     let alloc = rt.alloc();
     let numbers = vec![in alloc; 1_u16, 2].expect(&rt, "a vector");
-    let little = [2, 0, 0, 0, 1, 0, 2, 0];
-    let big = [0, 0, 0, 2, 0, 1, 0, 2];
-    assert_pushed(&rt, alloc, &numbers, &little, &big);
+    for (order, bytes) in [
+        (Endianness::LittleEndian, [2, 0, 0, 0, 1, 0, 2, 0]),
+        (Endianness::BigEndian, [0, 0, 0, 2, 0, 1, 0, 2]),
+    ] {
+        assert_pushed(&rt, alloc, order, &numbers, &bytes);
+        for kind in KINDS {
+            assert_cut_off(&rt, alloc, order, &numbers, &bytes, kind);
+        }
+    }
 }
 
 /// A sink that takes all that it is given and forgets it. It counts its pushes and its flushes.
@@ -204,38 +190,23 @@ fn a_collector_gives_its_sink_back(rt: HostRuntime) {
 
 const PATH: &str = "speedy_tests_sinks.bin";
 
-/// Asserts that the file holds these bytes.
-fn assert_file<R: Files + AllocGlobal + Abort>(rt: &R, path: &str, bytes: &[u8]) {
-    let kept = fs::read(rt, path).expect(rt, "a file");
-    assert_bytes(rt, kept.as_slice(), bytes);
-}
-
 #[test]
 fn a_file_is_emptied_and_written(rt: HostRuntime) {
     let alloc = rt.alloc();
-    let numbers = vec![in alloc; 1_u16, 2].expect(&rt, "a vector");
-    let outcome = numbers.write_to_file_with_ctx(&rt, alloc, Endianness::BigEndian, PATH);
+    // longer than the room before the file
+    let long = vec![in alloc; 7_u8; 20_000].expect(&rt, "a vector");
+    let outcome = long.write_to_file_with_ctx(&rt, alloc, Endianness::BigEndian, PATH);
     assert_ok(&rt, outcome, ());
-    assert_file(&rt, PATH, &[0, 0, 0, 2, 0, 1, 0, 2]);
+    let kept = fs::read(&rt, PATH).expect(&rt, "a file");
+    assert_same(&rt, kept.len(), 20_004);
+    assert!(rt; kept.starts_with(&[0, 0, 0x4e, 0x20, 7]) && kept.ends_with(&[7, 7]));
     let outcome = Writable::<LittleEndian>::write_to_file(&2_u16, &rt, alloc, PATH);
     assert_ok(&rt, outcome, ());
-    assert_file(&rt, PATH, &[2, 0]);
+    let kept = fs::read(&rt, PATH).expect(&rt, "a file");
+    assert_bytes(&rt, kept.as_slice(), &[2, 0]);
     let outcome = u16::read_from_file_with_ctx(&rt, alloc, Endianness::BigEndian, PATH);
     assert_ok(&rt, outcome, 0x0200);
     fs::remove_file(&rt, PATH).expect(&rt, "it is removed");
-}
-
-#[test]
-fn a_file_may_be_longer_than_the_room_before_it(rt: HostRuntime) {
-    let alloc = rt.alloc();
-    let path = "speedy_tests_sinks_long.bin";
-    let bytes = vec![in alloc; 7_u8; 20_000].expect(&rt, "a vector");
-    let outcome = bytes.write_to_file_with_ctx(&rt, alloc, Endianness::BigEndian, path);
-    assert_ok(&rt, outcome, ());
-    let kept = fs::read(&rt, path).expect(&rt, "a file");
-    assert_same(&rt, kept.len(), 20_004);
-    assert_same(&rt, kept.starts_with(&[0, 0, 0x4e, 0x20, 7]), true);
-    fs::remove_file(&rt, path).expect(&rt, "it is removed");
 }
 
 #[test]
