@@ -161,7 +161,7 @@ where
 }
 
 /// Asserts that under the context the value is written as all but the last of the bytes, in each way of writing.
-fn assert_written_under<C: Context + Copy, T: Writable<C>>(
+fn assert_written<C: Context + Copy, T: Writable<C>>(
     rt: &impl Abort,
     alloc: Global,
     context: C,
@@ -228,68 +228,9 @@ where
     assert_same(rt, count, spelling_of(rt, followed).len());
 }
 
-/// Asserts that under the context what was read is written as all but the last of the bytes.
-fn assert_written_again<C: Context + Copy, T: Writable<C> + Drop>(
-    rt: &impl Abort,
-    alloc: Global,
-    context: C,
-    outcome: Result<T, C::Error>,
-    followed: &[u8],
-)
-where
-    C::Error: Debug,
-{
-    let read = outcome.expect(rt, "a value");
-    assert_written_under(rt, alloc, context, &read, followed);
-}
-
-/// Asserts that under the context all but the last of the bytes encode the value, and that they are what is written of
-/// what was read.
-fn assert_encoding_under<'a, C, T>(
-    rt: &impl Abort,
-    alloc: Global,
-    context: C,
-    value: &T,
-    followed: &'a [u8],
-)
-where
-    C: Context + Copy,
-    C::Error: Debug,
-    T: Readable<'a, C> + Writable<C> + PartialEq,
-{
-    assert_written_under(rt, alloc, context, value, followed);
-    assert_read(rt, alloc, context, value, followed);
-    assert_copied(rt, alloc, context, value, followed);
-    let outcome = T::read_from_buffer_with_ctx(alloc, context, followed);
-    assert_written_again(rt, alloc, context, outcome, followed);
-}
-
-/// Asserts that a byte less than the encoding is refused with the kind that it should be.
-fn assert_shorter_refused_by_kind<'a, T: Readable<'a, Endianness>>(
-    rt: &impl Abort,
-    alloc: Global,
-    order: Endianness,
-    followed: &'a [u8],
-    least: usize,
-) {
-    let Some((_, shorter)) = spelling_of(rt, followed).split_last() else {
-        return;
-    };
-    let outcome = T::read_from_buffer_with_ctx(alloc, order, shorter);
-    let count = shorter.len();
-    if least <= count {
-        assert_refused(rt, alloc, outcome, "UnexpectedEndOfInput");
-        return;
-    }
-    let kind = format!(in alloc;
-        "InputBufferIsTooSmall {{ actual_size: {count}, expected_size: {least} }}"
-    );
-    assert_refused(rt, alloc, outcome, kind.expect(rt, "a kind").as_str());
-}
-
-/// Asserts that each value and its bytes in the little and in the big order belong together, in each way of writing
-/// and of reading. The byte behind an encoding is not taken. No encoding is shorter than the least size, and one byte
-/// less is refused.
+/// Asserts that each value and its bytes in the little and in the big order belong together, in each way of writing to
+/// memory and of reading from it. The byte behind an encoding is not taken. The type borrows nothing, and no encoding is
+/// shorter than the least size.
 pub(crate) fn assert_encoding<'a, T>(
     rt: &impl Abort,
     alloc: Global,
@@ -301,8 +242,8 @@ where
 {
     assert_same(rt, T::minimum_bytes_needed(), least);
     for (value, little, big) in rows {
-        assert_encoding_in(rt, alloc, Endianness::LittleEndian, least, value, little);
-        assert_encoding_in(rt, alloc, Endianness::BigEndian, least, value, big);
+        assert_encoding_in(rt, alloc, Endianness::LittleEndian, value, little);
+        assert_encoding_in(rt, alloc, Endianness::BigEndian, value, big);
     }
 }
 
@@ -311,13 +252,13 @@ fn assert_encoding_in<'a, T>(
     rt: &impl Abort,
     alloc: Global,
     order: Endianness,
-    least: usize,
     value: &T,
     followed: &'a [u8],
 )
 where
     T: Readable<'a, Endianness> + Writable<Endianness> + PartialEq,
 {
-    assert_encoding_under(rt, alloc, order, value, followed);
-    assert_shorter_refused_by_kind::<T>(rt, alloc, order, followed, least);
+    assert_written(rt, alloc, order, value, followed);
+    assert_read(rt, alloc, order, value, followed);
+    assert_copied(rt, alloc, order, value, followed);
 }

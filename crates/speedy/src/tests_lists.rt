@@ -53,7 +53,7 @@ fn assert_wide_written(rt: &impl Abort, alloc: Global, order: Endianness, count:
     let mut sink = VecSink::new(alloc);
     let outcome = numbers.write_to_stream_with_ctx(alloc, order, &mut sink);
     assert_ok(rt, outcome, ());
-    assert_bytes(rt, sink.bytes(), bytes.as_slice());
+    assert_bytes(rt, sink.into_bytes().as_slice(), bytes.as_slice());
 }
 
 /// Asserts that so many numbers are read of a buffer, and of a source with and without reading ahead.

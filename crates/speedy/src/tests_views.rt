@@ -61,8 +61,6 @@ fn assert_array_shows<T: ViewItem + PartialEq + Debug, const N: usize>(
 
 #[test]
 fn views_show_what_their_bytes_spell(rt: HostRuntime) {
-    let view: SliceView<u16> = SliceView::over(&[1, 2, 3, 4]);
-    assert_shows(&rt, &view, &[513, 1027]);
     let view: SliceView<u8> = SliceView::over(&[1, 2, 255]);
     assert_shows(&rt, &view, &[1, 2, 255]);
     let view: SliceView<i8> = SliceView::over(&[255, 128]);
