@@ -4,12 +4,11 @@ use crate::probes::{Probe, read_by_each};
 use speedy::endianness::Endianness;
 use speedy::error::{Error, IsEof};
 use speedy::private::{
-    are_lengths_the_same, read_constant, read_length, read_length_u7, read_length_u8,
-    read_length_u16, read_length_u32, read_length_u64, read_length_u64_varint, write_length,
-    write_length_u7, write_length_u8, write_length_u16, write_length_u32, write_length_u64,
-    write_length_u64_varint,
+    ErrorKind, are_lengths_the_same, get_error_kind, read_constant, read_length, read_length_u7,
+    read_length_u8, read_length_u16, read_length_u32, read_length_u64, read_length_u64_varint,
+    write_length, write_length_u7, write_length_u8, write_length_u16, write_length_u32,
+    write_length_u64, write_length_u64_varint,
 };
-use speedy::readable::BufferReader;
 use speedy::reader::LendingReader;
 use speedy::writable::BufferCollector;
 use speedy::writer::Writer;
@@ -167,6 +166,15 @@ enum Answer {
     Ends,
 }
 
+/// Asserts that the outcome is an error that names the constant.
+fn assert_expected(rt: &impl Abort, outcome: Result<(), Error>, expected: &[u8]) {
+    let error = outcome.err().expect(rt, "it is another constant");
+    match get_error_kind(&error) {
+        ErrorKind::ExpectedConstant { constant } => assert_bytes(rt, constant, expected),
+        _ => assert!(rt; false, "another error"),
+    }
+}
+
 /// Reads a constant and, where it is there, the byte behind it.
 #[derive(Drop)]
 struct ReadConstant {
@@ -178,7 +186,7 @@ impl Probe for ReadConstant {
     fn read<L: AsSlice<u8> + Drop, R: LendingReader<L, Endianness>>(
         &self,
         rt: &impl Abort,
-        alloc: Global,
+        _alloc: Global,
         reader: &mut R,
     ) {
         let outcome = read_constant(reader, self.constant);
@@ -187,10 +195,7 @@ impl Probe for ReadConstant {
                 assert_ok(rt, outcome, ());
                 assert_ok(rt, reader.read_u8(), 68);
             }
-            Answer::Differs => {
-                let kind = "ExpectedConstant { constant: [65, 66, 67] }";
-                assert_refused(rt, alloc, outcome, kind);
-            }
+            Answer::Differs => assert_expected(rt, outcome, self.constant),
             Answer::Ends => assert_end(rt, outcome),
         }
     }
@@ -216,34 +221,18 @@ fn constants_are_read_as_they_are(rt: HostRuntime) {
     }
 }
 
-/// Asserts that the bytes, from a buffer, are refused as the constant with the kind.
-fn assert_no_constant(
-    rt: &impl Abort,
-    alloc: Global,
-    constant: &'static [u8],
-    bytes: &[u8],
-    kind: &str,
-) {
-    let mut reader = BufferReader::new(alloc, Endianness::LittleEndian, bytes);
-    let outcome: Result<(), Error> = read_constant(&mut reader, constant);
-    assert_refused(rt, alloc, outcome, kind);
-}
-
 #[test]
 fn a_long_constant_is_compared_to_its_end(rt: HostRuntime) {
-    let alloc = rt.alloc();
     let mut bytes = [7; 71];
-    bytes[70] = 68;
-    let probe = ReadConstant {
-        constant: &LONG,
-        answer: Answer::There,
-    };
-    read_by_each(&rt, alloc, Endianness::LittleEndian, &bytes, &probe);
-    bytes[69] = 8;
-    let kind = format!(in alloc; "ExpectedConstant {{ constant: {LONG:?} }}");
-    let kind = kind.expect(&rt, "a text");
-    assert_no_constant(&rt, alloc, &LONG, &bytes, kind.as_str());
-    assert_no_constant(&rt, alloc, &[65, 66, 67], &[65, 66], "UnexpectedEndOfInput");
+    for (last, answer) in [(7, Answer::There), (8, Answer::Differs)] {
+        bytes[69] = last;
+        bytes[70] = 68;
+        let probe = ReadConstant {
+            constant: &LONG,
+            answer,
+        };
+        read_by_each(&rt, rt.alloc(), Endianness::LittleEndian, &bytes, &probe);
+    }
 }
 
 #[test]

@@ -4,7 +4,7 @@ use crate::probes::{Probe, read_by_each};
 use speedy::context::StrictLittleEndian;
 use speedy::endianness::Endianness;
 use speedy::error::Error;
-use speedy::private::{VarInt64, get_error_kind, read_length_u64_varint};
+use speedy::private::{VarInt64, get_error_kind};
 use speedy::readable::{BufferReader, StreamReader};
 use speedy::reader::LendingReader;
 use std::alloc::Global;
@@ -138,9 +138,6 @@ fn a_cow_of_the_rest_is_owned(rt: HostRuntime) {
 #[test]
 fn a_demand_holds_until_the_end(rt: HostRuntime) {
     let alloc = rt.alloc();
-    let mut reader = BufferReader::new(alloc, StrictLittleEndian {}, &[0x80, 0x05]);
-    let outcome = read_length_u64_varint(&mut reader);
-    assert_refused(&rt, alloc, outcome, "NotWrittenForm");
     let mut reader = BufferReader::new(alloc, StrictLittleEndian {}, &[5, 0x80, 5]);
     let outcome = reader.read_vec_until_eof::<VarInt64>(4);
     assert_refused(&rt, alloc, outcome, "NotWrittenForm");
