@@ -7,6 +7,7 @@ use crate::devices::{FakeFiles, FileCall, FileCalls, KINDS};
 use crate::failing::{Failing, make_pieces};
 use speedy::context::LittleEndian;
 use speedy::device::Source;
+use speedy::endianness::Endianness;
 use speedy::error::{Error, IsEof};
 use speedy::readable::{Readable, StreamReader};
 use speedy::reader::LendingReader;
@@ -43,12 +44,12 @@ fn a_buffered_reader_keeps_what_it_read_ahead(rt: HostRuntime) {
 
 #[test]
 fn a_buffered_form_reads_ahead(rt: HostRuntime) {
-    let mut source: &[u8] = &[2, 0, 3, 0];
-    let outcome = <u16 as Readable<LittleEndian>>::read_from_stream_buffered(
-        rt.alloc(),
-        &mut source,
-    );
+    let order = Endianness::BigEndian;
+    let mut source: &[u8] = &[0, 2, 0, 3, 0, 4];
+    let outcome = u16::read_from_stream_unbuffered_with_ctx(rt.alloc(), order, &mut source);
     assert_ok(&rt, outcome, 2);
+    let outcome = u16::read_from_stream_buffered_with_ctx(rt.alloc(), order, &mut source);
+    assert_ok(&rt, outcome, 3);
     assert_bytes(&rt, source, &[]);
 }
 
