@@ -13,6 +13,7 @@ use speedy::readable::{Readable, StreamReader};
 use speedy::reader::LendingReader;
 use std::alloc::Global;
 use std::collections::BTreeSet;
+use std::convert::AsSlice;
 use std::process::Abort;
 use std::rt::Files;
 use std::{fs, io};
@@ -231,8 +232,8 @@ const WAYS: [Way; 9] = [
 const THREE: [u8; 4] = [0xC0, 0x02, 0x01, 9];
 
 /// The error of reading the three bytes in this way.
-fn error_of(
-    reader: &mut StreamReader<'_, Failing<&[u8]>, LittleEndian>,
+fn error_of<L: AsSlice<u8> + Drop, R: LendingReader<L, LittleEndian>>(
+    reader: &mut R,
     way: Way,
 ) -> Option<Error> {
     match way {
@@ -248,6 +249,18 @@ fn error_of(
     }
 }
 
+/// Asserts that reading the three bytes in this way answers the error of a failed pull, which is no end.
+fn assert_failed_pull<L: AsSlice<u8> + Drop, R: LendingReader<L, LittleEndian>>(
+    rt: &impl Abort,
+    reader: &mut R,
+    way: Way,
+    kind: io::ErrorKind,
+) {
+    let error = error_of(reader, way).expect(rt, "a pull failed");
+    assert_same(rt, device_kind(&error), Some(kind));
+    assert_same(rt, error.is_eof(), false);
+}
+
 /// Asserts that where a pull fails, whichever of the three it is, its error is what the reading answers, and no pull
 /// comes after it.
 fn assert_cut_off(
@@ -260,9 +273,7 @@ fn assert_cut_off(
     for pulls in 1..4 {
         let mut source = Failing::new(&THREE[..], 1, pulls, kind);
         let mut reader = make_reader(rt, alloc, &mut source, is_buffering);
-        let error = error_of(&mut reader, way).expect(rt, "a pull failed");
-        assert_same(rt, device_kind(&error), Some(kind));
-        assert_same(rt, error.is_eof(), false);
+        assert_failed_pull(rt, &mut reader, way, kind);
         let calls = reader.into_source().calls();
         assert!(rt; calls == pulls, "{way:?} after {pulls} pulls");
     }
