@@ -1,8 +1,10 @@
 //! Lists of numbers, which are read and written in bulk, beside those of a type that goes item by item.
 use crate::plain16::Plain16;
 use speedy::device::VecSink;
-use speedy::{Endianness, Readable, Writable};
+use speedy::readable::{BufferReader, CopyingBufferReader, StreamReader};
+use speedy::{Endianness, LendingReader, Writable};
 use std::alloc::Global;
+use std::convert::AsSlice;
 use std::process::Abort;
 
 /// So many numbers, each with other digits, and the same as items of the plain type.
@@ -18,15 +20,14 @@ fn make_both(rt: &impl Abort, alloc: Global, count: usize) -> (Vec<u16>, Vec<Pla
     (numbers, plain)
 }
 
-/// Whether the numbers are those of the plain items.
-fn are_same(numbers: &[u16], plain: &[Plain16]) -> bool {
-    numbers.len() == plain.len() && numbers.iter().zip(plain.iter()).all(|(a, b)| *a == b.0)
-}
-
-/// Asserts that so many numbers are written as the plain items are, and that what is read of the bytes in each way is
-/// the same.
-fn assert_alike(rt: &impl Abort, alloc: Global, order: Endianness, count: usize) {
-    let (numbers, plain) = make_both(rt, alloc, count);
+/// Asserts that so many numbers are written as the plain items are, to a vector and to a sink, and answers the bytes.
+fn write_alike(
+    rt: &impl Abort,
+    alloc: Global,
+    order: Endianness,
+    numbers: &Vec<u16>,
+    plain: &Vec<Plain16>,
+) -> Vec<u8> {
     let bytes = plain
         .write_to_vec_with_ctx(alloc, order)
         .expect(rt, "a vector");
@@ -38,19 +39,60 @@ fn assert_alike(rt: &impl Abort, alloc: Global, order: Endianness, count: usize)
     let outcome = numbers.write_to_stream_with_ctx(alloc, order, &mut sink);
     assert!(rt; outcome.is_ok());
     assert!(rt; sink.into_bytes() == bytes);
-    let read = Vec::<u16>::read_from_buffer_with_ctx(alloc, order, bytes.as_slice());
-    assert!(rt; are_same(read.expect(rt, "a vector").as_slice(), plain.as_slice()));
-    let read = Vec::<u16>::read_from_buffer_copying_data_with_ctx(alloc, order, bytes.as_slice());
-    assert!(rt; are_same(read.expect(rt, "a vector").as_slice(), plain.as_slice()));
-    let mut source = bytes.as_slice();
-    let read = Vec::<u16>::read_from_stream_unbuffered_with_ctx(alloc, order, &mut source);
-    assert!(rt; are_same(read.expect(rt, "a vector").as_slice(), plain.as_slice()));
-    let mut source = bytes.as_slice();
-    let read = Vec::<Plain16>::read_from_stream_buffered_with_ctx(alloc, order, &mut source);
-    assert!(rt; read.expect(rt, "a vector") == plain);
-    let mut source = bytes.as_slice();
-    let read = Vec::<u16>::read_from_stream_buffered_with_ctx(alloc, order, &mut source);
-    assert!(rt; are_same(read.expect(rt, "a vector").as_slice(), plain.as_slice()));
+    bytes
+}
+
+/// Asserts that the reader has these numbers.
+fn assert_numbers<L: AsSlice<u8> + Drop>(
+    rt: &impl Abort,
+    reader: &mut impl LendingReader<L, Endianness>,
+    numbers: &Vec<u16>,
+) {
+    let read: Vec<u16> = reader.read_value().expect(rt, "a vector");
+    assert!(rt; read == *numbers);
+}
+
+/// Asserts that the numbers and the plain items are read of a buffer.
+fn assert_read(
+    rt: &impl Abort,
+    alloc: Global,
+    order: Endianness,
+    bytes: &[u8],
+    numbers: &Vec<u16>,
+    plain: &Vec<Plain16>,
+) {
+    assert_numbers(rt, &mut BufferReader::new(alloc, order, bytes), numbers);
+    let mut held = order;
+    let mut reader = CopyingBufferReader::new(alloc, &mut held, bytes);
+    assert_numbers(rt, &mut reader, numbers);
+    let mut reader = BufferReader::new(alloc, order, bytes);
+    let read: Vec<Plain16> = reader.read_value().expect(rt, "a vector");
+    assert!(rt; read == *plain);
+}
+
+/// Asserts that the numbers are read of a source, with or without reading ahead.
+fn assert_streamed(
+    rt: &impl Abort,
+    alloc: Global,
+    order: Endianness,
+    bytes: &[u8],
+    numbers: &Vec<u16>,
+    is_buffering: bool,
+) {
+    let mut source = bytes;
+    let reader = StreamReader::new(alloc, order, &mut source, is_buffering);
+    let mut reader = reader.expect(rt, "a reader");
+    assert_numbers(rt, &mut reader, numbers);
+}
+
+/// Asserts that so many numbers are written as the plain items are, and that what is read of the bytes by each reader is
+/// the same.
+fn assert_alike(rt: &impl Abort, alloc: Global, order: Endianness, count: usize) {
+    let (numbers, plain) = make_both(rt, alloc, count);
+    let bytes = write_alike(rt, alloc, order, &numbers, &plain);
+    assert_read(rt, alloc, order, bytes.as_slice(), &numbers, &plain);
+    assert_streamed(rt, alloc, order, bytes.as_slice(), &numbers, false);
+    assert_streamed(rt, alloc, order, bytes.as_slice(), &numbers, true);
 }
 
 #[test]

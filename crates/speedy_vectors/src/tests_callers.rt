@@ -4,8 +4,8 @@ use crate::callers::own_types::{Entry, Labelled, Mark};
 use crate::callers::{headers, memory, readme, streams};
 use crate::frame::Frame;
 use speedy::private::get_error_kind;
-use speedy::readable::BufferReader;
-use speedy::{Endianness, Error, IsEof, LendingReader, LittleEndian, Readable, Reader, Writable};
+use speedy::readable::{BufferReader, CopyingBufferReader};
+use speedy::{Endianness, Error, IsEof, LendingReader, LittleEndian, Reader, Writable};
 use std::alloc::Global;
 use std::borrow::CowSlice;
 use std::process::Abort;
@@ -136,17 +136,14 @@ fn items_of_no_size_are_read_one_by_one(rt: HostRuntime) {
 fn a_record_points_into_what_it_is_read_from(rt: HostRuntime) {
     let alloc = rt.alloc();
     let bytes = [2, 0, 0, 0, b'H', b'i', 3, 0, 0, 0, 7, 8, 9, 1];
-    let (outcome, count) = <Entry as Readable<LittleEndian>>::read_with_length_from_buffer(
-        alloc, &bytes,
-    );
-    let entry = outcome.expect(&rt, "an entry");
-    assert!(rt; entry.name == "Hi" && count == 13);
+    let mut reader = BufferReader::new(alloc, LittleEndian {}, &bytes);
+    let entry: Entry = reader.read_value().expect(&rt, "an entry");
+    assert!(rt; entry.name == "Hi" && reader.len() == 1);
     assert!(rt; entry.content.as_slice() == [7, 8, 9].as_slice());
     assert!(rt; matches!(entry.content, CowSlice::Borrowed(_)));
-    let outcome = <Entry as Readable<LittleEndian>>::read_from_buffer(alloc, &bytes[..12]);
-    assert_refused(&rt, alloc, outcome, "UnexpectedEndOfInput");
-    let outcome = <Entry as Readable<LittleEndian>>::read_from_buffer_copying_data(alloc, &bytes);
-    assert_refused(&rt, alloc, outcome, "Unsized");
+    let mut context = LittleEndian {};
+    let mut reader = CopyingBufferReader::new(alloc, &mut context, &bytes);
+    assert_refused(&rt, alloc, reader.read_value::<Entry>(), "Unsized");
 }
 
 #[test]
@@ -158,12 +155,18 @@ fn a_header_is_read_as_it_was_written(rt: HostRuntime) {
     };
     let bytes = Writable::<LittleEndian>::write_to_vec(&header, alloc).expect(&rt, "bytes");
     assert!(rt; bytes.as_slice() == [b'R', b'E', b'C', b'1', 2, 0, 0x81, 0x2c].as_slice());
-    let again = <Header as Readable<LittleEndian>>::read_from_buffer(alloc, &bytes);
-    assert!(rt; again.expect(&rt, "a header") == header);
-    let other = [b'R', b'E', b'C', b'2', 2, 0, 5];
-    let outcome = <Header as Readable<LittleEndian>>::read_from_buffer(alloc, &other);
+    let mut reader = BufferReader::new(alloc, LittleEndian {}, &bytes);
+    let again: Header = reader.read_value().expect(&rt, "a header");
+    assert!(rt; again == header);
+}
+
+#[test]
+fn another_magic_number_is_refused(rt: HostRuntime) {
+    let bytes = [b'R', b'E', b'C', b'2', 2, 0, 5];
+    let mut reader = BufferReader::new(rt.alloc(), LittleEndian {}, &bytes);
+    let outcome = reader.read_value::<Header>();
     let kind = "ExpectedConstant { constant: [82, 69, 67, 49] }";
-    assert_refused(&rt, alloc, outcome, kind);
+    assert_refused(&rt, rt.alloc(), outcome, kind);
 }
 
 #[test]

@@ -7,10 +7,16 @@ use crate::enums::Enum;
 use crate::record::Record;
 use crate::tests_callers::assert_refused;
 use speedy::one_of::OneOf8;
-use speedy::{Error, LittleEndian, Readable, Writable};
+use speedy::readable::{BufferReader, CopyingBufferReader, StreamReader};
+use speedy::{Error, LendingReader, LittleEndian, Writable};
 use std::alloc::Global;
 use std::borrow::CowSlice;
 use std::process::Abort;
+
+/// A reader of the bytes.
+fn make_reader(alloc: Global, bytes: &[u8]) -> BufferReader<'_, LittleEndian> {
+    BufferReader::new(alloc, LittleEndian {}, bytes)
+}
 
 /// The record of the original's README, as it encodes it.
 const RECORD: &'static [u8] =
@@ -46,11 +52,10 @@ fn a_struct_is_a_tuple_of_its_parts(rt: HostRuntime) {
     let bytes = Writable::<LittleEndian>::write_to_vec(&contact, alloc).expect(&rt, "bytes");
     let expected = b"\x02\0\0\0Al\x03\0\0\0a@b\x01\0\0\0\x07\0";
     assert!(rt; bytes.as_slice() == expected.as_slice());
-    let again = <Contact as Readable<LittleEndian>>::read_from_buffer(alloc, &bytes);
-    assert!(rt; again.expect(&rt, "a contact") == contact);
-    let outcome = <Contact as Readable<LittleEndian>>::read_from_buffer(alloc, &bytes[..11]);
-    let kind = "InputBufferIsTooSmall { actual_size: 11, expected_size: 12 }";
-    assert_refused(&rt, alloc, outcome, kind);
+    let again: Contact = make_reader(alloc, &bytes)
+        .read_value()
+        .expect(&rt, "a contact");
+    assert!(rt; again == contact);
 }
 
 #[test]
@@ -58,8 +63,7 @@ fn a_struct_may_hold_a_map_and_a_set(rt: HostRuntime) {
     let alloc = rt.alloc();
     // Of two pairs with one key the second counts, and a map is written with each key once.
     let bytes = b"\x02\0\0\0\x01\0\0\0a\x07\0\0\0\x01\0\0\0a\x08\0\0\0\x01\0\0\0\x09\0\0\0";
-    let read = <Directory as Readable<LittleEndian>>::read_from_buffer(alloc, bytes);
-    let directory = read.expect(&rt, "a directory");
+    let directory: Directory = make_reader(alloc, bytes).read_value().expect(&rt, "it");
     assert!(rt; directory.numbers.len() == 1 && directory.marked.contains(&9));
     let again = Writable::<LittleEndian>::write_to_vec(&directory, alloc).expect(&rt, "bytes");
     let expected = b"\x01\0\0\0\x01\0\0\0a\x08\0\0\0\x01\0\0\0\x09\0\0\0";
@@ -69,13 +73,21 @@ fn a_struct_may_hold_a_map_and_a_set(rt: HostRuntime) {
 #[test]
 fn tags_may_be_numbers_of_ones_own(rt: HostRuntime) {
     let alloc = rt.alloc();
-    let read = <Colour as Readable<LittleEndian>>::read_from_buffer(alloc, &[5]);
-    assert!(rt; read.expect(&rt, "a colour") == Colour::Green);
-    let outcome = <Colour as Readable<LittleEndian>>::read_from_buffer(alloc, &[2]);
+    let colour: Colour = make_reader(alloc, &[5])
+        .read_value()
+        .expect(&rt, "a colour");
+    assert!(rt; colour == Colour::Green);
+    let outcome = make_reader(alloc, &[2]).read_value::<Colour>();
     assert_refused(&rt, alloc, outcome, "InvalidEnumVariant");
+}
+
+#[test]
+fn parts_may_stand_behind_tags_of_ones_own(rt: HostRuntime) {
+    let alloc = rt.alloc();
     let bytes = b"\x09\x02\0\0\0Hi\x07\0\0\0";
-    let read = <Packet as Readable<LittleEndian>>::read_from_buffer(alloc, bytes);
-    let packet = read.expect(&rt, "a packet");
+    let packet: Packet = make_reader(alloc, bytes)
+        .read_value()
+        .expect(&rt, "a packet");
     assert!(rt; packet == Packet::Named(String::from_str(alloc, "Hi").expect(&rt, "a text"), 7));
     let again = Writable::<LittleEndian>::write_to_vec(&packet, alloc).expect(&rt, "bytes");
     assert!(rt; again.as_slice() == bytes.as_slice());
@@ -100,8 +112,9 @@ fn the_number_of_one_of_eight_is_its_place(rt: HostRuntime) {
     let alloc = rt.alloc();
     for place in 0..8_u8 {
         let bytes = [place, 0, 0, 0];
-        let value = OneOf8::read_from_buffer_with_ctx(alloc, LittleEndian {}, &bytes);
-        let value = value.expect(&rt, "a value");
+        let value = make_reader(alloc, &bytes)
+            .read_value()
+            .expect(&rt, "a value");
         assert!(rt; place_of(&value) == place);
         let written = value.write_to_vec_with_ctx(alloc, LittleEndian {});
         assert!(rt; written.expect(&rt, "bytes").as_slice() == bytes.as_slice());
@@ -109,19 +122,21 @@ fn the_number_of_one_of_eight_is_its_place(rt: HostRuntime) {
 }
 
 #[test]
-fn the_record_of_the_original_is_read_in_each_way(rt: HostRuntime) {
+fn the_record_of_the_original_is_read_of_a_buffer(rt: HostRuntime) {
     let alloc = rt.alloc();
-    let outcome = <Record as Readable<LittleEndian>>::read_from_buffer(alloc, RECORD);
-    assert_record(&rt, alloc, outcome);
-    let outcome = <Record as Readable<LittleEndian>>::read_from_buffer_copying_data(alloc, RECORD);
-    assert_record(&rt, alloc, outcome);
-    let mut source = RECORD;
-    let outcome = <Record as Readable<LittleEndian>>::read_from_stream_unbuffered(
-        alloc,
-        &mut source,
-    );
-    assert_record(&rt, alloc, outcome);
-    let mut source = RECORD;
-    let outcome = <Record as Readable<LittleEndian>>::read_from_stream_buffered(alloc, &mut source);
-    assert_record(&rt, alloc, outcome);
+    assert_record(&rt, alloc, make_reader(alloc, RECORD).read_value());
+    let mut context = LittleEndian {};
+    let mut reader = CopyingBufferReader::new(alloc, &mut context, RECORD);
+    assert_record(&rt, alloc, reader.read_value());
+}
+
+#[test]
+fn the_record_of_the_original_is_read_of_a_stream(rt: HostRuntime) {
+    let alloc = rt.alloc();
+    for is_buffering in [false, true] {
+        let mut source = RECORD;
+        let reader = StreamReader::new(alloc, LittleEndian {}, &mut source, is_buffering);
+        let mut reader = reader.expect(&rt, "a reader");
+        assert_record(&rt, alloc, reader.read_value());
+    }
 }
