@@ -21,6 +21,14 @@ fn arrays_of_texts_lie_text_after_text(rt: HostRuntime) {
 }
 
 #[test]
+fn arrays_in_a_list_lie_one_after_another(rt: HostRuntime) {
+    let arrays = [[1_u16, 2], [3, 4]];
+    let list = arrays.as_slice();
+    let written = list.write_to_vec_with_ctx(rt.alloc(), Endianness::BigEndian);
+    assert_ok_items(&rt, written, &[0, 0, 0, 2, 0, 1, 0, 2, 0, 3, 0, 4]);
+}
+
+#[test]
 fn slices_and_borrowed_texts_are_written_after_their_counts(rt: HostRuntime) {
     let order = Endianness::BigEndian;
     let items = [10_u8, 11];
