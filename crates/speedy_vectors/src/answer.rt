@@ -10,7 +10,7 @@ use crate::by_name::answer_by_name;
 use crate::line::{Line, LineOrder, parse_line};
 use speedy::private::{ErrorKind, get_error_kind};
 use speedy::{
-    BigEndian, Context, Error, LittleEndian, Readable, StrictBigEndian, StrictLittleEndian,
+    BigEndian, Buffer, Context, Error, LittleEndian, ReadFrom, StrictBigEndian, StrictLittleEndian,
     Writable,
 };
 use std::alloc::{AllocError, Global};
@@ -110,15 +110,15 @@ fn refused_answer(alloc: Global, kind: &ErrorKind) -> Result<Vec<u8>, AllocError
 }
 
 /// What bytes are answered, read as values of a type. Its only error is out of memory.
-pub(crate) fn answer_as<'a, T: Readable<'a, C> + Writable<C>, C: Context<Error = Error> + Copy>(
-    alloc: Global,
-    context: C,
-    bytes: &'a [u8],
-) -> Result<Vec<u8>, AllocError>
+pub(crate) fn answer_as<
+    'a,
+    T: ReadFrom<&'a [u8], C> + Writable<C>,
+    C: Context<Error = Error> + Copy,
+>(alloc: Global, context: C, bytes: &'a [u8]) -> Result<Vec<u8>, AllocError>
     ensures { let format = T.format (C.encoding context) in
         IfOk result (λ text. AnswersBytes T.least format bytes.now text.items) }
 {
-    let (result, count) = T::read_with_length_from_buffer_with_ctx(alloc, context, bytes);
+    let (result, count) = bytes.read_with_length::<T>(alloc, context);
     match result {
         Ok(value) => match value.write_to_vec_with_ctx(alloc, context) {
             Ok(written) => ok_answer(alloc, count, &written),
