@@ -60,15 +60,13 @@ impl<C: Context, T: Writable<C>, const N: usize> Writable<C> for [T; N] {
     }
 }
 
-// Shows that an array has as many items as its type says. It does nothing else.
+// Shows that an array has as many items as its type says. It does nothing.
 #[inline]
-fn is_whole<T, const N: usize>(array: &[T; N])
-    ensures { length array.now ≡ N }
-{
-    let _items = array.as_slice();
-}
+fn is_whole<T, const N: usize>(_array: &[T; N])
+    ensures { length _array.now ≡ N }
+{}
 
-// Shows it of each of these. It does nothing else, so a compiler leaves the loop out.
+// Shows it of each of these. A compiler leaves the loop out.
 #[inline]
 fn are_whole<T, const N: usize>(arrays: &[[T; N]])
     ensures { All (λ array. length array ≡ N) arrays.now }
