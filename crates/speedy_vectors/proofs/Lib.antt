@@ -2,6 +2,5 @@ pub mod LineLemmas
 pub mod SplitLemmas
 pub mod AnswerLemmas
 pub mod RunLemmas
-pub mod StreamLemmas
 pub mod TreeLemmas
 pub mod DepthLemmas

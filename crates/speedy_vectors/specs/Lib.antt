@@ -4,4 +4,3 @@ pub mod Line
 pub mod Answer
 pub mod Run
 pub mod Trees
-pub mod Packets

@@ -9,7 +9,6 @@
 
 pub mod answer;
 mod by_name;
-pub mod callers;
 pub mod enums;
 pub mod frame;
 pub mod line;
@@ -23,8 +22,6 @@ mod split;
 mod tests;
 #[cfg(test)]
 mod tests_bulk;
-#[cfg(test)]
-mod tests_callers;
 #[cfg(test)]
 mod tests_own_types;
 #[cfg(test)]

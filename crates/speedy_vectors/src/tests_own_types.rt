@@ -1,21 +1,25 @@
-//! Types of one's own: bytes that come from outside, and each way of reading them. What is refused, and what enums are
+//! Types of the program: bytes that come from outside, and each way of reading them. What is refused, and what enums are
 //! written as, are lines of the tests of rows.
-use crate::callers::own_maps::Directory;
-use crate::callers::own_numbers::{Colour, Packet};
-use crate::callers::own_struct::Contact;
 use crate::enums::Enum;
+use crate::frame::Frame;
 use crate::record::Record;
-use crate::tests_callers::assert_refused;
-use speedy::one_of::OneOf8;
+use speedy::private::get_error_kind;
 use speedy::readable::{BufferReader, CopyingBufferReader, StreamReader};
-use speedy::{Error, LendingReader, LittleEndian, Writable};
+use speedy::{Endianness, Error, LendingReader, LittleEndian, Writable};
 use std::alloc::Global;
 use std::borrow::CowSlice;
 use std::process::Abort;
 
-/// A reader of the bytes.
-fn make_reader(alloc: Global, bytes: &[u8]) -> BufferReader<'_, LittleEndian> {
-    BufferReader::new(alloc, LittleEndian {}, bytes)
+/// Asserts that the outcome is an error of the kind, as `Debug` prints it.
+pub(crate) fn assert_refused<T: Drop>(
+    rt: &impl Abort,
+    alloc: Global,
+    outcome: Result<T, Error>,
+    kind: &str,
+) {
+    let error = outcome.err().expect(rt, "it is refused");
+    let printed = format!(in alloc; "{:?}", get_error_kind(&error)).expect(rt, "its kind");
+    assert!(rt; printed.as_str() == kind, "{printed}");
 }
 
 /// The record of the original's README, as it encodes it.
@@ -42,89 +46,10 @@ fn assert_record(rt: &impl Abort, alloc: Global, outcome: Result<Record<'_>, Err
 }
 
 #[test]
-fn a_struct_is_a_tuple_of_its_parts(rt: HostRuntime) {
-    let alloc = rt.alloc();
-    let contact = Contact {
-        name: String::from_str(alloc, "Al").expect(&rt, "a text"),
-        mail: String::from_str(alloc, "a@b").expect(&rt, "a text"),
-        groups: vec![in alloc; 7_u16].expect(&rt, "a vector"),
-    };
-    let bytes = Writable::<LittleEndian>::write_to_vec(&contact, alloc).expect(&rt, "bytes");
-    let expected = b"\x02\0\0\0Al\x03\0\0\0a@b\x01\0\0\0\x07\0";
-    assert!(rt; bytes.as_slice() == expected.as_slice());
-    let again: Contact = make_reader(alloc, &bytes)
-        .read_value()
-        .expect(&rt, "a contact");
-    assert!(rt; again == contact);
-}
-
-#[test]
-fn a_struct_may_hold_a_map_and_a_set(rt: HostRuntime) {
-    let alloc = rt.alloc();
-    // Of two pairs with one key the second counts, and a map is written with each key once.
-    let bytes = b"\x02\0\0\0\x01\0\0\0a\x07\0\0\0\x01\0\0\0a\x08\0\0\0\x01\0\0\0\x09\0\0\0";
-    let directory: Directory = make_reader(alloc, bytes).read_value().expect(&rt, "it");
-    assert!(rt; directory.numbers.len() == 1 && directory.marked.contains(&9));
-    let again = Writable::<LittleEndian>::write_to_vec(&directory, alloc).expect(&rt, "bytes");
-    let expected = b"\x01\0\0\0\x01\0\0\0a\x08\0\0\0\x01\0\0\0\x09\0\0\0";
-    assert!(rt; again.as_slice() == expected.as_slice());
-}
-
-#[test]
-fn tags_may_be_numbers_of_ones_own(rt: HostRuntime) {
-    let alloc = rt.alloc();
-    let colour: Colour = make_reader(alloc, &[5])
-        .read_value()
-        .expect(&rt, "a colour");
-    assert!(rt; colour == Colour::Green);
-    let outcome = make_reader(alloc, &[2]).read_value::<Colour>();
-    assert_refused(&rt, alloc, outcome, "InvalidEnumVariant");
-}
-
-#[test]
-fn parts_may_stand_behind_tags_of_ones_own(rt: HostRuntime) {
-    let alloc = rt.alloc();
-    let bytes = b"\x09\x02\0\0\0Hi\x07\0\0\0";
-    let packet: Packet = make_reader(alloc, bytes)
-        .read_value()
-        .expect(&rt, "a packet");
-    assert!(rt; packet == Packet::Named(String::from_str(alloc, "Hi").expect(&rt, "a text"), 7));
-    let again = Writable::<LittleEndian>::write_to_vec(&packet, alloc).expect(&rt, "bytes");
-    assert!(rt; again.as_slice() == bytes.as_slice());
-}
-
-/// Which of the eight it is.
-fn place_of(value: &OneOf8<(), (), (), (), (), (), (), ()>) -> u8 {
-    match value {
-        OneOf8::First(()) => 0,
-        OneOf8::Second(()) => 1,
-        OneOf8::Third(()) => 2,
-        OneOf8::Fourth(()) => 3,
-        OneOf8::Fifth(()) => 4,
-        OneOf8::Sixth(()) => 5,
-        OneOf8::Seventh(()) => 6,
-        OneOf8::Eighth(()) => 7,
-    }
-}
-
-#[test]
-fn the_number_of_one_of_eight_is_its_place(rt: HostRuntime) {
-    let alloc = rt.alloc();
-    for place in 0..8_u8 {
-        let bytes = [place, 0, 0, 0];
-        let value = make_reader(alloc, &bytes)
-            .read_value()
-            .expect(&rt, "a value");
-        assert!(rt; place_of(&value) == place);
-        let written = value.write_to_vec_with_ctx(alloc, LittleEndian {});
-        assert!(rt; written.expect(&rt, "bytes").as_slice() == bytes.as_slice());
-    }
-}
-
-#[test]
 fn the_record_of_the_original_is_read_of_a_buffer(rt: HostRuntime) {
     let alloc = rt.alloc();
-    assert_record(&rt, alloc, make_reader(alloc, RECORD).read_value());
+    let mut reader = BufferReader::new(alloc, LittleEndian {}, RECORD);
+    assert_record(&rt, alloc, reader.read_value());
     let mut context = LittleEndian {};
     let mut reader = CopyingBufferReader::new(alloc, &mut context, RECORD);
     assert_record(&rt, alloc, reader.read_value());
@@ -139,4 +64,27 @@ fn the_record_of_the_original_is_read_of_a_stream(rt: HostRuntime) {
         let mut reader = reader.expect(&rt, "a reader");
         assert_record(&rt, alloc, reader.read_value());
     }
+}
+
+/// A frame without parts, whose note has so many bytes.
+fn make_frame(rt: &impl Abort, alloc: Global, length: usize) -> Frame {
+    let mut note = String::new(alloc);
+    for _ in 0..length {
+        note.push_str("a").expect(rt, "room");
+    }
+    Frame {
+        parts: Vec::new(alloc),
+        note,
+    }
+}
+
+#[test]
+fn a_frame_has_a_short_note(rt: HostRuntime) {
+    let alloc = rt.alloc();
+    let order = Endianness::BigEndian;
+    let written = make_frame(&rt, alloc, 255).write_to_vec_with_ctx(alloc, order);
+    let written = written.expect(&rt, "bytes");
+    assert!(rt; written.len() == 259 && written.starts_with(&[83, 80, 0, 255, 97]));
+    let outcome = make_frame(&rt, alloc, 256).write_to_vec_with_ctx(alloc, order);
+    assert_refused(&rt, alloc, outcome, "OutOfRangeLength");
 }

@@ -1,5 +1,5 @@
 //! How deep trees may be, and how their children lie.
-use crate::tests_callers::assert_refused;
+use crate::tests_own_types::assert_refused;
 use crate::tree::Tree;
 use speedy::device::VecSink;
 use speedy::{Endianness, Error, IsEof, Readable, Writable};

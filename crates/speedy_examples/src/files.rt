@@ -1,0 +1,56 @@
+//! A file of records, one behind the other.
+ghost use Rattle.std.specs.Prelude.{ℕ, List, map, IfOk};
+ghost use Rattle.speedy.specs.Encoding.{plain_encoding};
+ghost use Rattle.speedy.specs.Format.{Each};
+ghost use Rattle.speedy.specs.WaysOfWriting.{WritesAndFlushes, WritesToFile};
+
+use crate::streams::all_messages;
+use speedy::device::{Counted, Sink};
+use speedy::private::write_to_stream_and_flush_with_ctx;
+use speedy::{Endianness, Error, Layout, LittleEndian};
+use std::alloc::Global;
+use std::fs::{File, Files, OpenOptions};
+
+/// Puts a record behind all that the sink has taken, and sees that none of it waits.
+pub fn put_record<S: Sink>(alloc: Global, sink: &mut S, entry: &(u16, String)) -> Result<(), Error>
+    ensures { let layout = ⟦<(u16, String) as Layout>⟧ in
+        let format = layout.format (plain_encoding Endianness.LittleEndian) in
+        WritesAndFlushes ⟦<Error as From<Error>>⟧.from_gives format (layout.seen entry.now) result
+        (S.sink sink.old) (S.sink sink.new) }
+{
+    write_to_stream_and_flush_with_ctx(entry, alloc, LittleEndian {}, sink)
+}
+
+/// Puts a record behind those that a file has. The file is made where there is none.
+pub fn append_record<R: Files>(
+    rt: &R,
+    alloc: Global,
+    path: &str,
+    entry: &(u16, String),
+) -> Result<(), Error>
+    ensures { let layout = ⟦<(u16, String) as Layout>⟧ in
+        let format = layout.format (plain_encoding Endianness.LittleEndian) in
+        WritesToFile ⟦<Error as From<Error>>⟧.from_gives format (layout.seen entry.now) result }
+{
+    match OpenOptions::new().append(true).create(true).open(rt, path) {
+        Ok(file) => put_record(alloc, &mut Counted::new(file), entry),
+        Err(error) => Err(Error::from_io_error(alloc, error)),
+    }
+}
+
+/// All records of a file.
+pub fn read_records<R: Files>(
+    rt: &R,
+    alloc: Global,
+    path: &str,
+) -> Result<Vec<(u16, String)>, Error>
+    ensures { let layout = ⟦<(u16, String) as Layout>⟧ in
+        let format = layout.format (plain_encoding Endianness.LittleEndian) in
+        IfOk result (λ records. (bytes : List ℕ)
+        × Each format.spells (map layout.seen records.items) bytes) }
+{
+    match File::open(rt, path) {
+        Ok(file) => all_messages(alloc, &mut Counted::new(file)),
+        Err(error) => Err(Error::from_io_error(alloc, error)),
+    }
+}

@@ -1,0 +1,18 @@
+//! The example callers that the pages show, with the contracts and the proofs that a user writes. They stand on `speedy`
+//! alone, as a user's crate does, and beside the program, so that neither waits for the other.
+#![tactic(auto)]
+
+pub mod files;
+pub mod headers;
+pub mod memory;
+pub mod own_maps;
+pub mod own_numbers;
+pub mod own_parts;
+pub mod own_struct;
+pub mod own_types;
+pub mod readme;
+pub mod streams;
+#[cfg(test)]
+mod tests;
+#[cfg(test)]
+mod tests_own_types;

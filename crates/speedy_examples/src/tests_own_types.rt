@@ -1,0 +1,94 @@
+//! Types of one's own: bytes that come from outside.
+use crate::own_maps::Directory;
+use crate::own_numbers::{Colour, Packet};
+use crate::own_struct::Contact;
+use crate::tests::assert_refused;
+use speedy::one_of::OneOf8;
+use speedy::readable::BufferReader;
+use speedy::{LendingReader, LittleEndian, Writable};
+use std::alloc::Global;
+
+/// A reader of the bytes.
+fn make_reader(alloc: Global, bytes: &[u8]) -> BufferReader<'_, LittleEndian> {
+    BufferReader::new(alloc, LittleEndian {}, bytes)
+}
+
+#[test]
+fn a_struct_is_a_tuple_of_its_parts(rt: HostRuntime) {
+    let alloc = rt.alloc();
+    let contact = Contact {
+        name: String::from_str(alloc, "Al").expect(&rt, "a text"),
+        mail: String::from_str(alloc, "a@b").expect(&rt, "a text"),
+        groups: vec![in alloc; 7_u16].expect(&rt, "a vector"),
+    };
+    let bytes = Writable::<LittleEndian>::write_to_vec(&contact, alloc).expect(&rt, "bytes");
+    let expected = b"\x02\0\0\0Al\x03\0\0\0a@b\x01\0\0\0\x07\0";
+    assert!(rt; bytes.as_slice() == expected.as_slice());
+    let again: Contact = make_reader(alloc, &bytes)
+        .read_value()
+        .expect(&rt, "a contact");
+    assert!(rt; again == contact);
+}
+
+#[test]
+fn a_struct_may_hold_a_map_and_a_set(rt: HostRuntime) {
+    let alloc = rt.alloc();
+    // Of two pairs with one key the second counts, and a map is written with each key once.
+    let bytes = b"\x02\0\0\0\x01\0\0\0a\x07\0\0\0\x01\0\0\0a\x08\0\0\0\x01\0\0\0\x09\0\0\0";
+    let directory: Directory = make_reader(alloc, bytes).read_value().expect(&rt, "it");
+    assert!(rt; directory.numbers.len() == 1 && directory.marked.contains(&9));
+    let again = Writable::<LittleEndian>::write_to_vec(&directory, alloc).expect(&rt, "bytes");
+    let expected = b"\x01\0\0\0\x01\0\0\0a\x08\0\0\0\x01\0\0\0\x09\0\0\0";
+    assert!(rt; again.as_slice() == expected.as_slice());
+}
+
+#[test]
+fn tags_may_be_numbers_of_ones_own(rt: HostRuntime) {
+    let alloc = rt.alloc();
+    let colour: Colour = make_reader(alloc, &[5])
+        .read_value()
+        .expect(&rt, "a colour");
+    assert!(rt; colour == Colour::Green);
+    let outcome = make_reader(alloc, &[2]).read_value::<Colour>();
+    assert_refused(&rt, alloc, outcome, "InvalidEnumVariant");
+}
+
+#[test]
+fn parts_may_stand_behind_tags_of_ones_own(rt: HostRuntime) {
+    let alloc = rt.alloc();
+    let bytes = b"\x09\x02\0\0\0Hi\x07\0\0\0";
+    let packet: Packet = make_reader(alloc, bytes)
+        .read_value()
+        .expect(&rt, "a packet");
+    assert!(rt; packet == Packet::Named(String::from_str(alloc, "Hi").expect(&rt, "a text"), 7));
+    let again = Writable::<LittleEndian>::write_to_vec(&packet, alloc).expect(&rt, "bytes");
+    assert!(rt; again.as_slice() == bytes.as_slice());
+}
+
+/// Which of the eight it is.
+fn place_of(value: &OneOf8<(), (), (), (), (), (), (), ()>) -> u8 {
+    match value {
+        OneOf8::First(()) => 0,
+        OneOf8::Second(()) => 1,
+        OneOf8::Third(()) => 2,
+        OneOf8::Fourth(()) => 3,
+        OneOf8::Fifth(()) => 4,
+        OneOf8::Sixth(()) => 5,
+        OneOf8::Seventh(()) => 6,
+        OneOf8::Eighth(()) => 7,
+    }
+}
+
+#[test]
+fn the_number_of_one_of_eight_is_its_place(rt: HostRuntime) {
+    let alloc = rt.alloc();
+    for place in 0..8_u8 {
+        let bytes = [place, 0, 0, 0];
+        let value = make_reader(alloc, &bytes)
+            .read_value()
+            .expect(&rt, "a value");
+        assert!(rt; place_of(&value) == place);
+        let written = value.write_to_vec_with_ctx(alloc, LittleEndian {});
+        assert!(rt; written.expect(&rt, "bytes").as_slice() == bytes.as_slice());
+    }
+}

@@ -1,4 +1,0 @@
-use Rattle.speedy_vectors.proofs.callers.memory.again.Goals as goal
-
-pub returns : goal.returns
-returns c = (c.written_is_answered.ensures.whole c.in_ok-bytes.ensures.written.is_written c.deref.ensures.value c.read_from_buffer_with_ctx.ensures.1).same

@@ -1,6 +1,0 @@
-use Rattle.speedy_vectors.proofs.callers.memory.again_in.Goals as goal
-
-pub returns : goal.returns
-returns g c =
-    let stands = c.in_ok-write_to_buffer_with_ctx.ensures.written in
-    (c.written_is_answered.ensures.front _ stands.is_shortest.is_written stands.new_is c.read_from_buffer_with_ctx.ensures.1).same
