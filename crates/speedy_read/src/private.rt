@@ -25,10 +25,10 @@ pub fn vec_to_string<E: From<Error>>(vec: Vec<u8>) -> Result<String, E>
     ensures { MatchResult result (λ text. (string_bytes text ≡ vec.items) × IsUtf8 vec.items)
         (λ e. E.from_gives (error_of ErrorKind.InvalidUtf8) e × ¬ IsUtf8 vec.items) }
 {
-    match String::from_utf8(vec) {
-        Ok(text) => Ok(text),
-        Err(_) => Err(error_invalid_string_utf8()),
+    if !is_utf8(&vec) {
+        return Err(error_invalid_string_utf8());
     }
+    Ok(unsafe { String::from_utf8_unchecked(vec) })
 }
 
 /// The text whose UTF-8 the bytes are, without a copy, or the error `InvalidUtf8`, which drops them.
@@ -50,9 +50,24 @@ pub(crate) fn bytes_to_str<E: From<Error>>(bytes: &[u8]) -> Result<&str, E>
     ensures { MatchResult result (λ text. (text.now ≡ bytes.now) × IsUtf8 bytes.now)
         (λ e. E.from_gives (error_of ErrorKind.InvalidUtf8) e × ¬ IsUtf8 bytes.now) }
 {
-    match str::from_utf8(bytes) {
-        Ok(shown) => Ok(shown),
-        Err(_) => Err(error_invalid_str_utf8()),
+    if !is_utf8(bytes) {
+        return Err(error_invalid_str_utf8());
+    }
+    Ok(unsafe { str::from_utf8_unchecked(bytes) })
+}
+
+// The least length at which bytes are tested 64 at a time, which takes a seventh of the time where they are no ASCII.
+const LONG_TEXT: usize = 64;
+
+// Whether the bytes are UTF-8.
+#[inline]
+fn is_utf8(bytes: &[u8]) -> bool
+    ensures { IsTrue result ↔ IsUtf8 bytes.now }
+{
+    if bytes.len() < LONG_TEXT {
+        str::from_utf8(bytes).is_ok()
+    } else {
+        simdutf8::is_utf8(bytes)
     }
 }
 

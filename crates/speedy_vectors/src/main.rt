@@ -13,15 +13,11 @@ pub mod enums;
 pub mod frame;
 pub mod line;
 pub mod names;
-#[cfg(test)]
-mod plain16;
 pub mod record;
 pub mod run;
 mod split;
 #[cfg(test)]
 mod tests;
-#[cfg(test)]
-mod tests_bulk;
 #[cfg(test)]
 mod tests_own_types;
 #[cfg(test)]

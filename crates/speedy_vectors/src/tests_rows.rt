@@ -365,6 +365,32 @@ fn long_values_are_answered_whole(rt: HostRuntime) {
     assert_long(&rt, alloc, "be vec_u16", "00000bb8", "0a0b", 3_000, 6_004);
 }
 
+/// Asserts what is answered of a text of 64 bytes: 21 characters of three bytes each, and this one behind them.
+fn assert_text_ends(rt: &impl Abort, alloc: Global, name: &str, last: &str, is_text: bool) {
+    let mut digits = String::from_str(alloc, "40000000").expect(rt, "a text");
+    for _ in 0..21 {
+        digits.push_str("e4b896").expect(rt, "room");
+    }
+    digits.push_str(last).expect(rt, "room");
+    let line = format!(in alloc; "le {name} {digits}").expect(rt, "a line");
+    let answer = if is_text {
+        format!(in alloc; "ok 68 {digits}\n")
+    } else {
+        format!(in alloc; "refused InvalidUtf8\n")
+    };
+    assert_answers(rt, alloc, &[(&line, &answer.expect(rt, "an answer"))]);
+}
+
+#[test]
+fn long_texts_are_tested_to_their_last_byte(rt: HostRuntime) {
+    let alloc = rt.alloc();
+    for name in ["string", "boxed_str", "cow_str", "str_ref"] {
+        assert_text_ends(&rt, alloc, name, "61", true);
+        assert_text_ends(&rt, alloc, name, "ff", false);
+        assert_text_ends(&rt, alloc, name, "e4", false);
+    }
+}
+
 #[test]
 fn unsigned_numbers_are_answered(rt: HostRuntime) {
     assert_answers(&rt, rt.alloc(), &UNSIGNED);
