@@ -470,6 +470,10 @@ fn trees_of_sixteen_levels_are_answered(rt: HostRuntime) {
     assert_tree(&rt, alloc, 17, false);
     let line = "le tree 05010000000600000000";
     assert_answers(&rt, alloc, &[(line, "ok 10 05010000000600000000\n")]);
+    // A child's own children lie before the next child.
+    let line = "le tree 010200000002010000000400000000030000000009";
+    let answer = "ok 20 0102000000020100000004000000000300000000\n";
+    assert_answers(&rt, alloc, &[(line, answer)]);
 }
 
 #[test]

@@ -1,8 +1,9 @@
-//! How deep trees may be, and how their children lie.
+//! How deep trees may be. How their children lie is a line of the tests of rows.
 use crate::tests_own_types::assert_refused;
 use crate::tree::Tree;
 use speedy::device::VecSink;
-use speedy::{Endianness, Error, IsEof, Readable, Writable};
+use speedy::readable::{BufferReader, StreamReader};
+use speedy::{Endianness, Error, IsEof, LendingReader, Writable};
 use std::alloc::Global;
 use std::process::Abort;
 
@@ -38,7 +39,7 @@ fn make_chain(rt: &impl Abort, alloc: Global, levels: u8) -> Tree {
 }
 
 fn read(alloc: Global, bytes: &[u8]) -> Result<Tree, Error> {
-    Tree::read_from_buffer_with_ctx(alloc, ORDER, bytes)
+    BufferReader::new(alloc, ORDER, bytes).read_value()
 }
 
 #[test]
@@ -75,25 +76,11 @@ fn a_level_more_is_refused(rt: HostRuntime) {
 }
 
 #[test]
-fn children_lie_one_after_another(rt: HostRuntime) {
-    let alloc = rt.alloc();
-    let bytes = [
-        1, 2, 0, 0, 0, 2, 1, 0, 0, 0, 4, 0, 0, 0, 0, 3, 0, 0, 0, 0, 9,
-    ];
-    let tree = read(alloc, &bytes).expect(&rt, "a tree");
-    assert!(rt; tree.value == 1 && tree.children.len() == 2);
-    assert!(rt; tree.children[0].value == 2 && tree.children[0].children.len() == 1);
-    assert!(rt; tree.children[0].children[0].value == 4);
-    assert!(rt; tree.children[1].value == 3 && tree.children[1].children.is_empty());
-    let written = tree.write_to_vec_with_ctx(alloc, ORDER);
-    assert!(rt; written.expect(&rt, "bytes").as_slice() == &bytes[..20]);
-}
-
-#[test]
 fn a_count_that_lies_is_an_end_of_input(rt: HostRuntime) {
     let alloc = rt.alloc();
     let mut source: &[u8] = &[1, 255, 255, 255, 255, 2, 0, 0, 0, 0];
-    let outcome = Tree::read_from_stream_unbuffered_with_ctx(alloc, ORDER, &mut source);
-    let error = outcome.err().expect(&rt, "it is refused");
-    assert!(rt; error.is_eof() && source.is_empty());
+    let reader = StreamReader::new(alloc, ORDER, &mut source, false);
+    let outcome: Result<Tree, Error> = reader.expect(&rt, "a reader").read_value();
+    assert!(rt; outcome.err().expect(&rt, "it is refused").is_eof());
+    assert!(rt; source.is_empty());
 }
