@@ -28,6 +28,29 @@ fn arrays_in_a_list_lie_one_after_another(rt: HostRuntime) {
     assert_ok_items(&rt, written, &[0, 0, 0, 2, 0, 1, 0, 2, 0, 3, 0, 4]);
 }
 
+/// Two pairs of numbers in the big order, behind their count, and a byte more.
+const PAIRS: [u8; 13] = [0, 0, 0, 2, 0, 1, 0, 2, 0, 3, 0, 4, 5];
+
+#[test]
+fn arrays_in_a_list_are_read_one_after_another(rt: HostRuntime) {
+    let order = Endianness::BigEndian;
+    let mut reader = BufferReader::new(rt.alloc(), order, &PAIRS);
+    let pairs: Vec<[u16; 2]> = reader.read_value().expect(&rt, "a list");
+    assert!(rt; pairs.as_slice() == [[1_u16, 2], [3, 4]].as_slice());
+    let mut reader = BufferReader::new(rt.alloc(), order, &PAIRS);
+    let fours: Vec<[u8; 4]> = reader.read_value().expect(&rt, "a list");
+    assert!(rt; fours.as_slice() == [[0_u8, 1, 0, 2], [0, 3, 0, 4]].as_slice());
+}
+
+#[test]
+fn arrays_in_a_list_are_streamed_one_after_another(rt: HostRuntime) {
+    let mut source = PAIRS.as_slice();
+    let reader = StreamReader::new(rt.alloc(), Endianness::BigEndian, &mut source, false);
+    let mut reader = reader.expect(&rt, "a reader");
+    let pairs: Vec<[u16; 2]> = reader.read_value().expect(&rt, "a list");
+    assert!(rt; pairs.as_slice() == [[1_u16, 2], [3, 4]].as_slice());
+}
+
 #[test]
 fn slices_and_borrowed_texts_are_written_after_their_counts(rt: HostRuntime) {
     let order = Endianness::BigEndian;

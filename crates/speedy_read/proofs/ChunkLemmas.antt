@@ -60,10 +60,10 @@ chunk_fits {some = some} positive within is is' same =
 
 module _ {V : Type 0} {F : Encoding → Format V} {least width : ℕ} (laws : (encoding : Encoding) → Laws encoding.strict least (F encoding)) (fixed : IsFixed width F) where
   -- digits spell the values
-  each_stands : (encoding : Encoding) (vs : List V) (bytes : List ℕ) → Each (spelled_in F encoding.order) vs bytes → Each (F encoding).spells vs bytes
+  pub each_stands : (encoding : Encoding) (vs : List V) (bytes : List ℕ) → Each (spelled_in F encoding.order) vs bytes → Each (F encoding).spells vs bytes
   each_stands encoding = each_as (λ v b h. (laws encoding).written_spells v b (fixed.writes encoding v b h))
 
-  each_sized : (encoding : Encoding) (vs : List V) (bytes : List ℕ) → Each (F encoding).spells vs bytes → length bytes ≡ length vs * width
+  pub each_sized : (encoding : Encoding) (vs : List V) (bytes : List ℕ) → Each (F encoding).spells vs bytes → length bytes ≡ length vs * width
   each_sized encoding vs bytes h = each_length fixed encoding.order vs bytes (each_as (fixed.spells encoding) vs bytes h)
 
   -- so many values are read where so many times their bytes are

@@ -4,6 +4,7 @@ pub mod OwnedLemmas
 pub mod ListLemmas
 pub mod ByteLemmas
 pub mod ChunkLemmas
+pub mod ArrayLemmas
 pub mod FlagLemmas
 pub mod TextLemmas
 pub mod VarintLemmas

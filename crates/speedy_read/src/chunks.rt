@@ -10,6 +10,7 @@ ghost use Rattle.speedy_layout.specs.Numbers.{unsigned_number};
 ghost use Rattle.speedy_read.specs.Lending.{many_items};
 ghost use Rattle.speedy_read.specs.Reading.{Reads};
 
+use crate::arrays::read_number_places;
 use crate::lent::lent_in_range;
 use crate::many::{AsBytes, Fills, FromLent, Many, Places, Strategy, read_each};
 use crate::readable::ReadFrom;
@@ -51,6 +52,14 @@ impl<L: AsSlice<u8> + Drop, C: Context, T: FixedNumber + ReadFrom<L, C>> Strateg
             Ok(()) => Some(Ok(places)),
             Err(error) => Some(Err(error)),
         }
+    }
+
+    #[inline]
+    fn read_many_places<P: Places<L, C, T>, R: LendingReader<L, C>>(
+        reader: &mut R,
+        length: usize,
+    ) -> Option<Result<Vec<P>, C::Error>> {
+        read_number_places::<P, T, L, C, R>(reader, length)
     }
 }
 
@@ -102,6 +111,14 @@ impl<L: AsSlice<u8> + Drop, C: Context> Strategy<L, C, u8> for Bytes {
             Err(error) => Some(Err(error)),
         }
     }
+
+    #[inline]
+    fn read_many_places<P: Places<L, C, u8>, R: LendingReader<L, C>>(
+        reader: &mut R,
+        length: usize,
+    ) -> Option<Result<Vec<P>, C::Error>> {
+        read_number_places::<P, u8, L, C, R>(reader, length)
+    }
 }
 
 impl<L: AsSlice<u8> + Drop, C: Context> Fills<L, C, u8> for Bytes {
@@ -136,6 +153,14 @@ impl<L: AsSlice<u8> + Drop, C: Context> Strategy<L, C, bool> for Flags {
     fn read_places<P: Places<L, C, bool>, R: LendingReader<L, C>>(
         _reader: &mut R,
     ) -> Option<Result<P, C::Error>> {
+        None
+    }
+
+    #[inline(always)]
+    fn read_many_places<P: Places<L, C, bool>, R: LendingReader<L, C>>(
+        _reader: &mut R,
+        _length: usize,
+    ) -> Option<Result<Vec<P>, C::Error>> {
         None
     }
 }

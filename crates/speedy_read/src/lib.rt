@@ -2,6 +2,7 @@
 #![tactic(auto)]
 
 pub mod addresses;
+mod arrays;
 pub mod buffer;
 pub mod buffer_reader;
 mod chunks;

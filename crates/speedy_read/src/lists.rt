@@ -4,12 +4,14 @@ ghost use Rattle.speedy_base.specs.Error.{error_of};
 ghost use Rattle.speedy_layout.specs.Numbers.{unsigned_number};
 ghost use Rattle.speedy_read.specs.Reading.{Reads, RefusesUnsized};
 
+use crate::arrays::Arrays;
 use crate::lent::read_lent;
-use crate::many::{Fills, ItemByItem, Places, Strategy};
+use crate::many::{Fills, ItemByItem, Places, Strategy, Takes};
 use crate::readable::{ReadFrom, ReadMany};
 use crate::reader::{LendingReader, ends_before};
 use smallvec::SmallVec;
 use speedy_base::context::Context;
+use speedy_base::endianness::Endianness;
 use speedy_base::error::{ErrorKind, error_end_of_input};
 use speedy_layout::layout::Layout;
 use std::alloc::Global;
@@ -104,7 +106,7 @@ impl<L: AsSlice<u8> + Drop, C: Context, T: ReadMany<L, C>, const N: usize> ReadF
 
 impl<L: AsSlice<u8> + Drop, C: Context, T: ReadMany<L, C>, const N: usize> ReadMany<L, C>
     for [T; N] {
-    type Strategy = ItemByItem<C>;
+    type Strategy = Arrays<C>;
 }
 
 impl<L: AsSlice<u8> + Drop, C: Context, T: ReadFrom<L, C>, const N: usize> Places<L, C, T>
@@ -112,6 +114,11 @@ impl<L: AsSlice<u8> + Drop, C: Context, T: ReadFrom<L, C>, const N: usize> Place
     ghost shown = { λ a. a };
 
     ghost count = { N };
+
+    #[inline(always)]
+    fn count() -> usize {
+        N
+    }
 
     #[inline]
     fn begun<F: Fills<L, C, T>>() -> [T; N] {
@@ -124,6 +131,11 @@ impl<L: AsSlice<u8> + Drop, C: Context, T: ReadFrom<L, C>, const N: usize> Place
         reader: &mut R,
     ) -> Result<(), C::Error> {
         F::fill::<R>(reader, self.as_mut_slice())
+    }
+
+    #[inline(always)]
+    fn take<D: Takes<T>>(&mut self, order: Endianness, bytes: &[u8]) {
+        D::take(self.as_mut_slice(), order, bytes);
     }
 }
 

@@ -1,7 +1,9 @@
 //! Values that are read one after another, and what is made of them.
-ghost use Rattle.std.specs.Prelude.{◌≡◌, ℕ, ⊤, List, Some, IsSome, length as count_of, map};
+ghost use Rattle.std.specs.Prelude.{◌≡◌, ◌*◌, ℕ, ⊤, List, Some, IsSome, length as count_of, map};
 ghost use Rattle.std.specs.Cow.{cow_slice_items};
 ghost use Rattle.std.specs.Option.{MatchOption};
+ghost use Rattle.speedy_layout.specs.FixedNumbers.{spelled_in};
+ghost use Rattle.speedy_layout.specs.Format.{Each};
 ghost use Rattle.speedy_layout.specs.Lists.{vector};
 ghost use Rattle.speedy_read.specs.Collections.{gatherer, Collects};
 ghost use Rattle.speedy_read.specs.Lending.{many_items};
@@ -12,7 +14,9 @@ use crate::readable::ReadFrom;
 use crate::reader::LendingReader;
 use crate::room::{push_in_steps, vec_for};
 use speedy_base::context::Context;
+use speedy_base::endianness::Endianness;
 use speedy_base::error::{ErrorKind, error_out_of_memory};
+use speedy_layout::layout::Layout;
 use std::alloc::Global;
 use std::borrow::CowSlice;
 use std::convert::AsSlice;
@@ -39,6 +43,17 @@ pub trait Strategy<L: AsSlice<u8> + Drop, C: Context, T: ReadFrom<L, C>> {
             Reads C.Error.from_gives C.Error.eof (λ p. map T.seen (P.shown p))
             (vector P.count (T.format (R.state reader.old).encoding)) read
             (R.state reader.old) (R.state reader.new)) };
+
+    /// Reads as many values as there are places, `length` times, all at once from bytes that the reader lends. `None`
+    /// where that cannot be: then nothing is read.
+    fn read_many_places<P: Places<L, C, T>, R: LendingReader<L, C>>(
+        reader: &mut R,
+        length: usize,
+    ) -> Option<Result<Vec<P>, C::Error>>
+        ensures { MatchOption result (R.state reader.new ≡ R.state reader.old) (λ read.
+            Reads C.Error.from_gives C.Error.eof (λ v. map (λ p. map T.seen (P.shown p)) v.items)
+            (vector length (vector P.count (T.format (R.state reader.old).encoding))) read
+            (R.state reader.old) (R.state reader.new)) };
 }
 
 /// Reads each value by itself, which serves any type.
@@ -62,6 +77,14 @@ impl<L: AsSlice<u8> + Drop, C: Context, T: ReadFrom<L, C>> Strategy<L, C, T> for
     ) -> Option<Result<P, C::Error>> {
         None
     }
+
+    #[inline(always)]
+    fn read_many_places<P: Places<L, C, T>, R: LendingReader<L, C>>(
+        _reader: &mut R,
+        _length: usize,
+    ) -> Option<Result<Vec<P>, C::Error>> {
+        None
+    }
 }
 
 /// Places for values that are read one after another: an array.
@@ -71,6 +94,10 @@ pub trait Places<L: AsSlice<u8> + Drop, C: Context, T: ReadFrom<L, C>>: Sized + 
 
     /// The number of places.
     ghost count: { ℕ };
+
+    /// The number of places.
+    fn count() -> usize
+        ensures { result ≡ Self.count };
 
     /// Places that all have the value that the type begins with.
     fn begun<F: Fills<L, C, T>>() -> Self
@@ -85,6 +112,11 @@ pub trait Places<L: AsSlice<u8> + Drop, C: Context, T: ReadFrom<L, C>>: Sized + 
         ensures { Reads C.Error.from_gives C.Error.eof (λ _. map T.seen (shown self.new))
             (vector count (T.format (R.state reader.old).encoding)) result
             (R.state reader.old) (R.state reader.new) };
+
+    /// Takes a value for each place from these bytes.
+    fn take<D: Takes<T>>(&mut self, order: Endianness, bytes: &[u8])
+        requires { (count_of (shown self.old) ≡ count) × (count_of bytes.now ≡ count * D.size) }
+        ensures { spelled_in (λ e. vector count (T.format e)) order (map T.seen (shown self.new)) bytes.now };
 }
 
 /// How places are filled with values of a type.
@@ -97,6 +129,17 @@ pub trait Fills<L: AsSlice<u8> + Drop, C: Context, T: ReadFrom<L, C>> {
         ensures { Reads C.Error.from_gives C.Error.eof (λ _. map T.seen places.new)
             (vector (count_of places.old) (T.format (R.state reader.old).encoding)) result
             (R.state reader.old) (R.state reader.new) };
+}
+
+/// How places take values from bytes.
+pub trait Takes<T: Layout> {
+    /// How many bytes each value is taken from.
+    ghost size: { ℕ };
+
+    /// Takes a value for each place from these bytes, one after another.
+    fn take(places: &mut [T], order: Endianness, bytes: &[u8])
+        requires { count_of bytes.now ≡ count_of places.old * size }
+        ensures { Each (spelled_in T.format order) (map T.seen places.new) bytes.now };
 }
 
 /// How several values of a type are read at once. Types implement it beside [`ReadFrom`].
