@@ -1,12 +1,11 @@
 """What the scripts of this folder share: the built programs, their lines, and rows of spellings."""
 import os
-import re
 import subprocess
 import tempfile
 
 HERE = os.path.dirname(os.path.realpath(__file__))
 TOP = os.path.dirname(os.path.dirname(HERE))
-TEST_ROWS = TOP + '/crates/speedy_vectors/src/tests_rows.rt'
+PROGRAM = TOP + '/crates/speedy_vectors/'
 
 # Names of types that borrow, of which no value is read where nothing is lent.
 BORROWING = set('str_ref bytes_ref bytes_ref_4 view_i8 array_view_i8_4 view_u16 array_view_u16_2 opt_str tuple_str_bytes '
@@ -103,11 +102,15 @@ class Row:
 
 
 def test_rows():
-    """The rows of the program's tests that are answered with a value."""
-    text = re.sub(r'\\\n\s*', '', open(TEST_ROWS).read())
-    found = re.findall(r'"(le|be) (\w+) ([0-9A-Fa-f]+|-)",\s*"ok (\d+) ([0-9a-f]+|-)\\n"', text)
-    return [Row(order, name, digits.lower().strip('-')[:2 * int(count)], written.strip('-'))
-            for order, name, digits, count, written in found]
+    """The lines of the program's stored run that are answered with a value."""
+    lines, answers = (open(PROGRAM + file).read().split('\n') for file in ('stdin', 'stdout'))
+    rows = []
+    for line, answer in zip(lines, answers):
+        if line.startswith(('le ', 'be ')) and answer.startswith('ok '):
+            order, name, digits = line.split()
+            _, count, written = answer.split()
+            rows.append(Row(order, name, digits.lower().strip('-')[:2 * int(count)], written.strip('-')))
+    return rows
 
 
 def spelled(digits):

@@ -1,5 +1,5 @@
 -- What a line is answered.
-use Rattle.std.specs.Prelude.{◌≡◌, ℕ, ◌<◌, ◌≤◌, List, [], ◌∷◌, ◌++◌, ◌⊎◌, length, false, IsTrue, codes}
+use Rattle.std.specs.Prelude.{◌≡◌, ℕ, ◌<◌, ◌≤◌, List, [], ◌∷◌, ◌++◌, ◌⊎◌, length, Option, None, Some, false, IsTrue, codes}
 use Rattle.std.specs.Fmt.{decimal}
 use Rattle.hex.specs.Hex.{encode_lower}
 use Rattle.speedy.specs.declared.error.ErrorKind.{ErrorKind}
@@ -38,6 +38,11 @@ kind_name kinds.NotWrittenForm = codes "NotWrittenForm"
 kind_name (kinds.IoError e) = codes "IoError"
 kind_name kinds.OutOfMemory = codes "OutOfMemory"
 kind_name (kinds.Custom message) = codes "Custom"
+
+-- the two sizes that a kind may have, behind its word
+abbrev pub sizes_text : Option (ℕ × ℕ) → List ℕ
+sizes_text None = []
+sizes_text (Some (actual, expected)) = codes " " ++ (decimal actual ++ (codes " " ++ decimal expected))
 
 -- a value: the length of the front that spells it, and what is written of it
 abbrev pub ok_text : ℕ → List ℕ → List ℕ

@@ -1,8 +1,8 @@
 //! Answers of the program: the value that bytes encode, written again.
-ghost use Rattle.std.specs.Prelude.{◌≡◌, ◌++◌, IfOk, MatchResult, Some};
+ghost use Rattle.std.specs.Prelude.{◌≡◌, ◌++◌, IfOk, MatchResult};
 ghost use Rattle.std.specs.String.{string_bytes};
 ghost use Rattle.speedy.specs.Error.{error_of};
-ghost use Rattle.speedy_vectors.specs.Answer.{hex_of, kind_name, ok_text, refused_text, AnswersAs, AnswersBytes, AnswersLine};
+ghost use Rattle.speedy_vectors.specs.Answer.{hex_of, kind_name, sizes_text, ok_text, refused_text, AnswersAs, AnswersBytes, AnswersLine};
 ghost use Rattle.speedy_vectors.specs.Line.{encoding_of};
 ghost use Rattle.speedy_vectors.specs.Names.{named};
 
@@ -14,7 +14,6 @@ use speedy::{
     Writable,
 };
 use std::alloc::{AllocError, Global};
-use std::fmt;
 
 /// The answer to a line, with its line feed. The line comes without one.
 ///
@@ -53,43 +52,45 @@ fn hex_text(alloc: Global, bytes: &[u8]) -> Result<String, AllocError>
     hex::encode(alloc, bytes)
 }
 
-/// A kind of error, as the program names it.
-#[derive(Clone, Copy)]
-pub struct KindName<'a>(pub &'a ErrorKind);
-
-impl fmt::Display for KindName<'_> {
-    ghost output = { λ name. Some (kind_name name.0.now) };
-
-    fn fmt<W: fmt::Write>(&self, f: &mut fmt::Formatter<W>) -> fmt::Result {
-        match self.0 {
-            ErrorKind::InvalidChar => write!(f, "InvalidChar"),
-            ErrorKind::InvalidEnumVariant => write!(f, "InvalidEnumVariant"),
-            ErrorKind::InvalidUtf8 => write!(f, "InvalidUtf8"),
-            ErrorKind::InvalidSystemTime => write!(f, "InvalidSystemTime"),
-            ErrorKind::ZeroNonZero => write!(f, "ZeroNonZero"),
-            ErrorKind::OutOfRangeLength => write!(f, "OutOfRangeLength"),
-            ErrorKind::OutOfRangeUsize => write!(f, "OutOfRangeUsize"),
-            ErrorKind::UnexpectedEndOfInput => write!(f, "UnexpectedEndOfInput"),
-            ErrorKind::UnexpectedEndOfOutputBuffer => write!(f, "UnexpectedEndOfOutputBuffer"),
-            ErrorKind::InputBufferIsTooSmall {
-                actual_size,
-                expected_size,
-            } => write!(f, "InputBufferIsTooSmall {actual_size} {expected_size}"),
-            ErrorKind::OutputBufferIsTooSmall {
-                actual_size,
-                expected_size,
-            } => write!(f, "OutputBufferIsTooSmall {actual_size} {expected_size}"),
-            ErrorKind::LengthIsNotTheSameAsLengthAttribute { .. } => {
-                write!(f, "LengthIsNotTheSameAsLengthAttribute")
-            }
-            ErrorKind::ExpectedConstant { .. } => write!(f, "ExpectedConstant"),
-            ErrorKind::Unsized => write!(f, "Unsized"),
-            ErrorKind::EndiannessMismatch => write!(f, "EndiannessMismatch"),
-            ErrorKind::NotWrittenForm => write!(f, "NotWrittenForm"),
-            ErrorKind::IoError(_) => write!(f, "IoError"),
-            ErrorKind::OutOfMemory => write!(f, "OutOfMemory"),
-            ErrorKind::Custom(_) => write!(f, "Custom"),
-        }
+/// A kind of error, as the program names it: a word, and the two sizes that it may have.
+pub(crate) fn named_kind(kind: &ErrorKind) -> (&'static str, Option<(usize, usize)>)
+    ensures { kind_name kind.now ≡ result.0.now ++ sizes_text result.1 }
+{
+    match kind {
+        ErrorKind::InvalidChar => ("InvalidChar", None),
+        ErrorKind::InvalidEnumVariant => ("InvalidEnumVariant", None),
+        ErrorKind::InvalidUtf8 => ("InvalidUtf8", None),
+        ErrorKind::InvalidSystemTime => ("InvalidSystemTime", None),
+        ErrorKind::ZeroNonZero => ("ZeroNonZero", None),
+        ErrorKind::OutOfRangeLength => ("OutOfRangeLength", None),
+        ErrorKind::OutOfRangeUsize => ("OutOfRangeUsize", None),
+        ErrorKind::UnexpectedEndOfInput => ("UnexpectedEndOfInput", None),
+        ErrorKind::UnexpectedEndOfOutputBuffer => ("UnexpectedEndOfOutputBuffer", None),
+        ErrorKind::InputBufferIsTooSmall {
+            actual_size,
+            expected_size,
+        } => (
+            "InputBufferIsTooSmall",
+            Some((*actual_size, *expected_size)),
+        ),
+        ErrorKind::OutputBufferIsTooSmall {
+            actual_size,
+            expected_size,
+        } => (
+            "OutputBufferIsTooSmall",
+            Some((*actual_size, *expected_size)),
+        ),
+        ErrorKind::LengthIsNotTheSameAsLengthAttribute { .. } => (
+            "LengthIsNotTheSameAsLengthAttribute",
+            None,
+        ),
+        ErrorKind::ExpectedConstant { .. } => ("ExpectedConstant", None),
+        ErrorKind::Unsized => ("Unsized", None),
+        ErrorKind::EndiannessMismatch => ("EndiannessMismatch", None),
+        ErrorKind::NotWrittenForm => ("NotWrittenForm", None),
+        ErrorKind::IoError(_) => ("IoError", None),
+        ErrorKind::OutOfMemory => ("OutOfMemory", None),
+        ErrorKind::Custom(_) => ("Custom", None),
     }
 }
 
@@ -105,8 +106,14 @@ fn ok_answer(alloc: Global, count: usize, written: &[u8]) -> Result<Vec<u8>, All
 fn refused_answer(alloc: Global, kind: &ErrorKind) -> Result<Vec<u8>, AllocError>
     ensures { IfOk result (λ text. text.items ≡ refused_text kind.now) }
 {
-    let name = KindName(kind);
-    Ok(format!(in alloc; "refused {name}\n")?.into_bytes())
+    let (word, sizes) = named_kind(kind);
+    let text = match sizes {
+        Some((actual_size, expected_size)) => {
+            format!(in alloc; "refused {word} {actual_size} {expected_size}\n")?
+        }
+        None => format!(in alloc; "refused {word}\n")?,
+    };
+    Ok(text.into_bytes())
 }
 
 /// What bytes are answered, read as values of a type. Its only error is out of memory.

@@ -21,8 +21,6 @@ mod tests;
 #[cfg(test)]
 mod tests_own_types;
 #[cfg(test)]
-mod tests_rows;
-#[cfg(test)]
 mod tests_tree;
 pub mod tree;
 

@@ -1,5 +1,6 @@
 //! Types of the program: bytes that come from outside, and each way of reading them. What is refused, and what enums are
-//! written as, are lines of the tests of rows.
+//! written as, are lines of `stdin`.
+use crate::answer::named_kind;
 use crate::enums::Enum;
 use crate::frame::Frame;
 use crate::record::Record;
@@ -10,16 +11,11 @@ use std::alloc::Global;
 use std::borrow::CowSlice;
 use std::process::Abort;
 
-/// Asserts that the outcome is an error of the kind, as `Debug` prints it.
-pub(crate) fn assert_refused<T: Drop>(
-    rt: &impl Abort,
-    alloc: Global,
-    outcome: Result<T, Error>,
-    kind: &str,
-) {
+/// Asserts that the outcome is an error of the kind, as the program names it.
+pub(crate) fn assert_refused<T: Drop>(rt: &impl Abort, outcome: Result<T, Error>, kind: &str) {
     let error = outcome.err().expect(rt, "it is refused");
-    let printed = format!(in alloc; "{:?}", get_error_kind(&error)).expect(rt, "its kind");
-    assert!(rt; printed.as_str() == kind, "{printed}");
+    let (word, _) = named_kind(get_error_kind(&error));
+    assert!(rt; word == kind, "{word}");
 }
 
 /// The record of the original's README, as it encodes it.
@@ -86,5 +82,5 @@ fn a_frame_has_a_short_note(rt: HostRuntime) {
     let written = written.expect(&rt, "bytes");
     assert!(rt; written.len() == 259 && written.starts_with(&[83, 80, 0, 255, 97]));
     let outcome = make_frame(&rt, alloc, 256).write_to_vec_with_ctx(alloc, order);
-    assert_refused(&rt, alloc, outcome, "OutOfRangeLength");
+    assert_refused(&rt, outcome, "OutOfRangeLength");
 }
