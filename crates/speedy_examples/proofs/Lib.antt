@@ -1,1 +1,4 @@
+pub mod Messages
+pub mod NextLemmas
+pub mod NumberLemmas
 pub mod StreamLemmas

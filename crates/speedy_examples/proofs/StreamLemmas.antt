@@ -1,35 +1,25 @@
--- Values that are read from a source one after another, until it ends.
-use Rattle.std.specs.Prelude.{◌≡◌, ℕ, ◌-◌, ◌^◌, ◌<◌, List, [], ◌∷◌, ◌++◌, length, false, IsTrue, ◌⊎◌, Err, String, refl}
+-- Messages that are read from a source one after another, until it ends.
+use Rattle.std.specs.Prelude.{◌≡◌, ℕ, ◌-◌, ◌^◌, ◌<◌, ◌≤◌, List, [], ◌∷◌, ◌++◌, length, Bool, IsTrue, ◌⊎◌, refl}
 use Rattle.std.proofs.Common.{sym, ◌∙◌, ap, subst, arith, inl, inr}
 use Rattle.std.proofs.lemmas.List.{append_assoc, append-nil, length-append}
-use Rattle.std.specs.String.{string_bytes}
-use Rattle.std.specs.declared.alloc.Global.{Global}
-use Rattle.speedy.specs.declared.endianness.Endianness.TheVariants.{LittleEndian}
 use Rattle.speedy.specs.declared.error.Error.{Error}
 use Rattle.speedy.specs.declared.error.ErrorKind.TheVariants as kinds
+use Rattle.speedy.specs.Error.{error_of}
+use Rattle.speedy.specs.MemoryDevices.{bytes_source, no_faults}
 use Rattle.speedy.specs.Device.{SourceState}
-use Rattle.speedy.specs.Digits.{AreBytes, number}
+use Rattle.speedy.specs.Digits.{AreBytes}
 use Rattle.speedy.specs.DigitsLemmas.{AreBytes-append_parts}
-use Rattle.speedy.specs.Encoding.{Encoding, plain_encoding}
-use Rattle.speedy.specs.Error.{error_of, kind_of, is_eof_error, IsIoErrorOf}
+use Rattle.speedy.specs.Encoding.{plain_encoding}
+use Rattle.speedy.specs.declared.endianness.Endianness.TheVariants.{LittleEndian}
 use Rattle.speedy.specs.FailedCalls.{IsOfFailedCall}
 use Rattle.speedy.specs.Format.{Each, Format}
-use Rattle.speedy.specs.Numbers.{unsigned_number}
-use Rattle.speedy.specs.Reading.{ReaderKind, ReaderState, Excused, IsTold, PeekWants, Peeks, Refused}
-use Rattle.speedy.specs.Texts.{text}
-use Rattle.speedy.specs.Tuples.{pair}
-use Rattle.speedy.specs.Lists.{each_append}
-
--- an error of the crate becomes no other one
-abbrev pub itself : Error → Error → Type 0
-itself error e = e ≡ error
-
--- a message, as its layout sees it, and its format
-abbrev pub seen_message : ℕ × String Global → ℕ × List ℕ
-seen_message message = (message.0, string_bytes message.1)
-
-abbrev pub message : Format (ℕ × List ℕ)
-message = let encoding = plain_encoding LittleEndian in pair (unsigned_number 2 encoding) (text encoding)
+use Rattle.speedy.specs.Laws.{Laws}
+use Rattle.speedy.specs.Lists.{each_append, each_size}
+use Rattle.speedy.specs.Reading.{ReaderKind, ReaderState, IsTold}
+use Rattle.speedy.specs.WaysOfReading.{WantsMemory}
+use Rattle.speedy_examples.proofs.Messages.{Message, message, message_in, message_laws, told_message}
+use Rattle.speedy_examples.proofs.NextLemmas.{NextRefused}
+use Rattle.speedy_examples.specs.Callers.{itself, IsFailure}
 
 -- the bytes at the front of what the source had spell these values, and the others are still to come
 pub record ReadSoFar {V : Type 0} (spells : V → List ℕ → Type 0) (values : List V) (before : SourceState) (now : ReaderState) : Type 0 where
@@ -72,39 +62,48 @@ all_read {before = before} {now = now} so_far ended = (
       left ∙ (ap (λ end. so_far.bytes ++ end) none ∙ append-nil so_far.bytes),
 )
 
--- any byte spells a number
-byte_spelled : (encoding : Encoding) (b : ℕ) → b < 256 → (unsigned_number 1 encoding).spells (number encoding.order (b ∷ [])) (b ∷ [])
-unfolding unsigned_number
-byte_spelled encoding b h = record { width_is = refl; are_bytes = (h, tt); value_is = refl }
+-- what is left of a list of values behind those that were read
+left_of : {V : Type 0} {strict : Bool} {least : ℕ} {F : Format V} → Laws strict least F → 0 < least → (read values : List V) (bytes rest whole : List ℕ)
+    → Each F.spells read bytes → Each F.spells values whole → whole ≡ bytes ++ rest → (more : List V) × Each F.spells more rest
+left_of {F = F} laws some [] values bytes rest whole h k is = (values, subst (Each F.spells values) (is ∙ ap (λ b. b ++ rest) h) k)
+left_of laws some (v ∷ read) [] bytes rest whole h k is =
+    let first = laws.least_size v h.front h.first_is in
+    let size = ap length (sym is ∙ k) in
+    let sizes = length-append bytes rest in
+    let parts = ap length h.whole_is ∙ length-append h.front h.back in
+    absurd (omega arith)
+left_of laws some (v ∷ read) (w ∷ values) bytes rest whole h k is =
+    let joined = sym k.whole_is ∙ (is ∙ (ap (λ b. b ++ rest) h.whole_is ∙ append_assoc h.front h.back rest)) in
+    let same = laws.decodes w v k.front h.front k.back (h.back ++ rest) k.first_is h.first_is joined in
+    left_of laws some read values h.back rest k.back h.second_is k.second_is same.2
 
-byte_needs_none : (encoding : Encoding) → (unsigned_number 1 encoding).asks.lending ≡ false
-unfolding unsigned_number
-byte_needs_none encoding = refl
+-- why a message was refused where the source had nothing but messages: none is left, or it is there
+pub refused_by_failure : {values : List Message} {before : SourceState} {now after : ReaderState} {e : Error} (all : List Message)
+    → ReadSoFar message.spells values before now → Each message.spells all before.to_come → now.encoding ≡ (plain_encoding LittleEndian) → IsTrue before.tells → AreBytes before.to_come → length before.to_come < 2 ^ 64 - 1
+    → IsTrue now.fixed.tells_faults → NextRefused e now after → (IsTold (message_in now.encoding) now → IsTrue now.fixed.tells_faults → now.to_come ≡ [] → IsFailure e) → IsFailure e
+refused_by_failure {values = values} {before = before} {now = now} {after = after} {e = e} all so_far messages encoding tells are_bytes fit tells_faults refused ended =
+    let left = so_far.left tells in
+    let more = left_of (message_laws (plain_encoding LittleEndian)) (omega arith) values all so_far.bytes now.to_come before.to_come so_far.read messages left in
+    let sizes = ap length left ∙ length-append so_far.bytes now.to_come in
+    let told = told_message now.encoding (subst IsTrue (sym so_far.same_tells) tells) (AreBytes-append_parts so_far.bytes now.to_come (subst AreBytes left are_bytes)).1 (omega arith) in
+    of more.0 more.1 told refused where
+      of : (more : List Message) → Each message.spells more now.to_come → IsTold (message_in now.encoding) now → NextRefused e now after → IsFailure e
+      of [] none told refused = ended told tells_faults none
+      of (m ∷ more) some told (inl wants) = inl wants.0
+      of (m ∷ more) some told (inr (inl (inl wants))) = inl wants.0
+      of (m ∷ more) some told (inr (inl (inr fault))) = let failed = fault.1 tells_faults in inr (failed.0, failed.2)
+      of (m ∷ more) some told (inr (inr refused)) = absurd ((refused.because told).no_front m some.front some.back some.whole_is (rw encoding some.first_is))
 
-no_byte : {e : Error} {old new : ReaderState} → Refused itself is_eof_error (unsigned_number 1 old.encoding) e old new → IsTold (unsigned_number 1 old.encoding) old → old.to_come ≡ []
-no_byte {old = old} refused told = go old.to_come refl where
-  go : (bytes : List ℕ) → old.to_come ≡ bytes → bytes ≡ []
-  go [] is = refl
-  go (b ∷ rest) is = absurd ((refused.because told).no_front _ (b ∷ []) rest is (byte_spelled old.encoding b (subst AreBytes is told.are_bytes).0))
+-- no source has so many messages that their number is no `u64`
+pub not_so_many : {values : List Message} {before : SourceState} {now : ReaderState} → ReadSoFar message.spells values before now → 2 ^ 64 - 1 ≤ length values
+    → IsTrue before.tells → length before.to_come < 2 ^ 64 - 1 → ⊥
+not_so_many {values = values} {now = now} so_far many tells fit =
+    let size = each_size (message_laws (plain_encoding LittleEndian)) values so_far.bytes so_far.read in
+    let sizes = ap length (so_far.left tells) ∙ length-append so_far.bytes now.to_come in
+    omega arith
 
--- where a peek of a byte says that the input ended, none is left: no failed call says so
-pub peeked_end : {e : Error} {old new : ReaderState} → Peeks itself is_eof_error (λ (n : ℕ). n) (unsigned_number 1 old.encoding) (Err e) old new → kind_of e ≡ kinds.UnexpectedEndOfInput → IsTrue old.fixed.tells → IsTrue old.fixed.tells_faults → AreBytes old.to_come → length old.to_come < 2 ^ 64 - 1 → old.to_come ≡ []
-peeked_end {e = e} {old = old} {new = new} peeks is tells tells_faults are_bytes fit = of peeks.answer where
-  not_memory : e ≡ error_of kinds.OutOfMemory → ⊥
-  not_memory memory = let other = sym is ∙ ap kind_of memory in absurd (cc)
-
-  not_fault : IsOfFailedCall itself e old.faults new.faults → ⊥
-  not_fault (error, one, named) = subst (IsIoErrorOf error) (sym (ap kind_of named.2) ∙ is) named.1
-
-  of : PeekWants itself e old new ⊎ (Excused itself (unsigned_number 1 old.encoding).asks.memory e old new ⊎ Refused itself is_eof_error (unsigned_number 1 old.encoding) e old new) → old.to_come ≡ []
-  of (inl wants) = absurd (not_memory wants.0)
-  of (inr (inl (inl wants))) = absurd (not_memory wants.0)
-  of (inr (inl (inr fault))) = absurd (not_fault (fault.1 tells_faults))
-  of (inr (inr refused)) = no_byte refused (record { tells = tells; are_bytes = are_bytes; fit = fit; lends = λ h. absurd (let none : IsTrue false = subst IsTrue (byte_needs_none old.encoding) h in cc) })
-
--- of two values that lie one behind the other, both are read as they were written
-pub both_again : {V : Type 0} (spells : V → List ℕ → Type 0) → ((v w : V) (bytes more others left : List ℕ) → spells v bytes → spells w others → bytes ++ more ≡ others ++ left → (v ≡ w) × (bytes ≡ others) × (more ≡ left)) → (v w x y : V) (s t whole mid last : List ℕ) → spells v s → spells w t → whole ≡ s ++ t → (front : List ℕ) × spells x front × (whole ≡ front ++ mid) → (front : List ℕ) × spells y front × (mid ≡ front ++ last) → (x ≡ v) × (y ≡ w)
-both_again spells one_front v w x y s t whole mid last h k whole_is (f, f_is, first) (g, g_is, second) =
-    let one = one_front v x s t f mid h f_is (sym whole_is ∙ first) in
-    let two = one_front w y t [] g last k g_is (append-nil t ∙ (one.2 ∙ second)) in
-    (sym one.0, sym two.0)
+-- bytes in memory are a source of which no call fails
+pub wants_memory : {buffers takes : Bool} {e : Error} {bytes left : List ℕ} → WantsMemory itself takes buffers e (bytes_source bytes) (bytes_source left) ⊎ IsOfFailedCall itself e no_faults no_faults
+    → e ≡ error_of kinds.OutOfMemory
+wants_memory (inl wants) = wants.given
+wants_memory (inr failed) = let one = failed.1.0 in absurd (omega arith)

@@ -1,6 +1,9 @@
 //! The example of the README.
-ghost use Rattle.std.specs.Prelude.{◌≡◌, ◌++◌, ℕ, List, IsTrue, IfOk};
+ghost use Rattle.std.specs.Prelude.{◌≡◌, ◌<◌, ◌^◌, ℕ, length, false, IfOk, IsOkUnless};
+ghost use Rattle.speedy.specs.Error.{error_of, is_eof_error};
+ghost use Rattle.speedy.specs.declared.error.ErrorKind.TheVariants.{OutOfMemory};
 ghost use Rattle.speedy.specs.Encoding.{plain_encoding};
+ghost use Rattle.speedy.specs.WaysOfReading.{AnswersBuffer, AnswersStream};
 
 use speedy::device::Source;
 use speedy::laws::written_is_answered;
@@ -9,7 +12,8 @@ use std::alloc::Global;
 
 /// Writes numbers in the big byte order, and reads them again.
 pub fn round_trip(alloc: Global, numbers: &Vec<u16>) -> Result<Vec<u16>, Error>
-    ensures { IfOk result (λ again. again.items ≡ numbers.now.items) }
+    ensures same { IfOk result (λ again. again.items ≡ numbers.now.items) }
+    ensures refused { length numbers.now.items < 2 ^ 32 → IsOkUnless result (error_of OutOfMemory) }
 {
     written_is_answered::<Vec<u16>, Endianness>();
     let order = Endianness::BigEndian;
@@ -17,24 +21,24 @@ pub fn round_trip(alloc: Global, numbers: &Vec<u16>) -> Result<Vec<u16>, Error>
     <Vec<u16> as Readable<Endianness>>::read_from_buffer_with_ctx(alloc, order, &bytes)
 }
 
-/// A message's number and text, which a prefix of the bytes encodes. The text is that of the bytes, where it lies.
+/// A message's number and text, which a prefix of the bytes encodes, or an error exactly where none does. The text is
+/// that of the bytes, where it lies.
 pub fn parse_message<'a>(alloc: Global, bytes: &'a [u8]) -> Result<(u16, &'a str), Error>
     ensures { let layout = ⟦<(u16, &'a str) as Layout>⟧ in
         let format = layout.format (plain_encoding Endianness.LittleEndian) in
-        IfOk result (λ message. (front : List ℕ) × (rest : List ℕ)
-        × format.spells (layout.seen message) front × (bytes.now ≡ front ++ rest)) }
+        (size : ℕ) × AnswersBuffer ⟦<Error as From<Error>>⟧.from_gives is_eof_error layout.seen layout.least
+        format result size bytes.now }
 {
     <(u16, &'a str) as Readable<LittleEndian>>::read_from_buffer(alloc, bytes)
 }
 
-/// The next message: a number and a text. The source has lost just the bytes that encode it.
+/// The next message: a number and a text. The source has lost just the bytes that encode it. An error is out of memory,
+/// that of a failed call of the source, or means that no prefix of its bytes encodes a message.
 pub fn next_message<S: Source>(alloc: Global, source: &mut S) -> Result<(u16, String), Error>
     ensures { let layout = ⟦<(u16, String) as Layout>⟧ in
         let format = layout.format (plain_encoding Endianness.LittleEndian) in
-        let before = S.source source.old in
-        let after = S.source source.new in
-        IsTrue before.tells → IfOk result (λ message. (front : List ℕ)
-        × format.spells (layout.seen message) front × (before.to_come ≡ front ++ after.to_come)) }
+        AnswersStream ⟦<Error as From<Error>>⟧.from_gives is_eof_error layout.seen format false
+        result (S.source source.old) (S.source source.new) }
 {
     <(u16, String) as Readable<LittleEndian>>::read_from_stream_unbuffered(alloc, source)
 }

@@ -1,25 +1,33 @@
 //! Values that go through sinks and come from sources.
-ghost use Rattle.std.specs.Prelude.{◌≡◌, ◌-◌, ◌^◌, ◌<◌, [], ◌++◌, ℕ, List, length as count, map, IsTrue, IfOk, MatchOption};
+ghost use Rattle.std.specs.Prelude.{◌≡◌, ◌⊎◌, ◌-◌, ◌^◌, ◌<◌, [], ◌++◌, ℕ, List, length as count, map, false, IsTrue, IfOk, IfErr, IsOkUnless, MatchOption};
 ghost use Rattle.speedy.specs.Digits.{AreBytes};
 ghost use Rattle.speedy.specs.Encoding.{plain_encoding};
+ghost use Rattle.speedy.specs.Error.{error_of, is_eof_error};
 ghost use Rattle.speedy.specs.Format.{Each};
+ghost use Rattle.speedy.specs.Reading.{Excused, IsTold, PeekWants, Refused};
+ghost use Rattle.speedy.specs.WaysOfReading.{AnswersStream};
+ghost use Rattle.speedy_examples.specs.Callers.{HasEncoding, IsFailure};
 
 use speedy::device::{Source, VecSink};
-use speedy::laws::{one_front, written_is_answered, written_is_shortest};
+use speedy::laws::{written_is_answered, written_is_streamed};
 use speedy::private::{ErrorKind, error_out_of_range_length, get_error_kind};
 use speedy::readable::StreamReader;
 use speedy::{Endianness, Error, Layout, LendingReader, LittleEndian, Readable, Writable};
 use std::alloc::Global;
 use std::convert::AsSlice;
 
-/// Writes a value to a sink that keeps it in memory, and reads it back from there.
+/// Writes a value to a sink that keeps it in memory, and reads it back from there. If it has an encoding, the only errors
+/// are out of memory and that of a failed push.
 pub fn again_through_a_sink(
     alloc: Global,
     order: Endianness,
     value: &Option<String>,
 ) -> Result<Option<String>, Error>
-    ensures { let seen = ⟦<Option<String> as Layout>⟧.seen in
+    ensures same { let seen = ⟦<Option<String> as Layout>⟧.seen in
         IfOk result (λ x. seen x ≡ seen value.now) }
+    ensures refused { let layout = ⟦<Option<String> as Layout>⟧ in
+        HasEncoding (layout.format (plain_encoding order)) (layout.seen value.now)
+        → IfErr result IsFailure }
 {
     written_is_answered::<Option<String>, Endianness>();
     let mut sink = VecSink::new(alloc);
@@ -28,39 +36,59 @@ pub fn again_through_a_sink(
     <Option<String> as Readable<Endianness>>::read_from_buffer_with_ctx(alloc, order, bytes)
 }
 
-/// The next message: a number and a text. The source has lost just the bytes that encode it.
+/// The next message: a number and a text. The source has lost just the bytes that encode it. An error is out of memory,
+/// that of a failed call of the source, or means that no prefix of its bytes encodes a message.
 pub fn next_message<S: Source>(alloc: Global, source: &mut S) -> Result<(u16, String), Error>
     ensures { let layout = ⟦<(u16, String) as Layout>⟧ in
         let format = layout.format (plain_encoding Endianness.LittleEndian) in
-        let before = S.source source.old in
-        let after = S.source source.new in
-        IsTrue before.tells → IfOk result (λ message. (front : List ℕ)
-        × format.spells (layout.seen message) front × (before.to_come ≡ front ++ after.to_come)) }
+        AnswersStream ⟦<Error as From<Error>>⟧.from_gives is_eof_error layout.seen format false
+        result (S.source source.old) (S.source source.new) }
 {
     <(u16, String) as Readable<LittleEndian>>::read_from_stream_unbuffered(alloc, source)
 }
 
-/// Writes two messages to a sink, and reads both back from what it took.
+/// Two messages that were written one behind the other. The only error is then out of memory.
+pub fn two_messages(alloc: Global, bytes: &[u8]) -> Result<((u16, String), (u16, String)), Error>
+    ensures same { let layout = ⟦<(u16, String) as Layout>⟧ in
+        let format = layout.format (plain_encoding Endianness.LittleEndian) in
+        (first second : layout.Seen) (front back : List ℕ) →
+        format.writes first front → format.writes second back → bytes.now ≡ front ++ back
+        → IfOk result (λ both. (layout.seen both.0 ≡ first) × (layout.seen both.1 ≡ second)) }
+    ensures refused { let layout = ⟦<(u16, String) as Layout>⟧ in
+        let format = layout.format (plain_encoding Endianness.LittleEndian) in
+        (first second : layout.Seen) (front back : List ℕ) →
+        format.writes first front → format.writes second back → bytes.now ≡ front ++ back
+        → IsOkUnless result (error_of ErrorKind.OutOfMemory) }
+{
+    written_is_streamed::<(u16, String), LittleEndian>();
+    let mut source = bytes;
+    let first = next_message(alloc, &mut source)?;
+    let second = next_message(alloc, &mut source)?;
+    Ok((first, second))
+}
+
+/// Writes two messages to a sink, and reads both back from what it took. If they have encodings, the only errors are out
+/// of memory and that of a failed push.
 pub fn two_messages_again(
     alloc: Global,
     first: &(u16, String),
     second: &(u16, String),
 ) -> Result<((u16, String), (u16, String)), Error>
-    ensures { let seen = ⟦<(u16, String) as Layout>⟧.seen in
+    ensures same { let seen = ⟦<(u16, String) as Layout>⟧.seen in
         IfOk result (λ again. (seen again.0 ≡ seen first.now) × (seen again.1 ≡ seen second.now)) }
+    ensures refused { let layout = ⟦<(u16, String) as Layout>⟧ in
+        let format = layout.format (plain_encoding Endianness.LittleEndian) in
+        HasEncoding format (layout.seen first.now) → HasEncoding format (layout.seen second.now)
+        → IfErr result IsFailure }
 {
-    written_is_shortest::<(u16, String)>();
-    one_front::<(u16, String)>();
     let mut sink = VecSink::new(alloc);
     Writable::<LittleEndian>::write_to_stream(first, alloc, &mut sink)?;
     Writable::<LittleEndian>::write_to_stream(second, alloc, &mut sink)?;
-    let mut source = sink.bytes();
-    let first_again = next_message(alloc, &mut source)?;
-    let second_again = next_message(alloc, &mut source)?;
-    Ok((first_again, second_again))
+    two_messages(alloc, sink.bytes())
 }
 
-/// The next message of a reader, or `None` where no byte is left. An end within a message is an error.
+/// The next message of a reader, or `None` where no byte is left. A clean error means that the bytes begin with no message:
+/// an end within one is an error.
 pub fn next_or_end<L: AsSlice<u8> + Drop, R: LendingReader<L, LittleEndian>>(
     reader: &mut R,
 ) -> Result<Option<(u16, String)>, Error>
@@ -70,12 +98,23 @@ pub fn next_or_end<L: AsSlice<u8> + Drop, R: LendingReader<L, LittleEndian>>(
     ensures next { let layout = ⟦<(u16, String) as Layout>⟧ in
         let before = R.state reader.old in
         let after = R.state reader.new in
+        let format = layout.format before.encoding in
         IfOk result (λ next. MatchOption next
-        (IsTrue before.fixed.tells → IsTrue before.fixed.tells_faults → AreBytes before.to_come
-        → count before.to_come < 2 ^ 64 - 1 → before.to_come ≡ [])
-        (λ message. (front : List ℕ)
-        × (layout.format before.encoding).spells (layout.seen message) front
-        × (IsTrue before.fixed.tells → before.to_come ≡ front ++ after.to_come))) }
+        (IsTold format before → IsTrue before.fixed.tells_faults → before.to_come ≡ [])
+        (λ message. (front : List ℕ) × format.spells (layout.seen message) front
+        × (IsTrue before.fixed.tells → before.to_come ≡ front ++ after.to_come)
+        × (after.faults ≡ before.faults))) }
+    ensures refused { let before = R.state reader.old in
+        let after = R.state reader.new in
+        let itself = ⟦<Error as From<Error>>⟧.from_gives in
+        let format = ⟦<(u16, String) as Layout>⟧.format before.encoding in
+        IfErr result (λ e. PeekWants itself e before after
+        ⊎ (Excused itself format.asks.memory e before after
+        ⊎ Refused itself is_eof_error format e before after)) }
+    // Where no byte is left, only memory or the device is at fault.
+    ensures ended { let before = R.state reader.old in
+        IsTold (⟦<(u16, String) as Layout>⟧.format before.encoding) before
+        → IsTrue before.fixed.tells_faults → before.to_come ≡ [] → IfErr result IsFailure }
 {
     match reader.peek_u8() {
         Ok(_) => Ok(Some(reader.read_value()?)),
@@ -86,15 +125,22 @@ pub fn next_or_end<L: AsSlice<u8> + Drop, R: LendingReader<L, LittleEndian>>(
     }
 }
 
-/// All messages of a source, until it ends.
+/// All messages of a source, until it ends. If its bytes are messages and nothing else, the only errors are out of memory
+/// and that of the source.
 pub fn all_messages<S: Source>(alloc: Global, source: &mut S) -> Result<Vec<(u16, String)>, Error>
-    ensures { let layout = ⟦<(u16, String) as Layout>⟧ in
+    ensures all { let layout = ⟦<(u16, String) as Layout>⟧ in
         let format = layout.format (plain_encoding Endianness.LittleEndian) in
         let before = S.source source.old in
         IfOk result (λ messages. (bytes : List ℕ)
         × Each format.spells (map layout.seen messages.items) bytes
         × (IsTrue before.tells → AreBytes before.to_come → count before.to_come < 2 ^ 64 - 1
         → before.to_come ≡ bytes)) }
+    ensures refused { let layout = ⟦<(u16, String) as Layout>⟧ in
+        let format = layout.format (plain_encoding Endianness.LittleEndian) in
+        let before = S.source source.old in
+        (messages : List layout.Seen) → Each format.spells messages before.to_come
+        → IsTrue before.tells → AreBytes before.to_come → count before.to_come < 2 ^ 64 - 1
+        → IfErr result IsFailure }
 {
     let mut messages = Vec::new(alloc);
     let mut reader = StreamReader::new(alloc, LittleEndian {}, source, true)?;

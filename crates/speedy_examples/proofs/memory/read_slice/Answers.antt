@@ -1,6 +1,5 @@
 use Rattle.std.proofs.Common.{refl}
 use Rattle.speedy_examples.proofs.memory.read_slice.Goals as goal
 
-pub returns : goal.returns
-returns g c = λ items bytes rest written number tells to_come.
-    let read = c.written_items_are_read.ensures.told bytes written number tells refl to_come c.read_vec.ensures.reads in (read.same, read.rest_is)
+pub returns-clause-written : goal.returns-clause-written
+returns-clause-written g c = λ items bytes rest written number tells to_come. c.written_items_are_read.ensures.told bytes written number tells refl to_come c.read_vec.ensures.reads

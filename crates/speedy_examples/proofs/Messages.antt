@@ -1,0 +1,81 @@
+-- Messages: a number and a text.
+use Rattle.std.specs.Prelude.{◌≡◌, ◌≢◌, ℕ, ◌-◌, ◌^◌, ◌<◌, List, [], ◌++◌, length, Bool, false, IsTrue, String, refl}
+use Rattle.std.proofs.Common.{ap, subst, arith, inl, inr}
+use Rattle.std.proofs.lemmas.List.{length-append}
+use Rattle.std.specs.String.{string_bytes}
+use Rattle.std.specs.declared.alloc.Global.{Global}
+use Rattle.speedy.specs.declared.endianness.Endianness.TheVariants.{LittleEndian}
+use Rattle.speedy.specs.declared.error.Error.{Error}
+use Rattle.speedy.specs.declared.error.ErrorKind.{ErrorKind}
+use Rattle.speedy.specs.declared.error.ErrorKind.TheVariants as kinds
+use Rattle.speedy.specs.Digits.{AreBytes}
+use Rattle.speedy.specs.Encoding.{Encoding, plain_encoding}
+use Rattle.speedy.specs.Error.{error_of}
+use Rattle.speedy.specs.ErrorKind.{EndsInput}
+use Rattle.speedy.specs.Format.{Format}
+use Rattle.speedy.specs.Laws.{Laws}
+use Rattle.speedy.specs.Numbers.{unsigned_number, unsigned_number_laws}
+use Rattle.speedy.specs.Reading.{ReaderState, IsTold}
+use Rattle.speedy.specs.Sequences.{sequence}
+use Rattle.speedy.specs.Texts.{text, text_laws}
+use Rattle.speedy.specs.TupleLaws.{tuple2_laws}
+use Rattle.speedy.specs.Tuples.{pair}
+use Rattle.speedy_examples.specs.Callers.{IsFailure}
+
+-- a message, as its layout sees it, and its format
+abbrev pub Message : Type 0
+Message = ℕ × List ℕ
+
+abbrev pub seen_message : ℕ × String Global → Message
+seen_message message = (message.0, string_bytes message.1)
+
+abbrev pub message_in : Encoding → Format Message
+message_in encoding = pair (unsigned_number 2 encoding) (text encoding)
+
+abbrev pub message : Format Message
+message = message_in (plain_encoding LittleEndian)
+
+pub message_laws : (encoding : Encoding) → Laws encoding.strict 6 (message_in encoding)
+message_laws encoding = tuple2_laws unsigned2 text_laws encoding where
+  unsigned2 : (f : Encoding) → Laws f.strict 2 (unsigned_number 2 f)
+  unsigned2 = unsigned_number_laws 2
+
+pub message_lends_nothing : (encoding : Encoding) → (message_in encoding).asks.lending ≡ false
+unfolding sequence unsigned_number text
+message_lends_nothing encoding = refl
+
+pub message_asks_memory : (encoding : Encoding) → IsTrue (message_in encoding).asks.memory
+unfolding sequence unsigned_number text
+message_asks_memory encoding = refl
+
+-- no message has no bytes, and no bytes are malformed as one
+pub no_empty_message : (encoding : Encoding) (m : Message) (front rest : List ℕ) → (message_in encoding).spells m front → front ++ rest ≢ []
+no_empty_message encoding m front rest h none =
+    let least = (message_laws encoding).least_size m front h in
+    let size = ap length none in
+    let sizes = length-append front rest in
+    absurd (omega arith)
+
+pub nothing_malformed : (encoding : Encoding) → (message_in encoding).malformed [] → ⊥
+unfolding sequence unsigned_number text
+nothing_malformed encoding (inl none) = none
+nothing_malformed encoding (inr (n, parts)) =
+    let size = ap length parts.whole_is in
+    let sizes = length-append parts.front parts.back in
+    let two = parts.first_is.width_is in
+    absurd (omega arith)
+
+-- a reader that tells its bytes tells those of messages, which borrow nothing
+pub told_message : (encoding : Encoding) {state : ReaderState} → IsTrue state.fixed.tells → AreBytes state.to_come → length state.to_come < 2 ^ 64 - 1 → IsTold (message_in encoding) state
+told_message encoding tells are_bytes fit = record {
+  tells = tells;
+  are_bytes = are_bytes;
+  fit = fit;
+  lends = λ h. absurd (let none : IsTrue false = subst IsTrue (message_lends_nothing encoding) h in cc);
+}
+
+-- an end that is no `UnexpectedEndOfInput` is the error of a device
+pub device_end : (by_device : Bool) {e : Error} (kind : ErrorKind) → EndsInput by_device kind → e ≡ error_of kind → e ≢ error_of kinds.UnexpectedEndOfInput → IsFailure e
+device_end by_device kinds.UnexpectedEndOfInput ends is other = absurd (other is)
+device_end by_device (kinds.IoError boxed) ends is other = inr (boxed.value, (kinds.IoError boxed, refl, is))
+device_end by_device _ ends is other = absurd ends

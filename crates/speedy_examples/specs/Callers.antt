@@ -1,0 +1,24 @@
+-- Words of the callers' contracts: values that have an encoding, bytes that begin with one, and errors that say nothing of either.
+use Rattle.std.specs.Prelude.{◌≡◌, ℕ, ◌-◌, ◌^◌, ◌<◌, List, ◌++◌, length, ◌⊎◌}
+use Rattle.std.specs.declared.io.Error.{Error as StdIoError}
+use Rattle.speedy.specs.Error.{error_of}
+use Rattle.speedy.specs.FailedCalls.{IsErrorOf}
+use Rattle.speedy.specs.Format.{Format}
+use Rattle.speedy.specs.declared.error.Error.{Error}
+use Rattle.speedy.specs.declared.error.ErrorKind.TheVariants as kinds
+
+-- some bytes encode the value, so few that they can be counted
+abbrev pub HasEncoding : {V : Type 0} → Format V → V → Type 0
+HasEncoding format v = (bytes : List ℕ) × format.spells v bytes × (length bytes < 2 ^ 64 - 1)
+
+-- a prefix of the bytes encodes some value
+abbrev pub HasFront : {V : Type 0} → Format V → List ℕ → Type 0
+HasFront {V = V} format bytes = (v : V) × (front : List ℕ) × (rest : List ℕ) × format.spells v front × (bytes ≡ front ++ rest)
+
+-- an error of the crate becomes no other one
+abbrev pub itself : Error → Error → Type 0
+itself error e = e ≡ error
+
+-- out of memory, or the error of a device
+abbrev pub IsFailure : Error → Type 0
+IsFailure e = (e ≡ error_of kinds.OutOfMemory) ⊎ ((error : StdIoError) × IsErrorOf itself error e)
