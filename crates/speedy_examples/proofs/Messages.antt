@@ -1,5 +1,5 @@
 -- Messages: a number and a text.
-use Rattle.std.specs.Prelude.{◌≡◌, ◌≢◌, ℕ, ◌-◌, ◌^◌, ◌<◌, List, [], ◌++◌, length, Bool, false, IsTrue, String, refl}
+use Rattle.std.specs.Prelude.{◌≡◌, ◌⊎◌, ◌≢◌, ℕ, ◌-◌, ◌^◌, ◌<◌, List, [], ◌++◌, length, Bool, false, IsTrue, String, refl}
 use Rattle.std.proofs.Common.{ap, subst, arith, inl, inr}
 use Rattle.std.proofs.lemmas.List.{length-append}
 use Rattle.std.specs.String.{string_bytes}
@@ -74,8 +74,8 @@ told_message encoding tells are_bytes fit = record {
   lends = λ h. absurd (let none : IsTrue false = subst IsTrue (message_lends_nothing encoding) h in cc);
 }
 
--- an end that is no `UnexpectedEndOfInput` is the error of a device
-pub device_end : (by_device : Bool) {e : Error} (kind : ErrorKind) → EndsInput by_device kind → e ≡ error_of kind → e ≢ error_of kinds.UnexpectedEndOfInput → IsFailure e
-device_end by_device kinds.UnexpectedEndOfInput ends is other = absurd (other is)
-device_end by_device (kinds.IoError boxed) ends is other = inr (boxed.value, (kinds.IoError boxed, refl, is))
-device_end by_device _ ends is other = absurd ends
+-- an end is `UnexpectedEndOfInput`, or the error of a device
+pub end_kind : (by_device : Bool) {e : Error} (kind : ErrorKind) → EndsInput by_device kind → e ≡ error_of kind → IsFailure e ⊎ (e ≡ error_of kinds.UnexpectedEndOfInput)
+end_kind by_device kinds.UnexpectedEndOfInput ends is = inr is
+end_kind by_device (kinds.IoError boxed) ends is = inl (inr (boxed.value, (kinds.IoError boxed, refl, is)))
+end_kind by_device _ ends is = absurd ends

@@ -10,8 +10,8 @@ use Rattle.speedy.specs.Error.{error_of, kind_of, is_eof_error, IsIoErrorOf, IsN
 use Rattle.speedy.specs.FailedCalls.{IsOfFailedCall}
 use Rattle.speedy.specs.Numbers.{unsigned_number}
 use Rattle.speedy.specs.Reading.{ReaderState, Excused, IsEnd, IsTold, PeekWants, Peeks, Reads, Refused, Unspelled}
-use Rattle.speedy_examples.proofs.Messages.{Message, message_in, message_asks_memory, no_empty_message, nothing_malformed, device_end}
-use Rattle.speedy_examples.specs.Callers.{itself, IsFailure}
+use Rattle.speedy_examples.proofs.Messages.{Message, message_in, message_asks_memory, no_empty_message, nothing_malformed, end_kind}
+use Rattle.speedy_examples.specs.Callers.{itself, IsFailure, IsRefusal}
 
 -- why the next message is refused
 abbrev pub NextRefused : Error → ReaderState → ReaderState → Type 0
@@ -123,11 +123,15 @@ read_refused {e = e} {old = old} {mid = mid} {new = new} peeks reads = of reads.
 pub ended_by_failure : {e : Error} {old new : ReaderState} → IsTrue old.fixed.tells_faults → e ≢ error_of kinds.UnexpectedEndOfInput
     → (let refused : Result ℕ Error = Err e in PeeksByte refused old new) → IsFailure e
 ended_by_failure {e = e} {old = old} {new = new} tells_faults other peeks = of peeks.answer where
+  only_device : IsFailure e ⊎ (e ≡ error_of kinds.UnexpectedEndOfInput) → IsFailure e
+  only_device (inl failure) = failure
+  only_device (inr is) = absurd (other is)
+
   of : PeekWants itself e old new ⊎ (Excused itself (unsigned_number 1 old.encoding).asks.memory e old new ⊎ Refused itself is_eof_error (unsigned_number 1 old.encoding) e old new) → IsFailure e
   of (inl wants) = inl wants.0
   of (inr (inl (inl wants))) = inl wants.0
   of (inr (inl (inr fault))) = let failed = fault.1 tells_faults in inr (failed.0, failed.2)
-  of (inr (inr refused)) = let ends = byte_end old.fixed.ends_by_device old.encoding refused.kind in device_end old.fixed.ends_by_device ends.0.0 ends.0.1 ends.0.2 other
+  of (inr (inr refused)) = let ends = byte_end old.fixed.ends_by_device old.encoding refused.kind in only_device (end_kind old.fixed.ends_by_device ends.0.0 ends.0.1 ends.0.2)
 
 pub not_ended : {b : ℕ} {old mid : ReaderState} → (let peeked : Result ℕ Error = Ok b in PeeksByte peeked old mid) → IsTrue old.fixed.tells → old.to_come ≢ []
 unfolding unsigned_number
@@ -137,3 +141,20 @@ not_ended peeks tells none =
     let sizes = length-append ahead.front ahead.rest in
     let one = ahead.front_is.width_is in
     absurd (omega arith)
+
+-- what the next message of a reader that tells its failed calls is refused with
+pub next_kind : {e : Error} {old new : ReaderState} → IsTrue old.fixed.tells_faults → NextRefused e old new → IsFailure e ⊎ IsRefusal (message_in old.encoding) e
+next_kind {e = e} {old = old} {new = new} tells_faults refused = of refused where
+  of_end : IsFailure e ⊎ (e ≡ error_of kinds.UnexpectedEndOfInput) → IsFailure e ⊎ IsRefusal (message_in old.encoding) e
+  of_end (inl failure) = inl failure
+  of_end (inr is) = inr (inr (inl is))
+
+  of_kind : IsEnd itself is_eof_error old.fixed.ends_by_device e ⊎ IsNamed itself (message_in old.encoding).names e → IsFailure e ⊎ IsRefusal (message_in old.encoding) e
+  of_kind (inl ends) = of_end (end_kind old.fixed.ends_by_device ends.0.0 ends.0.1 ends.0.2)
+  of_kind (inr named) = inr (inl named)
+
+  of : NextRefused e old new → IsFailure e ⊎ IsRefusal (message_in old.encoding) e
+  of (inl wants) = inl (inl wants.0)
+  of (inr (inl (inl wants))) = inl (inl wants.0)
+  of (inr (inl (inr fault))) = let failed = fault.1 tells_faults in inl (inr (failed.0, failed.2))
+  of (inr (inr it)) = of_kind it.kind

@@ -1,7 +1,7 @@
 -- Words of the callers' contracts: values that have an encoding, bytes that begin with one, and errors that say nothing of either.
 use Rattle.std.specs.Prelude.{◌≡◌, ℕ, ◌-◌, ◌^◌, ◌<◌, List, ◌++◌, length, ◌⊎◌}
 use Rattle.std.specs.declared.io.Error.{Error as StdIoError}
-use Rattle.speedy.specs.Error.{error_of}
+use Rattle.speedy.specs.Error.{error_of, IsNamed}
 use Rattle.speedy.specs.FailedCalls.{IsErrorOf}
 use Rattle.speedy.specs.Format.{Format}
 use Rattle.speedy.specs.declared.error.Error.{Error}
@@ -22,3 +22,7 @@ itself error e = e ≡ error
 -- out of memory, or the error of a device
 abbrev pub IsFailure : Error → Type 0
 IsFailure e = (e ≡ error_of kinds.OutOfMemory) ⊎ ((error : StdIoError) × IsErrorOf itself error e)
+
+-- of a kind that the type names, or that says that the bytes ended too soon, or that the values are too many
+abbrev pub IsRefusal : {V : Type 0} → Format V → Error → Type 0
+IsRefusal format e = IsNamed itself format.names e ⊎ (e ≡ error_of kinds.UnexpectedEndOfInput) ⊎ (e ≡ error_of kinds.OutOfRangeLength)

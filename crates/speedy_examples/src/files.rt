@@ -1,8 +1,9 @@
 //! A file of records, one behind the other.
-ghost use Rattle.std.specs.Prelude.{ℕ, List, map, IfOk};
+ghost use Rattle.std.specs.Prelude.{◌⊎◌, ℕ, List, map, MatchResult};
 ghost use Rattle.speedy.specs.Encoding.{plain_encoding};
 ghost use Rattle.speedy.specs.Format.{Each};
 ghost use Rattle.speedy.specs.WaysOfWriting.{WritesAndFlushes, WritesToFile};
+ghost use Rattle.speedy_examples.specs.Callers.{IsFailure, IsRefusal};
 
 use crate::streams::all_messages;
 use speedy::device::{Counted, Sink};
@@ -38,7 +39,7 @@ pub fn append_record<R: Files>(
     }
 }
 
-/// All records of a file.
+/// All records of a file. An error is out of memory, that of a failed call, or of bytes that are no records.
 pub fn read_records<R: Files>(
     rt: &R,
     alloc: Global,
@@ -46,8 +47,9 @@ pub fn read_records<R: Files>(
 ) -> Result<Vec<(u16, String)>, Error>
     ensures { let layout = ⟦<(u16, String) as Layout>⟧ in
         let format = layout.format (plain_encoding Endianness.LittleEndian) in
-        IfOk result (λ records. (bytes : List ℕ)
-        × Each format.spells (map layout.seen records.items) bytes) }
+        MatchResult result (λ records. (bytes : List ℕ)
+        × Each format.spells (map layout.seen records.items) bytes)
+        (λ e. IsFailure e ⊎ IsRefusal format e) }
 {
     match File::open(rt, path) {
         Ok(file) => all_messages(alloc, &mut Counted::new(file)),

@@ -1,10 +1,13 @@
 //! A fixed header: a magic number, a version, and a length.
 ghost use Rattle.std.specs.Prelude.{◌≡◌, ◌++◌, ℕ, List, codes, map, IfOk};
+ghost use Rattle.speedy.specs.Buffers.{bytes_state};
 ghost use Rattle.speedy.specs.Encoding.{plain_encoding};
+ghost use Rattle.speedy.specs.Error.{is_eof_error};
 ghost use Rattle.speedy.specs.Format.{Each};
 ghost use Rattle.speedy.specs.Numbers.{unsigned_number, unsigned_number_laws};
 ghost use Rattle.speedy.specs.Texts.{constant_bytes, constant_bytes_laws};
 ghost use Rattle.speedy.specs.Tuples.{pair, pair_laws};
+ghost use Rattle.speedy.specs.UntilEnd.{ReadsUntilEnd};
 ghost use Rattle.speedy.specs.Varint.{varint, varint_laws};
 
 use speedy::private::{read_constant, read_length_u64_varint, write_length_u64_varint};
@@ -64,12 +67,18 @@ impl<C: Context> Writable<C> for Header {
     }
 }
 
-/// The records of a log, without a last one that was cut short.
+/// The records of a log, at most so many, without a last one that was cut short.
 pub fn read_log(alloc: Global, bytes: &[u8], greatest: usize) -> Result<Vec<(u16, String)>, Error>
-    ensures { let layout = ⟦<(u16, String) as Layout>⟧ in
+    ensures records { let layout = ⟦<(u16, String) as Layout>⟧ in
         let format = layout.format (plain_encoding Endianness.LittleEndian) in
         IfOk result (λ records. (front : List ℕ) × (rest : List ℕ)
         × Each format.spells (map layout.seen records.items) front × (bytes.now ≡ front ++ rest)) }
+    // No record begins the rest, and an error says why there are no records.
+    ensures until_end { let layout = ⟦<(u16, String) as Layout>⟧ in
+        let encoding = plain_encoding Endianness.LittleEndian in
+        (left : List ℕ) × ReadsUntilEnd ⟦<Error as From<Error>>⟧.from_gives is_eof_error layout.seen
+        (λ items records. records.items ≡ items) (layout.format encoding) greatest result
+        (bytes_state bytes.now encoding) (bytes_state left encoding) }
 {
     let mut reader = BufferReader::new(alloc, LittleEndian {}, bytes);
     reader.read_vec_until_eof(greatest)

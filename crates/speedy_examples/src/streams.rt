@@ -6,7 +6,7 @@ ghost use Rattle.speedy.specs.Error.{error_of, is_eof_error};
 ghost use Rattle.speedy.specs.Format.{Each};
 ghost use Rattle.speedy.specs.Reading.{Excused, IsTold, PeekWants, Refused};
 ghost use Rattle.speedy.specs.WaysOfReading.{AnswersStream};
-ghost use Rattle.speedy_examples.specs.Callers.{HasEncoding, IsFailure};
+ghost use Rattle.speedy_examples.specs.Callers.{HasEncoding, IsFailure, IsRefusal};
 
 use speedy::device::{Source, VecSink};
 use speedy::laws::{written_is_answered, written_is_streamed};
@@ -141,6 +141,8 @@ pub fn all_messages<S: Source>(alloc: Global, source: &mut S) -> Result<Vec<(u16
         (messages : List layout.Seen) → Each format.spells messages before.to_come
         → IsTrue before.tells → AreBytes before.to_come → count before.to_come < 2 ^ 64 - 1
         → IfErr result IsFailure }
+    ensures kind { let format = ⟦<(u16, String) as Layout>⟧.format (plain_encoding Endianness.LittleEndian) in
+        IfErr result (λ e. IsFailure e ⊎ IsRefusal format e) }
 {
     let mut messages = Vec::new(alloc);
     let mut reader = StreamReader::new(alloc, LittleEndian {}, source, true)?;

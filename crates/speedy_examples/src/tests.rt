@@ -55,6 +55,16 @@ fn messages_come_one_after_another(rt: HostRuntime) {
 }
 
 #[test]
+fn two_messages_come_back(rt: HostRuntime) {
+    let alloc = rt.alloc();
+    let first = (1, String::from_str(alloc, "Hi").expect(&rt, "a text"));
+    let second = (2, String::from_str(alloc, "").expect(&rt, "a text"));
+    let again = streams::two_messages_again(alloc, &first, &second).expect(&rt, "messages");
+    assert_message(&rt, &again.0, 1, "Hi");
+    assert_message(&rt, &again.1, 2, "");
+}
+
+#[test]
 fn all_messages_are_read_until_the_source_ends(rt: HostRuntime) {
     let alloc = rt.alloc();
     let bytes = [1, 0, 2, 0, 0, 0, b'H', b'i', 2, 0, 0, 0, 0, 0];

@@ -2,6 +2,7 @@ use Rattle.std.proofs.Common.{◌++◌, ◌∙◌, [], ◌∷◌, ap, map, lengt
 use Rattle.std.proofs.lemmas.List.{map-append, length_push}
 use Rattle.speedy.specs.Error.{passed_on}
 use Rattle.speedy_examples.proofs.Messages.{seen_message, told_message}
+use Rattle.speedy_examples.proofs.NextLemmas.{next_kind}
 use Rattle.speedy_examples.proofs.StreamLemmas.{none_read, one_more_read, all_read, refused_by_failure, not_so_many}
 use Rattle.speedy_examples.proofs.streams.all_messages.Goals as goal
 
@@ -31,6 +32,9 @@ pub returns-in_err-message-clause-refused : goal.returns-in_err-message-clause-r
 returns-in_err-message-clause-refused g c = λ messages spelled tells are_bytes fit.
     rw (← passed_on _ _ c.from_residual-in_err-message.ensures.1)
     (refused_by_failure messages c.loop-i.invariant.1 spelled refl tells are_bytes fit refl c.in_err-message.ensures.refused c.in_err-message.ensures.ended)
+
+pub returns-in_err-message-clause-kind : goal.returns-in_err-message-clause-kind
+returns-in_err-message-clause-kind g c = rw (← passed_on _ _ c.from_residual-in_err-message.ensures.1) (next_kind refl c.in_err-message.ensures.refused)
 
 pub returns-clause-refused : goal.returns-clause-refused
 returns-clause-refused g c = λ _ _ tells _ fit. absurd (not_so_many c.loop-i.invariant.1 (omega (arith, c.loop-i.invariant.0)) tells fit)
