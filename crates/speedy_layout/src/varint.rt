@@ -67,8 +67,10 @@ impl VarInt64 {
 fn more_bytes(number: u64) -> usize
     ensures { IsFewest result number }
 {
-    let bits = 64 - number.leading_zeros();
-    (bits.saturating_sub(1) / 7).min(8) as usize
+    // The place of the highest bit; of 0 that of 1.
+    let top = 63 - (number | 1).leading_zeros();
+    // A seventh of it, or 8 of 63, with no division and no branch.
+    ((9 * top + 8) / 64) as usize
 }
 
 impl Layout for VarInt64 {

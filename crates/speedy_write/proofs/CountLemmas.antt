@@ -56,6 +56,14 @@ items_counted {F = F} {size = size} {old = old} seen items laws same h told =
     let k = subst (λ (e : Encoding). CountsEach (F e).writes (map seen items) size) same h in
     form_written (λ e. repeat_laws (laws e) (length items)) (length-map items seen, k.1) (told k.0 k.2)
 
+-- and of one
+pub item_counted : {E V : Type 0} {gives : Error → E → Type 0} {F : Encoding → Format V} {least size : ℕ} {result : Result (Unit {0}) E} {old new : WriterState} {appended : List ℕ → Type 0} {encoding : Encoding} {v : V}
+    → ((encoding : Encoding) → Laws encoding.strict least (F encoding)) → encoding ≡ old.encoding → ((bytes : List ℕ) × (F encoding).writes v bytes × (size ≡ length bytes)) → ((bytes : List ℕ) → length bytes ≡ size → WritesBytes gives bytes result old new appended)
+    → Writes gives F v result old new appended
+item_counted {F = F} {size = size} {v = v} laws same h told =
+    let k = subst (λ (e : Encoding). (bytes : List ℕ) × (F e).writes v bytes × (size ≡ length bytes)) same h in
+    form_written laws k.1 (told k.0 (sym k.2))
+
 -- ---- a writer whose context was lent
 
 -- what is written behind the one writer is written behind the other

@@ -1,7 +1,7 @@
 //! Items that are written one after another.
 ghost use Rattle.std.specs.Prelude.{◌≡◌, map, IfSome};
 ghost use Rattle.speedy_write.specs.Counting.{CountsEach};
-ghost use Rattle.speedy_write.specs.Writing.{WritesEach};
+ghost use Rattle.speedy_write.specs.Writing.{Writes, WritesEach};
 
 use crate::writable::Writable;
 use crate::writer::Writer;
@@ -25,8 +25,30 @@ pub(crate) fn write_items<C: Context, T: Writable<C>, W: Writer<C>>(
     T::write_many(items, writer)
 }
 
-// The most items that are counted together, and the most bytes of each: so the sum cannot wrap.
+// Writes an item of a collection. A writer that counts is told of it at once, so that it adds once.
+#[inline]
+pub(crate) fn write_item<C: Context, T: Writable<C>, W: Writer<C>>(
+    item: &T,
+    writer: &mut W,
+) -> Result<(), C::Error>
+    ensures { Writes C.Error.from_gives T.format (T.seen item.now) result
+        (W.state writer.old) (W.state writer.new) (λ b. W.appends writer.old b writer.new) }
+{
+    if W::COUNTS {
+        if let Ok(bytes) = item.bytes_needed(writer.context_mut()) {
+            if let Some(outcome) = writer.count_bytes(bytes) {
+                return outcome;
+            }
+        }
+    }
+    item.write_to(writer)
+}
+
+// The most items that are counted together, and the most bytes of each: so the sum cannot wrap. A processor compares
+// with the second in one instruction.
 const MOST: usize = 4_294_967_295;
+
+const MOST_BYTES: usize = 2_147_483_647;
 
 // How many bytes the items take, where there are not too many of them and all can be written.
 //
@@ -42,7 +64,7 @@ fn count_each<C: Context, T: Writable<C>>(items: &[T], context: &mut C) -> Optio
     let mut sum = 0;
     for item in items {
         match item.bytes_needed(context) {
-            Ok(size) if size <= MOST => sum += size,
+            Ok(size) if size <= MOST_BYTES => sum += size,
             _ => return None,
         }
     }

@@ -7,7 +7,7 @@ ghost use Rattle.std.specs.Int.{w8, w16, w32, w64, w128};
 ghost use Rattle.speedy_write.specs.Collections.{WritesItems};
 ghost use Rattle.speedy_write.specs.Writing.{WriterState, Writes, WritesEach, WritesBytes, WritesNumber, WritesSigned, RefusesFull, CountsBytes, IsRight};
 
-use crate::each::write_items;
+use crate::each::{write_item, write_items};
 use crate::fixed::FixedBytes;
 use crate::writable::Writable;
 use speedy_base::context::Context;
@@ -261,7 +261,7 @@ pub trait Writer<C: Context> {
             (state self.old) (state self.new) (λ b. appends self.old b self.new) }
     {
         for item in items {
-            self.write_value(&item)?;
+            write_item(&item, self)?;
         }
         Ok(())
     }
