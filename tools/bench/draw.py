@@ -7,7 +7,8 @@ With --overview each way is one line, with a dot a case and order, its mean and 
 Of several files the least figures count. A bar begins at 1, where both take the same time: one to the right says that this
 crate takes longer than the original, one to the left that it takes less. The scale is logarithmic, and the same in all
 panels. A figure of 0 or less says nothing (the read that is taken off a write took longer than it), and neither does one of
-the original below 2 ns, for which the compiler left only a constant: such a row is drawn as a dash.
+the original below 4 ns, for which the compiler left only a constant (an empty round takes 2): such a row is drawn as a
+dash.
 """
 import json
 import math
@@ -31,7 +32,7 @@ ROW, BAR = 24, 9                        # the heights of a case's row and of eac
 STRIP = 34                              # the height of a way's line in the overview
 MARGIN, HEAD, TITLE, AXIS = 20, 86, 26, 30
 COLUMNS = 2
-CONSTANT = 2.0                          # the nanoseconds below which the original's loop has nothing left to do
+CONSTANT = 4.0                          # the nanoseconds below which the original's loop has nothing left to do
 
 
 def least_figures(files):
