@@ -31,6 +31,10 @@ SourceKept old new = DeviceKept old.tells new.tells old.faults new.faults
 abbrev pub SinkKept : SinkState → SinkState → Type 0
 SinkKept old new = DeviceKept old.tells new.tells old.faults new.faults
 
+-- the source tells its bytes, and at least so many are to come
+abbrev pub Holds : SourceState → ℕ → Type 0
+Holds source size = IsTrue source.tells × (size ≤ length source.to_come)
+
 -- one call of `pull`, which left this output
 pub record Pulls (result : Result ℕ StdIoError) (old new : SourceState) (output : List ℕ) : Type 0 where
   pub kept : SourceKept old new

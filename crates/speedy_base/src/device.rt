@@ -1,9 +1,9 @@
 //! Sources and sinks: where bytes come from and go to.
-ghost use Rattle.std.specs.Prelude.{◌≡◌, ◌≤◌, min, [], ◌++◌, length, take, drop, IsOk, IfOk, IfErr, OnOk, OnErr, false};
+ghost use Rattle.std.specs.Prelude.{◌≡◌, ◌≤◌, ◌↔◌, min, [], ◌++◌, length, take, drop, IsOk, IfOk, IfErr, OnOk, OnErr, IsTrue, false};
 ghost use Rattle.speedy_base.specs.FailedCalls.{OneFailed};
 ghost use Rattle.std.specs.IoError.{error_kind};
 ghost use Rattle.std.specs.Io.KnownBytes.{ReadConsumes, WriteAppends, Keeps};
-ghost use Rattle.speedy_base.specs.Device.{SourceState, SinkState, Pulls, Pushes, Flushes};
+ghost use Rattle.speedy_base.specs.Device.{SourceState, SinkState, Holds, Pulls, Pushes, Flushes};
 ghost use Rattle.speedy_base.specs.MemoryDevices.{bytes_source, vec_sink_bytes, vec_sink_faults, vec_sink_state, counted_inner, counted_faults, counted_settled, counted_source, counted_sink, no_faults};
 
 use std::alloc::Global;
@@ -51,6 +51,15 @@ pub trait Source {
     /// Moves bytes to the front of the output, and says how many. What lies behind them in the output may change too.
     fn pull(&mut self, output: &mut [u8]) -> Result<usize, io::Error>
         ensures { Pulls result (source self.old) (source self.new) output.new };
+
+    /// Whether at least `size` bytes are to come, as only a source may say that tells its bytes to the contracts. A reader
+    /// then makes room for a long list at once. This body says nothing of the kind.
+    #[inline(always)]
+    fn can_pull_at_least(&self, _size: usize) -> bool
+        ensures { IsTrue result → Holds (source self.now) _size }
+    {
+        false
+    }
 }
 
 /// A sink: where bytes go to.
@@ -67,11 +76,27 @@ pub trait Sink {
     /// Passes on what was taken and still waits somewhere. After a flush that succeeds nothing does.
     fn flush(&mut self) -> Result<(), io::Error>
         ensures { Flushes result (sink self.old) (sink self.new) };
+
+    /// Tells the sink how many bytes are pushed next, for which it may make room at once. It takes none here, and does
+    /// not say whether there is room. This body does nothing.
+    #[inline(always)]
+    fn reserve(&mut self, _additional: usize)
+        ensures { sink self.new ≡ sink self.old }
+    {}
 }
 
 /// Bytes in memory as a source. The slice is then what is left of them.
 impl Source for &[u8] {
     ghost source = { λ s. bytes_source s.now };
+
+    /// Whether so many bytes are left.
+    #[inline(always)]
+    fn can_pull_at_least(&self, size: usize) -> bool
+        ensures holds { IsTrue result → Holds (bytes_source self.now.now) size }
+        ensures knows { IsTrue result ↔ (size ≤ length self.now.now) }
+    {
+        size <= self.len()
+    }
 
     /// Moves as many bytes as are left, or as there is room for.
     #[inline(always)]
@@ -149,6 +174,13 @@ impl Sink for VecSink {
             return Err(error);
         }
         Ok(bytes.len())
+    }
+
+    /// Asks for room for so many bytes more. Where there is no memory for them, a push may still find some for fewer.
+    fn reserve(&mut self, additional: usize)
+        ensures { vec_sink_state self.new ≡ vec_sink_state self.old }
+    {
+        let _ = self.bytes.reserve(additional);
     }
 
     /// Nothing waits, so there is nothing to do.

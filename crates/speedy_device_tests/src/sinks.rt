@@ -159,6 +159,7 @@ fn the_flushing_form_flushes_once_behind_the_value(rt: HostRuntime) {
 fn without_a_context_the_little_order_is_pushed(rt: HostRuntime) {
     let alloc = rt.alloc();
     let mut sink = VecSink::new(alloc);
+    sink.reserve(4);
     for _ in 0..2 {
         let outcome = Writable::<LittleEndian>::write_to_stream(&2_u16, alloc, &mut sink);
         assert_ok(&rt, outcome, ());
@@ -166,11 +167,12 @@ fn without_a_context_the_little_order_is_pushed(rt: HostRuntime) {
     assert_bytes(&rt, sink.bytes(), &[2, 0, 2, 0]);
 }
 
-/// Writes 1 as two bytes, no byte, and 2 as two in the other order.
+/// Writes 1 as two bytes, no byte, and 2 as two in the other order, which are told first.
 fn write_in_both_orders(rt: &impl Abort, writer: &mut impl Writer<Endianness>) {
     assert_ok(rt, writer.write_value(&1_u16), ());
     assert_ok(rt, writer.write_bytes(&[]), ());
     *writer.context_mut() = Endianness::BigEndian;
+    writer.reserve(2);
     assert_ok(rt, writer.write_u16(2), ());
 }
 

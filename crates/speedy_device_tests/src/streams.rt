@@ -40,6 +40,9 @@ fn a_buffered_reader_keeps_what_it_read_ahead(rt: HostRuntime) {
     assert_ok(&rt, reader.read_u8(), 7);
     assert_same(&rt, reader.can_read_at_least(8_191), Some(true));
     assert_same(&rt, reader.can_read_at_least(8_192), None);
+    // the source knows what it has left
+    assert_same(&rt, reader.expects_at_least(19_999), true);
+    assert_same(&rt, reader.expects_at_least(20_000), false);
     assert_same(&rt, reader.into_source().len(), 11_808);
 }
 

@@ -167,6 +167,10 @@ abbrev pub IsRight : Option Bool → ReaderState → ℕ → Type 0
 IsRight answer old n =
     (b : Bool) → answer ≡ Some b → IsTrue old.fixed.tells → IsTrue b ↔ (n ≤ length old.to_come)
 
+-- the reader tells its bytes, and at least so many are to come
+abbrev pub Expects : ReaderState → ℕ → Type 0
+Expects old n = IsTrue old.fixed.tells × (n ≤ length old.to_come)
+
 -- what is lent shows all bytes to come, and all are taken; or nothing is lent, and none is taken
 abbrev pub LendsAll : {A : Type 0} → (A → List ℕ) → Option A → ReaderState → ReaderState → Type 0
 LendsAll shows lent old new =

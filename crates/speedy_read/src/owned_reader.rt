@@ -78,6 +78,11 @@ impl<'a, L: AsSlice<u8> + Drop, C: Context, R: LendingReader<L, C>> LendingReade
     }
 
     #[inline(always)]
+    fn expects_at_least(&self, size: usize) -> bool {
+        self.reader.expects_at_least(size)
+    }
+
+    #[inline(always)]
     fn read_bytes_borrowed(&mut self, _length: usize) -> Option<Result<NothingLent, C::Error>> {
         None
     }

@@ -12,7 +12,7 @@ ghost use Rattle.speedy_layout.specs.Lists.{vector};
 ghost use Rattle.speedy_layout.specs.Varint.{varint};
 ghost use Rattle.speedy_read.specs.Collections.{gatherer, Collects};
 ghost use Rattle.speedy_read.specs.UntilEnd.{ReadsUntilEnd};
-ghost use Rattle.speedy_read.specs.Reading.{ReaderState, Reads, ReadsUnsigned, ReadsSigned, Peeks, PeeksUnsigned, PeeksSigned, IsRight, LendsBytes, LendsAll, LendsUntilUsed};
+ghost use Rattle.speedy_read.specs.Reading.{ReaderState, Reads, ReadsUnsigned, ReadsSigned, Peeks, PeeksUnsigned, PeeksSigned, IsRight, Expects, LendsBytes, LendsAll, LendsUntilUsed};
 
 use crate::collections::FromItems;
 use crate::lent::NothingLent;
@@ -76,6 +76,15 @@ pub trait LendingReader<L: AsSlice<u8> + Drop, C: Context> {
     fn can_read_at_least(&self, size: usize) -> Option<bool>
         ensures says { result ≡ can_read self.now size }
         ensures right { IsRight result (state self.now) size };
+
+    /// Whether at least `size` bytes are to come that the reader need not hold, since its source says so. This body says
+    /// nothing of the kind.
+    #[inline(always)]
+    fn expects_at_least(&self, _size: usize) -> bool
+        ensures { IsTrue result → Expects (state self.now) _size }
+    {
+        false
+    }
 
     /// Takes the next `length` bytes and lends them; `None` where the reader lends nothing.
     fn read_bytes_borrowed(&mut self, length: usize) -> Option<Result<L, C::Error>>

@@ -1,8 +1,9 @@
 //! Room for what is read: how much memory is asked for, and when.
-ghost use Rattle.std.specs.Prelude.{◌≡◌, ◌+◌, ◌-◌, ◌*◌, ◌^◌, ◌<◌, ◌≤◌, ◌⊎◌, min, ◌++◌, ◌∷◌, [], ℕ, List, Some, length as count_of, vec_len, vec_capacity, map, replicate, true, IfOk, IsOk, OnOk, MatchResult};
+ghost use Rattle.std.specs.Prelude.{◌≡◌, ◌+◌, ◌-◌, ◌*◌, ◌^◌, ◌<◌, ◌≤◌, ◌⊎◌, min, ◌++◌, ◌∷◌, [], ℕ, List, Some, length as count_of, vec_len, vec_capacity, map, replicate, true, IsTrue, IfOk, IsOk, OnOk, MatchResult};
 ghost use Rattle.speedy_base.specs.Error.{error_of};
 ghost use Rattle.speedy_layout.specs.FixedNumbers.{spelled_in};
 ghost use Rattle.speedy_layout.specs.Format.{Each};
+ghost use Rattle.speedy_read.specs.Reading.{Expects};
 
 use crate::reader::LendingReader;
 use speedy_base::context::Context;
@@ -45,12 +46,13 @@ pub(crate) fn vec_for<T, L: AsSlice<u8> + Drop, C: Context, R: LendingReader<L, 
         (C.Error.from_gives (error_of ErrorKind.OutOfMemory)) }
     ensures room { (0 < least) × (least * length < 2 ^ 64) × (R.can_read reader.now (least * length) ≡ Some true)
         → IfOk result (λ v. length ≤ vec_capacity v) }
-    ensures asks { let told = R.can_read reader.now (least * length) ≡ Some true in
+    ensures asks { let size = least * length in
+        let told = (R.can_read reader.now size ≡ Some true) ⊎ Expects (R.state reader.now) size in
         MatchResult result (λ v. (vec_capacity v ≡ 0) ⊎ told) (λ _. told) }
 {
     let known = match least.checked_mul(length) {
-        Some(size) => least > 0 && reader.can_read_at_least(size) == Some(true),
-        None => false,
+        Some(size) if least > 0 => are_to_come(reader, size),
+        _ => false,
     };
     if !known {
         return Ok(Vec::new(reader.alloc()));
@@ -59,6 +61,19 @@ pub(crate) fn vec_for<T, L: AsSlice<u8> + Drop, C: Context, R: LendingReader<L, 
         Ok(items) => Ok(items),
         Err(_) => Err(error_out_of_memory()),
     }
+}
+
+// Whether the reader says that so many bytes are to come, or its source does.
+#[inline(always)]
+fn are_to_come<L: AsSlice<u8> + Drop, C: Context, R: LendingReader<L, C>>(
+    reader: &R,
+    size: usize,
+) -> bool
+    ensures by_reader { R.can_read reader.now size ≡ Some true → IsTrue result }
+    ensures right { IsTrue result →
+        (R.can_read reader.now size ≡ Some true) ⊎ Expects (R.state reader.now) size }
+{
+    reader.can_read_at_least(size) == Some(true) || reader.expects_at_least(size)
 }
 
 // Where there is no room for so many items more, asks for some: for as many as are still to read, but no more than a

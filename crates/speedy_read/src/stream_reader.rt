@@ -1,5 +1,5 @@
 //! The reader of a source.
-ghost use Rattle.std.specs.Prelude.{◌≡◌, ◌≤◌, ◌<◌, [], ◌++◌, length, max, false, true, nat_le, if◌then◌else◌, Some, None, IfOk, IsOk, refl};
+ghost use Rattle.std.specs.Prelude.{◌≡◌, ◌≤◌, ◌<◌, [], ◌++◌, length, max, false, true, IsTrue, nat_le, if◌then◌else◌, Some, None, IfOk, IsOk, refl};
 ghost use Rattle.std.specs.Borrow.{sem, Lends};
 ghost use Rattle.std.specs.Io.BufRead.{Rests};
 ghost use Rattle.speedy_base.specs.Error.{IsNamed};
@@ -7,7 +7,7 @@ ghost use Rattle.speedy_base.specs.ErrorKind.{EndsInput};
 ghost use Rattle.speedy_base.specs.FailedCalls.{IsErrorOf};
 ghost use Rattle.speedy_layout.specs.Texts.{raw_bytes};
 ghost use Rattle.speedy_read.specs.Lending.{readers_lifetime};
-ghost use Rattle.speedy_read.specs.Reading.{Reads, Peeks, IsRight, LendsUntilUsed};
+ghost use Rattle.speedy_read.specs.Reading.{Reads, Peeks, IsRight, Expects, LendsUntilUsed};
 ghost use Rattle.speedy_read.specs.contracts.stream_reader.StreamReader.{the_row as reader_row};
 ghost use Rattle.speedy_read.specs.StreamModel.{stream_model, stream_state, first_capacity};
 ghost use Rattle.speedy_read.specs.Streams.{FillsList, FillsRing, Fills};
@@ -358,6 +358,14 @@ impl<'s, 'b, C: Context, S: Source> LendingReader<&'b [u8], C> for StreamReader<
         } else {
             None
         }
+    }
+
+    fn expects_at_least(&self, size: usize) -> bool
+        ensures { let reader = ⟦<StreamReader<'s, S, C> as LendingReader<&'b [u8], C>>⟧ in
+            IsTrue result → Expects (reader.state self.now) size }
+    {
+        let lacking = size.saturating_sub(self.ring.len());
+        self.source.can_pull_at_least(lacking)
     }
 
     #[inline(always)]

@@ -407,6 +407,11 @@ impl<'s, S: Sink, C: Context> Writer<C> for WritingCollector<'s, S, C> {
     }
 
     #[inline(always)]
+    fn reserve(&mut self, additional: usize) {
+        self.sink.reserve(additional);
+    }
+
+    #[inline(always)]
     fn context(&self) -> &C {
         &self.context
     }

@@ -202,9 +202,24 @@ fn write_by_chunks<C: Context, T: Layout, P: FixedBytes<T>, W: Writer<C>>(
     P::has_few_bytes();
     match values.len() {
         0..=4 => write_chunks::<C, T, P, W>(values, &mut [0; SHORT_CHUNK], writer),
-        5..=8_191 => write_chunks::<C, T, P, W>(values, &mut [0; CHUNK], writer),
-        _ => write_chunks::<C, T, P, W>(values, &mut [0; LONG_CHUNK], writer),
+        5..=8_191 => write_many_chunks::<C, T, P, W>(values, &mut [0; CHUNK], writer),
+        _ => write_many_chunks::<C, T, P, W>(values, &mut [0; LONG_CHUNK], writer),
     }
+}
+
+// Writes the values by chunks, and tells the writer first how many bytes they are: a sink in memory then grows once.
+#[inline]
+fn write_many_chunks<C: Context, T: Layout, P: FixedBytes<T>, W: Writer<C>>(
+    values: &[T],
+    chunk: &mut [u8],
+    writer: &mut W,
+) -> Result<(), C::Error>
+    requires { P.BYTES ≤ length chunk.old }
+    ensures { WritesEach C.Error.from_gives T.format T.seen values.now result
+        (W.state writer.old) (W.state writer.new) (λ b. W.appends writer.old b writer.new) }
+{
+    writer.reserve(values.len().saturating_mul(P::BYTES));
+    write_chunks::<C, T, P, W>(values, chunk, writer)
 }
 
 // Writes the values by chunks: as many at a time as the chunk has room for.
