@@ -74,12 +74,12 @@ pub record StaysAs {W : Type 0} (state : W → WriterState) (appends : W → Lis
 pub stays_same : {W : Type 0} {state : W → WriterState} {appends : W → List ℕ → W → Type 0} {old : W} → StaysAs state appends old old
 stays_same = record { state_is = refl; joins = λ _ _ h. h }
 
--- another context of the same encoding changes nothing that a write sees
-pub context_lent : {W C : Type 0} {state : W → WriterState} {appends : W → List ℕ → W → Type 0} {with_context : W → C → W} (at : W → C) (encoding : C → Encoding)
+-- a writer that has its context back, with the encoding that this had, changes nothing that a write sees
+pub context_back : {W C : Type 0} {state : W → WriterState} {appends : W → List ℕ → W → Type 0} {with_context : W → C → W} (at : W → C) (encoding : C → Encoding)
     → ((w : W) → (state w).encoding ≡ encoding (at w)) → ((w : W) (c : C) → state (with_context w c) ≡ record (state w) { encoding = encoding c }) → ((w : W) → appends w [] w)
     → ((a b c : W) (s t : List ℕ) → appends a s b → appends b t c → appends a (s ++ t) c) → ((a b : W) (s : List ℕ) (c : C) → appends a s b → appends a s (with_context b c) × appends (with_context a c) s b)
-    → (w : W) (c : C) → encoding c ≡ encoding (at w) → StaysAs state appends w (with_context w c)
-context_lent {state = state} {with_context = with_context} at encoding encoding_at state_with nothing additive appends_with w c same = record {
-  state_is = state_with w c ∙ ap (λ e. record (state w) { encoding = e }) (same ∙ sym (encoding_at w));
+    → (w after : W) (lent c : C) → lent ≡ at w → encoding c ≡ encoding lent → after ≡ with_context w c → StaysAs state appends w after
+context_back {state = state} {appends = appends} {with_context = with_context} at encoding encoding_at state_with nothing additive appends_with w after lent c value kept is = subst (StaysAs state appends w) (sym is) (record {
+  state_is = state_with w c ∙ ap (λ e. record (state w) { encoding = e }) (kept ∙ (ap encoding value ∙ sym (encoding_at w)));
   joins = λ bytes v h. additive w (with_context w c) v [] bytes (appends_with w w [] c (nothing w)).0 h;
-}
+})
