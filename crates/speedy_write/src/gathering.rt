@@ -325,9 +325,11 @@ impl<'s, S: Sink, C: Context> Writer<C> for GatheringCollector<'s, S, C> {
         true
     }
 
+    /// Tells the sink of these bytes, and of those that wait: both are pushed next.
     #[inline(always)]
     fn reserve(&mut self, additional: usize) {
-        self.sink.reserve(additional);
+        let waiting = self.waiting.end - self.waiting.start;
+        self.sink.reserve(additional.saturating_add(waiting));
     }
 
     #[inline(always)]
