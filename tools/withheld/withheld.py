@@ -1,6 +1,7 @@
 """What the scripts of this folder share: the built programs, their lines, and rows of spellings."""
 import os
 import subprocess
+import sys
 import tempfile
 
 HERE = os.path.dirname(os.path.realpath(__file__))
@@ -53,11 +54,20 @@ _BYTES = '00000000000000400000000000c05e40'
 PEEKED = [(order, ''.join(2 * _BYTES[:2 * size] for size in (1, 2, 4, 8, 16)) + '00') for order in ('le', 'be')]
 
 
-class Programs:
-    """The programs that tools/withheld/build leaves, and a scratch file."""
+def folder_of(usage):
+    """The folder of the programs: that of the argument, and without one that in which they are built here."""
+    if len(sys.argv) > 2 or sys.argv[1:2] and not os.path.isdir(sys.argv[1]):
+        sys.exit(usage)
+    if sys.argv[1:]:
+        return os.path.realpath(sys.argv[1])
+    return subprocess.run([HERE + '/build'], stdout=subprocess.PIPE, check=True, text=True).stdout.strip()
 
-    def __init__(self):
-        self.folder = subprocess.run([HERE + '/build'], stdout=subprocess.PIPE, check=True, text=True).stdout.strip()
+
+class Programs:
+    """The programs that tools/withheld/build leaves in a folder, and a scratch file."""
+
+    def __init__(self, folder):
+        self.folder = folder
         self.shim = self.folder + '/shim.so'
         self.scratch_folder = tempfile.TemporaryDirectory()
         self.scratch = self.scratch_folder.name + '/scratch'
