@@ -20,6 +20,16 @@ fn a_text_is_not_borrowed_where_nothing_is_lent(rt: HostRuntime) {
     assert_refused(&rt, alloc, outcome, "Unsized");
 }
 
+#[test]
+fn an_array_is_not_borrowed_where_nothing_is_lent(rt: HostRuntime) {
+    let alloc = rt.alloc();
+    let mut context = LittleEndian {};
+    let mut reader = CopyingBufferReader::new(alloc, &mut context, &[1, 2, 3, 4]);
+    let outcome: Result<&[u8; 4], Error> = reader.read_value();
+    assert_refused(&rt, alloc, outcome, "Unsized");
+    assert_same(&rt, reader.finish(), 4);
+}
+
 /// Asserts that it borrows the bytes or not.
 fn assert_borrows(rt: &impl Abort, cow: CowSlice<'_, u8>, bytes: &[u8], borrows: bool) {
     assert_bytes(rt, cow.as_slice(), bytes);

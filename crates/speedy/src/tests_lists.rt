@@ -1,8 +1,10 @@
 //! Lists and arrays.
-use crate::asserting::{assert_bytes, assert_ok, assert_ok_items, make_text, make_vec};
+use crate::asserting::{
+    assert_bytes, assert_encoding, assert_ok, assert_ok_items, make_text, make_vec, row,
+};
 use crate::device::VecSink;
 use crate::endianness::Endianness;
-use crate::readable::{BufferReader, StreamReader};
+use crate::readable::{BufferReader, CopyingBufferReader, StreamReader};
 use crate::reader::LendingReader;
 use crate::writable::Writable;
 use std::alloc::Global;
@@ -61,6 +63,24 @@ fn slices_and_borrowed_texts_are_written_after_their_counts(rt: HostRuntime) {
     assert_ok_items(&rt, written, &[0, 0, 0, 2, 72, 105]);
 }
 
+#[test]
+fn vectors_of_numbers_lie_behind_their_count(rt: HostRuntime) {
+    let alloc = rt.alloc();
+    let rows: [(Vec<u32>, &[u8], &[u8]); 2] = [
+        row!(
+            make_vec(&rt, alloc, &[10, 11]),
+            [2, 0, 0, 0, 10, 0, 0, 0, 11, 0, 0, 0],
+            [0, 0, 0, 2, 0, 0, 0, 10, 0, 0, 0, 11],
+        ),
+        row!(
+            make_vec(&rt, alloc, &[0x0102_0304]),
+            [1, 0, 0, 0, 4, 3, 2, 1],
+            [0, 0, 0, 1, 1, 2, 3, 4],
+        ),
+    ];
+    assert_encoding(&rt, alloc, 4, &rows);
+}
+
 /// So many numbers, each with other digits, and their bytes in the order, behind their count.
 fn make_wide(rt: &impl Abort, alloc: Global, order: Endianness, count: u8) -> (Vec<u128>, Vec<u8>) {
     let mut numbers = Vec::new(alloc);
@@ -87,10 +107,14 @@ fn assert_wide_written(rt: &impl Abort, alloc: Global, order: Endianness, count:
     assert_bytes(rt, sink.into_bytes().as_slice(), bytes.as_slice());
 }
 
-/// Asserts that so many numbers are read of a buffer, and of a source with and without reading ahead.
+/// Asserts that so many numbers are read of a buffer, lent or copied, and of a source with and without reading ahead.
 fn assert_wide_read(rt: &impl Abort, alloc: Global, order: Endianness, count: u8) {
     let (numbers, bytes) = make_wide(rt, alloc, order, count);
     let mut reader = BufferReader::new(alloc, order, &bytes);
+    let read: Vec<u128> = reader.read_value().expect(rt, "a vector");
+    assert!(rt; read == numbers);
+    let mut held = order;
+    let mut reader = CopyingBufferReader::new(alloc, &mut held, &bytes);
     let read: Vec<u128> = reader.read_value().expect(rt, "a vector");
     assert!(rt; read == numbers);
     for is_buffering in [false, true] {

@@ -38,6 +38,12 @@ pub(crate) fn assert_refused<T: Drop>(
     assert_same(rt, error.is_eof(), kind.starts_with("UnexpectedEnd"));
 }
 
+/// Asserts that the outcome is an end of the bytes, as a buffer or a source says it.
+pub(crate) fn assert_end<T: Drop>(rt: &impl Abort, outcome: Result<T, Error>) {
+    let error = outcome.err().expect(rt, "it is refused");
+    assert_same(rt, error.is_eof(), true);
+}
+
 /// Asserts that the error is of the kind, as `Debug` prints it.
 pub(crate) fn assert_kind(rt: &impl Abort, alloc: Global, error: &Error, kind: &str) {
     let printed = format!(in alloc; "{:?}", get_error_kind(error)).expect(rt, "its kind");

@@ -1,8 +1,8 @@
 //! Lengths of each width, constants, and peeks of numbers, by each reader.
-use crate::asserting::{assert_bytes, assert_ok, assert_refused, assert_same};
+use crate::asserting::{assert_bytes, assert_end, assert_ok, assert_refused, assert_same};
 use crate::probes::{Probe, read_by_each};
 use speedy::endianness::Endianness;
-use speedy::error::{Error, IsEof};
+use speedy::error::Error;
 use speedy::private::{
     ErrorKind, are_lengths_the_same, get_error_kind, read_constant, read_length, read_length_u7,
     read_length_u8, read_length_u16, read_length_u32, read_length_u64, read_length_u64_varint,
@@ -15,12 +15,6 @@ use speedy::writer::Writer;
 use std::alloc::Global;
 use std::convert::AsSlice;
 use std::process::Abort;
-
-/// Asserts that the outcome is an end of the bytes, as a buffer or a source says it.
-fn assert_end<T: Drop>(rt: &impl Abort, outcome: Result<T, Error>) {
-    let error = outcome.err().expect(rt, "it is refused");
-    assert_same(rt, error.is_eof(), true);
-}
 
 /// How a length is written and read.
 #[derive(Clone, Copy)]

@@ -1,7 +1,7 @@
 //! Reading from sources and files: what is answered, and what the source has left.
 use crate::asserting::{
-    assert_bytes, assert_failed_call, assert_kind, assert_ok, assert_refused, assert_same,
-    device_kind,
+    assert_bytes, assert_end, assert_failed_call, assert_kind, assert_ok, assert_refused,
+    assert_same, device_kind,
 };
 use crate::devices::{FakeFiles, FileCall, FileCalls, KINDS};
 use crate::failing::{Failing, make_pieces};
@@ -9,11 +9,14 @@ use speedy::context::LittleEndian;
 use speedy::device::Source;
 use speedy::endianness::Endianness;
 use speedy::error::{Error, IsEof};
+use speedy::private::read_constant;
 use speedy::readable::{Readable, StreamReader};
 use speedy::reader::LendingReader;
+use speedy::writable::Writable;
 use std::alloc::Global;
 use std::collections::BTreeSet;
 use std::convert::AsSlice;
+use std::fmt::Debug;
 use std::process::Abort;
 use std::rt::Files;
 use std::{fs, io};
@@ -29,6 +32,16 @@ fn an_unbuffered_form_takes_just_its_value(rt: HostRuntime) {
         assert_ok(&rt, outcome, number);
         assert_bytes(&rt, source, left);
     }
+}
+
+#[test]
+fn a_buffered_form_loses_what_it_read_ahead(rt: HostRuntime) {
+    let alloc = rt.alloc();
+    let mut source: &[u8] = &[2, 0, 3, 0];
+    let outcome = <u16 as Readable<LittleEndian>>::read_from_stream_buffered(alloc, &mut source);
+    assert_ok(&rt, outcome, 2);
+    let outcome = <u16 as Readable<LittleEndian>>::read_from_stream_buffered(alloc, &mut source);
+    assert_refused(&rt, alloc, outcome, "UnexpectedEndOfInput");
 }
 
 #[test]
@@ -114,6 +127,16 @@ fn a_long_vector_is_read_in_whatever_pieces_it_comes(rt: HostRuntime) {
     }
 }
 
+#[test]
+fn an_option_is_read_a_byte_a_pull(rt: HostRuntime) {
+    for is_buffering in [false, true] {
+        let mut source = make_pieces(&[7, 5, 0], 1);
+        let mut reader = make_reader(&rt, rt.alloc(), &mut source, is_buffering);
+        assert_ok(&rt, reader.read_value(), Some(5_u16));
+        assert_same(&rt, reader.into_source().calls(), 3);
+    }
+}
+
 /// Asserts that a vector of 513 numbers is read of a source that gives so many bytes a pull, and answers how many pulls
 /// there were.
 fn count_pulls(rt: &impl Abort, alloc: Global, most: usize, is_buffering: bool) -> usize {
@@ -137,13 +160,14 @@ fn a_list_of_numbers_is_pulled_by_stretches(rt: HostRuntime) {
     }
 }
 
-/// Asserts that a vector of wide numbers is refused, as the bytes end.
+/// Asserts that vectors of wide numbers and of bytes are refused, as the bytes end.
 fn assert_ends(rt: &impl Abort, alloc: Global, bytes: &[u8], is_buffering: bool) {
     let mut source = bytes;
     let mut reader = make_reader(rt, alloc, &mut source, is_buffering);
-    let outcome = reader.read_value::<Vec<u128>>();
-    let error = outcome.err().expect(rt, "the bytes end");
-    assert_same(rt, error.is_eof(), true);
+    assert_end(rt, reader.read_value::<Vec<u128>>());
+    let mut source = bytes;
+    let mut reader = make_reader(rt, alloc, &mut source, is_buffering);
+    assert_end(rt, reader.read_value::<Vec<u8>>());
 }
 
 #[test]
@@ -156,15 +180,59 @@ fn a_hostile_count_ends_where_the_bytes_do(rt: HostRuntime) {
     }
 }
 
+/// Reads no bytes in each way, and values that have none.
+fn read_nothing<L: AsSlice<u8> + Drop, R: LendingReader<L, LittleEndian>>(
+    rt: &impl Abort,
+    reader: &mut R,
+) {
+    assert_ok(rt, reader.read_bytes(&mut []), ());
+    assert_ok(rt, reader.skip_bytes(0), ());
+    assert_ok(rt, read_constant(reader, b""), ());
+    assert_ok(rt, reader.read_vec::<u8>(0).map(|items| items.len()), 0);
+    assert_ok(rt, reader.read_vec::<u16>(0).map(|items| items.len()), 0);
+    assert_ok(rt, reader.read_value(), ());
+    assert_ok(rt, reader.read_value::<[u16; 0]>(), []);
+    assert_ok(rt, reader.read_value::<((), [u16; 0])>(), ((), []));
+}
+
 #[test]
-fn nothing_is_read_without_a_call(rt: HostRuntime) {
-    let mut source = make_pieces(&[], 1);
-    let outcome = <() as Readable<LittleEndian>>::read_from_stream_buffered(
-        rt.alloc(),
-        &mut source,
-    );
-    assert_ok(&rt, outcome, ());
-    assert_same(&rt, source.calls(), 0);
+fn no_bytes_are_read_without_a_pull(rt: HostRuntime) {
+    for is_buffering in [false, true] {
+        let mut source = make_pieces(&[7, 8, 9], 2);
+        let mut reader = make_reader(&rt, rt.alloc(), &mut source, is_buffering);
+        read_nothing(&rt, &mut reader);
+        assert_same(&rt, reader.into_source().calls(), 0);
+        let mut reader = make_reader(&rt, rt.alloc(), &mut source, is_buffering);
+        assert_ok(&rt, reader.read_u8(), 7);
+        read_nothing(&rt, &mut reader);
+        assert_ok(&rt, reader.read_u8(), 8);
+        let calls = if is_buffering { 1 } else { 2 };
+        assert_same(&rt, reader.into_source().calls(), calls);
+        assert_bytes(&rt, source.inner, &[9]);
+    }
+}
+
+/// Asserts that a value that has no bytes is read by both stream forms without a pull.
+fn assert_not_pulled<'a, T: Readable<'a, LittleEndian> + PartialEq + Debug>(
+    rt: &impl Abort,
+    alloc: Global,
+    value: &T,
+) {
+    let mut source = make_pieces(&[7], 1);
+    let read = T::read_from_stream_unbuffered(alloc, &mut source).expect(rt, "a value");
+    assert_same(rt, &read, value);
+    let read = T::read_from_stream_buffered(alloc, &mut source).expect(rt, "a value");
+    assert_same(rt, &read, value);
+    assert_same(rt, source.calls(), 0);
+    assert_bytes(rt, source.inner, &[7]);
+}
+
+#[test]
+fn values_without_bytes_are_streamed_without_a_pull(rt: HostRuntime) {
+    let alloc = rt.alloc();
+    assert_not_pulled(&rt, alloc, &());
+    assert_not_pulled::<[u16; 0]>(&rt, alloc, &[]);
+    assert_not_pulled::<((), [u16; 0])>(&rt, alloc, &((), []));
 }
 
 /// Asserts that a read of so many bytes is refused as an end of the input, where the source lacks one of them: with the
@@ -202,6 +270,36 @@ fn a_long_read_that_ends_early_is_refused_by_the_way_it_takes(rt: HostRuntime) {
         (false, 5_000, past_the_ring),
     ] {
         assert_ends_early(&rt, rt.alloc(), is_buffering, count, kind);
+    }
+}
+
+/// Asserts that a list of so many numbers of 2 bytes, of which the last byte lacks, is refused by a buffered reader as an
+/// end of the input: with the kind of a device's error, or as `UnexpectedEndOfInput` where there is none.
+fn assert_list_ends_early(rt: &impl Abort, alloc: Global, count: u16, kind: Option<io::ErrorKind>) {
+    let numbers = vec![in alloc; 7_u16; usize::from(count)].expect(rt, "a vector");
+    let mut bytes = numbers
+        .write_to_vec_with_ctx(alloc, LittleEndian {})
+        .expect(rt, "its bytes");
+    bytes.pop();
+    let mut source = make_pieces(&bytes, usize::MAX);
+    let mut reader = make_reader(rt, alloc, &mut source, true);
+    let outcome = reader.read_value::<Vec<u16>>();
+    let error = outcome.err().expect(rt, "a byte is missing");
+    assert_same(rt, device_kind(&error), kind);
+    assert_same(rt, error.is_eof(), true);
+}
+
+#[test]
+fn a_long_list_that_ends_early_is_refused_by_its_last_read(rt: HostRuntime) {
+    let past_the_ring = Some(io::ErrorKind::UnexpectedEof);
+    for (count, kind) in [
+        (4_095, None),
+        (4_096, past_the_ring),
+        (4_097, None),
+        (8_191, None),
+        (8_192, past_the_ring),
+    ] {
+        assert_list_ends_early(&rt, rt.alloc(), count, kind);
     }
 }
 
