@@ -1,4 +1,4 @@
-//! What types written by hand are built of: errors, lengths, constants and texts.
+//! What types written by hand are built of: errors, lengths, constants, texts, and room for items.
 pub use speedy_base::error::{
     ErrorKind, error_end_of_input, error_end_of_output_buffer, error_endianness_mismatch,
     error_expected_constant, error_input_buffer_is_too_small, error_invalid_enum_variant,
@@ -14,6 +14,7 @@ pub use speedy_read::private::{
     read_length_u7, read_length_u8, read_length_u16, read_length_u32, read_length_u64,
     read_length_u64_varint, vec_to_string,
 };
+pub use speedy_read::room::push_in_steps;
 pub use speedy_write::private::{
     write_length, write_length_u7, write_length_u8, write_length_u16, write_length_u32,
     write_length_u64, write_length_u64_varint, write_to_stream_and_flush_with_ctx,

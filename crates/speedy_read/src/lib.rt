@@ -25,7 +25,7 @@ pub mod private;
 pub mod ranges;
 pub mod readable;
 pub mod reader;
-mod room;
+pub mod room;
 pub mod sets;
 pub mod stream_reader;
 pub mod tag;

@@ -92,14 +92,12 @@ fn make_room<T>(items: &mut Vec<T>, more: usize, left: usize) -> Result<(), Allo
     Ok(())
 }
 
-// Adds an item, one of so many that are still to read. The items go in and out by value, so that a loop keeps their
-// place and number in registers.
+/// Adds an item, one of `left` that are still to read. Where its room is used up, the vector asks for room for that many
+/// items more, but for no more than 1,024: so a count that lies asks for little.
+///
+/// The items go in and out by value, so that a loop keeps their place and number in registers.
 #[inline(always)]
-pub(crate) fn push_in_steps<T: Drop>(
-    items: Vec<T>,
-    item: T,
-    left: usize,
-) -> Result<Vec<T>, AllocError>
+pub fn push_in_steps<T: Drop>(items: Vec<T>, item: T, left: usize) -> Result<Vec<T>, AllocError>
     ensures pushed { IfOk result (λ v. v.items ≡ items.items ++ item ∷ []) }
     ensures in_room { vec_len items < vec_capacity items → IsOk result }
     ensures step { IfOk result (λ v. vec_capacity items ≤ vec_len items

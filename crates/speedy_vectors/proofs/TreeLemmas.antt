@@ -1,5 +1,5 @@
 -- How a tree is seen, taken apart and put together.
-use Rattle.std.specs.Prelude.{◌≡◌, ℕ, List, [], ◌∷◌, ◌++◌, map, Vec, Result, Ok, Err, is_ok, is_err, if◌then◌else◌, false}
+use Rattle.std.specs.Prelude.{◌≡◌, ℕ, List, [], ◌∷◌, ◌++◌, map, Vec}
 use Rattle.std.proofs.Common.{◌∙◌, ap, rules}
 use Rattle.std.proofs.lemmas.List.{map-append}
 use Rattle.std.specs.declared.alloc.Global.{Global}
@@ -27,7 +27,6 @@ view_parts t = ap parts seen ∙ apart (out-Tree t).value (map view (out-Tree t)
   seen : view t ≡ whole (out-Tree t).value (map view (out-Tree t).children.items)
   seen = search (rules, the_lemmas)
 
--- what is seen of items and one item more, where the push of it succeeded
-pub seen_pushed : {A E X V : Type 0} (seen : X → V) (r : Result A E) (xs zs : List X) (x : X) → is_err r ≡ false → zs ≡ (if is_ok r then xs ++ x ∷ [] else xs) → map seen zs ≡ map seen xs ++ seen x ∷ []
-seen_pushed seen (Ok y) xs zs x went added = ap (map seen) added ∙ map-append seen xs (x ∷ [])
-seen_pushed seen (Err e) xs zs x went added = absurd (cc)
+-- what is seen of items and one item more
+pub seen_pushed : {X V : Type 0} (seen : X → V) {zs : List X} (xs : List X) (x : X) → zs ≡ xs ++ x ∷ [] → map seen zs ≡ map seen xs ++ seen x ∷ []
+seen_pushed seen xs x added = ap (map seen) added ∙ map-append seen xs (x ∷ [])

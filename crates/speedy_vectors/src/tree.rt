@@ -7,7 +7,9 @@ ghost use Rattle.speedy_vectors.specs.Trees.{Rose, view, tree_format, tree_level
 
 pub mod bounds;
 
-use speedy::private::{error_out_of_memory, error_out_of_range_length, read_length, write_length};
+use speedy::private::{
+    error_out_of_memory, error_out_of_range_length, push_in_steps, read_length, write_length,
+};
 use speedy::{Context, ItemByItem, Layout, LendingReader, ReadFrom, ReadMany, Writable, Writer};
 use std::convert::AsSlice;
 
@@ -74,7 +76,8 @@ fn read_levels<L: AsSlice<u8> + Drop, C: Context, R: LendingReader<L, C>>(
     Ok(Tree { value, children })
 }
 
-// Reads so many trees of at most so many levels. Room is asked for as they come, whatever their count says.
+// Reads so many trees of at most so many levels. Room is asked for in steps as they come, whatever their count says, and
+// also where the reader knows that so many bytes are there: each level could claim them.
 #[cycle(read)]
 fn read_children<L: AsSlice<u8> + Drop, C: Context, R: LendingReader<L, C>>(
     reader: &mut R,
@@ -86,11 +89,12 @@ fn read_children<L: AsSlice<u8> + Drop, C: Context, R: LendingReader<L, C>>(
         (R.state reader.old) (R.state reader.new) }
 {
     let mut children = Vec::new(reader.alloc());
-    for _i in 0..length {
+    for i in 0..length {
         let child = read_levels(reader, levels)?;
-        if children.push(child).is_err() {
-            return Err(error_out_of_memory());
-        }
+        children = match push_in_steps(children, child, length - i) {
+            Ok(more) => more,
+            Err(_) => return Err(error_out_of_memory()),
+        };
     }
     Ok(children)
 }

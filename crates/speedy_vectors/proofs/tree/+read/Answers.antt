@@ -1,4 +1,4 @@
-use Rattle.std.proofs.Common.{◌<◌, List, length, map, ap, sym, refl, ◌∙◌, arith}
+use Rattle.std.proofs.Common.{◌<◌, List, length, map, ap, refl, ◌∙◌, arith}
 use Rattle.std.proofs.lemmas.List.{length_push}
 use Rattle.speedy.specs.declared.error.ErrorKind.TheVariants as kinds
 use Rattle.speedy.specs.Numbers.{unsigned_number_laws}
@@ -47,7 +47,7 @@ read_children-loop-i-init g t c = rw c.new-children.ensures.items (refl, none_so
 pub read_children-loop-i-preserved : goal.read_children-loop-i-preserved
 read_children-loop-i-preserved g t c =
     let so_far = c.loop-i.invariant.1 in
-    let items = seen_pushed view c.push.result _ _ c.in_ok-child.child (sym c.if-is_err.ensures.value) c.push.ensures.items in (
+    let items = seen_pushed view _ c.in_ok-child.child c.in-Ok.ensures.pushed in (
       ap length items ∙ (length_push (map view c.loop-i.children.items) (view c.in_ok-child.child) ∙ omega (arith, c.loop-i.invariant.0)),
       item_more _ _ so_far (rw so_far.kept.encoding at c.in_ok-child.ensures) items,
     )
@@ -59,8 +59,8 @@ read_children-returns-in_err-child g t c =
     refused_item (tree_laws _ _) _ _ {new = g.R.LendingReader.state c.read_levels.new.reader} fewer so_far c.from_residual.ensures.1
     (rw so_far.kept.encoding at c.in_err-child.ensures)
 
-pub read_children-returns-then-is_err : goal.read_children-returns-then-is_err
-read_children-returns-then-is_err g t c =
+pub read_children-returns-in-Err : goal.read_children-returns-in-Err
+read_children-returns-in-Err g t c =
     let so_far = c.loop-i.invariant.1 in
     refused_room _ _ _ (Kept-after so_far.kept c.in_ok-child.ensures.kept) (c.in_ok-child.ensures.answer.no_fault ∙ so_far.got.no_fault) refl c.error_out_of_memory.ensures
 
