@@ -3,10 +3,11 @@ use Rattle.std.specs.Prelude.{◌≡◌, ℕ, ◌-◌, ◌^◌, ◌<◌, ◌≤�
 use Rattle.std.specs.declared.io.Error.{Error as StdIoError}
 use Rattle.speedy_base.specs.declared.error.ErrorKind.TheVariants as kinds
 use Rattle.speedy_base.specs.declared.error.Error.{Error}
+use Rattle.speedy_base.specs.declared.device.Counted.{Counted}
 use Rattle.speedy_base.specs.Error.{error_of}
 use Rattle.speedy_base.specs.Device.{SinkState, SinkKept}
 use Rattle.speedy_base.specs.FailedCalls.{HasGrown, IsErrorOf, IsOfFailedCall}
-use Rattle.speedy_base.specs.MemoryDevices.{no_faults}
+use Rattle.speedy_base.specs.MemoryDevices.{no_faults, counted_faults, counted_settled}
 use Rattle.speedy_layout.specs.Format.{Format}
 use Rattle.speedy_write.specs.Collectors.{Takes}
 use Rattle.speedy_write.specs.Writing.{IsOutOfRange, Begun}
@@ -23,12 +24,20 @@ pub record Stands {V : Type 0} (L : Format V) (v : V) (old new : List ℕ) : Typ
   pub new_is : new ≡ bytes ++ drop (length bytes) old
 
 module _ {E : Type 0} (gives : Error → E → Type 0) where
+  -- a value whose written form has `usize::MAX` bytes or more is refused as out of range, and in no other way
+  abbrev pub RefusesTooLong : {V A : Type 0} → Format V → V → Result A E → Type 0
+  RefusesTooLong L v result =
+      (bytes : List ℕ) → L.writes v bytes → 2 ^ 64 - 1 ≤ length bytes → IsErrAnd result (gives (error_of kinds.OutOfRangeLength))
+
   -- what `bytes_needed` answers
   pub record Needs {V : Type 0} (L : Format V) (v : V) (result : Result ℕ E) : Type 0 where
     -- a number that is answered is the length of a written form
     pub written : IfOk result (λ n. (bytes : List ℕ) × L.writes v bytes × (n ≡ length bytes))
     -- the length of a written form is answered, if it is below `usize::MAX`
     pub answers : (bytes : List ℕ) → L.writes v bytes → length bytes < 2 ^ 64 - 1 → IsOkAnd result (λ n. n ≡ length bytes)
+    -- and is refused from there on
+    pub too_long : RefusesTooLong L v result
+    -- a kind that the type names for writing is left to values without a written form
     pub refused : IfErr result (IsOutOfRange gives L.refuses_writing)
 
   -- a buffer of this size is refused, and so many bytes were needed
@@ -43,7 +52,8 @@ module _ {E : Type 0} (gives : Error → E → Type 0) where
     -- a shorter buffer is refused, with both sizes
     pub too_small : (bytes : List ℕ) → L.writes v bytes → length bytes < 2 ^ 64 - 1 → length old < length bytes
         → IsErrAnd result (IsTooSmall (length old) (length bytes))
-    -- there is no other refusal than that one and that of a value that cannot be written
+    pub too_long : RefusesTooLong L v result
+    -- there is no other refusal than these and that of a value that cannot be written
     pub refused : IfErr result (λ e. ((bytes : List ℕ) × L.writes v bytes × (length old < length bytes) × IsTooSmall (length old) (length bytes) e) ⊎ IsOutOfRange gives L.refuses_writing e)
     -- what is refused leaves the buffer as it was
     pub unchanged : OnErr result (new ≡ old)
@@ -51,6 +61,7 @@ module _ {E : Type 0} (gives : Error → E → Type 0) where
   -- what the ways of writing to a vector answer
   pub record WritesToVec {V A : Type 0} (L : Format V) (v : V) (items : A → List ℕ) (result : Result A E) : Type 0 where
     pub written : IfOk result (λ vec. IsShortest L v (items vec))
+    pub too_long : RefusesTooLong L v result
     -- a refusal means want of memory, or that the value has no spelling that can be counted
     pub refused : IfErr result (λ e. gives (error_of kinds.OutOfMemory) e
         ⊎ (((bytes : List ℕ) → L.spells v bytes → length bytes < 2 ^ 64 - 1 → ⊥) × IsOutOfRange gives L.refuses_writing e))
@@ -80,10 +91,11 @@ module _ {E : Type 0} (gives : Error → E → Type 0) where
   abbrev pub WritesAndFlushes : {V : Type 0} → Format V → V → Result (Unit {0}) E → SinkState → SinkState → Type 0
   WritesAndFlushes L v result old new = WritesToStream L v result old (record new { settled = old.settled }) × OnOk result (IsTrue new.settled)
 
-  -- What the ways of writing to a file do. Which bytes a file took no contract can say.
-  pub record WritesToFile {V : Type 0} (L : Format V) (v : V) (result : Result (Unit {0}) E) : Type 0 where
-    -- what succeeds was written to the file's sink, of which no call had failed, and that was flushed
-    pub written : OnOk result ((old new : SinkState) × (old.faults ≡ no_faults) × WritesAndFlushes L v result old new)
-    -- what is refused too, or the file could not be opened, and this is what the error of that call became
-    pub refused : IfErr result (λ e. ((error : StdIoError) × IsErrorOf gives error e)
-        ⊎ ((old new : SinkState) × (old.faults ≡ no_faults) × WritesAndFlushes L v result old new))
+  -- What the ways of writing to a file do. No contract sees a file: not which bytes it took, nor which of its calls failed.
+  pub record WritesToFile (File : Type 0) {V : Type 0} (L : Format V) (v : V) (result : Result (Unit {0}) E) : Type 0 where
+    -- what succeeds has a shortest written form
+    pub spelled : OnOk result ((bytes : List ℕ) × IsShortest L v bytes)
+    -- and there is a device around a file, of whose calls none failed, and into which nothing was put since a flush that succeeded
+    pub flushed : OnOk result ((file : Counted File) × (counted_faults file ≡ no_faults) × IsTrue (counted_settled file))
+    -- a refusal is what the error of some failed call became, or the value has no spelling
+    pub refused : IfErr result (λ e. ((error : StdIoError) × IsErrorOf gives error e) ⊎ RefusesUnspelled L v e)
