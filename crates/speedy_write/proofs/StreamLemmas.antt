@@ -1,14 +1,12 @@
 -- What the ways of writing to a sink do follows from what a write into a collector does.
 use Rattle.std.specs.Prelude.{◌≡◌, ℕ, ◌⊎◌, None, Result, Ok, Err, refl}
 use Rattle.std.specs.Borrow.{GName}
-use Rattle.std.proofs.Common.{◌∙◌, ap, subst, inl, inr}
+use Rattle.std.proofs.Common.{ap, subst, inl, inr}
 use Rattle.speedy_base.specs.declared.error.Error.{Error}
-use Rattle.speedy_base.specs.declared.device.Counted.{Counted}
 use Rattle.speedy_base.specs.Device.{SinkState}
 use Rattle.speedy_base.specs.DeviceLemmas.{grown}
 use Rattle.speedy_base.specs.Encoding.{Encoding}
 use Rattle.speedy_base.specs.FailedCalls.{IsOfFailedCall}
-use Rattle.speedy_base.specs.MemoryDevices.{no_faults, counted_faults, counted_sink}
 use Rattle.speedy_layout.specs.Format.{Format}
 use Rattle.speedy_layout.specs.Laws.{Laws}
 use Rattle.speedy_write.specs.Writing.{WriterKind, WriterState, Unwritten, Writes}
@@ -16,15 +14,10 @@ use Rattle.speedy_write.specs.Collectors.{sink_state, Takes}
 use Rattle.speedy_write.specs.WaysOfWriting.{RefusesUnspelled, WritesToStream, WritesAndFlushes, WritesToFile}
 
 module _ {E : Type 0} {gives : Error → E → Type 0} {V : Type 0} {v : V} where
-  -- what is written to a device around a file and flushed
-  pub file_written : {File : Type 0} {L : Format V} (old new : Counted File) (result : Result (Unit {0}) E) → counted_faults old ≡ no_faults → WritesAndFlushes gives L v result (counted_sink old) (counted_sink new)
-      → WritesToFile gives File L v result
-  file_written old new (Ok _) none w = record { spelled = (w.0.written.0, w.0.written.1); flushed = (new, w.0.no_fault ∙ none, w.1); refused = tt }
-  file_written old new (Err e) none w = record {
-    spelled = tt;
-    flushed = tt;
-    refused = elim w.0.refused [ inl h ↦ inl (h.0, h.2) | inr h ↦ inr h.1 ];
-  }
+  -- what is written to a sink of a file and flushed
+  pub file_written : {L : Format V} (old new : SinkState) (result : Result (Unit {0}) E) → WritesAndFlushes gives L v result old new → WritesToFile gives L v result
+  file_written old new (Ok _) w = record { written = (w.0.written.0, w.0.written.1); refused = tt }
+  file_written old new (Err e) w = record { written = tt; refused = elim w.0.refused [ inl h ↦ inl (h.0, h.2) | inr h ↦ inr h.1 ] }
 
   -- where space has no bound, what is not written has no spelling
   no_spelling : {L : Format V} {e : E} {old new : WriterState} → old.space ≡ None → Unwritten gives L v e old new → RefusesUnspelled gives L v e

@@ -3,11 +3,9 @@ use Rattle.std.specs.Prelude.{◌≡◌, ℕ, ◌-◌, ◌^◌, ◌<◌, ◌≤�
 use Rattle.std.specs.declared.io.Error.{Error as StdIoError}
 use Rattle.speedy_base.specs.declared.error.ErrorKind.TheVariants as kinds
 use Rattle.speedy_base.specs.declared.error.Error.{Error}
-use Rattle.speedy_base.specs.declared.device.Counted.{Counted}
 use Rattle.speedy_base.specs.Error.{error_of}
 use Rattle.speedy_base.specs.Device.{SinkState, SinkKept}
 use Rattle.speedy_base.specs.FailedCalls.{HasGrown, IsErrorOf, IsOfFailedCall}
-use Rattle.speedy_base.specs.MemoryDevices.{no_faults, counted_faults, counted_settled}
 use Rattle.speedy_layout.specs.Format.{Format}
 use Rattle.speedy_write.specs.Collectors.{Takes}
 use Rattle.speedy_write.specs.Writing.{IsOutOfRange, Begun}
@@ -91,11 +89,10 @@ module _ {E : Type 0} (gives : Error → E → Type 0) where
   abbrev pub WritesAndFlushes : {V : Type 0} → Format V → V → Result (Unit {0}) E → SinkState → SinkState → Type 0
   WritesAndFlushes L v result old new = WritesToStream L v result old (record new { settled = old.settled }) × OnOk result (IsTrue new.settled)
 
-  -- What the ways of writing to a file do. No contract sees a file: not which bytes it took, nor which of its calls failed.
-  pub record WritesToFile (File : Type 0) {V : Type 0} (L : Format V) (v : V) (result : Result (Unit {0}) E) : Type 0 where
+  -- What the ways of writing to a file answer. No contract sees a file: which bytes it took, whether it was flushed, which of its
+  -- calls failed. So this speaks of the value and the error alone; `WritesAndFlushes` says of a caller's sink what the same code does.
+  pub record WritesToFile {V : Type 0} (L : Format V) (v : V) (result : Result (Unit {0}) E) : Type 0 where
     -- what succeeds has a shortest written form
-    pub spelled : OnOk result ((bytes : List ℕ) × IsShortest L v bytes)
-    -- and there is a device around a file, of whose calls none failed, and into which nothing was put since a flush that succeeded
-    pub flushed : OnOk result ((file : Counted File) × (counted_faults file ≡ no_faults) × IsTrue (counted_settled file))
-    -- a refusal is what the error of some failed call became, or the value has no spelling
+    pub written : OnOk result ((bytes : List ℕ) × IsShortest L v bytes)
+    -- a refusal is what the error of some call became, or the value has no spelling
     pub refused : IfErr result (λ e. ((error : StdIoError) × IsErrorOf gives error e) ⊎ RefusesUnspelled L v e)

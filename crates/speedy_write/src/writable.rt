@@ -201,7 +201,7 @@ pub trait Writable<C: Context>: Layout {
     where
         C: PlainContext,
         ensures { let format = Self.format (plain_encoding Endianness.LittleEndian) in
-            WritesToFile C.Error.from_gives R.File format (Self.seen self.now) result }
+            WritesToFile C.Error.from_gives format (Self.seen self.now) result }
     {
         self.write_to_file_with_ctx(rt, alloc, C::plain(), path)
     }
@@ -219,7 +219,7 @@ pub trait Writable<C: Context>: Layout {
         path: P,
     ) -> Result<(), C::Error>
         ensures { let format = Self.format (C.encoding context) in
-            WritesToFile C.Error.from_gives R.File format (Self.seen self.now) result }
+            WritesToFile C.Error.from_gives format (Self.seen self.now) result }
     {
         let file = match fs::create(rt, path) {
             Ok(file) => file,
