@@ -10,7 +10,11 @@
 mod asserting;
 pub mod ext;
 pub mod laws;
+pub mod layout;
 pub mod private;
+pub mod readable_impl;
+pub mod readable_unsized_impl;
+pub mod reader;
 #[cfg(test)]
 mod round_trips;
 #[cfg(test)]
@@ -45,6 +49,7 @@ mod tests_varint;
 mod tests_views;
 #[cfg(test)]
 mod tests_writers;
+pub mod writable_impl;
 
 pub use buffer::Buffer;
 pub use collections::FromItems;
@@ -60,8 +65,8 @@ pub use readable::{ReadFrom, ReadMany, Readable, ReadableOwned};
 pub use reader::{LendingReader, Reader};
 pub use same_key::SameKey;
 pub use speedy_base::{circular_buffer, context, device, endianness, error};
-pub use speedy_layout::{layout, one_of, same_key, tag, varint, view_items, views};
-pub use speedy_read::{buffer, collections, lent, many, readable, reader};
+pub use speedy_layout::{one_of, same_key, tag, varint, view_items, views};
+pub use speedy_read::{buffer, collections, lent, many, readable};
 pub use speedy_write::{part, writable, writer};
 pub use writable::Writable;
 pub use writer::Writer;

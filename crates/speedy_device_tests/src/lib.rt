@@ -11,6 +11,8 @@ mod failing;
 #[cfg(test)]
 mod lengths;
 #[cfg(test)]
+mod paths;
+#[cfg(test)]
 mod probes;
 #[cfg(test)]
 mod ring;

@@ -10,13 +10,9 @@ pub mod own_numbers;
 pub mod own_parts;
 pub mod own_struct;
 pub mod own_types;
-#[cfg(test)]
-mod plain16;
 pub mod readme;
 pub mod streams;
 #[cfg(test)]
 mod tests;
-#[cfg(test)]
-mod tests_bulk;
 #[cfg(test)]
 mod tests_own_types;

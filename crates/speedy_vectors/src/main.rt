@@ -13,11 +13,14 @@ pub mod enums;
 pub mod frame;
 pub mod line;
 pub mod names;
+pub mod plain16;
+pub mod program;
 pub mod record;
-pub mod run;
 mod split;
 #[cfg(test)]
 mod tests;
+#[cfg(test)]
+mod tests_bulk;
 #[cfg(test)]
 mod tests_own_types;
 #[cfg(test)]
@@ -25,7 +28,7 @@ mod tests_tree;
 pub mod tree;
 
 pub use answer::answer_line;
-use run::run;
+pub use program::run;
 use speedy::device::{Counted, Sink};
 use std::io::{self, BufWriter};
 use std::process::ExitCode;

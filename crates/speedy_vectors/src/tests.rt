@@ -1,5 +1,5 @@
 //! The program over devices that move little at a time, or fail.
-use crate::run::run;
+use crate::program::run;
 use speedy::device::Counted;
 use speedy::private::{ErrorKind, get_error_kind};
 use std::alloc::Global;

@@ -2,7 +2,7 @@ use Rattle.std.proofs.Common.{◌≡◌, ◌++◌, rules, sym}
 use Rattle.std.proofs.lemmas.Result.{err_from_is_err_and}
 use Rattle.speedy.specs.Error.{passed_on}
 use Rattle.speedy_vectors.proofs.RunLemmas.{none_of_piece, more_of_piece, fewer_of_piece, all_of_piece, waits_after_piece, line_failed, memory_failed}
-use Rattle.speedy_vectors.proofs.run.answer_piece.Goals as goal
+use Rattle.speedy_vectors.proofs.program.answer_piece.Goals as goal
 
 pub loop-line-init : goal.loop-line-init
 loop-line-init g c = none_of_piece _ _ _ c.requires

@@ -1,6 +1,6 @@
 use Rattle.std.proofs.Common.{length}
 use Rattle.speedy_vectors.proofs.RunLemmas.{PieceSoFar}
-use Rattle.speedy_vectors.proofs.run.answer_piece.Given as goal
+use Rattle.speedy_vectors.proofs.program.answer_piece.Given as goal
 
 abbrev pub invariant-loop-line : goal.invariant-loop-line
 invariant-loop-line g l = PieceSoFar l.fn.pending.items l.fn.piece l.pending.items l.rest (g.W.Sink.sink l.fn.output) (g.W.Sink.sink l.output)

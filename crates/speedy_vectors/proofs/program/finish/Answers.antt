@@ -1,7 +1,7 @@
 use Rattle.std.proofs.Common.{sym}
 use Rattle.speedy.specs.Error.{passed_on}
 use Rattle.speedy_vectors.proofs.RunLemmas.{not_empty, is_empty, last_failed, last_answered, nothing_left}
-use Rattle.speedy_vectors.proofs.run.finish.Goals as goal
+use Rattle.speedy_vectors.proofs.program.finish.Goals as goal
 
 pub returns-in_err-push_answer : goal.returns-in_err-push_answer
 returns-in_err-push_answer g c =

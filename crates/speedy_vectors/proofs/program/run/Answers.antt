@@ -1,7 +1,7 @@
 use Rattle.std.proofs.Common.{◌<◌, length, refl, arith, sym}
 use Rattle.speedy.specs.Error.{passed_on}
 use Rattle.speedy_vectors.proofs.RunLemmas.{none_run, more_run, piece_failed, input_ended, pull_failed, too_long}
-use Rattle.speedy_vectors.proofs.run.run.Goals as goal
+use Rattle.speedy_vectors.proofs.program.run.Goals as goal
 
 pub loop-i-init : goal.loop-i-init
 loop-i-init g c = none_run _ _ _ c.new-pending.ensures.items

@@ -1,7 +1,7 @@
 use Rattle.std.proofs.Common.{◌≡◌, ap, arith, rules, sym}
 use Rattle.speedy.specs.Error.{passed_on}
 use Rattle.speedy_vectors.proofs.RunLemmas.{pushed_answer, no_memory_at_first}
-use Rattle.speedy_vectors.proofs.run.push_answer.Goals as goal
+use Rattle.speedy_vectors.proofs.program.push_answer.Goals as goal
 
 pub returns : goal.returns
 returns g c =

@@ -4,7 +4,7 @@ use Rattle.std.proofs.lemmas.List.{nil_from_length}
 use Rattle.std.proofs.lemmas.Result.{err_from_is_err_and}
 use Rattle.speedy.specs.Error.{passed_on}
 use Rattle.speedy_vectors.proofs.RunLemmas.{whole_line, nothing_waits, no_memory_at_first}
-use Rattle.speedy_vectors.proofs.run.answer_waiting.Goals as goal
+use Rattle.speedy_vectors.proofs.program.answer_waiting.Goals as goal
 
 pub returns-then-is_empty : goal.returns-then-is_empty
 returns-then-is_empty g c =

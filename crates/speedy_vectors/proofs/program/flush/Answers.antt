@@ -1,5 +1,5 @@
 use Rattle.speedy_vectors.proofs.RunLemmas.{flushed, flush_failed}
-use Rattle.speedy_vectors.proofs.run.flush.Goals as goal
+use Rattle.speedy_vectors.proofs.program.flush.Goals as goal
 
 pub returns-in-Ok : goal.returns-in-Ok
 returns-in-Ok g c = record { answers = flushed _ _ _ _ c.in-Ok.ensures; settled = c.in-Ok.ensures.settles }
