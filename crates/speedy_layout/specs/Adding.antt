@@ -1,10 +1,9 @@
 -- One more item: when a list with it is still written, as what std's collections find says.
-use Rattle.std.specs.Prelude.{◌≡◌, List, [], ◌∷◌, ◌++◌, length, ◌<◌, map, Bool, true, false, not, IsTrue, IsSome, is_some, Some, None, ◌⊎◌, ◌↔◌, refl}
+use Rattle.std.specs.Prelude.{◌≡◌, List, [], ◌∷◌, ◌++◌, length, ◌<◌, map, Bool, true, false, not, IsTrue, IsSome, is_some, Option, Some, ◌⊎◌, ◌↔◌, refl}
 use Rattle.std.proofs.Common.{sym, ◌∙◌, ap, subst, inl, inr, arith}
 use Rattle.std.proofs.lemmas.List.{map-append}
-use Rattle.std.proofs.lemmas.Map.Made.{is_some-update_all}
 use Rattle.std.specs.List.{list_any}
-use Rattle.std.specs.Map.{keys_of, lookup, update_all}
+use Rattle.std.specs.Map.{keys_of, lookup}
 use Rattle.std.specs.declared.cmp.Ordering.{Ordering}
 use Rattle.std.specs.declared.cmp.Ordering.TheVariants.{Less, Equal, Greater}
 use Rattle.std.specs.Ordering.{eq_by_cmp, is_lt, is_le, ordering_reverse}
@@ -19,10 +18,12 @@ use Rattle.std.specs.HashMap.{HashMap}
 use Rattle.std.specs.BTreeSet.{BTreeSet}
 use Rattle.std.specs.HashSet.{HashSet}
 use Rattle.speedy_layout.specs.Members.{IsIn, AreDistinct, Ascends, IsIn-left, IsIn-right, IsIn-either, IsIn-key, IsIn-pair}
+use Rattle.speedy_layout.specs.Collections.{HasLastValues, IsTreeMapOf, IsHashMapOf, IsTreeSetOf, IsHashSetOf}
+use Rattle.speedy_layout.specs.Collecting.{has_value, value_key}
 use Rattle.speedy_layout.specs.Equality.{TellsApart}
 use Rattle.speedy_layout.specs.SeenItems.{IsLess, less_is_seen, lt_is_less, item_seen}
 use Rattle.speedy_layout.specs.Maps.{seen_pair, by_key, HasDistinctKeys}
-use Rattle.speedy_layout.specs.StdMaps.{seen_pairs, keys_seen}
+use Rattle.speedy_layout.specs.StdMaps.{seen_pairs, IsIn-seen}
 use Rattle.speedy_layout.specs.StdSets.{member_seen}
 
 -- ---- lists that are written
@@ -74,14 +75,20 @@ module _ {K A : Type 0} {seen : K → A} {eq : K → K → Bool} (same_key : Tel
   }
 
   module _ {V B : Type 0} (value : V → B) where
-    -- a key has a value once the pairs are inserted exactly where it is the key of one
-    pub inserted_key : (xs : List (K × V)) (q : K) → IsSome (update_all eq (λ _. None) xs q) ↔ IsIn (seen q) (keys_of (seen_pairs seen value xs))
-    inserted_key xs q =
-        let found = is_some-update_all seen_equivalence q (λ _. None) xs in
-        let member = member_seen seen same_key q (keys_of xs) in (
-          λ h. subst (IsIn (seen q)) (sym (keys_seen seen value xs)) (member.0 (sym found ∙ h)),
-          λ h. found ∙ member.1 (subst (IsIn (seen q)) (keys_seen seen value xs) h),
-        )
+    -- a key has a value exactly where it is the key of a pair
+    found_in : (xs : List (K × V)) (find : K → Option V) → HasLastValues eq xs find → (q : K)
+        → IsSome (find q) ↔ IsIn (seen q) (keys_of (seen_pairs seen value xs))
+    found_in xs find h q = (
+      λ some.
+          let e = value_key h q some in
+          let there = IsIn-seen (seen_pair seen value) e.0 xs e.1 in
+          subst (λ a. IsIn a (keys_of (seen_pairs seen value xs))) ((same_key e.0.0 q).0 e.2)
+          (IsIn-key (seen_pair seen value e.0) (seen_pairs seen value xs) there),
+      λ s.
+          let p = IsIn-pair (seen q) (seen_pairs seen value xs) s in
+          let e = item_seen (seen_pair seen value) p.0 xs p.2 in
+          has_value h q e.0 e.2 ((same_key e.0.0 q).1 (sym (p.1 ∙ ap (λ (r : A × B). r.0) e.1))),
+    )
 
 -- what a test refuses does not hold
 refused : {P : Type 0} (b : Bool) → IsTrue b ↔ P → IsTrue (not b) ↔ (P → ⊥)
@@ -124,11 +131,12 @@ module _ {K V A B : Type 0} {seen : K → A} {eq : K → K → Bool} (value : V 
 
   -- a key that a map has not is the one that may come next
   pub hash_map_accepts : {H : Type 0} (items : List (K × V)) (m : HashMap K V H) (e : K × V) {found : Bool}
-      → found ≡ is_some (hash_map.get eq m e.0) → hash_map.IsFromIterResult eq items m → HasDistinctKeys (seen_pairs seen value items)
+      → found ≡ is_some (hash_map.get eq m e.0) → IsHashMapOf eq items m → HasDistinctKeys (seen_pairs seen value items)
       → IsTrue (not found) ↔ HasDistinctKeys (seen_pairs seen value (items ++ e ∷ []))
   hash_map_accepts items m e {found = found} is h d =
-      let key = inserted_key same_key value items e.0 in
-      let there : IsTrue found ↔ IsIn (seen e.0) (keys_of (seen_pairs seen value items)) = (λ t. key.0 (ap is_some (sym (h.0 e.0)) ∙ (sym is ∙ t)), λ s. is ∙ (ap is_some (h.0 e.0) ∙ key.1 s)) in
+      let key = found_in same_key value items (hash_map.get eq m) h.0 e.0 in
+      let there : IsTrue found ↔ IsIn (seen e.0) (keys_of (seen_pairs seen value items))
+      = (λ t. key.0 (sym is ∙ t), λ s. is ∙ key.1 s) in
       let test = refused found there in
       let more = one_more_key items e d in
       (λ t. more.0 (test.0 t), λ w. test.1 (more.1 w))
@@ -137,8 +145,8 @@ module _ {K V A B : Type 0} {seen : K → A} {eq : K → K → Bool} (value : V 
 
 -- an item that a set has not is the one that may come next
 pub hash_set_accepts : {T A H : Type 0} {seen : T → A} {eq : T → T → Bool} → TellsApart eq seen
-    → (items : List T) (s : HashSet T H) (x : T) {found : Bool} → found ≡ hash_set.contains eq s x → hash_set.IsFromIterResult eq items s
-    → AreDistinct (map seen items)
+    → (items : List T) (s : HashSet T H) (x : T) {found : Bool} → found ≡ hash_set.contains eq s x
+    → IsHashSetOf eq items s → AreDistinct (map seen items)
     → IsTrue (not found) ↔ AreDistinct (map seen (items ++ x ∷ []))
 hash_set_accepts {seen = seen} {eq = eq} same_key items s x {found = found} is h d =
     let member = member_seen seen same_key x items in
@@ -170,11 +178,9 @@ module _ {K A : Type 0} {seen : K → A} {cmp : K → K → Ordering} (same_key 
 -- ---- `BTreeMap`
 
 module _ {K V A B : Type 0} {seen : K → A} {cmp : K → K → Ordering} (value : V → B) (same_key : TellsApart (eq_by_cmp cmp) seen) (total : IsTotalOrder cmp) where
-  found_key : (items : List (K × V)) (m : BTreeMap K V) → tree_map.IsFromIterResult cmp items m → (q : K)
+  found_key : (items : List (K × V)) (m : BTreeMap K V) → IsTreeMapOf cmp items m → (q : K)
       → IsSome (tree_map.get cmp m q) ↔ IsIn (seen q) (keys_of (seen_pairs seen value items))
-  found_key items m h q =
-      let key = inserted_key same_key value items q in
-      (λ t. key.0 (ap is_some (sym (h.0 q)) ∙ t), λ s. ap is_some (h.0 q) ∙ key.1 s)
+  found_key items m h q = found_in same_key value items (tree_map.get cmp m) h.0 q
 
   one_more_pair : (items : List (K × V)) (e : K × V) → Ascends (by_key (IsLess seen cmp)) (seen_pairs seen value items)
       → ((p : A × B) → IsIn p (seen_pairs seen value items) → IsLess seen cmp p.0 (seen e.0)) ↔ Ascends (by_key (IsLess seen cmp)) (seen_pairs seen value (items ++ e ∷ []))
@@ -186,7 +192,7 @@ module _ {K V A B : Type 0} {seen : K → A} {cmp : K → K → Ordering} (value
   -- a key that the last one of a map is less than is the one that may come next
   pub tree_map_accepts : (items : List (K × V)) (m : BTreeMap K V) (e : K × V) (last : K) {w : V} {less : Bool}
       → less ≡ is_lt (cmp last e.0) → tree_map.get cmp m last ≡ Some w → tree_map.IsUpperBound cmp m last
-      → tree_map.IsFromIterResult cmp items m → Ascends (by_key (IsLess seen cmp)) (seen_pairs seen value items)
+      → IsTreeMapOf cmp items m → Ascends (by_key (IsLess seen cmp)) (seen_pairs seen value items)
       → IsTrue less ↔ Ascends (by_key (IsLess seen cmp)) (seen_pairs seen value (items ++ e ∷ []))
   tree_map_accepts items m e last is there greatest h a =
       let more = one_more_pair items e a in (
@@ -204,7 +210,7 @@ module _ {K V A B : Type 0} {seen : K → A} {cmp : K → K → Ordering} (value
 
   -- and any key where it has none
   pub tree_map_accepts_first : (items : List (K × V)) (m : BTreeMap K V) (e : K × V) → (0 < tree_map.btree_map_len m → ⊥)
-      → tree_map.IsFromIterResult cmp items m → Ascends (by_key (IsLess seen cmp)) (seen_pairs seen value items)
+      → IsTreeMapOf cmp items m → Ascends (by_key (IsLess seen cmp)) (seen_pairs seen value items)
       → Ascends (by_key (IsLess seen cmp)) (seen_pairs seen value (items ++ e ∷ []))
   tree_map_accepts_first items m e empty h a =
       (one_more_pair items e a).0
@@ -221,7 +227,7 @@ found_any test [] h = absurd (cc)
 found_any test (x ∷ xs) h = omega arith
 
 module _ {T A : Type 0} {seen : T → A} {cmp : T → T → Ordering} (same_key : TellsApart (eq_by_cmp cmp) seen) (total : IsTotalOrder cmp) where
-  found_item : (items : List T) (s : BTreeSet T) → tree_set.IsFromIterResult cmp items s → (q : T)
+  found_item : (items : List T) (s : BTreeSet T) → IsTreeSetOf cmp items s → (q : T)
       → IsTrue (tree_set.contains cmp s q) ↔ IsIn (seen q) (map seen items)
   found_item items s h q =
       let member = member_seen seen same_key q items in
@@ -237,7 +243,7 @@ module _ {T A : Type 0} {seen : T → A} {cmp : T → T → Ordering} (same_key 
   -- an item that the last one of a set is less than is the one that may come next
   pub tree_set_accepts : (items : List T) (s : BTreeSet T) (x last : T) {less : Bool} → less ≡ is_lt (cmp last x)
       → IsTrue (tree_set.contains cmp s last) → tree_set.IsUpperBound cmp s last
-      → tree_set.IsFromIterResult cmp items s → Ascends (IsLess seen cmp) (map seen items)
+      → IsTreeSetOf cmp items s → Ascends (IsLess seen cmp) (map seen items)
       → IsTrue less ↔ Ascends (IsLess seen cmp) (map seen (items ++ x ∷ []))
   tree_set_accepts items s x last is there greatest h a =
       let more = one_more_item items x a in (
@@ -252,7 +258,7 @@ module _ {T A : Type 0} {seen : T → A} {cmp : T → T → Ordering} (same_key 
 
   -- and any item where it has none
   pub tree_set_accepts_first : (items : List T) (s : BTreeSet T) (x : T) → (0 < tree_set.btree_set_len s → ⊥)
-      → tree_set.IsFromIterResult cmp items s → Ascends (IsLess seen cmp) (map seen items)
+      → IsTreeSetOf cmp items s → Ascends (IsLess seen cmp) (map seen items)
       → Ascends (IsLess seen cmp) (map seen (items ++ x ∷ []))
   tree_set_accepts_first items s x empty h a =
       (one_more_item items x a).0

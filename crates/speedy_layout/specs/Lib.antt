@@ -21,6 +21,8 @@ pub mod Keys
 pub mod Gathering
 pub mod GatheredLemmas
 pub mod Maps
+pub mod Collections
+pub mod Collecting
 pub mod Sets
 pub mod EqualityOfMaps
 pub mod StdMaps

@@ -2,6 +2,7 @@
 use Rattle.std.specs.Prelude.{◌≡◌, List, [], ◌∷◌, ◌++◌, length, ◌⊎◌, refl}
 use Rattle.std.specs.Map.{keys_of}
 use Rattle.std.proofs.Common.{sym, ◌∙◌, ap, subst, inl, inr, arith}
+use Rattle.std.proofs.lemmas.List.{append_assoc, length-append}
 
 -- x is an item of the list
 abbrev pub IsIn : {X : Type 0} → X → List X → Type 0
@@ -29,14 +30,18 @@ pub record Around {X : Type 0} (x : X) (xs : List X) : Type 0 where
   pub after : List X
   pub whole_is : xs ≡ before ++ x ∷ after
 
--- some x stands in the items after none but those that stand before x in the list
-pub record ComesFirst {X : Type 0} (x : X) (earlier items : List X) : Type 0 where
+-- some x stands in the items, and each one before it is among the earlier ones, as `has` tells
+pub record ComesFirst {X : Type 0} (has : X → List X → Type 0) (x : X) (earlier items : List X) : Type 0 where
   pub at : Around x items
-  pub others : (y : X) → IsIn y at.before → IsIn y earlier
+  pub others : (y : X) → IsIn y at.before → has y earlier
 
--- the list has its items in the order of their first occurrences among the others
+-- xs stand in the order of their first occurrences in the items, where `has` tells whether one is among others
+abbrev pub InFirstOrderBy : {X : Type 0} → (X → List X → Type 0) → List X → List X → Type 0
+InFirstOrderBy {X = X} has items xs = (x : X) (at : Around x xs) → ComesFirst has x at.before items
+
+-- the same, where one is among others that is one of them
 abbrev pub InFirstOrder : {X : Type 0} → List X → List X → Type 0
-InFirstOrder {X = X} items xs = (x : X) (at : Around x xs) → ComesFirst x at.before items
+InFirstOrder items xs = InFirstOrderBy IsIn items xs
 
 module _ {X : Type 0} where
   pub IsIn-left : (x : X) (xs ys : List X) → IsIn x xs → IsIn x (xs ++ ys)
@@ -63,6 +68,32 @@ module _ {X : Type 0} where
 
   pub IsIn-middle : (x : X) (xs ys : List X) → IsIn x (xs ++ x ∷ ys)
   IsIn-middle x xs ys = IsIn-right x xs (x ∷ ys) (inl refl)
+
+  -- where an item stands in a list with one more at its end
+  pub around_last : (x k : X) (xs before after : List X) → xs ++ k ∷ [] ≡ before ++ x ∷ after
+      → ((before ≡ xs) × (x ≡ k))
+      ⊎ ((rest : List X) × (xs ≡ before ++ x ∷ rest) × (after ≡ rest ++ k ∷ []))
+  around_last x k [] [] after e = inl (refl, cc)
+  around_last x k [] (b ∷ before) after e =
+      let tails : [] ≡ before ++ x ∷ after = cc in
+      let l = ap length tails ∙ length-append before (x ∷ after) in
+      absurd (omega arith)
+  around_last x k (y ∷ xs) [] after e = inr (xs, let h : y ≡ x = cc in ap (λ z. z ∷ xs) h, cc)
+  around_last x k (y ∷ xs) (b ∷ before) after e =
+      let heads : y ≡ b = cc in
+      let tails : xs ++ k ∷ [] ≡ before ++ x ∷ after = cc in
+      elim (around_last x k xs before after tails) [
+        | inl h ↦ inl (let t = h.0 in let s : b ∷ before ≡ y ∷ xs = cc in (s, h.1))
+        | inr h ↦ inr (h.0, let t = h.1 in let s : y ∷ xs ≡ b ∷ (before ++ x ∷ h.0) = cc in s, h.2)
+      ]
+
+  -- what stands around an item of a list stands around it in a longer one
+  abbrev pub Around-more : (x : X) (xs more : List X) → Around x xs → Around x (xs ++ more)
+  Around-more x xs more at = record {
+    before = at.before;
+    after = at.after ++ more;
+    whole_is = ap (λ l. l ++ more) at.whole_is ∙ append_assoc at.before (x ∷ at.after) more;
+  }
 
   head_same : (x y : X) (xs ys : List X) → x ∷ xs ≡ y ∷ ys → x ≡ y
   head_same x y xs ys h = cc

@@ -62,8 +62,8 @@ module _ {X : Type 0} where
         | inr h ↦ elim h [ inl k ↦ inr (inl (inr k)) | inr k ↦ inr (inr (inr k)) ]
       ]
 
-  same_next : (x y : X) (earlier items : List X) → (IsIn x earlier → ⊥) → (IsIn y earlier → ⊥) → ComesFirst x earlier items
-      → ComesFirst y earlier items → x ≡ y
+  same_next : (x y : X) (earlier items : List X) → (IsIn x earlier → ⊥) → (IsIn y earlier → ⊥)
+      → ComesFirst IsIn x earlier items → ComesFirst IsIn y earlier items → x ≡ y
   same_next x y earlier items p q h k =
       elim (which_first x y h.at.before h.at.after k.at.before k.at.after (sym h.at.whole_is ∙ k.at.whole_is)) [
         | inl e ↦ e

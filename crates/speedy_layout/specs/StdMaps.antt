@@ -1,9 +1,10 @@
 -- What std's maps and `IndexMap` say of themselves, as what lists gather to and how it is written.
-use Rattle.std.specs.Prelude.{◌≡◌, List, [], ◌∷◌, map, Bool, true, false, cond, Option, Some, None, option_map, ◌⊎◌, ◌↔◌, refl}
+use Rattle.std.specs.Prelude.{◌≡◌, List, [], ◌∷◌, ◌++◌, map, Bool, true, false, cond, Option, Some, None, option_map, ◌↔◌, refl}
+use Rattle.std.proofs.lemmas.List.{map-append}
 use Rattle.std.proofs.Common.{sym, ◌∙◌, ap, subst, inl, inr}
-use Rattle.std.specs.Map.{keys_of, lookup, update, update_all}
+use Rattle.std.specs.Map.{keys_of, lookup}
 use Rattle.std.specs.List.{IsDistinct}
-use Rattle.speedy_layout.specs.Members.{IsIn, Ascends, IsLast, IsIn-key, IsLast-in, AreDistinct}
+use Rattle.speedy_layout.specs.Members.{IsIn, Ascends, IsLast, IsIn-key, IsIn-pair, IsLast-in, AreDistinct}
 use Rattle.std.specs.List.Sorted.{IsStrictlySortedBy}
 use Rattle.std.specs.declared.cmp.Ordering.{Ordering}
 use Rattle.std.specs.Ordering.{eq_by_cmp}
@@ -13,12 +14,29 @@ use Rattle.std.specs.HashMap as hash
 use Rattle.std.specs.BTreeMap.{BTreeMap}
 use Rattle.std.specs.HashMap.{HashMap}
 use Rattle.speedy_layout.specs.Equality.{TellsApart}
+use Rattle.speedy_layout.specs.Collections.{HasLast, HasLastValues, IsTreeMapOf, IsHashMapOf}
 use Rattle.speedy_layout.specs.SeenItems.{AreSeen, IsLess, seen_order, cmp_tells_apart, item_seen, items_are_seen, differs, unique_seen, sorted_ascend}
 use Rattle.speedy_layout.specs.Maps.{seen_pair, by_key, HasLasts, Ascends-distinct_keys, HasDistinctKeys, own_lasts, own_tree_map, GathersToTreeMap, GathersToHashMap, Ascends-by_key}
 
 -- what is seen of pairs
 abbrev pub seen_pairs : {K V A B : Type 0} → (K → A) → (V → B) → List (K × V) → List (A × B)
 seen_pairs seen value es = map (seen_pair seen value) es
+
+-- a pair with none of its key after it is the last
+IsLast-at : {K V : Type 0} (e : K × V) (before after : List (K × V)) → (IsIn e.0 (keys_of after) → ⊥)
+    → IsLast e (before ++ e ∷ after)
+IsLast-at e [] after absent = inr (refl, absent)
+IsLast-at e (f ∷ before) after absent = inl (IsLast-at e before after absent)
+
+-- what is seen of an item is seen
+pub IsIn-seen : {T A : Type 0} (seen : T → A) (x : T) (xs : List T) → IsIn x xs → IsIn (seen x) (map seen xs)
+IsIn-seen seen x [] s = absurd s
+IsIn-seen seen x (y ∷ ys) (inl e) = inl (ap seen e)
+IsIn-seen seen x (y ∷ ys) (inr s) = inr (IsIn-seen seen x ys s)
+
+unequal : {b : Bool} → (b ≡ true → ⊥) → b ≡ false
+unequal {b = true} n = absurd (n refl)
+unequal {b = false} n = refl
 
 module _ {K V A B : Type 0} (seen : K → A) (value : V → B) where
   -- the keys of what is seen are what is seen of the keys
@@ -57,81 +75,96 @@ module _ {K V A B : Type 0} (seen : K → A) (value : V → B) where
         λ h. elim h [ inl s ↦ absurd (differs same_key q e.0 is (ap (λ (p : A × B). p.0) s)) | inr s ↦ rest.1 s ],
       )
 
-    -- pairs that are inserted in turn give each key the value of its last pair, or leave what it had
-    updated_seen : (q : K) (w : B) (f : K → Option V) (xs : List (K × V)) → (option_map value (update_all eq f xs q) ≡ Some w)
-        ↔ (IsLast {K = A} {V = B} (seen q, w) (seen_pairs seen value xs) ⊎ ((IsIn (seen q) (keys_of (seen_pairs seen value xs)) → ⊥) × (option_map value (f q) ≡ Some w)))
-    updated_seen q w f [] = (λ h. inr (λ s. s, h), λ h. elim h [ inl s ↦ absurd s | inr s ↦ s.1 ])
-    updated_seen q w f (x ∷ xs) = by (eq x.0 q) refl (updated_seen q w (update eq f x.0 (Some x.1)) xs) where
-      by : (b : Bool) → eq x.0 q ≡ b
-          → ((option_map value (update_all eq f (x ∷ xs) q) ≡ Some w) ↔ (IsLast {K = A} {V = B} (seen q, w) (seen_pairs seen value xs) ⊎ ((IsIn (seen q) (keys_of (seen_pairs seen value xs)) → ⊥) × (option_map value (cond b (Some x.1) (f q)) ≡ Some w))))
-          → (option_map value (update_all eq f (x ∷ xs) q) ≡ Some w)
-          ↔ (IsLast {K = A} {V = B} (seen q, w) (seen_pairs seen value (x ∷ xs)) ⊎ ((IsIn (seen q) (keys_of (seen_pairs seen value (x ∷ xs))) → ⊥) × (option_map value (f q) ≡ Some w)))
-      by true is rest =
-          let same = (same_key x.0 q).0 is in (
-            λ h.
-                elim (rest.0 h) [
-                  | inl l ↦ inl (inl l)
-                  | inr r ↦ let v : value x.1 ≡ w = (let e = r.1 in (cc)) in inl (inr (λ i. (sym same i, sym v i), r.0))
-                ],
-            λ s.
-                elim s [
-                  | inl l ↦ elim l [ inl k ↦ rest.1 (inl k) | inr k ↦ rest.1 (inr (k.1, ap (λ (p : A × B). Some p.1) (sym k.0))) ]
-                  | inr r ↦ absurd (r.0 (inl (sym same)))
-                ],
-          )
-      by false is rest = (
-        λ h.
-            elim (rest.0 h) [
-              | inl l ↦ inl (inl l)
-              | inr r ↦ inr (λ s. elim s [ inl e ↦ differs same_key x.0 q is (sym e) | inr t ↦ r.0 t ], r.1)
-            ],
-        λ s.
-            elim s [
-              | inl l ↦ elim l [ inl k ↦ rest.1 (inl k) | inr k ↦ absurd (differs same_key x.0 q is (sym (ap (λ (p : A × B). p.0) k.0))) ]
-              | inr r ↦ rest.1 (inr (λ t. r.0 (inr t), r.1))
-            ],
-      )
+    -- the last value of a key is seen where the last pair with it is
+    last_seen : (k : K) (v : V) (xs : List (K × V)) → HasLast eq xs k v
+        → IsLast {K = A} {V = B} (seen k, value v) (seen_pairs seen value xs)
+    last_seen k v xs h =
+        let same = (same_key h.key k).0 h.equal in
+        let pair : A × B = (seen h.key, value v) in
+        let later = seen_pairs seen value h.at.after in
+        let joined = map-append (seen_pair seen value) h.at.before ((h.key, v) ∷ h.at.after) in
+        let whole : seen_pairs seen value xs ≡ seen_pairs seen value h.at.before ++ pair ∷ later
+        = ap (seen_pairs seen value) h.at.whole_is ∙ joined in
+        let absent : IsIn (seen h.key) (keys_of later) → ⊥ = λ s.
+        let p = IsIn-pair (seen h.key) later s in
+        let e = item_seen (seen_pair seen value) p.0 h.at.after p.2 in
+        differs same_key e.0.0 k (h.no_later e.0 e.2) (ap (λ (q : A × B). q.0) (sym e.1) ∙ (sym p.1 ∙ same)) in
+        subst (λ a. IsLast {K = A} {V = B} (a, value v) (seen_pairs seen value xs)) same
+        (subst (IsLast pair) (sym whole) (IsLast-at pair (seen_pairs seen value h.at.before) later absent))
 
-    -- and so where nothing was there before
-    pub collected_seen : (xs : List (K × V)) (q : K) (w : B)
-        → (option_map value (update_all eq (λ _. None) xs q) ≡ Some w) ↔ IsLast {K = A} {V = B} (seen q, w) (seen_pairs seen value xs)
-    collected_seen xs q w =
-        let u = updated_seen q w (λ _. None) xs in (
-          λ h. elim (u.0 h) [ inl l ↦ l | inr r ↦ absurd (let e = r.1 in (cc)) ],
-          λ l. u.1 (inl l),
+    -- and is the value of a pair of the list
+    seen_last : (k : K) (w : B) (xs : List (K × V)) → IsLast {K = A} {V = B} (seen k, w) (seen_pairs seen value xs)
+        → (v : V) × HasLast eq xs k v × (value v ≡ w)
+    seen_last k w [] l = absurd l
+    seen_last k w (x ∷ xs) (inl l) =
+        let rest = seen_last k w xs l in
+        let h = rest.1 in (
+          rest.0,
+          record {
+            key = h.key;
+            at = record { before = x ∷ h.at.before; after = h.at.after; whole_is = ap (λ es. x ∷ es) h.at.whole_is };
+            equal = h.equal;
+            no_later = h.no_later;
+          },
+          rest.2,
         )
+    seen_last k w (x ∷ xs) (inr l) = (
+      x.1,
+      record {
+        key = x.0;
+        at = record { before = []; after = xs; whole_is = refl };
+        equal = (same_key x.0 k).1 (sym (ap (λ (p : A × B). p.0) l.0));
+        no_later = λ e s.
+            let there = IsIn-seen (seen_pair seen value) e xs s in
+            let key = IsIn-key (seen_pair seen value e) (seen_pairs seen value xs) there in
+            unequal (λ i. l.1 (subst (λ a. IsIn a (keys_of (seen_pairs seen value xs))) ((same_key e.0 k).0 i) key));
+      },
+      sym (ap (λ (p : A × B). p.1) l.0),
+    )
 
-    -- entries that find what the pairs give are the last pairs of their keys
+    -- a map that has the last values of a list has, as it is seen, those of what is seen of the list
+    values_seen : (xs : List (K × V)) (find : K → Option V) → HasLastValues eq xs find → (q : K) (w : B)
+        → (option_map value (find q) ≡ Some w) ↔ IsLast {K = A} {V = B} (seen q, w) (seen_pairs seen value xs)
+    values_seen xs find h q w = (
+      by (find q) refl,
+      λ l. let p = seen_last q w xs l in ap (option_map value) ((h q p.0).1 p.1) ∙ ap Some p.2,
+    ) where
+      by : (o : Option V) → find q ≡ o → option_map value o ≡ Some w
+          → IsLast {K = A} {V = B} (seen q, w) (seen_pairs seen value xs)
+      by None is e = absurd (cc)
+      by (Some v) is e =
+          let t : value v ≡ w = cc in
+          subst (λ b. IsLast {K = A} {V = B} (seen q, b) (seen_pairs seen value xs)) t (last_seen q v xs ((h q v).0 is))
+
+    -- entries that find the last values are the last pairs of their keys
     pub found_lasts : (xs es : List (K × V)) → HasDistinctKeys (seen_pairs seen value es)
-        → ((q : K) → lookup (eq q) es ≡ update_all eq (λ _. None) xs q) → HasLasts (seen_pairs seen value xs) (seen_pairs seen value es)
+        → HasLastValues eq xs (λ q. lookup (eq q) es)
+        → HasLasts (seen_pairs seen value xs) (seen_pairs seen value es)
     found_lasts xs es d finds p = (
       λ h.
           let e = item_seen (seen_pair seen value) p es h in
           let q : A × B = (seen e.0.0, p.1) in
           let same : p ≡ q = ap (λ (r : A × B). let t : A × B = (r.0, p.1) in t) e.1 in
           subst (λ r. IsLast r (seen_pairs seen value xs)) (sym same)
-          ((collected_seen xs e.0.0 p.1).0 (ap (option_map value) (sym (finds e.0.0)) ∙ (lookup_seen e.0.0 p.1 es d).1 (subst (λ r. IsIn r (seen_pairs seen value es)) same h))),
+          ((values_seen xs (λ q. lookup (eq q) es) finds e.0.0 p.1).0
+          ((lookup_seen e.0.0 p.1 es d).1 (subst (λ r. IsIn r (seen_pairs seen value es)) same h))),
       λ l.
           let e = item_seen (seen_pair seen value) p xs (IsLast-in p (seen_pairs seen value xs) l) in
           let q : A × B = (seen e.0.0, p.1) in
           let same : p ≡ q = ap (λ (r : A × B). let t : A × B = (r.0, p.1) in t) e.1 in
           subst (λ r. IsIn r (seen_pairs seen value es)) (sym same)
-          ((lookup_seen e.0.0 p.1 es d).0 (ap (option_map value) (finds e.0.0) ∙ (collected_seen xs e.0.0 p.1).1 (subst (λ r. IsLast r (seen_pairs seen value xs)) same l))),
+          ((lookup_seen e.0.0 p.1 es d).0
+          ((values_seen xs (λ q. lookup (eq q) es) finds e.0.0 p.1).1
+          (subst (λ r. IsLast r (seen_pairs seen value xs)) same l))),
     )
 
 -- ---- `HashMap`
 
 module _ {K V A B H : Type 0} {seen : K → A} {eq : K → K → Bool} (value : V → B) (same_key : TellsApart eq seen) where
-  -- what `collect` and inserting in turn make is what the pairs gather to
-  pub hash_map_collected : (xs : List (K × V)) (m : HashMap K V H) → hash.IsFromIterResult eq xs m
+  -- the map of a list is what its pairs gather to
+  pub hash_map_seen : (xs : List (K × V)) (m : HashMap K V H) → IsHashMapOf eq xs m
       → GathersToHashMap seen (seen_pairs seen value xs) (λ k. option_map value (hash.get eq m k))
-  hash_map_collected xs m h = (
-    pairs_are_seen seen value xs,
-    λ k w. (
-      λ e. (collected_seen seen value same_key xs k w).0 (ap (option_map value) (sym (h.0 k)) ∙ e),
-      λ l. ap (option_map value) (h.0 k) ∙ (collected_seen seen value same_key xs k w).1 l,
-    ),
-  )
+  hash_map_seen xs m h = (pairs_are_seen seen value xs, values_seen seen value same_key xs (hash.get eq m) h.0)
 
   -- its entries in the order of iteration are a form of it
   pub hash_map_entries : (m : HashMap K V H) → hash.IsUnique eq m
@@ -158,10 +191,10 @@ module _ {K V A B : Type 0} (seen : K → A) (value : V → B) (cmp : K → K �
 
 module _ {K V A B : Type 0} {seen : K → A} {cmp : K → K → Ordering} {eq : K → K → Bool} (value : V → B)
     (same_key : TellsApart eq seen) (total : IsTotalOrder cmp) (matches_eq : (x y : K) → eq x y ≡ eq_by_cmp cmp x y) where
-  -- what `collect` and inserting in turn make is what the pairs gather to
-  pub tree_map_collected : (xs : List (K × V)) (m : BTreeMap K V) → tree.IsFromIterResult cmp xs m
+  -- the map of a list is what its pairs gather to
+  pub tree_map_seen : (xs : List (K × V)) (m : BTreeMap K V) → IsTreeMapOf cmp xs m
       → GathersToTreeMap (IsLess seen cmp) (seen_pairs seen value xs) (seen_pairs seen value m.entries)
-  tree_map_collected xs m h =
+  tree_map_seen xs m h =
       let ascends = sorted_pairs_ascend seen value cmp m.entries h.1 in (
         ascends,
         found_lasts seen value (cmp_tells_apart cmp same_key matches_eq) xs m.entries

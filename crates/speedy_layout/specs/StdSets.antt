@@ -10,6 +10,7 @@ use Rattle.std.specs.BTreeSet.{BTreeSet}
 use Rattle.std.specs.HashSet.{HashSet}
 use Rattle.speedy_layout.specs.Members.{IsIn, AreDistinct, Ascends}
 use Rattle.speedy_layout.specs.Equality.{TellsApart}
+use Rattle.speedy_layout.specs.Collections.{IsTreeSetOf, IsHashSetOf}
 use Rattle.speedy_layout.specs.SeenItems.{IsLess, cmp_tells_apart, item_seen, items_are_seen, differs, unique_seen, sorted_ascend}
 use Rattle.speedy_layout.specs.Sets.{HasItems, GathersToTreeSet, GathersToHashSet, own_tree_set}
 
@@ -39,9 +40,10 @@ module _ {T A : Type 0} (seen : T → A) where
 -- ---- `HashSet`
 
 module _ {T A H : Type 0} {seen : T → A} {eq : T → T → Bool} (same_key : TellsApart eq seen) where
-  -- what `collect` and inserting in turn make is what the items gather to
-  pub hash_set_collected : (xs : List T) (s : HashSet T H) → hash.IsFromIterResult eq xs s → GathersToHashSet seen (map seen xs) (hash.contains eq s)
-  hash_set_collected xs s h = (
+  -- the set of a list is what its items gather to
+  pub hash_set_seen : (xs : List T) (s : HashSet T H) → IsHashSetOf eq xs s
+      → GathersToHashSet seen (map seen xs) (hash.contains eq s)
+  hash_set_seen xs s h = (
     items_are_seen seen xs,
     λ x. (λ e. (member_seen seen same_key x xs).0 (sym (h.0 x) ∙ e), λ l. h.0 x ∙ (member_seen seen same_key x xs).1 l),
   )
@@ -59,8 +61,11 @@ module _ {T A : Type 0} (seen : T → A) (cmp : T → T → Ordering) where
       → GathersToTreeSet (IsLess seen cmp) (map seen s.keys) (map seen s.keys) × Ascends (IsLess seen cmp) (map seen s.keys)
   tree_set_items s h = let ascends = sorted_ascend seen cmp s.keys h in (own_tree_set (IsLess seen cmp) (map seen s.keys) ascends, ascends)
 
--- what `collect` and inserting in turn make is what the items gather to
-pub tree_set_collected : {T A : Type 0} {seen : T → A} {eq : T → T → Bool} (cmp : T → T → Ordering) → TellsApart eq seen
-    → ((x y : T) → eq x y ≡ eq_by_cmp cmp x y) → (xs : List T) (s : BTreeSet T) → tree.IsFromIterResult cmp xs s
+-- the set of a list is what its items gather to
+pub tree_set_seen : {T A : Type 0} {seen : T → A} {eq : T → T → Bool} (cmp : T → T → Ordering) → TellsApart eq seen
+    → ((x y : T) → eq x y ≡ eq_by_cmp cmp x y) → (xs : List T) (s : BTreeSet T) → IsTreeSetOf cmp xs s
     → GathersToTreeSet (IsLess seen cmp) (map seen xs) (map seen s.keys)
-tree_set_collected {seen = seen} cmp same_key matches_eq xs s h = (sorted_ascend seen cmp s.keys h.1, found_items seen (cmp_tells_apart cmp same_key matches_eq) xs s.keys h.0)
+tree_set_seen {seen = seen} cmp same_key matches_eq xs s h = (
+  sorted_ascend seen cmp s.keys h.1,
+  found_items seen (cmp_tells_apart cmp same_key matches_eq) xs s.keys h.0,
+)

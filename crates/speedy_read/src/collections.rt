@@ -1,16 +1,11 @@
 //! Collections that are made of items read one after another.
 ghost use Rattle.std.specs.Prelude.{◌≡◌, ◌++◌, ◌∷◌, ◌↔◌, List, [], map, IsTrue, IfOk, OnOk};
 ghost use Rattle.std.proofs.Common.{subst};
-ghost use Rattle.std.specs.BTreeMap as tree_map;
-ghost use Rattle.std.specs.HashMap as hash_map;
-ghost use Rattle.std.specs.BTreeSet as tree_set;
-ghost use Rattle.std.specs.HashSet as hash_set;
-ghost use Rattle.indexmap.specs.IndexMap.{insert_all};
-ghost use Rattle.indexmap.specs.IndexSet as index_set;
 ghost use Rattle.speedy_layout.specs.Members.{AreDistinct, Ascends};
 ghost use Rattle.speedy_layout.specs.SeenItems.{IsLess};
 ghost use Rattle.speedy_layout.specs.Maps.{seen_pair, by_key, HasDistinctKeys};
 ghost use Rattle.speedy_layout.specs.StdMaps.{seen_pairs};
+ghost use Rattle.speedy_layout.specs.Collections.{IsTreeMapOf, IsHashMapOf, IsIndexMapOf, IsTreeSetOf, IsHashSetOf, IsIndexSetOf};
 ghost use Rattle.speedy_layout.specs.Adding.{ascending_first, distinct_first, distinct_keys_first};
 ghost use Rattle.speedy_read.specs.Collections.{gatherer, Collects};
 
@@ -98,7 +93,7 @@ impl<T: Layout + Drop> FromItems<T> for Vec<T> {
 }
 
 impl<K: SameKey + Ord + Drop, V: Layout + Drop> FromItems<(K, V)> for BTreeMap<K, V> {
-    ghost gathers = { λ items m. tree_map.IsFromIterResult K.cmp items m };
+    ghost gathers = { λ items m. IsTreeMapOf K.cmp items m };
 
     ghost are_written = { λ items. Ascends (by_key (IsLess K.seen K.cmp)) (seen_pairs K.seen V.seen items) };
 
@@ -121,7 +116,7 @@ impl<K: SameKey + Ord + Drop, V: Layout + Drop> FromItems<(K, V)> for BTreeMap<K
     }
 
     fn gather(alloc: Global, items: Vec<(K, V)>) -> Result<BTreeMap<K, V>, AllocError>
-        ensures { IfOk result (tree_map.IsFromIterResult K.cmp items.items) }
+        ensures { IfOk result (IsTreeMapOf K.cmp items.items) }
     {
         items.into_iter().collect(alloc)
     }
@@ -136,7 +131,7 @@ impl<K: SameKey + Ord + Drop, V: Layout + Drop> FromItems<(K, V)> for BTreeMap<K
 
 impl<K: SameKey + Hash + Drop, V: Layout + Drop, S: BuildHasher + Default + Drop> FromItems<(K, V)>
     for HashMap<K, V, S> {
-    ghost gathers = { λ items m. hash_map.IsFromIterResult K.eq items m };
+    ghost gathers = { λ items m. IsHashMapOf K.eq items m };
 
     ghost are_written = { λ items. HasDistinctKeys (seen_pairs K.seen V.seen items) };
 
@@ -159,7 +154,7 @@ impl<K: SameKey + Hash + Drop, V: Layout + Drop, S: BuildHasher + Default + Drop
     }
 
     fn gather(alloc: Global, items: Vec<(K, V)>) -> Result<HashMap<K, V, S>, AllocError>
-        ensures { IfOk result (hash_map.IsFromIterResult K.eq items.items) }
+        ensures { IfOk result (IsHashMapOf K.eq items.items) }
     {
         items.into_iter().collect(alloc)
     }
@@ -171,7 +166,7 @@ impl<K: SameKey + Hash + Drop, V: Layout + Drop, S: BuildHasher + Default + Drop
 
 impl<K: SameKey + Hash + Drop, V: Layout + Drop, S: BuildHasher + Default + Drop> FromItems<(K, V)>
     for IndexMap<K, V, S> {
-    ghost gathers = { λ items m. (m.entries ≡ insert_all K.eq [] items) × hash_map.IsFromIterResult K.eq items m };
+    ghost gathers = { λ items m. IsIndexMapOf K.eq items m };
 
     ghost are_written = { λ items. HasDistinctKeys (seen_pairs K.seen V.seen items) };
 
@@ -194,8 +189,7 @@ impl<K: SameKey + Hash + Drop, V: Layout + Drop, S: BuildHasher + Default + Drop
     }
 
     fn gather(alloc: Global, items: Vec<(K, V)>) -> Result<IndexMap<K, V, S>, AllocError>
-        ensures { IfOk result (λ m. (m.entries ≡ insert_all K.eq [] items.items)
-            × hash_map.IsFromIterResult K.eq items.items m) }
+        ensures { IfOk result (IsIndexMapOf K.eq items.items) }
     {
         items.into_iter().collect(alloc)
     }
@@ -206,7 +200,7 @@ impl<K: SameKey + Hash + Drop, V: Layout + Drop, S: BuildHasher + Default + Drop
 }
 
 impl<T: SameKey + Ord + Drop> FromItems<T> for BTreeSet<T> {
-    ghost gathers = { λ items s. tree_set.IsFromIterResult T.cmp items s };
+    ghost gathers = { λ items s. IsTreeSetOf T.cmp items s };
 
     ghost are_written = { λ items. Ascends (IsLess T.seen T.cmp) (map T.seen items) };
 
@@ -228,7 +222,7 @@ impl<T: SameKey + Ord + Drop> FromItems<T> for BTreeSet<T> {
     }
 
     fn gather(alloc: Global, items: Vec<T>) -> Result<BTreeSet<T>, AllocError>
-        ensures { IfOk result (tree_set.IsFromIterResult T.cmp items.items) }
+        ensures { IfOk result (IsTreeSetOf T.cmp items.items) }
     {
         items.into_iter().collect(alloc)
     }
@@ -242,7 +236,7 @@ impl<T: SameKey + Ord + Drop> FromItems<T> for BTreeSet<T> {
 }
 
 impl<T: SameKey + Hash + Drop, S: BuildHasher + Default + Drop> FromItems<T> for HashSet<T, S> {
-    ghost gathers = { λ items s. hash_set.IsFromIterResult T.eq items s };
+    ghost gathers = { λ items s. IsHashSetOf T.eq items s };
 
     ghost are_written = { λ items. AreDistinct (map T.seen items) };
 
@@ -264,7 +258,7 @@ impl<T: SameKey + Hash + Drop, S: BuildHasher + Default + Drop> FromItems<T> for
     }
 
     fn gather(alloc: Global, items: Vec<T>) -> Result<HashSet<T, S>, AllocError>
-        ensures { IfOk result (hash_set.IsFromIterResult T.eq items.items) }
+        ensures { IfOk result (IsHashSetOf T.eq items.items) }
     {
         items.into_iter().collect(alloc)
     }
@@ -275,7 +269,7 @@ impl<T: SameKey + Hash + Drop, S: BuildHasher + Default + Drop> FromItems<T> for
 }
 
 impl<T: SameKey + Hash + Drop, S: BuildHasher + Default + Drop> FromItems<T> for IndexSet<T, S> {
-    ghost gathers = { λ items s. (s.keys ≡ index_set.insert_all T.eq [] items) × hash_set.IsFromIterResult T.eq items s };
+    ghost gathers = { λ items s. IsIndexSetOf T.eq items s };
 
     ghost are_written = { λ items. AreDistinct (map T.seen items) };
 
@@ -297,8 +291,7 @@ impl<T: SameKey + Hash + Drop, S: BuildHasher + Default + Drop> FromItems<T> for
     }
 
     fn gather(alloc: Global, items: Vec<T>) -> Result<IndexSet<T, S>, AllocError>
-        ensures { IfOk result (λ s. (s.keys ≡ index_set.insert_all T.eq [] items.items)
-            × hash_set.IsFromIterResult T.eq items.items s) }
+        ensures { IfOk result (IsIndexSetOf T.eq items.items) }
     {
         items.into_iter().collect(alloc)
     }

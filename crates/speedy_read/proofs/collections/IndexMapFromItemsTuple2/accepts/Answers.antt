@@ -2,4 +2,6 @@ use Rattle.speedy_layout.specs.Adding.{hash_map_accepts}
 use Rattle.speedy_read.proofs.collections.IndexMapFromItemsTuple2.accepts.Goals as goal
 
 pub returns : goal.returns
-returns g c = λ items h. hash_map_accepts g.V.Layout.seen g.met.K.SameKey.same_key items c.args.self.now c.args.item.now c.contains_key.ensures h.1
+returns g c = λ items h.
+    hash_map_accepts g.V.Layout.seen g.met.K.SameKey.same_key items
+    c.args.self.now c.args.item.now c.contains_key.ensures h.0

@@ -2,7 +2,7 @@ use Rattle.std.proofs.Common.{false}
 use Rattle.speedy_layout.specs.Tuples.{pair_laws}
 use Rattle.speedy_layout.specs.SeenItems.{IsLess}
 use Rattle.speedy_layout.specs.Maps.{by_key}
-use Rattle.speedy_layout.specs.StdMaps.{tree_map_collected}
+use Rattle.speedy_layout.specs.StdMaps.{tree_map_seen}
 use Rattle.speedy_layout.specs.Adding.{Ascends-first}
 use Rattle.speedy_read.proofs.CollectionLemmas.{gatherer_code, collection_read, collection_refused}
 use Rattle.speedy_read.proofs.maps.BTreeMapReadFrom.read_from.Goals as goal
@@ -13,5 +13,6 @@ returns-in_err-length g c = collection_refused _ false (pair_laws (g.met.K.Layou
 
 pub returns : goal.returns
 returns g c =
-    let is = gatherer_code (tree_map_collected g.V.Layout.seen g.met.K.SameKey.same_key g.met.K.Ord.total g.met.K.Ord.matches_eq) (λ _ h. h) (λ _ h. h) (Ascends-first (by_key (IsLess g.K.Layout.seen g.K.Ord.cmp))) in
+    let seen = tree_map_seen g.V.Layout.seen g.met.K.SameKey.same_key g.met.K.Ord.total g.met.K.Ord.matches_eq in
+    let is = gatherer_code seen (λ _ h. h) (λ _ h. h) (Ascends-first (by_key (IsLess g.K.Layout.seen g.K.Ord.cmp))) in
     collection_read false (λ f. pair_laws (g.met.K.Layout.layout_laws f) (g.met.V.Layout.layout_laws f)) is c.in_ok-length.ensures c.read_key_value_collection.ensures

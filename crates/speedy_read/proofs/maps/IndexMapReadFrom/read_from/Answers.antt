@@ -1,6 +1,6 @@
 use Rattle.std.proofs.Common.{false}
 use Rattle.speedy_layout.specs.Tuples.{pair_laws}
-use Rattle.speedy_layout.specs.IndexMaps.{index_map_collected}
+use Rattle.speedy_layout.specs.IndexMaps.{index_map_seen}
 use Rattle.speedy_layout.specs.Adding.{HasDistinctKeys-first}
 use Rattle.speedy_read.proofs.CollectionLemmas.{gatherer_code, collection_read, collection_refused}
 use Rattle.speedy_read.proofs.maps.IndexMapReadFrom.read_from.Goals as goal
@@ -11,5 +11,6 @@ returns-in_err-length g c = collection_refused _ false (pair_laws (g.met.K.Layou
 
 pub returns : goal.returns
 returns g c =
-    let is = gatherer_code (λ items m h. index_map_collected g.V.Layout.seen g.met.K.SameKey.same_key items m h.0 h.1) (λ _ h. h) (λ _ h. h) HasDistinctKeys-first in
+    let seen = index_map_seen g.V.Layout.seen g.met.K.SameKey.same_key in
+    let is = gatherer_code seen (λ _ h. h) (λ _ h. h) HasDistinctKeys-first in
     collection_read false (λ f. pair_laws (g.met.K.Layout.layout_laws f) (g.met.V.Layout.layout_laws f)) is c.in_ok-length.ensures c.read_key_value_collection.ensures

@@ -1,6 +1,6 @@
 use Rattle.std.proofs.Common.{false}
 use Rattle.speedy_layout.specs.SeenItems.{IsLess}
-use Rattle.speedy_layout.specs.StdSets.{tree_set_collected}
+use Rattle.speedy_layout.specs.StdSets.{tree_set_seen}
 use Rattle.speedy_layout.specs.Adding.{Ascends-first}
 use Rattle.speedy_read.proofs.CollectionLemmas.{gatherer_code, collection_read, collection_refused}
 use Rattle.speedy_read.proofs.sets.BTreeSetReadFrom.read_from.Goals as goal
@@ -10,5 +10,6 @@ returns-in_err-length g c = collection_refused _ false (g.met.T.Layout.layout_la
 
 pub returns : goal.returns
 returns g c =
-    let is = gatherer_code (tree_set_collected g.T.Ord.cmp g.met.T.SameKey.same_key g.met.T.Ord.matches_eq) (λ _ h. h) (λ _ h. h) (Ascends-first (IsLess g.T.Layout.seen g.T.Ord.cmp)) in
+    let seen = tree_set_seen g.T.Ord.cmp g.met.T.SameKey.same_key g.met.T.Ord.matches_eq in
+    let is = gatherer_code seen (λ _ h. h) (λ _ h. h) (Ascends-first (IsLess g.T.Layout.seen g.T.Ord.cmp)) in
     collection_read false g.met.T.Layout.layout_laws is c.in_ok-length.ensures c.read_collection.ensures

@@ -1,5 +1,5 @@
 use Rattle.std.proofs.Common.{true}
-use Rattle.speedy_layout.specs.StdSets.{hash_set_collected}
+use Rattle.speedy_layout.specs.StdSets.{hash_set_seen}
 use Rattle.speedy_layout.specs.Adding.{AreDistinct-first}
 use Rattle.speedy_read.proofs.CollectionLemmas.{gatherer_code, collection_read, collection_refused}
 use Rattle.speedy_read.proofs.sets.HashSetReadFrom.read_from.Goals as goal
@@ -9,5 +9,5 @@ returns-in_err-length g c = collection_refused _ true (g.met.T.Layout.layout_law
 
 pub returns : goal.returns
 returns g c =
-    let is = gatherer_code (hash_set_collected g.met.T.SameKey.same_key) (λ _ h. h) (λ _ h. h) AreDistinct-first in
+    let is = gatherer_code (hash_set_seen g.met.T.SameKey.same_key) (λ _ h. h) (λ _ h. h) AreDistinct-first in
     collection_read true g.met.T.Layout.layout_laws is c.in_ok-length.ensures c.read_collection.ensures

@@ -1,5 +1,5 @@
 use Rattle.std.proofs.Common.{false}
-use Rattle.speedy_layout.specs.IndexMaps.{index_set_collected}
+use Rattle.speedy_layout.specs.IndexMaps.{index_set_seen}
 use Rattle.speedy_layout.specs.Adding.{AreDistinct-first}
 use Rattle.speedy_read.proofs.CollectionLemmas.{gatherer_code, collection_read, collection_refused}
 use Rattle.speedy_read.proofs.sets.IndexSetReadFrom.read_from.Goals as goal
@@ -9,5 +9,5 @@ returns-in_err-length g c = collection_refused _ false (g.met.T.Layout.layout_la
 
 pub returns : goal.returns
 returns g c =
-    let is = gatherer_code (λ items s h. index_set_collected g.met.T.SameKey.same_key items s h.0 h.1) (λ _ h. h) (λ _ h. h) AreDistinct-first in
+    let is = gatherer_code (index_set_seen g.met.T.SameKey.same_key) (λ _ h. h) (λ _ h. h) AreDistinct-first in
     collection_read false g.met.T.Layout.layout_laws is c.in_ok-length.ensures c.read_collection.ensures
