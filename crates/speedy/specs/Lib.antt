@@ -15,6 +15,8 @@ pub use Rattle.speedy_layout.specs.Adding
 pub use Rattle.speedy_layout.specs.Addresses
 pub use Rattle.speedy_layout.specs.Cases
 pub use Rattle.speedy_layout.specs.Codes
+pub use Rattle.speedy_layout.specs.Collecting
+pub use Rattle.speedy_layout.specs.Collections
 pub use Rattle.speedy_layout.specs.EachEncoding
 pub use Rattle.speedy_layout.specs.IndexMaps
 pub use Rattle.speedy_layout.specs.StdMaps
