@@ -1,3 +1,4 @@
+pub mod HeaderLemmas
 pub mod Messages
 pub mod NextLemmas
 pub mod NumberLemmas

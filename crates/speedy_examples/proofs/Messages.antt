@@ -1,6 +1,7 @@
 -- Messages: a number and a text.
-use Rattle.std.specs.Prelude.{◌≡◌, ◌⊎◌, ◌≢◌, ℕ, ◌-◌, ◌^◌, ◌<◌, List, [], ◌++◌, length, Bool, false, IsTrue, String, refl}
-use Rattle.std.proofs.Common.{ap, subst, arith, inl, inr}
+use Rattle.std.specs.Prelude.{◌≡◌, ◌⊎◌, ◌≢◌, ℕ, ◌-◌, ◌^◌, ◌<◌, List, [], ◌++◌, length, Bool, false, IsTrue, String, Result, Ok, Err, IfErr, refl}
+use Rattle.std.proofs.Common.{◌∙◌, ap, subst, arith, inl, inr}
+use Rattle.std.proofs.lemmas.Bool.{cases_lt}
 use Rattle.std.proofs.lemmas.List.{length-append}
 use Rattle.std.specs.String.{string_bytes}
 use Rattle.std.specs.declared.alloc.Global.{Global}
@@ -8,19 +9,22 @@ use Rattle.speedy.specs.declared.endianness.Endianness.TheVariants.{LittleEndian
 use Rattle.speedy.specs.declared.error.Error.{Error}
 use Rattle.speedy.specs.declared.error.ErrorKind.{ErrorKind}
 use Rattle.speedy.specs.declared.error.ErrorKind.TheVariants as kinds
+use Rattle.speedy.specs.Codes.{coding}
 use Rattle.speedy.specs.Digits.{AreBytes}
 use Rattle.speedy.specs.Encoding.{Encoding, plain_encoding}
-use Rattle.speedy.specs.Error.{error_of}
+use Rattle.speedy.specs.Error.{error_of, is_eof_error, IsNamed}
 use Rattle.speedy.specs.ErrorKind.{EndsInput}
 use Rattle.speedy.specs.Format.{Format}
 use Rattle.speedy.specs.Laws.{Laws}
 use Rattle.speedy.specs.Numbers.{unsigned_number, unsigned_number_laws}
-use Rattle.speedy.specs.Reading.{ReaderState, IsTold}
+use Rattle.speedy.specs.Owned.{owned_content, borrowed_content}
+use Rattle.speedy.specs.Reading.{ReaderState, IsTold, IsEnd}
 use Rattle.speedy.specs.Sequences.{sequence}
-use Rattle.speedy.specs.Texts.{text, text_laws}
+use Rattle.speedy.specs.Texts.{raw_bytes, text_of_length, text, text_laws}
 use Rattle.speedy.specs.TupleLaws.{tuple2_laws}
 use Rattle.speedy.specs.Tuples.{pair}
-use Rattle.speedy_examples.specs.Callers.{IsFailure}
+use Rattle.speedy.specs.WaysOfReading.{AnswersBuffer}
+use Rattle.speedy_examples.specs.Callers.{itself, IsFailure}
 
 -- a message, as its layout sees it, and its format
 abbrev pub Message : Type 0
@@ -47,6 +51,43 @@ message_lends_nothing encoding = refl
 pub message_asks_memory : (encoding : Encoding) → IsTrue (message_in encoding).asks.memory
 unfolding sequence unsigned_number text
 message_asks_memory encoding = refl
+
+-- bytes in memory end as `UnexpectedEndOfInput`
+memory_end : {e : Error} (kind : ErrorKind) → EndsInput false kind → e ≡ error_of kind → e ≡ error_of kinds.UnexpectedEndOfInput
+memory_end kinds.UnexpectedEndOfInput ends is = is
+memory_end (kinds.IoError boxed) ends is = absurd (let never = ends.1 in cc)
+memory_end _ ends is = absurd ends
+
+-- a message whose text is borrowed names one kind of refusal
+pub lent_message_names : (kind : ErrorKind) → (pair (unsigned_number 2 (plain_encoding LittleEndian)) (borrowed_content (text (plain_encoding LittleEndian)))).names kind
+    → kind ≡ kinds.InvalidUtf8
+unfolding sequence unsigned_number text text_of_length raw_bytes coding owned_content borrowed_content
+lent_message_names kind (inl none) = absurd none
+lent_message_names kind (inr (n, inl none)) = absurd none
+lent_message_names kind (inr (n, inr (count, inl none))) = absurd none
+lent_message_names kind (inr (n, inr (count, inr (inl is)))) = is
+lent_message_names kind (inr (n, inr (count, inr (inr demand)))) = absurd (let never = demand.0 in cc)
+
+-- which kinds a message is refused with whose text is borrowed from the bytes
+pub message_kind : {A : Type 0} {seen : A → Message} {count : ℕ} {bytes : List ℕ} (result : Result A Error)
+    → (let encoding = plain_encoding LittleEndian in
+    AnswersBuffer itself is_eof_error seen 6 (pair (unsigned_number 2 encoding) (borrowed_content (text encoding))) result count bytes)
+    → IfErr result (λ e. (e ≡ error_of kinds.InvalidUtf8)
+    ⊎ ((e ≡ error_of kinds.UnexpectedEndOfInput) ⊎ (e ≡ error_of (kinds.InputBufferIsTooSmall (length bytes) 6))))
+unfolding sequence unsigned_number text text_of_length raw_bytes coding owned_content borrowed_content
+message_kind (Ok x) a = tt
+message_kind {bytes = bytes} (Err e) a =
+    elim (cases_lt (length bytes) 6) [
+      | inl few ↦ inr (inr (a.too_small few).0)
+      | inr enough ↦ elim (a.refused enough) [
+        | inl want ↦ absurd (let never = want.1 in cc)
+        | inr h ↦ of_kind h.kind
+      ]
+    ] where
+      of_kind : IsEnd itself is_eof_error false e ⊎ IsNamed itself (pair (unsigned_number 2 (plain_encoding LittleEndian)) (borrowed_content (text (plain_encoding LittleEndian)))).names e
+          → (e ≡ error_of kinds.InvalidUtf8) ⊎ ((e ≡ error_of kinds.UnexpectedEndOfInput) ⊎ (e ≡ error_of (kinds.InputBufferIsTooSmall (length bytes) 6)))
+      of_kind (inl ends) = inr (inl (memory_end ends.0.0 ends.0.1 ends.0.2))
+      of_kind (inr named) = inl (named.2 ∙ ap error_of (lent_message_names named.0 named.1))
 
 -- no message has no bytes, and no bytes are malformed as one
 pub no_empty_message : (encoding : Encoding) (m : Message) (front rest : List ℕ) → (message_in encoding).spells m front → front ++ rest ≢ []

@@ -9,8 +9,8 @@ use Rattle.speedy.specs.Encoding.{Encoding}
 use Rattle.speedy.specs.Error.{error_of, kind_of, is_eof_error, IsIoErrorOf, IsNamed}
 use Rattle.speedy.specs.FailedCalls.{IsOfFailedCall}
 use Rattle.speedy.specs.Numbers.{unsigned_number}
-use Rattle.speedy.specs.Reading.{ReaderState, Excused, IsEnd, IsTold, PeekWants, Peeks, Reads, Refused, Unspelled}
-use Rattle.speedy_examples.proofs.Messages.{Message, message_in, message_asks_memory, no_empty_message, nothing_malformed, end_kind}
+use Rattle.speedy.specs.Reading.{ReaderState, refusing_kinds, Excused, IsEnd, IsTold, PeekWants, Peeks, Reads, Refused, Unspelled}
+use Rattle.speedy_examples.proofs.Messages.{Message, message_in, message_lends_nothing, message_asks_memory, no_empty_message, nothing_malformed, end_kind}
 use Rattle.speedy_examples.specs.Callers.{itself, IsFailure, IsRefusal}
 
 -- why the next message is refused
@@ -47,10 +47,12 @@ no_byte {old = old} refused told = go old.to_come refl where
   go (b ∷ rest) is = absurd ((refused.because (told_byte told)).no_front _ (b ∷ []) rest is (byte_spelled old.encoding b (subst AreBytes is told.are_bytes).0))
 
 -- a byte names no kind of its own
-byte_end : (by_device : Bool) {e : Error} (encoding : Encoding) → IsEnd itself is_eof_error by_device e ⊎ IsNamed itself (unsigned_number 1 encoding).names e → IsEnd itself is_eof_error by_device e
+byte_end : (by_device lends : Bool) {e : Error} (encoding : Encoding)
+    → IsEnd itself is_eof_error by_device e ⊎ IsNamed itself (refusing_kinds (unsigned_number 1 encoding) lends) e → IsEnd itself is_eof_error by_device e
 unfolding unsigned_number
-byte_end by_device encoding (inl ends) = ends
-byte_end by_device encoding (inr named) = absurd named.1
+byte_end by_device lends encoding (inl ends) = ends
+byte_end by_device lends encoding (inr (kind, inl named, given)) = absurd named
+byte_end by_device lends encoding (inr (kind, inr unlent, given)) = absurd (let none = unlent.0 in cc)
 
 -- where a peek of a byte says that the input ended, none is left: no failed call says so
 pub peeked_end : {e : Error} {old new : ReaderState} → (let refused : Result ℕ Error = Err e in PeeksByte refused old new) → kind_of e ≡ kinds.UnexpectedEndOfInput
@@ -83,7 +85,7 @@ peek_refused {e = e} {old = old} {new = new} peeks = of peeks.answer where
   of (inr (inl (inl wants))) = inr (inl (inl (wants.0, inl (message_asks_memory old.encoding), wants.2)))
   of (inr (inl (inr fault))) = inr (inl (inr fault))
   of (inr (inr refused)) =
-      let ends = byte_end old.fixed.ends_by_device old.encoding refused.kind in
+      let ends = byte_end old.fixed.ends_by_device old.fixed.lends old.encoding refused.kind in
       inr (inr (record { no_fault = refused.no_fault; kind = inl ends; because = λ told. nothing ends (no_byte refused told) }))
 
 -- and so it is where the read behind the peek is
@@ -131,7 +133,7 @@ ended_by_failure {e = e} {old = old} {new = new} tells_faults other peeks = of p
   of (inl wants) = inl wants.0
   of (inr (inl (inl wants))) = inl wants.0
   of (inr (inl (inr fault))) = let failed = fault.1 tells_faults in inr (failed.0, failed.2)
-  of (inr (inr refused)) = let ends = byte_end old.fixed.ends_by_device old.encoding refused.kind in only_device (end_kind old.fixed.ends_by_device ends.0.0 ends.0.1 ends.0.2)
+  of (inr (inr refused)) = let ends = byte_end old.fixed.ends_by_device old.fixed.lends old.encoding refused.kind in only_device (end_kind old.fixed.ends_by_device ends.0.0 ends.0.1 ends.0.2)
 
 pub not_ended : {b : ℕ} {old mid : ReaderState} → (let peeked : Result ℕ Error = Ok b in PeeksByte peeked old mid) → IsTrue old.fixed.tells → old.to_come ≢ []
 unfolding unsigned_number
@@ -149,9 +151,11 @@ next_kind {e = e} {old = old} {new = new} tells_faults refused = of refused wher
   of_end (inl failure) = inl failure
   of_end (inr is) = inr (inr (inl is))
 
-  of_kind : IsEnd itself is_eof_error old.fixed.ends_by_device e ⊎ IsNamed itself (message_in old.encoding).names e → IsFailure e ⊎ IsRefusal (message_in old.encoding) e
+  of_kind : IsEnd itself is_eof_error old.fixed.ends_by_device e ⊎ IsNamed itself (refusing_kinds (message_in old.encoding) old.fixed.lends) e
+      → IsFailure e ⊎ IsRefusal (message_in old.encoding) e
   of_kind (inl ends) = of_end (end_kind old.fixed.ends_by_device ends.0.0 ends.0.1 ends.0.2)
-  of_kind (inr named) = inr (inl named)
+  of_kind (inr (kind, inl named, given)) = inr (inl (kind, named, given))
+  of_kind (inr (kind, inr unlent, given)) = absurd (let none : IsTrue false = subst IsTrue (message_lends_nothing old.encoding) unlent.0 in cc)
 
   of : NextRefused e old new → IsFailure e ⊎ IsRefusal (message_in old.encoding) e
   of (inl wants) = inl (inl wants.0)

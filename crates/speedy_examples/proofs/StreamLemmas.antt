@@ -1,5 +1,5 @@
 -- Messages that are read from a source one after another, until it ends.
-use Rattle.std.specs.Prelude.{◌≡◌, ℕ, ◌-◌, ◌^◌, ◌<◌, ◌≤◌, List, [], ◌∷◌, ◌++◌, length, Bool, IsTrue, ◌⊎◌, refl}
+use Rattle.std.specs.Prelude.{◌≡◌, ℕ, ◌-◌, ◌^◌, ◌<◌, ◌≤◌, List, [], ◌∷◌, ◌++◌, length, Bool, IsTrue, ◌⊎◌, Result, Ok, Err, OnOk, refl}
 use Rattle.std.proofs.Common.{sym, ◌∙◌, ap, subst, arith, inl, inr}
 use Rattle.std.proofs.lemmas.List.{append_assoc, append-nil, length-append}
 use Rattle.speedy.specs.declared.error.Error.{Error}
@@ -16,10 +16,18 @@ use Rattle.speedy.specs.Format.{Each, Format}
 use Rattle.speedy.specs.Laws.{Laws}
 use Rattle.speedy.specs.Lists.{each_append, each_size}
 use Rattle.speedy.specs.Reading.{ReaderKind, ReaderState, IsTold}
-use Rattle.speedy.specs.WaysOfReading.{WantsMemory}
+use Rattle.speedy.specs.Tuples.{unit}
+use Rattle.speedy.specs.WaysOfReading.{WantsMemory, AnswersStream}
 use Rattle.speedy_examples.proofs.Messages.{Message, message, message_in, message_laws, told_message}
 use Rattle.speedy_examples.proofs.NextLemmas.{NextRefused}
 use Rattle.speedy_examples.specs.Callers.{itself, IsFailure}
+
+-- a value of no bytes leaves the source as it was
+pub nothing_taken : {E A : Type 0} {gives : Error → E → Type 0} {eof : E → Bool} {seen : A → Unit {0}} {buffers : Bool} (result : Result A E)
+    {old new : SourceState} → AnswersStream gives eof seen unit buffers result old new → OnOk result (new ≡ old)
+unfolding unit
+nothing_taken (Ok x) a = a.value.untouched a.value.front_is
+nothing_taken (Err e) a = tt
 
 -- the bytes at the front of what the source had spell these values, and the others are still to come
 pub record ReadSoFar {V : Type 0} (spells : V → List ℕ → Type 0) (values : List V) (before : SourceState) (now : ReaderState) : Type 0 where

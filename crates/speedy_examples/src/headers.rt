@@ -1,5 +1,5 @@
 //! A fixed header: a magic number, a version, and a length.
-ghost use Rattle.std.specs.Prelude.{◌≡◌, ◌++◌, ℕ, List, codes, map, IfOk};
+ghost use Rattle.std.specs.Prelude.{◌≡◌, ◌<◌, ◌++◌, ℕ, List, codes, length, map, IfOk, OnOk, IsErrAnd, IsTrue};
 ghost use Rattle.speedy.specs.Buffers.{bytes_state};
 ghost use Rattle.speedy.specs.Encoding.{plain_encoding};
 ghost use Rattle.speedy.specs.Error.{is_eof_error};
@@ -65,6 +65,16 @@ impl<C: Context> Writable<C> for Header {
         writer.write_u16(self.version)?;
         write_length_u64_varint(self.length, writer)
     }
+}
+
+/// Whether the bytes begin as a header does. Fewer than the magic number has are an end of input, whatever they are:
+/// more may come.
+pub fn begins_header(alloc: Global, bytes: &[u8]) -> Result<(), Error>
+    ensures begins { OnOk result ((rest : List ℕ) × (bytes.now ≡ codes "REC1" ++ rest)) }
+    ensures fewer { length bytes.now < 4 → IsErrAnd result (λ e. IsTrue (is_eof_error e)) }
+{
+    let mut reader = BufferReader::new(alloc, LittleEndian {}, bytes);
+    read_constant(&mut reader, MAGIC)
 }
 
 /// The records of a log, at most so many, without a last one that was cut short.

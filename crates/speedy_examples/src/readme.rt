@@ -2,6 +2,8 @@
 ghost use Rattle.std.specs.Prelude.{◌≡◌, ◌<◌, ◌^◌, ℕ, length, false, IfOk, IsOkUnless};
 ghost use Rattle.speedy.specs.Error.{error_of, is_eof_error};
 ghost use Rattle.speedy.specs.declared.error.ErrorKind.TheVariants.{OutOfMemory};
+ghost use Rattle.std.specs.Prelude.{◌⊎◌, IfErr};
+ghost use Rattle.speedy.specs.declared.error.ErrorKind.TheVariants as kinds;
 ghost use Rattle.speedy.specs.Encoding.{plain_encoding};
 ghost use Rattle.speedy.specs.WaysOfReading.{AnswersBuffer, AnswersStream};
 
@@ -24,10 +26,14 @@ pub fn round_trip(alloc: Global, numbers: &Vec<u16>) -> Result<Vec<u16>, Error>
 /// A message's number and text, which a prefix of the bytes encodes, or an error exactly where none does. The text is
 /// that of the bytes, where it lies.
 pub fn parse_message<'a>(alloc: Global, bytes: &'a [u8]) -> Result<(u16, &'a str), Error>
-    ensures { let layout = ⟦<(u16, &'a str) as Layout>⟧ in
+    ensures answers { let layout = ⟦<(u16, &'a str) as Layout>⟧ in
         let format = layout.format (plain_encoding Endianness.LittleEndian) in
         (size : ℕ) × AnswersBuffer ⟦<Error as From<Error>>⟧.from_gives is_eof_error layout.seen layout.least
         format result size bytes.now }
+    // The text is no UTF-8, or the bytes are too few.
+    ensures kind { IfErr result (λ e. (e ≡ error_of kinds.InvalidUtf8)
+        ⊎ ((e ≡ error_of kinds.UnexpectedEndOfInput)
+        ⊎ (e ≡ error_of (kinds.InputBufferIsTooSmall (length bytes.now) 6)))) }
 {
     <(u16, &'a str) as Readable<LittleEndian>>::read_from_buffer(alloc, bytes)
 }

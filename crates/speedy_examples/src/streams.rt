@@ -1,5 +1,5 @@
 //! Values that go through sinks and come from sources.
-ghost use Rattle.std.specs.Prelude.{◌≡◌, ◌⊎◌, ◌-◌, ◌^◌, ◌<◌, [], ◌++◌, ℕ, List, length as count, map, false, IsTrue, IfOk, IfErr, IsOkUnless, MatchOption};
+ghost use Rattle.std.specs.Prelude.{◌≡◌, ◌⊎◌, ◌-◌, ◌^◌, ◌<◌, [], ◌++◌, ℕ, List, length as count, map, false, IsTrue, IfOk, OnOk, IfErr, IsOkUnless, MatchOption};
 ghost use Rattle.speedy.specs.Digits.{AreBytes};
 ghost use Rattle.speedy.specs.Encoding.{plain_encoding};
 ghost use Rattle.speedy.specs.Error.{error_of, is_eof_error};
@@ -45,6 +45,13 @@ pub fn next_message<S: Source>(alloc: Global, source: &mut S) -> Result<(u16, St
         result (S.source source.old) (S.source source.new) }
 {
     <(u16, String) as Readable<LittleEndian>>::read_from_stream_unbuffered(alloc, source)
+}
+
+/// Reads a value of no bytes. The source is then as it was, though this form reads ahead.
+pub fn read_nothing<S: Source>(alloc: Global, source: &mut S) -> Result<(), Error>
+    ensures { OnOk result (S.source source.new ≡ S.source source.old) }
+{
+    <() as Readable<LittleEndian>>::read_from_stream_buffered(alloc, source)
 }
 
 /// Two messages that were written one behind the other. The only error is then out of memory.

@@ -1,28 +1,21 @@
 -- What owns or borrows a value, and adds no byte of its own.
-use Rattle.std.specs.Prelude.{◌≡◌, ℕ, ◌⊎◌, Bool, true, false}
-use Rattle.std.proofs.Common.{subst, sym, inl, inr}
-use Rattle.speedy_base.specs.declared.error.ErrorKind.{ErrorKind}
-use Rattle.speedy_base.specs.declared.error.ErrorKind.TheVariants as kinds
-use Rattle.speedy_layout.specs.Format.{Format, IsOwnKind}
+use Rattle.std.specs.Prelude.{ℕ, Bool, true, false}
+use Rattle.speedy_layout.specs.Format.{Format}
 use Rattle.speedy_layout.specs.Laws.{Laws, Laws-asking}
 
 -- a value that is read into memory of its own
 unfoldable pub owned_content : {V : Type 0} → Format V → Format V
 owned_content F = record F { asks = record F.asks { memory = true } }
 
--- a value that is borrowed: it can be read only from a reader that lends, without a request for memory
+-- a value that is borrowed: it can be read only from a reader that lends, without a request for memory; its bytes are refused as before
 unfoldable pub borrowed_content : {V : Type 0} → Format V → Format V
-borrowed_content F = record F { names = λ kind. F.names kind ⊎ (kind ≡ kinds.Unsized); asks = record F.asks { lending = true; memory = false } }
+borrowed_content F = record F { asks = record F.asks { lending = true; memory = false } }
 
 module _ {V : Type 0} {strict : Bool} {least : ℕ} {F : Format V} (laws : Laws strict least F) where
   pub owned_content_laws : Laws strict least (owned_content F)
   unfolding owned_content
   owned_content_laws = Laws-asking F.names (record F.asks { memory = true }) laws.names_own (λ h. h) laws
 
-  names_own_borrowed : (kind : ErrorKind) → F.names kind ⊎ (kind ≡ kinds.Unsized) → IsOwnKind kind
-  names_own_borrowed kind (inl h) = laws.names_own kind h
-  names_own_borrowed kind (inr e) = subst IsOwnKind (sym e) tt
-
   pub borrowed_content_laws : Laws strict least (borrowed_content F)
   unfolding borrowed_content
-  borrowed_content_laws = Laws-asking (λ kind. F.names kind ⊎ (kind ≡ kinds.Unsized)) (record F.asks { lending = true; memory = false }) names_own_borrowed (λ h. h) laws
+  borrowed_content_laws = Laws-asking F.names (record F.asks { lending = true; memory = false }) laws.names_own (λ h. h) laws

@@ -90,7 +90,7 @@ module _ {E : Type 0} {gives : Error → E → Type 0} {eof : E → Bool} {old m
   unfolding raw_bytes any_bytes
   chunk_refused {e = e} {total = total} count within so_far passed read = Reads-passed passed (record {
     kept = Kept-after so_far.kept read.kept;
-    answer = part_refused new so_far.kept.fixed so_far.got.no_fault (λ t. t) (λ kind h. h)
+    answer = part_refused new so_far.kept.fixed so_far.got.no_fault (λ t. t) (λ t. t) (λ kind h. h)
         (λ told because.
         let un = because (IsTold-after so_far.kept (λ t. t) told) in
         let short = short_of size mid.to_come un in

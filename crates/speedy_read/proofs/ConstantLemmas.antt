@@ -1,17 +1,17 @@
 -- Bytes that are read a chunk at a time and compared with a constant.
-use Rattle.std.specs.Prelude.{◌≡◌, ℕ, ◌+◌, ◌≤◌, List, ◌++◌, length, take, drop, Bool, true, false, IsTrue, ◌↔◌, Result, Ok, Err, IsErrAnd, refl}
-use Rattle.std.proofs.Common.{sym, ◌∙◌, ap₂, arith, inl, inr}
+use Rattle.std.specs.Prelude.{◌≡◌, ℕ, ◌+◌, ◌<◌, ◌≤◌, List, ◌++◌, length, take, drop, Bool, true, false, IsTrue, ◌⊎◌, ◌↔◌, Result, Ok, Err, IsErrAnd, refl}
+use Rattle.std.proofs.Common.{sym, ◌∙◌, ap, ap₂, subst, arith, inl, inr}
 use Rattle.std.proofs.lemmas.List.{length-append, length-take-le, take_all}
 use Rattle.std.proofs.Common.{take-add}
 use Rattle.speedy_base.specs.declared.error.Error.{Error}
 use Rattle.speedy_base.specs.Encoding.{Encoding}
-use Rattle.speedy_base.specs.Error.{IsNamed}
+use Rattle.speedy_base.specs.Error.{IsNamed, passed_on}
 use Rattle.speedy_layout.specs.Codes.{coding, exact_code, Accepts-exact}
 use Rattle.speedy_layout.specs.Numbers.{same_fronts}
 use Rattle.speedy_layout.specs.Sequences.{asks_same}
 use Rattle.speedy_layout.specs.Texts.{raw_bytes, raw_bytes_laws, any_bytes, IsExpected, constant_bytes}
-use Rattle.speedy_read.specs.Reading.{ReaderState, Reads}
-use Rattle.speedy_read.specs.ReadingLemmas.{ReadSoFar, more_so_far, none_so_far, all_so_far, Got-as}
+use Rattle.speedy_read.specs.Reading.{ReaderKind, ReaderState, Excused, IsEnd, Reads}
+use Rattle.speedy_read.specs.ReadingLemmas.{ReadSoFar, more_so_far, none_so_far, all_so_far, Got-as, excused_after}
 use Rattle.speedy_read.specs.Codes.{Covers, code_means_nothing, refused_covered}
 use Rattle.speedy_read.proofs.ByteLemmas.{SkippedSoFar, chunk_refused}
 
@@ -59,6 +59,30 @@ module _ {E : Type 0} {gives : Error → E → Type 0} {eof : E → Bool} (const
       let skipped : SkippedSoFar at old mid = record { kept = so_far.kept; got = Got-as (λ s h. h.0) so_far.got } in
       let short : Reads gives eof (λ (u : Unit {0}). u) (any_bytes (length constant)) (Err e) old new = chunk_refused size at within skipped refl r in
       refused_covered (any_covers_constant old.encoding constant) passed short
+
+-- where a chunk is refused, all are, as an end of the bytes
+pub chunk_fewer : {E : Type 0} {gives : Error → E → Type 0} {eof : E → Bool} {A B : Type 0} {seen : A → List ℕ} (size : ℕ) {spelled : List ℕ → Type 0}
+    {old mid new : ReaderState} {e : E} (result : Result B E) → ReadSoFar spelled old mid → IsErrAnd result (λ x. x ≡ e)
+    → Reads gives eof seen (raw_bytes size) (Err e) mid new
+    → IsErrAnd result (λ e. Excused gives false e old new ⊎ IsEnd gives eof old.fixed.ends_by_device e)
+unfolding raw_bytes
+chunk_fewer {E = E} {gives = gives} {eof = eof} {B = B} size {old = old} {mid = mid} {new = new} {e = e} result so_far passed r =
+    subst (λ (x : Result B E). IsErrAnd x (λ e. Excused gives false e old new ⊎ IsEnd gives eof old.fixed.ends_by_device e)) (passed_on result e passed)
+    (elim r.answer [
+      | inl x ↦ inl (excused_after gives false false e old mid new so_far.kept.fixed so_far.got.no_fault (λ t. t) x)
+      | inr x ↦ elim x.kind [
+        | inl h ↦ inr (subst (λ (kind : ReaderKind). IsEnd gives eof kind.ends_by_device e) so_far.kept.fixed h)
+        | inr named ↦ absurd (elim named.1 [ inl h ↦ h | inr h ↦ (let none = h.0 in absurd (cc)) ])
+      ]
+    ])
+
+-- where so many were read, not fewer were to come
+pub all_there : (constant : List ℕ) {at : ℕ} {same : Bool} {old mid : ReaderState} → at ≡ length constant → ComparedSoFar constant at same old mid
+    → IsTrue old.fixed.tells → length old.to_come < length constant → ⊥
+all_there constant {mid = mid} all so_far told few =
+    let whole = ap length (so_far.got.taken told) ∙ length-append so_far.got.front mid.to_come in
+    let taken = so_far.got.front_is.0 in
+    omega arith
 
 whole_is : (constant : List ℕ) (at : ℕ) → at ≡ length constant → take at constant ≡ constant
 whole_is constant at all = take_all at constant (omega (arith, all))

@@ -1,5 +1,5 @@
 -- Reads of what is lent make reads of what is borrowed.
-use Rattle.std.specs.Prelude.{◌≡◌, ℕ, ◌*◌, List, [], ◌∷◌, length, Bool, false, IsTrue, Result, Ok, Err, MatchResult, IfOk, IsErrAnd, refl}
+use Rattle.std.specs.Prelude.{◌≡◌, ℕ, ◌*◌, List, [], ◌∷◌, length, Bool, true, false, IsTrue, Result, Ok, Err, MatchResult, IfOk, IsErrAnd, refl}
 use Rattle.std.specs.Borrow.{Bor}
 use Rattle.std.specs.Str.{IsUtf8}
 use Rattle.std.proofs.Common.{sym, ◌∙◌, ap, subst, inl, inr, arith}
@@ -25,6 +25,11 @@ use Rattle.speedy_read.proofs.OwnedLemmas.{owned_read}
 use Rattle.speedy_read.proofs.ListLemmas.{list_composes}
 use Rattle.speedy_read.proofs.TextLemmas.{text_composes}
 
+-- what is not so is told by a test
+lends_nothing : (lends : Bool) → (IsTrue lends → ⊥) → lends ≡ false
+lends_nothing false not = refl
+lends_nothing true not = absurd (not refl)
+
 -- a reader that hands out slices can show something
 pub slices_show : ShowsNothing {A = Bor (List ℕ)} (λ b. b.now) → ⊥
 slices_show nothing = let none = nothing (record { ref_ptr = (0, 0); now = 0 ∷ [] }) in absurd (cc)
@@ -35,8 +40,8 @@ unfolding borrowed_content
 borrowed_composes none c = record {
   joins = c.joins;
   splits = c.splits;
-  names_first = λ kind h. inl (c.names_first kind h);
-  names_second = λ u kind h. elim h [ inl k ↦ inl (c.names_second u kind k) | inr k ↦ inr k ];
+  names_first = c.names_first;
+  names_second = c.names_second;
   malformed = c.malformed;
   asks_first = record { lending = λ _. refl; hashed = c.asks_first.hashed; memory = λ t. absurd (cc) };
   asks_second = λ u. record { lending = λ _. refl; hashed = (c.asks_second u).hashed; memory = λ t. t };
@@ -47,14 +52,14 @@ pub borrowed_covers : {U V : Type 0} {L : Format U} {N : Format V} → Covers L 
 unfolding borrowed_content
 borrowed_covers c = record {
   under = c.under;
-  names = λ kind h. elim h [ inl k ↦ inl (c.names kind k) | inr k ↦ inr k ];
+  names = c.names;
   malformed = c.malformed;
   asks = record { lending = λ _. refl; hashed = c.asks.hashed; memory = λ t. t };
 }
 
 content_covers : {V : Type 0} {L : Format V} → L.asks.memory ≡ false → Covers L (borrowed_content L)
 unfolding borrowed_content
-content_covers none = record { under = λ v s h. (v, h); names = λ kind h. inl h; malformed = λ bytes _ h. inl h; asks = record { lending = λ _. refl; hashed = λ t. t; memory = λ t. absurd (cc) } }
+content_covers none = record { under = λ v s h. (v, h); names = λ kind h. h; malformed = λ bytes _ h. inl h; asks = record { lending = λ _. refl; hashed = λ t. t; memory = λ t. absurd (cc) } }
 
 -- where so many items of one size are spelled, there are the bytes of so many
 pub bytes_cover_items : {V : Type 0} (size : ℕ) (F : Format V) → ((v : V) (bytes : List ℕ) → F.spells v bytes → length bytes ≡ size) → (n : ℕ) {all : ℕ} → n * size ≡ all → Covers (raw_bytes all) (repeat n F)
@@ -86,7 +91,7 @@ module _ {E : Type 0} {gives : Error → E → Type 0} {eof : E → Bool} {old n
   unfolding borrowed_content
   not_lent L nothing same g = record {
     kept = subst (λ (s : ReaderState). Kept old s) (sym same) Kept-same;
-    answer = inr (record { no_fault = ap (λ (s : ReaderState). s.faults) same; kind = inr (kinds.Unsized, inr refl, g); because = λ told. absurd (nothing (told.lends refl)) });
+    answer = inr (record { no_fault = ap (λ (s : ReaderState). s.faults) same; kind = inr (kinds.Unsized, inr (refl, lends_nothing old.fixed.lends nothing, refl), g); because = λ told. absurd (nothing (told.lends refl)) });
   }
 
   -- so many were lent

@@ -53,7 +53,7 @@ module _ {V : Type 0} {strict : Bool} {least : ℕ} {L : Format V} (laws : Laws 
         let got = so_far.got in
         Reads-passed passed (record {
           kept = Kept-after so_far.kept r.kept;
-          answer = part_refused new so_far.kept.fixed so_far.got.no_fault (λ _. refl) (λ kind h. h)
+          answer = part_refused new so_far.kept.fixed so_far.got.no_fault (λ _. refl) (λ t. t) (λ kind h. h)
               (λ told because.
               let un = because (IsTold-after so_far.kept (λ need. need) told) in
               record {

@@ -1,5 +1,5 @@
 -- Reads of a reader that is held by a `&mut`.
-use Rattle.std.specs.Prelude.{ℕ, List, Bool, Option, Some, None, Result, Ok, Err}
+use Rattle.std.specs.Prelude.{ℕ, List, drop, Bool, Option, Some, None, Result, Ok, Err}
 use Rattle.std.specs.Borrow.{GName}
 use Rattle.std.proofs.Common.{ap, inl, inr}
 use Rattle.speedy_base.specs.declared.error.Error.{Error}
@@ -39,6 +39,47 @@ module _ (name : GName) {old new : ReaderState} where
             | inl x ↦ inl x
             | inr (inl x) ↦ inr (inl x)
             | inr (inr k) ↦ inr (inr (record { no_fault = k.no_fault; kind = k.kind; because = λ told. k.because (record { tells = told.tells; are_bytes = told.are_bytes; fit = told.fit; lends = told.lends }) }))
+          ];
+    }
+
+-- ---- what the reader shows that was held
+
+abbrev unheld : ReaderState → ReaderState
+unheld s = record s { fixed = record s.fixed { targets = drop 1 s.fixed.targets } }
+
+module _ {name after : GName} {old new : ReaderState} where
+  unheld_kept : Kept (held_state name old) (held_state after new) → Kept old new
+  unheld_kept k = record {
+    fixed = ap (λ (kind : ReaderKind). record kind { targets = drop 1 kind.targets }) k.fixed;
+    encoding = k.encoding;
+    tidy = k.tidy;
+    faults = k.faults;
+    tail = k.tail;
+  }
+
+  unheld_got : {spelled : List ℕ → Type 0} → Got spelled (held_state name old) (held_state after new) → Got spelled old new
+  unheld_got g = record {
+    front = g.front;
+    front_is = g.front_is;
+    taken = g.taken;
+    no_fault = g.no_fault;
+    untouched = λ none. ap unheld (g.untouched none);
+  }
+
+  module _ {E : Type 0} {gives : Error → E → Type 0} {eof : E → Bool} {A V : Type 0} {seen : A → V} {L : Format V} where
+    -- what was read by a reader that holds it was read from it
+    pub unheld_reads : {result : Result A E} → Reads gives eof seen L result (held_state name old) (held_state after new) → Reads gives eof seen L result old new
+    unheld_reads {result = Ok x} r = record { kept = unheld_kept r.kept; answer = unheld_got r.answer }
+    unheld_reads {result = Err e} r = record {
+      kept = unheld_kept r.kept;
+      answer =
+          elim r.answer [
+            | inl x ↦ inl x
+            | inr k ↦ inr (record {
+              no_fault = k.no_fault;
+              kind = k.kind;
+              because = λ told. k.because (record { tells = told.tells; are_bytes = told.are_bytes; fit = told.fit; lends = told.lends });
+            })
           ];
     }
 

@@ -1,10 +1,11 @@
 -- What was written is what is read, by the laws of the layout.
 use Rattle.std.specs.Prelude.{◌≡◌, ℕ, ◌+◌, ◌*◌, ◌≤◌, List, [], ◌∷◌, ◌++◌, length, Bool, false, IsTrue, ◌⊎◌, Result, Ok, Err, refl}
 use Rattle.std.proofs.Common.{sym, ◌∙◌, ap, subst, arith, inl, inr}
+use Rattle.std.proofs.lemmas.Bool.{true≢false}
 use Rattle.std.proofs.lemmas.List.{length-append, append-nil}
 use Rattle.speedy_base.specs.declared.error.Error.{Error}
 use Rattle.speedy_base.specs.declared.error.ErrorKind.TheVariants as kinds
-use Rattle.speedy_base.specs.Error.{error_of}
+use Rattle.speedy_base.specs.Error.{error_of, IsNamed}
 use Rattle.speedy_base.specs.Device.{SourceState}
 use Rattle.speedy_base.specs.DigitsLemmas.{AreBytes-slice}
 use Rattle.speedy_base.specs.Encoding.{Encoding}
@@ -13,7 +14,7 @@ use Rattle.speedy_layout.specs.Laws.{Laws}
 use Rattle.speedy_layout.specs.Lists.{repeat, vector, vector_laws}
 use Rattle.speedy_layout.specs.Owned.{owned_content}
 use Rattle.speedy_read.specs.Buffers.{bytes_state}
-use Rattle.speedy_read.specs.Reading.{ReaderState, IsTold, Excused, Refused, Reads}
+use Rattle.speedy_read.specs.Reading.{ReaderState, IsTold, refusing_kinds, Excused, Refused, Reads}
 use Rattle.speedy_read.specs.WaysOfReading.{RefusesBufferIf, AnswersBuffer, AnswersCopied, AnswersStream}
 use Rattle.speedy_read.specs.RoundTrip.{AnswersWritten, ReadsWritten, ReadsWrittenFirst, StreamsWritten, WrittenIsAnswered, WrittenIsRead, WrittenIsStreamed, WrittenItemsAreRead}
 use Rattle.speedy_read.specs.StreamModel.{most_held}
@@ -35,7 +36,7 @@ module _ {E A V : Type 0} (gives : Error → E → Type 0) (eof : E → Bool) (s
         let l : length buffer ≡ length bytes + length rest = ap length e ∙ length-append bytes rest in
         let want = refusal (a.refused (omega arith)) in
         record { same = tt; counted = tt; refused = want.0; asks_memory = want.1 } where
-          refusal : (gives (error_of kinds.OutOfMemory) x × IsTrue L.asks.memory) ⊎ RefusesBufferIf gives eof (Unit {0}) L x buffer → gives (error_of kinds.OutOfMemory) x × IsTrue L.asks.memory
+          refusal : (gives (error_of kinds.OutOfMemory) x × IsTrue L.asks.memory) ⊎ RefusesBufferIf gives eof (Unit {0}) L.names L x buffer → gives (error_of kinds.OutOfMemory) x × IsTrue L.asks.memory
           refusal (inl m) = m
           refusal (inr r) = absurd ((r.because tt).no_front v bytes rest e (laws.written_spells v bytes written))
 
@@ -124,11 +125,17 @@ module _ {E A V : Type 0} (gives : Error → E → Type 0) (eof : E → Bool) (s
         made = λ {encoding} {at} {after} {vs} bytes {rest} {buffer} {left} {n} h l e s f a. (vectors n).made (sym l, h) e s f a;
       }
 
+-- what borrows nothing is refused with a kind that it names
+owned_kind : {E V : Type 0} (gives : Error → E → Type 0) {e : E} (L : Format V) {lends : Bool} → L.asks.lending ≡ false → IsNamed gives (refusing_kinds L lends) e
+    → IsNamed gives L.names e
+owned_kind gives L none (kind, inl named, given) = (kind, named, given)
+owned_kind gives L none (kind, inr unlent, given) = absurd (true≢false (sym unlent.0 ∙ none))
+
 -- what borrows nothing is answered alike from bytes that are lent and from bytes that are not
 pub copied_alike : {E A V : Type 0} {gives : Error → E → Type 0} {eof : E → Bool} {seen : A → V} {least : ℕ} {L : Format V} {result : Result A E} {count : ℕ} {bytes : List ℕ} → L.asks.lending ≡ false → AnswersCopied gives eof seen least L result count bytes → AnswersBuffer gives eof seen least L result count bytes
 copied_alike {result = Ok x} none a = record { too_small = a.too_small; value = a.value; refused = λ _. tt }
-copied_alike {result = Err e} none a = record {
+copied_alike {gives = gives} {L = L} {result = Err e} none a = record {
   too_small = a.too_small;
   value = tt;
-  refused = λ l. elim (a.refused l) [ inl m ↦ inl m | inr x ↦ inr (record { kind = x.kind; because = λ _. x.because none }) ];
+  refused = λ l. elim (a.refused l) [ inl m ↦ inl m | inr x ↦ inr (record { kind = elim x.kind [ inl k ↦ inl k | inr k ↦ inr (owned_kind gives L none k) ]; because = λ _. x.because none }) ];
 }

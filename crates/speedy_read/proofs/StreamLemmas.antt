@@ -231,10 +231,6 @@ module _ {filled : List ℕ} (held rest : Ring) {name : GName} {b : Bool} {encod
 
 -- ---- forms
 
--- sources of which the same is seen
-source_same : (a b : SourceState) → a.tells ≡ b.tells → a.to_come ≡ b.to_come → a.faults ≡ b.faults → a ≡ b
-source_same a b tells to_come faults = λ i. record { tells = tells i; to_come = to_come i; faults = faults i }
-
 module _ {E : Type 0} (gives : Error → E → Type 0) (eof : E → Bool) {A V : Type 0} (seen : A → V) (L : Format V) (b c : Bool) (ring left : Ring) (name after : GName) (encoding encoding' : Encoding) (old new : SourceState) (empty : ring.bytes ≡ []) (capacity : ring.capacity ≡ first_capacity b) where
   value_taken : (result : Result A E) → Reads gives eof seen L result (ring_state name old ring b encoding) (ring_state after new left c encoding') → IfOk result (λ x. TookFront (L.spells (seen x)) (most_held b) old new)
   value_taken (Ok x) r =
@@ -246,11 +242,7 @@ module _ {E : Type 0} (gives : Error → E → Type 0) (eof : E → Bool) {A V :
         at_most = subst (λ (kind : ReaderKind). length left.bytes ≤ most_held kind.buffers) r.kept.fixed tidy.1;
         taken = λ told. ap (λ (l : List ℕ). l ++ old.to_come) (sym empty) ∙ r.answer.taken told;
         no_fault = r.answer.no_fault;
-        untouched = λ none nothing_ahead.
-            let same = r.answer.untouched none in
-            source_same new old (ap (λ (s : ReaderState). s.fixed.tells) same)
-            (ap (λ (l : List ℕ). l ++ new.to_come) (sym nothing_ahead) ∙ (ap (λ (s : ReaderState). s.to_come) same ∙ ap (λ (l : List ℕ). l ++ old.to_come) empty))
-            r.answer.no_fault;
+        untouched = λ none. ap (λ (s : ReaderState). s.source) (r.answer.untouched none);
       }
   value_taken (Err e) r = tt
 

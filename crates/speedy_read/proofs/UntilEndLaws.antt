@@ -1,7 +1,7 @@
 -- What a clean read until the end answers is decided by the bytes.
 use Rattle.std.specs.Prelude.{◌≡◌, ◌≢◌, ℕ, ◌<◌, ◌≤◌, List, [], ◌∷◌, ◌++◌, length, map, Bool, IsTrue, ◌⊎◌, Result, Ok, Err, MatchResult, refl}
 use Rattle.std.proofs.Common.{sym, ◌∙◌, ap, subst, arith, inl, inr}
-use Rattle.std.proofs.lemmas.Bool.{cases_lt}
+use Rattle.std.proofs.lemmas.Bool.{true≢false, cases_lt}
 use Rattle.std.proofs.lemmas.List.{append_assoc, append-nil, length-append, length-map}
 use Rattle.speedy_base.specs.declared.error.ErrorKind.TheVariants as kinds
 use Rattle.speedy_base.specs.declared.error.Error.{Error}
@@ -10,7 +10,7 @@ use Rattle.speedy_base.specs.Error.{error_of, IsNamed}
 use Rattle.speedy_layout.specs.Format.{Format, Each}
 use Rattle.speedy_layout.specs.Laws.{Laws}
 use Rattle.speedy_layout.specs.Lists.{each_decodes}
-use Rattle.speedy_read.specs.Reading.{ReaderState}
+use Rattle.speedy_read.specs.Reading.{ReaderState, IsTold, refusing_kinds}
 use Rattle.speedy_read.specs.UntilEnd.{Begin, UntilEndIsDecided, CleanUntilEnd}
 use Rattle.speedy_read.proofs.ListLemmas.{next_item}
 
@@ -37,6 +37,12 @@ module _ {V : Type 0} {strict : Bool} {least : ℕ} {L : Format V} (laws : Laws 
 
     as_many : (us : List V) (b : Begin L us old) → IsTrue old.fixed.tells → length us ≡ length vs → (us ≡ vs) × (b.rest ≡ tail)
     as_many us b told l = let same = each_decodes laws us vs b.front bytes b.rest tail l b.front_is are (sym (b.stands told) ∙ whole_is) in (same.0, same.2)
+
+  -- where all is lent that a type borrows, it is refused with a kind that it names
+  lent_kind : {E : Type 0} (gives : Error → E → Type 0) {e : E} {old : ReaderState} → IsNamed gives (refusing_kinds L old.fixed.lends) e → IsTold L old
+      → IsNamed gives L.names e
+  lent_kind gives (kind, inl named, given) told = (kind, named, given)
+  lent_kind gives (kind, inr unlent, given) told = absurd (true≢false (sym (told.lends unlent.0) ∙ unlent.1))
 
   module _ {E T F : Type 0} {gives : Error → E → Type 0} {eof : E → Bool} {seen : T → V} {gathers : List T → F → Type 0} {greatest : ℕ} {old new : ReaderState} (vs : List V) (bytes tail : List ℕ) (are : Each L.spells vs bytes) (whole_is : old.to_come ≡ bytes ++ tail) where
     pub cut_is_read : (v : V) (more : List ℕ) {result : Result F E} → L.spells v (tail ++ more) → more ≢ [] → length vs ≤ greatest → CleanUntilEnd gives eof seen gathers L greatest result old new
@@ -131,7 +137,7 @@ module _ {V : Type 0} {strict : Bool} {least : ℕ} {L : Format V} (laws : Laws 
                 let l = length-map y.items seen in
                 let w = more_in_front vs bytes tail are whole_is (map seen y.items) y.begin c.told.tells (let m = y.more in omega arith) in
                 absurd (laws.malformed_unspelled w.0 w.1 w.2 (subst L.malformed w.3 bad) w.4)
-            | inr y ↦ inl y.kind
+            | inr y ↦ inl (lent_kind gives y.kind c.told)
           ]
         ]
 

@@ -8,7 +8,7 @@ use Rattle.speedy_base.specs.declared.error.Error.{Error}
 use Rattle.speedy_base.specs.Error.{error_of, is_eof_error, passed_on, IsNamed}
 use Rattle.speedy_layout.specs.Format.{Format, Each, IsOwnKind}
 use Rattle.speedy_layout.specs.Laws.{Laws}
-use Rattle.speedy_read.specs.Reading.{ReaderKind, ReaderState, Excused, Refused, Reads}
+use Rattle.speedy_read.specs.Reading.{ReaderKind, ReaderState, refusing_kinds, Excused, Refused, Reads}
 use Rattle.speedy_read.specs.ReadingLemmas.{Kept-after, IsTold-after, excused_after, ReadSoFar, none_so_far}
 use Rattle.speedy_read.specs.UntilEnd.{Begin, Ended, ReadsUntilEnd}
 use Rattle.speedy_read.proofs.CollectionLemmas.{length_pushed}
@@ -99,7 +99,12 @@ module _ {T F V : Type 0} {seen : T → V} {gathers : List T → F → Type 0} {
                     begin = begins;
                     no_fault = x.no_fault ∙ h.so_far.got.no_fault;
                     no_end = no_end;
-                    kind = elim x.kind [ inl k ↦ (let ended = k.1 in absurd (cc)) | inr k ↦ k ];
+                    kind =
+                        let lent = ap (λ (kind : ReaderKind). kind.lends) h.so_far.kept.fixed in
+                        elim x.kind [
+                          | inl k ↦ (let ended = k.1 in absurd (cc))
+                          | inr k ↦ subst (λ (lends : Bool). IsNamed gives (refusing_kinds L lends) e) lent k
+                        ];
                     because = λ told. x.because (IsTold-after h.so_far.kept (λ need. need) told);
                   }))
                 ];

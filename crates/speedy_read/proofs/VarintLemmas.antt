@@ -185,7 +185,7 @@ module _ {E : Type 0} {gives : Error → E → Type 0} {eof : E → Bool} (encod
       answer =
           elim r.answer [
             | inl h ↦ inl (h.0, subst (λ (kind : ReaderKind). IsTrue kind.peeks_ask_memory) one.kept.fixed h.1, h.2 ∙ one.answer.no_fault)
-            | inr h ↦ inr (part_refused new one.kept.fixed one.answer.no_fault (λ t. t) (λ kind h. absurd h)
+            | inr h ↦ inr (part_refused new one.kept.fixed one.answer.no_fault (λ t. t) (λ t. t) (λ kind h. absurd h)
                 (λ told because.
                 let same = one.kept.to_come told.tells in
                 let there : IsTold (raw_bytes count) mid = record {
@@ -216,7 +216,7 @@ module _ {E : Type 0} {gives : Error → E → Type 0} {eof : E → Bool} (encod
           kept = KeptByPeek-after one.kept r.kept;
           answer = inr (inr (record {
             no_fault = r.answer.no_fault ∙ one.answer.no_fault;
-            kind = inr (kinds.NotWrittenForm, inr (inr (strict, refl, reads_wider parts not_fewest)), given);
+            kind = inr (kinds.NotWrittenForm, inl (inr (inr (strict, refl, reads_wider parts not_fewest))), given);
             because = λ told.
                 unaccepted encoding varint_code (prefixed_digits_laws encoding) _ (prefixed-spelled encoding (length tail) parts.low parts.rest first tail parts.first_is parts.tail_is) (whole_to_come count more one sized r told.tells)
                 (λ v h. not_fewest (subst (IsFewest (length tail)) ((varint_is_code encoding).chosen_means ((length tail, parts.low), parts.rest) v (Accepts-demanded encoding.strict varint_code ((length tail, parts.low), parts.rest) v strict h) ∙ sym parts.value_is) (Accepts-demanded encoding.strict varint_code ((length tail, parts.low), parts.rest) v strict h).0))

@@ -50,7 +50,7 @@ module _ {V : Type 0} (size : ℕ) (F : Format V) (one : (v : V) (bytes : List �
     unfolding raw_bytes borrowed_content vector owned_content repeat
     all_refused passed r = Reads-passed passed (record {
       kept = r.kept;
-      answer = part_refused new refl refl (λ t. t) (λ kind h. elim h [ inl k ↦ absurd k | inr k ↦ inr k ])
+      answer = part_refused new refl refl (λ t. t) (λ t. t) (λ kind h. absurd h)
           (λ told because.
           let un = because (IsTold-part (λ t. t) told) in
           let missing = replicate (2 ^ 64 - 1 - length old.to_come) 0 in

@@ -1,6 +1,7 @@
 -- Readers of bytes in memory.
 use Rattle.std.specs.Prelude.{ℕ, List, [], ◌∷◌, Bool, true, false}
 use Rattle.std.specs.Borrow.{GName}
+use Rattle.speedy_base.specs.Device.{SourceState}
 use Rattle.speedy_base.specs.MemoryDevices.{no_faults}
 use Rattle.speedy_base.specs.Encoding.{Encoding}
 use Rattle.speedy_read.specs.Reading.{ReaderKind, ReaderState}
@@ -19,11 +20,16 @@ memory_kind lends targets = record {
   targets = targets;
 }
 
+-- what stands for the source of a reader that has none
+abbrev pub no_source : SourceState
+no_source = record { tells = true; to_come = []; faults = no_faults }
+
 -- it never fails
 abbrev pub memory_state : Bool → List GName → List ℕ → Encoding → ReaderState
 memory_state lends targets bytes encoding = record {
   fixed = memory_kind lends targets;
   to_come = bytes;
+  source = no_source;
   tidy = true;
   encoding = encoding;
   faults = no_faults;

@@ -3,11 +3,11 @@ use Rattle.std.specs.Prelude.{◌≡◌, ℕ, List, Result, Ok, Err, IsErrAnd, B
 use Rattle.std.proofs.Common.{sym, subst, inl, inr}
 use Rattle.speedy_base.specs.declared.error.ErrorKind.TheVariants as kinds
 use Rattle.speedy_base.specs.declared.error.Error.{Error}
-use Rattle.speedy_base.specs.Error.{error_of, IsNamed}
+use Rattle.speedy_base.specs.Error.{error_of, IsNamed, IsNamed-more}
 use Rattle.speedy_base.specs.Encoding.{Encoding}
 use Rattle.speedy_layout.specs.Numbers.{unsigned_number, unsigned_number_laws}
 use Rattle.speedy_layout.specs.Sequences.{asks_same, sequence}
-use Rattle.speedy_read.specs.Reading.{ReaderState, Reads}
+use Rattle.speedy_read.specs.Reading.{ReaderState, refusing_kinds, Reads}
 use Rattle.speedy_read.specs.ReadingLemmas.{Kept-same}
 use Rattle.speedy_read.specs.Codes.{Covers, refused_covered, got_covered}
 use Rattle.speedy_read.specs.Sequences.{Composes, sequence_composes, refused_first, refused_second, got_both}
@@ -51,7 +51,7 @@ module _ {E : Type 0} {gives : Error → E → Type 0} {eof : E → Bool} {S : T
         kept = Kept-same;
         answer = inr (record {
           no_fault = refl;
-          kind = inr named;
+          kind = inr (IsNamed-more gives {more = refusing_kinds (behind c old.encoding n) mid.fixed.lends} e (λ kind h. inl h) named);
           because = λ told. record { no_front = λ v front rest is h. none.empty v; too_short = λ v more h. absurd (none.empty v); malformed = λ _. named };
         });
       } in

@@ -2,12 +2,14 @@
 use Rattle.std.specs.Prelude.{◌≡◌, ℕ, ℤ, ◌≤◌, ◌<◌, ◌-◌, ◌^◌, List, [], ◌++◌, length, Bool, true, false, IsTrue, ◌⊎◌, ◌↔◌, Option, Some, MatchOption, Result, MatchResult, IsErrAnd}
 use Rattle.std.specs.Borrow.{GName}
 use Rattle.std.specs.Int.{Width}
+use Rattle.speedy_base.specs.declared.error.ErrorKind.{ErrorKind}
 use Rattle.speedy_base.specs.declared.error.ErrorKind.TheVariants as kinds
 use Rattle.speedy_base.specs.declared.error.Error.{Error}
 use Rattle.speedy_base.specs.Error.{error_of, IsNamed}
 use Rattle.speedy_base.specs.ErrorKind.{EndsInput}
 use Rattle.speedy_base.specs.declared.device.Faults.{Faults}
 use Rattle.speedy_base.specs.FailedCalls.{IsOfFault}
+use Rattle.speedy_base.specs.Device.{SourceState}
 use Rattle.speedy_base.specs.Digits.{AreBytes}
 use Rattle.speedy_base.specs.Encoding.{Encoding}
 use Rattle.speedy_layout.specs.Format.{Format}
@@ -37,8 +39,10 @@ pub record ReaderKind : Type 0 where
 -- A reader, as reads see it.
 pub record ReaderState : Type 0 where
   pub fixed : ReaderKind
-  -- the bytes still to come, where the device tells them
+  -- the bytes still to come, where the device tells them: those that it holds, and then those of its source
   pub to_come : List ℕ
+  -- its source, as it stands; of a reader that has none always the same
+  pub source : SourceState
   -- it holds no more of a source's bytes than its way of reading allows
   pub tidy : Bool
   -- what its context asks of the bytes
@@ -86,6 +90,11 @@ pub record IsTold {V : Type 0} (L : Format V) (old : ReaderState) : Type 0 where
   pub fit : length old.to_come < 2 ^ 64 - 1
   pub lends : IsTrue L.asks.lending → IsTrue old.fixed.lends
 
+-- The kinds that a read of a format's values is refused with, from a reader that lends or does not: those that the
+-- format names and, where nothing is lent, `Unsized` for values that borrow.
+abbrev pub refusing_kinds : {V : Type 0} → Format V → Bool → ErrorKind → Type 0
+refusing_kinds L lends kind = L.names kind ⊎ (IsTrue L.asks.lending × (lends ≡ false) × (kind ≡ kinds.Unsized))
+
 -- want of memory, where memory may be asked for and no call of the device failed, or a failed call of the device
 abbrev pub Excused : {E : Type 0} → (Error → E → Type 0) → Bool → E → ReaderState → ReaderState → Type 0
 Excused gives takes e old new =
@@ -117,7 +126,7 @@ module _ {E : Type 0} (gives : Error → E → Type 0) (eof : E → Bool) where
   -- a clean refusal
   pub record Refused {V : Type 0} (L : Format V) (e : E) (old new : ReaderState) : Type 0 where
     pub no_fault : new.faults ≡ old.faults
-    pub kind : IsEnd old.fixed.ends_by_device e ⊎ IsNamed gives L.names e
+    pub kind : IsEnd old.fixed.ends_by_device e ⊎ IsNamed gives (refusing_kinds L old.fixed.lends) e
     pub because : IsTold L old → Unspelled L e old.to_come
 
   -- A read of a format's values. A value that is answered is spelled by a front of the bytes to come, and just that
@@ -144,6 +153,12 @@ module _ {E : Type 0} (gives : Error → E → Type 0) (eof : E → Bool) where
 
   abbrev pub PeeksSigned : Width → Result ℤ E → ReaderState → ReaderState → Type 0
   PeeksSigned w result old new = Peeks (λ z. z) (signed_number w old.encoding) result old new
+
+  -- Where fewer bytes than so many are to come, whatever they are, a read is refused as an end of them.
+  abbrev pub RefusesFewer : {A : Type 0} → ℕ → Result A E → ReaderState → ReaderState → Type 0
+  RefusesFewer n result old new =
+      IsTrue old.fixed.tells → length old.to_come < n
+      → IsErrAnd result (λ e. Excused gives false e old new ⊎ IsEnd old.fixed.ends_by_device e)
 
   -- What a read answers that lends its bytes. Where the reader lends, it answers, refuses and takes as a read of so
   -- many bytes does, and what is lent shows the bytes that were taken. A reader that lends nothing answers nothing and

@@ -11,7 +11,7 @@ use Rattle.speedy_base.specs.DigitsLemmas.{AreBytes-append_parts}
 use Rattle.speedy_base.specs.DeviceLemmas.{fault_after}
 use Rattle.speedy_base.specs.FailedCalls.{IsOfFault}
 use Rattle.speedy_layout.specs.Format.{Format}
-use Rattle.speedy_read.specs.Reading.{ReaderKind, ReaderState, Kept, KeptByPeek, Got, Ahead, IsTold, Excused, IsEnd, Unspelled, Refused, Reads, Peeks}
+use Rattle.speedy_read.specs.Reading.{ReaderKind, ReaderState, Kept, KeptByPeek, Got, Ahead, IsTold, refusing_kinds, Excused, IsEnd, Unspelled, Refused, Reads, Peeks}
 
 -- ---- states
 
@@ -99,17 +99,30 @@ excused_after gives takes more e old mid new same clean f (inr h) =
     inr (fault_after gives old.fixed.tells_faults e old.faults mid.faults new.faults clean
     (subst (λ (kind : ReaderKind). IsOfFault gives kind.tells_faults e mid.faults new.faults) same h))
 
+-- what a part is refused with, so is the whole
+refusing_more : {U V : Type 0} (L : Format U) (N : Format V) {part whole : Bool} → part ≡ whole
+    → (IsTrue L.asks.lending → IsTrue N.asks.lending) → ((kind : ErrorKind) → L.names kind → N.names kind)
+    → (kind : ErrorKind) → refusing_kinds L part kind → refusing_kinds N whole kind
+refusing_more L N same lends names kind (inl h) = inl (names kind h)
+refusing_more L N same lends names kind (inr h) = inr (lends h.0, sym same ∙ h.1, h.2)
+
 -- a part L that is refused from `mid` on refuses the whole N, where what L says of the bytes says it of N
 pub part_refused : {E : Type 0} {gives : Error → E → Type 0} {eof : E → Bool} {U V : Type 0} {L : Format U} {N : Format V} {e : E} {old mid : ReaderState} (new : ReaderState)
     → mid.fixed ≡ old.fixed → mid.faults ≡ old.faults
-    → (IsTrue L.asks.memory → IsTrue N.asks.memory) → ((kind : ErrorKind) → L.names kind → N.names kind)
+    → (IsTrue L.asks.memory → IsTrue N.asks.memory) → (IsTrue L.asks.lending → IsTrue N.asks.lending)
+    → ((kind : ErrorKind) → L.names kind → N.names kind)
     → (IsTold N old → (IsTold L mid → Unspelled gives eof L e mid.to_come) → Unspelled gives eof N e old.to_come)
     → Excused gives L.asks.memory e mid new ⊎ Refused gives eof L e mid new → Excused gives N.asks.memory e old new ⊎ Refused gives eof N e old new
-part_refused {gives = gives} {L = L} {N = N} {e = e} {old = old} {mid = mid} new same clean takes names un (inl x) =
+part_refused {gives = gives} {L = L} {N = N} {e = e} {old = old} {mid = mid} new same clean takes lends names un (inl x) =
     inl (excused_after gives L.asks.memory N.asks.memory e old mid new same clean takes x)
-part_refused {gives = gives} {eof = eof} {L = L} {N = N} {e = e} new same clean takes names un (inr x) = inr (record {
+part_refused {gives = gives} {eof = eof} {L = L} {N = N} {e = e} {old = old} {mid = mid} new same clean takes lends names un (inr x) = inr (record {
   no_fault = x.no_fault ∙ clean;
-  kind = elim x.kind [ inl h ↦ inl (subst (λ (kind : ReaderKind). IsEnd gives eof kind.ends_by_device e) same h) | inr h ↦ inr (IsNamed-more gives e names h) ];
+  kind =
+      let lent = ap (λ (kind : ReaderKind). kind.lends) same in
+      elim x.kind [
+        | inl h ↦ inl (subst (λ (kind : ReaderKind). IsEnd gives eof kind.ends_by_device e) same h)
+        | inr h ↦ inr (IsNamed-more gives {names = refusing_kinds L mid.fixed.lends} {more = refusing_kinds N old.fixed.lends} e (refusing_more L N lent lends names) h)
+      ];
   because = λ told. un told x.because;
 })
 

@@ -49,6 +49,7 @@ abbrev pub ring_state : GName → SourceState → Ring → Bool → Encoding →
 ring_state name source ring is_buffering encoding = record {
   fixed = stream_kind name source.tells is_buffering;
   to_come = ring.bytes ++ source.to_come;
+  source = source;
   tidy = is_tidy ring is_buffering;
   encoding = encoding;
   faults = source.faults;

@@ -7,7 +7,7 @@ use Rattle.speedy_base.specs.Error.{error_of, IsNamed}
 use Rattle.speedy_base.specs.Encoding.{Encoding}
 use Rattle.speedy_base.specs.FailedCalls.{HasGrown, IsOfFault}
 use Rattle.speedy_layout.specs.Format.{Format, Each}
-use Rattle.speedy_read.specs.Reading.{ReaderState, Kept, Excused, IsTold, Unspelled, Reads}
+use Rattle.speedy_read.specs.Reading.{ReaderState, Kept, refusing_kinds, Excused, IsTold, Unspelled, Reads}
 
 -- the bytes begin with these values, one after another
 pub record Begin {V : Type 0} (L : Format V) (vs : List V) (old : ReaderState) : Type 0 where
@@ -44,7 +44,7 @@ module _ {E : Type 0} (gives : Error → E → Type 0) (eof : E → Bool) where
       pub begin : Begin L (map seen items) old
       pub no_fault : new.faults ≡ old.faults
       pub no_end : eof e ≡ false
-      pub kind : IsNamed gives L.names e
+      pub kind : IsNamed gives (refusing_kinds L old.fixed.lends) e
       pub because : IsTold L old → Unspelled gives eof L e begin.rest
 
     -- why it is refused: want of memory, a failed call of the device that stands for no end, an item too many, or one

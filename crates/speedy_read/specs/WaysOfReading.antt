@@ -3,12 +3,13 @@ use Rattle.std.specs.Prelude.{◌≡◌, ℕ, ◌≤◌, ◌<◌, ◌-◌, ◌^�
 use Rattle.std.specs.declared.io.Error.{Error as StdIoError}
 use Rattle.speedy_base.specs.Device.{SourceState, SourceKept}
 use Rattle.speedy_base.specs.Digits.{AreBytes}
+use Rattle.speedy_base.specs.declared.error.ErrorKind.{ErrorKind}
 use Rattle.speedy_base.specs.declared.error.ErrorKind.TheVariants as kinds
 use Rattle.speedy_base.specs.declared.error.Error.{Error}
 use Rattle.speedy_base.specs.Error.{error_of, IsNamed}
 use Rattle.speedy_base.specs.FailedCalls.{IsErrorOf, IsOfFailedCall}
 use Rattle.speedy_layout.specs.Format.{Format}
-use Rattle.speedy_read.specs.Reading.{IsEnd, Unspelled}
+use Rattle.speedy_read.specs.Reading.{refusing_kinds, IsEnd, Unspelled}
 use Rattle.speedy_read.specs.StreamModel.{most_held}
 use Rattle.speedy_read.specs.Streams.{LeavesTail}
 
@@ -29,8 +30,8 @@ pub record TookFront (spelled : List ℕ → Type 0) (most : ℕ) (old new : Sou
   pub at_most : length ahead ≤ most
   pub taken : IsTrue old.tells → old.to_come ≡ front ++ (ahead ++ new.to_come)
   pub no_fault : new.faults ≡ old.faults
-  -- where no byte is taken, nothing is done
-  pub untouched : front ≡ [] → ahead ≡ [] → new ≡ old
+  -- a value of no bytes leaves the source as it was
+  pub untouched : front ≡ [] → new ≡ old
 
 -- want of memory, for a value that asks for it or, before the source is called, for what is read ahead
 pub record WantsMemory {E : Type 0} (gives : Error → E → Type 0) (takes buffers : Bool) (e : E) (old new : SourceState) : Type 0 where
@@ -40,33 +41,34 @@ pub record WantsMemory {E : Type 0} (gives : Error → E → Type 0) (takes buff
 
 module _ {E : Type 0} (gives : Error → E → Type 0) (eof : E → Bool) where
   -- bytes that spell no value at their front are refused: as `UnexpectedEndOfInput` where they may begin a spelling,
-  -- and else so or with a kind that the type names; a refusal means so where this holds
-  pub record RefusesBufferIf {V : Type 0} (holds : Type 0) (L : Format V) (e : E) (bytes : List ℕ) : Type 0 where
-    pub kind : IsEnd gives eof false e ⊎ IsNamed gives L.names e
+  -- and else so or with one of these kinds; a refusal means so where this holds
+  pub record RefusesBufferIf {V : Type 0} (holds : Type 0) (names : ErrorKind → Type 0) (L : Format V) (e : E) (bytes : List ℕ) : Type 0 where
+    pub kind : IsEnd gives eof false e ⊎ IsNamed gives names e
     pub because : holds → Unspelled gives eof L e bytes
 
   -- What a function that reads from a buffer answers: a buffer that is shorter than the least size is refused with both
   -- sizes; else a value is answered exactly when a front of the bytes spells it, where this holds, and the count is the
   -- length of that front.
-  pub record AnswersBufferIf {A V : Type 0} (holds : Type 0) (seen : A → V) (least : ℕ) (L : Format V) (result : Result A E) (count : ℕ) (bytes : List ℕ) : Type 0 where
+  pub record AnswersBufferIf {A V : Type 0} (holds : Type 0) (names : ErrorKind → Type 0) (seen : A → V) (least : ℕ) (L : Format V)
+      (result : Result A E) (count : ℕ) (bytes : List ℕ) : Type 0 where
     pub too_small : length bytes < least → IsErrAnd result (λ e. gives (error_of (kinds.InputBufferIsTooSmall (length bytes) least)) e) × (count ≡ 0)
     pub value : IfOk result (λ x. Counts (L.spells (seen x)) count bytes)
     pub refused : least ≤ length bytes
-        → IfErr result (λ e. (gives (error_of kinds.OutOfMemory) e × IsTrue L.asks.memory) ⊎ RefusesBufferIf holds L e bytes)
+        → IfErr result (λ e. (gives (error_of kinds.OutOfMemory) e × IsTrue L.asks.memory) ⊎ RefusesBufferIf holds names L e bytes)
 
-  -- from a buffer that is lent
+  -- from a buffer that is lent: refused with the kinds that the type names
   abbrev pub AnswersBuffer : {A V : Type 0} → (A → V) → ℕ → Format V → Result A E → ℕ → List ℕ → Type 0
-  AnswersBuffer seen least L result count bytes = AnswersBufferIf (Unit {0}) seen least L result count bytes
+  AnswersBuffer seen least L result count bytes = AnswersBufferIf (Unit {0}) L.names seen least L result count bytes
 
-  -- from one that is copied: what borrows may be refused though the bytes spell a value
+  -- from one that is copied: what borrows may be refused as `Unsized`, though the bytes spell a value
   abbrev pub AnswersCopied : {A V : Type 0} → (A → V) → ℕ → Format V → Result A E → ℕ → List ℕ → Type 0
-  AnswersCopied seen least L result count bytes = AnswersBufferIf (L.asks.lending ≡ false) seen least L result count bytes
+  AnswersCopied seen least L result count bytes = AnswersBufferIf (L.asks.lending ≡ false) (refusing_kinds L false) seen least L result count bytes
 
   -- a clean refusal of what a source gives: where its bytes are told, fewer than `usize::MAX` of them, and the type
   -- borrows nothing, no front of them spells a value
   pub record RefusesStream {V : Type 0} (L : Format V) (e : E) (old new : SourceState) : Type 0 where
     pub no_fault : new.faults ≡ old.faults
-    pub kind : IsEnd gives eof true e ⊎ IsNamed gives L.names e
+    pub kind : IsEnd gives eof true e ⊎ IsNamed gives (refusing_kinds L false) e
     pub because : IsTrue old.tells → AreBytes old.to_come → length old.to_come < 2 ^ 64 - 1 → L.asks.lending ≡ false
         → Unspelled gives eof L e old.to_come
 
@@ -84,4 +86,4 @@ module _ {E : Type 0} (gives : Error → E → Type 0) (eof : E → Bool) where
   -- bytes of a file, or which of its calls failed.
   abbrev pub AnswersFile : {A V : Type 0} → (A → V) → Format V → Result A E → Type 0
   AnswersFile seen L result = MatchResult result (λ x. (bytes : List ℕ) × L.spells (seen x) bytes)
-      (λ e. ((error : StdIoError) × IsErrorOf gives error e) ⊎ (gives (error_of kinds.OutOfMemory) e ⊎ (IsEnd gives eof true e ⊎ IsNamed gives L.names e)))
+      (λ e. ((error : StdIoError) × IsErrorOf gives error e) ⊎ (gives (error_of kinds.OutOfMemory) e ⊎ (IsEnd gives eof true e ⊎ IsNamed gives (refusing_kinds L false) e)))

@@ -1,5 +1,5 @@
 //! What types written by hand are read with: lengths, constants and texts.
-ghost use Rattle.std.specs.Prelude.{◌≡◌, [], ℕ, ◌↔◌, IsTrue, IsOk, MatchResult};
+ghost use Rattle.std.specs.Prelude.{◌≡◌, [], ℕ, ◌↔◌, length, IsTrue, IsOk, MatchResult};
 ghost use Rattle.std.specs.String.{string_bytes};
 ghost use Rattle.std.specs.Cow.{cow_slice_items, cow_str_bytes};
 ghost use Rattle.std.specs.Str.{IsUtf8};
@@ -7,7 +7,7 @@ ghost use Rattle.speedy_base.specs.Error.{error_of};
 ghost use Rattle.speedy_layout.specs.Numbers.{length_number};
 ghost use Rattle.speedy_layout.specs.Texts.{constant_bytes};
 ghost use Rattle.speedy_layout.specs.Varint.{varint};
-ghost use Rattle.speedy_read.specs.Reading.{Reads, ReadsUnsigned};
+ghost use Rattle.speedy_read.specs.Reading.{Reads, ReadsUnsigned, RefusesFewer};
 
 use crate::reader::LendingReader;
 use crate::room::CONSTANT_CHUNK;
@@ -156,7 +156,8 @@ pub fn read_length_u64_varint<L: AsSlice<u8> + Drop, C: Context, R: LendingReade
     Ok(reader.read_u64_varint()? as usize)
 }
 
-/// Reads just these bytes. Others of their number are the error `ExpectedConstant`, fewer an end of input.
+/// Reads just these bytes. Others of their number are the error `ExpectedConstant`; fewer, whatever they are, an end of
+/// input.
 ///
 /// All of them are read, a chunk at a time, before that error. No memory is asked for, and of no bytes none is read.
 pub fn read_constant<L: AsSlice<u8> + Drop, C: Context, R: LendingReader<L, C>>(
@@ -168,6 +169,8 @@ pub fn read_constant<L: AsSlice<u8> + Drop, C: Context, R: LendingReader<L, C>>(
         (R.state reader.old) (R.state reader.new) }
     ensures nothing { constant.now ≡ [] →
         IsOk result × (R.state reader.new ≡ R.state reader.old) }
+    ensures fewer { RefusesFewer C.Error.from_gives C.Error.eof (length constant.now) result
+        (R.state reader.old) (R.state reader.new) }
 {
     let mut chunk = [0; CONSTANT_CHUNK];
     let mut at = 0;
