@@ -32,7 +32,9 @@ counted {gives = gives} {F = F} {v = v} {sum = sum} {size = size} {answered = an
     record {
       written = (put.bytes, put.is_written, long);
       answers = λ bytes writes _. let same = one_length laws v put.bytes bytes put.is_written writes in omega (arith, long);
-      too_long = λ bytes writes past. let same = one_length laws v put.bytes bytes put.is_written writes in absurd (omega (arith, long));
+      too_long = λ bytes writes past.
+          let same = one_length laws v put.bytes bytes put.is_written writes in
+          absurd (omega (arith, long));
       refused = tt;
     }
 

@@ -15,9 +15,11 @@ use Rattle.speedy_write.specs.WaysOfWriting.{RefusesUnspelled, WritesToStream, W
 
 module _ {E : Type 0} {gives : Error → E → Type 0} {V : Type 0} {v : V} where
   -- what is written to a sink of a file and flushed
-  pub file_written : {L : Format V} (old new : SinkState) (result : Result (Unit {0}) E) → WritesAndFlushes gives L v result old new → WritesToFile gives L v result
+  pub file_written : {L : Format V} (old new : SinkState) (result : Result (Unit {0}) E)
+      → WritesAndFlushes gives L v result old new → WritesToFile gives L v result
   file_written old new (Ok _) w = record { written = (w.0.written.0, w.0.written.1); refused = tt }
-  file_written old new (Err e) w = record { written = tt; refused = elim w.0.refused [ inl h ↦ inl (h.0, h.2) | inr h ↦ inr h.1 ] }
+  file_written old new (Err e) w =
+      record { written = tt; refused = elim w.0.refused [ inl h ↦ inl (h.0, h.2) | inr h ↦ inr h.1 ] }
 
   -- where space has no bound, what is not written has no spelling
   no_spelling : {L : Format V} {e : E} {old new : WriterState} → old.space ≡ None → Unwritten gives L v e old new → RefusesUnspelled gives L v e

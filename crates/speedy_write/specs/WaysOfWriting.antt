@@ -25,7 +25,8 @@ module _ {E : Type 0} (gives : Error → E → Type 0) where
   -- a value whose written form has `usize::MAX` bytes or more is refused as out of range, and in no other way
   abbrev pub RefusesTooLong : {V A : Type 0} → Format V → V → Result A E → Type 0
   RefusesTooLong L v result =
-      (bytes : List ℕ) → L.writes v bytes → 2 ^ 64 - 1 ≤ length bytes → IsErrAnd result (gives (error_of kinds.OutOfRangeLength))
+      (bytes : List ℕ) → L.writes v bytes → 2 ^ 64 - 1 ≤ length bytes
+      → IsErrAnd result (gives (error_of kinds.OutOfRangeLength))
 
   -- what `bytes_needed` answers
   pub record Needs {V : Type 0} (L : Format V) (v : V) (result : Result ℕ E) : Type 0 where
@@ -89,8 +90,9 @@ module _ {E : Type 0} (gives : Error → E → Type 0) where
   abbrev pub WritesAndFlushes : {V : Type 0} → Format V → V → Result (Unit {0}) E → SinkState → SinkState → Type 0
   WritesAndFlushes L v result old new = WritesToStream L v result old (record new { settled = old.settled }) × OnOk result (IsTrue new.settled)
 
-  -- What the ways of writing to a file answer. No contract sees a file: which bytes it took, whether it was flushed, which of its
-  -- calls failed. So this speaks of the value and the error alone; `WritesAndFlushes` says of a caller's sink what the same code does.
+  -- What the ways of writing to a file answer. No contract sees a file: which bytes it took, whether it was flushed,
+  -- which of its calls failed. So this speaks of the value and the error alone; what the same code does to a caller's
+  -- sink, `WritesAndFlushes` says.
   pub record WritesToFile {V : Type 0} (L : Format V) (v : V) (result : Result (Unit {0}) E) : Type 0 where
     -- what succeeds has a shortest written form
     pub written : OnOk result ((bytes : List ℕ) × IsShortest L v bytes)
