@@ -1,12 +1,14 @@
 //! What the callers of `CALLING.md` and of the README answer.
 use crate::headers::Header;
 use crate::own_types::{Entry, Labelled, Mark};
-use crate::{headers, memory, readme, streams};
+use crate::{files, headers, memory, readme, streams};
+use speedy::device::VecSink;
 use speedy::private::get_error_kind;
 use speedy::readable::{BufferReader, CopyingBufferReader};
 use speedy::{Endianness, Error, IsEof, LendingReader, LittleEndian, Reader, Writable};
 use std::alloc::Global;
 use std::borrow::CowSlice;
+use std::fs;
 use std::process::Abort;
 
 /// Asserts that the outcome is an error of the kind, as `Debug` prints it.
@@ -187,4 +189,24 @@ fn a_log_is_read_without_a_record_that_was_cut_short(rt: HostRuntime) {
     assert_message(&rt, &records[0], 1, "Hi");
     let outcome = headers::read_log(alloc, &bytes, 0);
     assert_refused(&rt, alloc, outcome, "OutOfRangeLength");
+}
+
+#[test]
+fn records_are_put_behind_those_that_a_file_has(rt: HostRuntime) {
+    let alloc = rt.alloc();
+    let path = "speedy_examples_records.bin";
+    let first = (1_u16, String::from_str(alloc, "Hi").expect(&rt, "a text"));
+    let second = (2_u16, String::from_str(alloc, "").expect(&rt, "a text"));
+    // The first one empties the file, if an earlier run left one.
+    let outcome = Writable::<LittleEndian>::write_to_file(&first, &rt, alloc, path);
+    outcome.expect(&rt, "it is written");
+    files::append_record(&rt, alloc, path, &second).expect(&rt, "it is appended");
+    let records = files::read_records(&rt, alloc, path).expect(&rt, "records");
+    assert!(rt; records.len() == 2);
+    assert_message(&rt, &records[0], 1, "Hi");
+    assert_message(&rt, &records[1], 2, "");
+    fs::remove_file(&rt, path).expect(&rt, "it is removed");
+    let mut sink = VecSink::new(alloc);
+    files::put_record(alloc, &mut sink, &first).expect(&rt, "it is put");
+    assert!(rt; sink.bytes() == [1, 0, 2, 0, 0, 0, b'H', b'i'].as_slice());
 }
