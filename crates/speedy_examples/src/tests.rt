@@ -3,7 +3,7 @@ use crate::headers::Header;
 use crate::own_types::{Entry, Labelled, Mark};
 use crate::{files, headers, memory, readme, streams};
 use speedy::device::VecSink;
-use speedy::private::get_error_kind;
+use speedy::error::{ErrorKind, get_error_kind};
 use speedy::readable::{BufferReader, CopyingBufferReader};
 use speedy::{Endianness, Error, IsEof, LendingReader, LittleEndian, Reader, Writable};
 use std::alloc::Global;
@@ -209,4 +209,52 @@ fn records_are_put_behind_those_that_a_file_has(rt: HostRuntime) {
     let mut sink = VecSink::new(alloc);
     files::put_record(alloc, &mut sink, &first).expect(&rt, "it is put");
     assert!(rt; sink.bytes() == [1, 0, 2, 0, 0, 0, b'H', b'i'].as_slice());
+}
+
+/// Whether the bytes ended too soon, in a buffer or in a stream: with more of them there may be a value.
+fn wants_more(error: &Error) -> bool {
+    match get_error_kind(error) {
+        ErrorKind::InputBufferIsTooSmall { .. } => true,
+        _ => error.is_eof(),
+    }
+}
+
+#[test]
+fn a_message_that_is_short_is_told_from_one_that_is_broken(rt: HostRuntime) {
+    let alloc = rt.alloc();
+    let bytes = [2, 1, 2, 0, 0, 0, b'H', 0xff];
+    for length in 0..8_usize {
+        let outcome = readme::parse_message(alloc, &bytes[..length]);
+        assert!(rt; wants_more(&outcome.err().expect(&rt, "it is short")));
+    }
+    let outcome = readme::parse_message(alloc, &bytes);
+    assert!(rt; !wants_more(&outcome.err().expect(&rt, "it is broken")));
+}
+
+/// A number and a name, and a mail address, which version 1 did not have.
+fn read_person(
+    reader: &mut BufferReader<'_, LittleEndian>,
+    version: u16,
+) -> Result<(u16, String, Option<String>), Error> {
+    let (number, name) = reader.read_value()?;
+    let mail = if version >= 2 {
+        reader.read_value()?
+    } else {
+        None
+    };
+    Ok((number, name, mail))
+}
+
+#[test]
+fn a_part_may_depend_on_the_version(rt: HostRuntime) {
+    let alloc = rt.alloc();
+    let bytes = b"REC1\x01\0\x07\x05\0\x01\0\0\0a";
+    let mut reader = BufferReader::new(alloc, LittleEndian {}, bytes);
+    let header: Header = reader.read_value().expect(&rt, "a header");
+    let (number, name, mail) = read_person(&mut reader, header.version).expect(&rt, "a person");
+    assert!(rt; number == 5 && name.as_str() == "a" && mail.is_none());
+    let bytes = b"\x05\0\x01\0\0\0a\x01\x01\0\0\0b";
+    let mut reader = BufferReader::new(alloc, LittleEndian {}, bytes);
+    let (_, _, mail) = read_person(&mut reader, 2).expect(&rt, "a person");
+    assert!(rt; mail.expect(&rt, "an address").as_str() == "b");
 }
