@@ -223,7 +223,7 @@ fn wants_more(error: &Error) -> bool {
 fn a_message_that_is_short_is_told_from_one_that_is_broken(rt: HostRuntime) {
     let alloc = rt.alloc();
     let bytes = [2, 1, 2, 0, 0, 0, b'H', 0xff];
-    for length in 0..8_usize {
+    for length in 0..bytes.len() {
         let outcome = readme::parse_message(alloc, &bytes[..length]);
         assert!(rt; wants_more(&outcome.err().expect(&rt, "it is short")));
     }
