@@ -2,10 +2,10 @@
 use crate::headers::Header;
 use crate::own_types::{Entry, Labelled, Mark};
 use crate::{files, headers, memory, readme, streams};
-use speedy::device::VecSink;
-use speedy::error::{ErrorKind, get_error_kind};
-use speedy::readable::{BufferReader, CopyingBufferReader};
-use speedy::{Endianness, Error, IsEof, LendingReader, LittleEndian, Reader, Writable};
+use speedy::device::{Source, VecSink};
+use speedy::error::{ErrorKind, error_out_of_range_length, get_error_kind};
+use speedy::readable::{BufferReader, CopyingBufferReader, StreamReader};
+use speedy::{Buffer, Endianness, Error, IsEof, LendingReader, LittleEndian, Reader, Writable};
 use std::alloc::Global;
 use std::borrow::CowSlice;
 use std::fs;
@@ -257,4 +257,45 @@ fn a_part_may_depend_on_the_version(rt: HostRuntime) {
     let mut reader = BufferReader::new(alloc, LittleEndian {}, bytes);
     let (_, _, mail) = read_person(&mut reader, 2).expect(&rt, "a person");
     assert!(rt; mail.expect(&rt, "an address").as_str() == "b");
+}
+
+/// The message that the bytes are, with nothing behind it.
+fn parse_whole<'a>(alloc: Global, bytes: &'a [u8]) -> Result<(u16, &'a str), Error> {
+    let (outcome, length) = bytes.read_with_length::<(u16, &'a str)>(alloc, LittleEndian {});
+    let message = outcome?;
+    if length < bytes.len() {
+        return Err(Error::custom(alloc, "bytes are left over"));
+    }
+    Ok(message)
+}
+
+#[test]
+fn bytes_behind_a_message_may_be_refused(rt: HostRuntime) {
+    let alloc = rt.alloc();
+    let bytes = [2, 1, 2, 0, 0, 0, b'H', b'i', 9];
+    let message = parse_whole(alloc, &bytes[..8]).expect(&rt, "a message");
+    assert!(rt; message == (258, "Hi"));
+    let kind = "Custom(\"bytes are left over\")";
+    assert_refused(&rt, alloc, parse_whole(alloc, &bytes), kind);
+}
+
+/// The bytes behind the next header, if they are no more than the limit.
+fn read_body<S: Source>(alloc: Global, source: &mut S, limit: usize) -> Result<Vec<u8>, Error> {
+    let mut reader = StreamReader::new(alloc, LittleEndian {}, source, false)?;
+    let header: Header = reader.read_value()?;
+    if header.length > limit {
+        return Err(error_out_of_range_length());
+    }
+    reader.read_vec(header.length)
+}
+
+#[test]
+fn a_body_past_the_limit_is_refused(rt: HostRuntime) {
+    let alloc = rt.alloc();
+    let mut source: &[u8] = b"REC1\x01\0\x02Hi!";
+    let body = read_body(alloc, &mut source, 2).expect(&rt, "a body");
+    assert!(rt; body.as_slice() == b"Hi".as_slice() && source == b"!".as_slice());
+    let mut source: &[u8] = b"REC1\x01\0\xff\xff\xff\xff\xff\xff\xff\xff\xff";
+    let outcome = read_body(alloc, &mut source, 1_000);
+    assert_refused(&rt, alloc, outcome, "OutOfRangeLength");
 }
