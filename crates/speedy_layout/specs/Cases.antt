@@ -70,6 +70,7 @@ pub record IsChoice {S : Type 0} (c : Cases) (split : S → Chosen c) : Type 0 w
 no_value_laws : {strict : Bool} → Laws strict 0 no_value
 no_value_laws = record {
   decodes = λ v w s t r q h k e. absurd h;
+  tells = λ v w s t h k. absurd h;
   written_spells = λ v b h. absurd h;
   written_alone = λ s v b h. absurd h;
   shortest = λ v b c h k. absurd h;

@@ -5,7 +5,7 @@ use Rattle.speedy_base.specs.declared.error.ErrorKind.{ErrorKind}
 use Rattle.speedy_base.specs.declared.error.ErrorKind.TheVariants as kinds
 use Rattle.speedy_base.specs.Encoding.{Encoding}
 use Rattle.speedy_layout.specs.Format.{Format, IsOwnKind}
-use Rattle.speedy_layout.specs.Laws.{Laws}
+use Rattle.speedy_layout.specs.Laws.{Laws, Decided}
 
 -- How values are coded as values of another type.
 pub record Code (U V : Type 0) : Type 1 where
@@ -65,6 +65,9 @@ pub record IsCode {U V : Type 0} (c : Code U V) (F : Format U) : Type 0 where
   pub one_meaning : (u : U) (v w : V) → c.means u v → c.means u w → v ≡ w
   -- at most one code is chosen for a value, where nothing is hashed
   pub one_chosen : F.asks.hashed ≡ false → (u w : U) (v : V) → c.chosen u v → c.chosen w v → u ≡ w
+  -- whether two values are the same is decided where it is of codes; where nothing is hashed, that follows from the chosen ones
+  pub tells : F.asks.hashed ≡ true → ((u w : U) (s t : List ℕ) → F.spells u s → F.spells w t → Decided (u ≡ w))
+      → (v w : V) (s t : List ℕ) → Coded F.spells c.means v s → Coded F.spells c.means w t → Decided (v ≡ w)
   -- and it means the value
   pub chosen_means : (u : U) (v : V) → c.chosen u v → c.means u v
   -- one is chosen where the value has a spelling
@@ -105,6 +108,7 @@ coding_laws {U = U} {V = V} encoding {c = c} {F = F} laws is = record {
   decodes = λ v w s t r q h k e.
       let same = laws.decodes h.code k.code s t r q h.code_is k.code_is e in
       (is.one_meaning k.code v w (subst (λ (u : U). c.means u v) same.0 (means h.code v h.stands)) (means k.code w k.stands), same.1, same.2);
+  tells = λ v w s t h k. by_hashed F.asks.hashed refl v w s t (meant v s h) (meant w t k);
   written_spells = λ v b h. record { code = h.code; code_is = laws.written_spells h.code b h.code_is; stands = Accepts-chosen strict c h.code v (is.chosen_means h.code v) h.stands };
   written_alone = λ s v b h. record { code = h.code; code_is = laws.written_alone s h.code b h.code_is; stands = Accepts-demanded strict c h.code v s h.stands };
   shortest = λ v b d h k. is.chosen_shortest v b d h (meant v d k);
@@ -135,6 +139,16 @@ coding_laws {U = U} {V = V} encoding {c = c} {F = F} laws is = record {
   meant : (v : V) (b : List ℕ) → Coded F.spells (Accepts strict c) v b → Coded F.spells c.means v b
   meant v b h = record { code = h.code; code_is = h.code_is; stands = means h.code v h.stands }
 
+  by_hashed : (b : Bool) → F.asks.hashed ≡ b → (v w : V) (s t : List ℕ) → Coded F.spells c.means v s → Coded F.spells c.means w t → Decided (v ≡ w)
+  by_hashed true hashed v w s t h k = is.tells hashed laws.tells v w s t h k
+  by_hashed false hashed v w s t h k =
+      let x = is.has_chosen v s h in
+      let y = is.has_chosen w t k in
+      elim (laws.tells x.1.code y.1.code x.0 y.0 x.1.code_is y.1.code_is) [
+        | inl e ↦ inl (is.one_meaning y.1.code v w (subst (λ (u : U). c.means u v) e (is.chosen_means x.1.code v x.1.stands)) (is.chosen_means y.1.code w y.1.stands))
+        | inr n ↦ inr (λ e. n (is.one_chosen hashed x.1.code y.1.code w (subst (λ (z : V). c.chosen x.1.code z) e x.1.stands) y.1.stands))
+      ]
+
 -- ---- one code for each value
 
 -- each value is written as just what is read as it
@@ -158,9 +172,14 @@ pub exact_is_code : {U V : Type 0} {means : U → V → Type 0} {refusals : Erro
     → ((kind : ErrorKind) → refusals kind → IsOwnKind kind) → ((u : U) (v w : V) → means u v → means u w → v ≡ w)
     → ((u w : U) (v : V) → means u v → means w v → u ≡ w)
     → {strict : Bool} {least : ℕ} {F : Format U} → Laws strict least F → IsCode (exact_code means refusals) F
-exact_is_code {U = U} own one_meaning one_code {F = F} laws = record {
+exact_is_code {U = U} {V = V} {means = means} own one_meaning one_code {F = F} laws = record {
   one_meaning = one_meaning;
   one_chosen = λ _. one_code;
+  tells = λ _ decided v w s t h k.
+      elim (decided h.code k.code s t h.code_is k.code_is) [
+        | inl e ↦ inl (one_meaning k.code v w (subst (λ (u : U). means u v) e h.stands) k.stands)
+        | inr n ↦ inr (λ e. n (one_code h.code k.code w (subst (λ (z : V). means h.code z) e h.stands) k.stands))
+      ];
   chosen_means = λ u v h. h;
   has_chosen = λ v b h. (b, h);
   chosen_shortest = λ v b d h k. laws.shortest h.code b d h.code_is (subst (λ (u : U). F.spells u d) (one_code k.code h.code v k.stands h.stands) k.code_is);

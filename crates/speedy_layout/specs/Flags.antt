@@ -54,6 +54,7 @@ unfolding unsigned_number
 flag_is_code encoding = record {
   one_meaning = λ n v w h k. one_flag v w n h k;
   one_chosen = λ _ n m v h k. h ∙ sym k;
+  tells = λ e. absurd (cc);
   chosen_means = λ n v h. subst (IsFlag v) (sym h) (written_flag_is v);
   has_chosen = λ v b h. (digits encoding.order 1 (written_flag v), record { code = written_flag v; code_is = SpellsNumber-digits 1 encoding.order (written_flag v) (written_flag-below v); stands = refl });
   chosen_shortest = λ v b d h k. let l = h.code_is.width_is in let m = k.code_is.width_is in omega arith;

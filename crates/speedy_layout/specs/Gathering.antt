@@ -1,12 +1,12 @@
 -- What a list of items gathers to, where several lists may stand for one thing, as the lists of pairs that a map is read from.
 use Rattle.std.specs.Prelude.{◌≡◌, ℕ, ◌+◌, ◌≤◌, List, [], ◌∷◌, ◌++◌, length, Bool, true, false, refl}
-use Rattle.std.proofs.Common.{◌∙◌, ap, subst, inl, inr, arith}
+use Rattle.std.proofs.Common.{sym, ◌∙◌, ap, subst, inl, inr, arith}
 use Rattle.std.proofs.lemmas.List.{length-append}
 use Rattle.speedy_base.specs.Digits.{digits}
 use Rattle.speedy_base.specs.DigitsLemmas.{SpellsNumber-digits, SpellsNumber-below}
 use Rattle.speedy_base.specs.Encoding.{Encoding}
 use Rattle.speedy_layout.specs.Format.{Format, Each}
-use Rattle.speedy_layout.specs.Laws.{Laws, Laws-asking}
+use Rattle.speedy_layout.specs.Laws.{Laws, Laws-asking, Decided}
 use Rattle.speedy_layout.specs.Codes.{Code, Coded, IsCode, coding, coding_laws}
 use Rattle.speedy_layout.specs.Numbers.{unsigned_number}
 use Rattle.speedy_layout.specs.Owned.{owned_content}
@@ -23,10 +23,16 @@ pub record IsGathering {E S : Type 0} (hashed : Bool) (stands : List E → S →
   pub form_distinct : (xs : List E) → written xs → AreDistinct xs
   -- a form lies inside every list that stands for the same thing
   pub form_inside : (xs ys : List E) (s : S) → written xs → stands xs s → stands ys s → (e : E) → IsIn e xs → IsIn e ys
-  -- a thing that some list stands for has a form
-  pub has_form : (ys : List E) (s : S) → stands ys s → (xs : List E) × stands xs s × written xs
-  -- just one, where it is not hashed
+  -- a thing has one form at most, where it is not hashed
   pub one_form : hashed ≡ false → (xs ys : List E) (s : S) → written xs → written ys → stands xs s → stands ys s → xs ≡ ys
+  -- and where it is, things are the same whose forms have the same items
+  pub one_hashed : hashed ≡ true → (xs ys : List E) (s t : S) → written xs → written ys → stands xs s → stands ys t
+      → ((e : E) → IsIn e xs → IsIn e ys) → ((e : E) → IsIn e ys → IsIn e xs) → s ≡ t
+
+-- a thing that some list with a spelling stands for has a form
+abbrev pub HasForms : {E S : Type 0} → Format E → (List E → S → Type 0) → (List E → Type 0) → Type 0
+HasForms {E = E} {S = S} L stands written =
+    (ys : List E) (bytes : List ℕ) (s : S) → Each L.spells ys bytes → stands ys s → (xs : List E) × stands xs s × written xs
 
 -- a list is read as the thing that it stands for, and one that is a form is written
 abbrev pub gathering : {E S : Type 0} → (List E → S → Type 0) → (List E → Type 0) → Code (List E) S
@@ -114,6 +120,31 @@ module _ {V : Type 0} (spells : V → List ℕ → Type 0) where
         count = omega arith;
       }
 
+-- ---- whether an item is among others
+
+module _ {V : Type 0} {strict : Bool} {least : ℕ} {F : Format V} (laws : Laws strict least F) where
+  -- that is decided of items that have spellings
+  pub in_decided : (x : V) (ys : List V) (s t : List ℕ) → F.spells x s → Each F.spells ys t → Decided (IsIn x ys)
+  in_decided x [] s t h k = inr (λ n. n)
+  in_decided x (y ∷ ys) s t h k =
+      elim (laws.tells x y s k.front h k.first_is) [
+        | inl e ↦ inl (inl e)
+        | inr first ↦ elim (in_decided x ys s k.back h k.second_is) [ inl i ↦ inl (inr i) | inr n ↦ inr (λ i. elim i [ inl e ↦ first e | inr j ↦ n j ]) ]
+      ]
+
+  -- and so it is of all of them
+  inside_decided : (xs ys : List V) (s t : List ℕ) → Each F.spells xs s → Each F.spells ys t → Decided ((x : V) → IsIn x xs → IsIn x ys)
+  inside_decided [] ys s t h k = inl (λ x n. absurd n)
+  inside_decided (x ∷ xs) ys s t h k =
+      elim (in_decided x ys h.front t h.first_is k) [
+        | inl first ↦
+            elim (inside_decided xs ys h.back t h.second_is k) [
+              | inl more ↦ inl (λ z i. elim i [ inl e ↦ subst (λ w. IsIn w ys) (sym e) first | inr j ↦ more z j ])
+              | inr n ↦ inr (λ all. n (λ z i. all z (inr i)))
+            ]
+        | inr n ↦ inr (λ all. n (all x (inl refl)))
+      ]
+
 -- ---- the laws
 
 module _ {E S : Type 0} {hashed : Bool} {stands : List E → S → Type 0} {written : List E → Type 0}
@@ -138,15 +169,16 @@ module _ {E S : Type 0} {hashed : Bool} {stands : List E → S → Type 0} {writ
       )
 
   -- and there is one
-  some_form_spelled : (s : S) (bytes : List ℕ) → Coded (list encoding L).spells stands s bytes
+  some_form_spelled : HasForms L stands written → (s : S) (bytes : List ℕ) → Coded (list encoding L).spells stands s bytes
       → (b : List ℕ) × Coded (list encoding L).spells (gathering stands written).chosen s b
-  some_form_spelled s bytes h =
-      let f = is.has_form h.code s h.stands in
+  unfolding list sequence unsigned_number vector owned_content repeat
+  some_form_spelled has s bytes h =
+      let f = has h.code h.code_is.back s h.code_is.second_is.1 h.stands in
       let b = form_spelled s bytes h f.0 f.1 f.2 in
       (b.0, record { code = f.0; code_is = b.1; stands = (f.1, f.2) })
 
   -- and no list that stands for the thing is spelled in fewer bytes than a form is written in
-  form_shortest : (s : S) (b d : List ℕ) → Coded (list encoding L).writes (gathering stands written).chosen s b
+  pub form_shortest : (s : S) (b d : List ℕ) → Coded (list encoding L).writes (gathering stands written).chosen s b
       → Coded (list encoding L).spells stands s d → length b ≤ length d
   unfolding list sequence unsigned_number vector owned_content repeat
   form_shortest s b d h k =
@@ -159,23 +191,57 @@ module _ {E S : Type 0} {hashed : Bool} {stands : List E → S → Type 0} {writ
       let m = ap length k.code_is.whole_is ∙ length-append k.code_is.front k.code_is.back in
       omega arith
 
+  -- forms of things that are not hashed tell the things apart
+  forms_tell : hashed ≡ false → HasForms L stands written → (s t : S) (b d : List ℕ) → Coded (list encoding L).spells stands s b
+      → Coded (list encoding L).spells stands t d → Decided (s ≡ t)
+  forms_tell ordered has s t b d h k =
+      let x = some_form_spelled has s b h in
+      let y = some_form_spelled has t d k in
+      elim ((list_laws encoding laws).tells x.1.code y.1.code x.0 y.0 x.1.code_is y.1.code_is) [
+        | inl e ↦ inl (is.one_thing y.1.code s t (subst (λ zs. stands zs s) e x.1.stands.0) y.1.stands.0)
+        | inr n ↦ inr (λ e. n (is.one_form ordered x.1.code y.1.code t x.1.stands.1 y.1.stands.1 (subst (stands x.1.code) e x.1.stands.0) y.1.stands.0))
+      ]
+
+  -- and so do the items of forms, where the things are hashed
+  hashed_tell : hashed ≡ true → HasForms L stands written → (s t : S) (b d : List ℕ) → Coded (list encoding L).spells stands s b
+      → Coded (list encoding L).spells stands t d → Decided (s ≡ t)
+  unfolding list sequence unsigned_number vector owned_content repeat
+  hashed_tell unordered has s t b d h k =
+      let x = some_form_spelled has s b h in
+      let y = some_form_spelled has t d k in
+      let xs = x.1.code in
+      let ys = y.1.code in
+      let left = x.1.code_is in
+      let right = y.1.code_is in
+      elim (inside_decided laws xs ys left.back right.back left.second_is.1 right.second_is.1) [
+        | inl there ↦
+            elim (inside_decided laws ys xs right.back left.back right.second_is.1 left.second_is.1) [
+              | inl back ↦ inl (is.one_hashed unordered xs ys s t x.1.stands.1 y.1.stands.1 x.1.stands.0 y.1.stands.0 there back)
+              | inr n ↦ inr (λ e. n (is.form_inside ys xs t y.1.stands.1 y.1.stands.0 (subst (stands xs) e x.1.stands.0)))
+            ]
+        | inr n ↦ inr (λ e. n (is.form_inside xs ys t x.1.stands.1 (subst (stands xs) e x.1.stands.0) y.1.stands.0))
+      ]
+
 -- what lists gather to is coded by them
 pub gathering_is_code : {E S : Type 0} {hashed : Bool} {stands : List E → S → Type 0} {written : List E → Type 0} {least : ℕ} {L : Format E} (encoding : Encoding)
-    → Laws encoding.strict least L → IsGathering hashed stands written → IsCode (gathering stands written) (items_of hashed encoding L)
+    → Laws encoding.strict least L → IsGathering hashed stands written → HasForms L stands written
+    → IsCode (gathering stands written) (items_of hashed encoding L)
 unfolding hashed_items
-gathering_is_code {hashed = false} encoding laws is = record {
+gathering_is_code {hashed = false} encoding laws is has = record {
   one_meaning = is.one_thing;
   one_chosen = λ _ xs ys s h k. is.one_form refl xs ys s h.1 k.1 h.0 k.0;
+  tells = λ _ _. forms_tell encoding laws is refl has;
   chosen_means = λ xs s h. h.0;
-  has_chosen = some_form_spelled encoding laws is;
+  has_chosen = some_form_spelled encoding laws is has;
   chosen_shortest = form_shortest encoding laws is;
   refusals_own = λ kind h. absurd h;
 }
-gathering_is_code {hashed = true} encoding laws is = record {
+gathering_is_code {hashed = true} encoding laws is has = record {
   one_meaning = is.one_thing;
   one_chosen = λ e. absurd (cc);
+  tells = λ _ _. hashed_tell encoding laws is refl has;
   chosen_means = λ xs s h. h.0;
-  has_chosen = some_form_spelled encoding laws is;
+  has_chosen = some_form_spelled encoding laws is has;
   chosen_shortest = form_shortest encoding laws is;
   refusals_own = λ kind h. absurd h;
 }
@@ -187,5 +253,6 @@ items_of_laws true encoding laws = hashed_items_laws (list_laws encoding laws)
 
 -- the laws of what lists gather to
 pub gathered_laws : {E S : Type 0} {hashed : Bool} {stands : List E → S → Type 0} {written : List E → Type 0} {least : ℕ} {L : Format E} (encoding : Encoding)
-    → Laws encoding.strict least L → IsGathering hashed stands written → Laws encoding.strict 4 (gathered hashed encoding stands written L)
-gathered_laws {hashed = hashed} encoding laws is = coding_laws encoding (items_of_laws hashed encoding laws) (gathering_is_code encoding laws is)
+    → Laws encoding.strict least L → IsGathering hashed stands written → HasForms L stands written
+    → Laws encoding.strict 4 (gathered hashed encoding stands written L)
+gathered_laws {hashed = hashed} encoding laws is has = coding_laws encoding (items_of_laws hashed encoding laws) (gathering_is_code encoding laws is has)

@@ -1,14 +1,21 @@
 -- What holds of each layout.
-use Rattle.std.specs.Prelude.{◌≡◌, ℕ, ◌-◌, ◌^◌, ◌≤◌, List, ◌++◌, length, min, false, Bool, IsTrue}
-use Rattle.std.proofs.Common.{ap, arith}
+use Rattle.std.specs.Prelude.{◌≡◌, ℕ, ◌-◌, ◌^◌, ◌≤◌, List, [], ◌∷◌, ◌++◌, length, min, false, Bool, IsTrue, ◌⊎◌, refl}
+use Rattle.std.proofs.Common.{sym, ◌∙◌, ap, ap₂, subst, inl, inr, arith}
+use Rattle.std.proofs.lemmas.Bool.Decides.{eqb_tells}
 use Rattle.std.proofs.Math.Nat.{min-le_left}
 use Rattle.speedy_base.specs.declared.error.ErrorKind.{ErrorKind}
 use Rattle.speedy_layout.specs.Format.{Asks, Format, plain_format, IsOwnKind}
+
+-- it holds or it does not, which is decided
+abbrev pub Decided : Type 0 → Type 0
+Decided P = P ⊎ (P → ⊥)
 
 -- The laws of a format whose spellings have at least so many bytes, under a demand for the written form or none.
 pub record Laws {V : Type 0} (strict : Bool) (least : ℕ) (F : Format V) : Type 0 where
   -- one list of bytes spells at most one value, and no spelling begins another
   pub decodes : (v w : V) (s t r q : List ℕ) → F.spells v s → F.spells w t → s ++ r ≡ t ++ q → (v ≡ w) × (s ≡ t) × (r ≡ q)
+  -- whether two values that have spellings are the same is decided
+  pub tells : (v w : V) (s t : List ℕ) → F.spells v s → F.spells w t → Decided (v ≡ w)
   -- what is written spells the value
   pub written_spells : (v : V) (b : List ℕ) → F.writes v b → F.spells v b
   -- and under a demand for the written form, what spells the value is written
@@ -28,13 +35,29 @@ pub record Laws {V : Type 0} (strict : Bool) (least : ℕ) (F : Format V) : Type
   -- and so are those that its writing is refused with
   pub refuses_own : (kind : ErrorKind) → F.refuses_writing kind → IsOwnKind kind
 
+-- whether two lists of bytes are the same is decided
+same_bytes : (s t : List ℕ) → Decided (s ≡ t)
+same_bytes [] [] = inl refl
+same_bytes [] (c ∷ t) = inr (λ e. absurd (cc))
+same_bytes (b ∷ s) [] = inr (λ e. absurd (cc))
+same_bytes (b ∷ s) (c ∷ t) =
+    elim (eqb_tells b c) [
+      | inl h ↦ elim (same_bytes s t) [ inl e ↦ inl (ap₂ ◌∷◌ h.1 e) | inr n ↦ inr (λ e. n (let tails : s ≡ t = cc in tails)) ]
+      | inr h ↦ inr (λ e. h.1 (let heads : b ≡ c = cc in heads))
+    ]
+
 -- the laws of a plain format whose values have one spelling each
 pub plain_laws : {V : Type 0} {strict : Bool} {least : ℕ} {spells : V → List ℕ → Type 0}
     → ((v w : V) (s t r q : List ℕ) → spells v s → spells w t → s ++ r ≡ t ++ q → (v ≡ w) × (s ≡ t) × (r ≡ q))
     → ((v : V) (b : List ℕ) → spells v b → least ≤ length b) → ((v : V) (b c : List ℕ) → spells v b → spells v c → b ≡ c)
     → Laws strict least (plain_format spells)
-plain_laws decodes least_size one = record {
+plain_laws {spells = spells} decodes least_size one = record {
   decodes = decodes;
+  tells = λ v w s t h k.
+      elim (same_bytes s t) [
+        | inl e ↦ inl ((decodes v w s t [] [] h k (ap (λ b. b ++ []) e)).0)
+        | inr n ↦ inr (λ e. n (one w s t (subst (λ x. spells x s) e h) k))
+      ];
   written_spells = λ _ _ h. h;
   written_alone = λ _ _ _ h. h;
   shortest = λ v b c h k. let e = ap length (one v b c h k) in omega arith;
@@ -52,6 +75,7 @@ pub Laws-asking : {V : Type 0} {strict : Bool} {least : ℕ} {F : Format V} (nam
     → Laws strict least F → Laws strict least (record F { names = names; asks = asks })
 Laws-asking names asks own hashed laws = record {
   decodes = laws.decodes;
+  tells = laws.tells;
   written_spells = laws.written_spells;
   written_alone = laws.written_alone;
   shortest = laws.shortest;
@@ -67,6 +91,7 @@ Laws-asking names asks own hashed laws = record {
 pub Laws-less : {V : Type 0} {strict : Bool} {n m : ℕ} {F : Format V} → m ≤ n → Laws strict n F → Laws strict m F
 Laws-less less laws = record {
   decodes = laws.decodes;
+  tells = laws.tells;
   written_spells = laws.written_spells;
   written_alone = laws.written_alone;
   shortest = laws.shortest;

@@ -96,6 +96,7 @@ duration_is_code encoding = record {
       let a = h.2 in
       let b = k.2 in
       pair_is p q (omega arith) (omega arith);
+  tells = λ e. absurd (cc);
   chosen_means = λ p n h. (h.0, h.1);
   has_chosen = λ n b h.
       let s = n / 1_000_000_000 in

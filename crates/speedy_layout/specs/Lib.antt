@@ -17,7 +17,6 @@ pub mod Lists
 pub mod Members
 pub mod Orders
 pub mod SeenItems
-pub mod Keys
 pub mod Gathering
 pub mod GatheredLemmas
 pub mod Maps

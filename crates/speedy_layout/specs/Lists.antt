@@ -1,10 +1,10 @@
 -- Lists: so many items one after the other, and counted lists.
 use Rattle.std.specs.Prelude.{◌≡◌, ℕ, zero, suc, ◌+◌, ◌*◌, ◌≤◌, List, [], ◌∷◌, ◌++◌, length, Bool, true, false, IsTrue, refl}
-use Rattle.std.proofs.Common.{sym, ◌∙◌, ap, subst, arith}
+use Rattle.std.proofs.Common.{sym, ◌∙◌, ap, ap₂, subst, inl, inr, arith}
 use Rattle.std.proofs.lemmas.List.{append_assoc, append-nil, length-append}
 use Rattle.speedy_base.specs.Encoding.{Encoding}
 use Rattle.speedy_layout.specs.Format.{Format, Each}
-use Rattle.speedy_layout.specs.Laws.{Laws, Laws-less}
+use Rattle.speedy_layout.specs.Laws.{Laws, Laws-less, Decided}
 use Rattle.speedy_layout.specs.Numbers.{unsigned_number, unsigned_number_laws}
 use Rattle.speedy_layout.specs.Owned.{owned_content, owned_content_laws}
 use Rattle.speedy_layout.specs.Sequences.{AsksAtMost, asks_same, sequence, sequence_laws, across}
@@ -73,6 +73,21 @@ module _ {V : Type 0} {strict : Bool} {least : ℕ} {F : Format V} (laws : Laws 
         more.2,
       )
 
+  -- and whether they are the same is decided
+  pub each_tells : (vs ws : List V) (s t : List ℕ) → Each F.spells vs s → Each F.spells ws t → Decided (vs ≡ ws)
+  each_tells [] [] s t h k = inl refl
+  each_tells [] (w ∷ ws) s t h k = inr (λ e. absurd (cc))
+  each_tells (v ∷ vs) [] s t h k = inr (λ e. absurd (cc))
+  each_tells (v ∷ vs) (w ∷ ws) s t h k =
+      elim (laws.tells v w h.front k.front h.first_is k.first_is) [
+        | inl first ↦
+            elim (each_tells vs ws h.back k.back h.second_is k.second_is) [
+              | inl more ↦ inl (ap₂ ◌∷◌ first more)
+              | inr n ↦ inr (λ e. n (let tails : vs ≡ ws = cc in tails))
+            ]
+        | inr n ↦ inr (λ e. n (let heads : v ≡ w = cc in heads))
+      ]
+
   -- each item's written form makes a written form, which spells the items
   pub each_written : (vs : List V) (b : List ℕ) → Each F.writes vs b → Each F.spells vs b
   each_written [] b h = h
@@ -134,6 +149,7 @@ module _ {V : Type 0} {strict : Bool} {least : ℕ} {F : Format V} (laws : Laws 
   unfolding repeat
   repeat_laws n = record {
     decodes = λ v w s t r q h k e. each_decodes v w s t r q (h.0 ∙ sym k.0) h.1 k.1 e;
+    tells = λ v w s t h k. each_tells v w s t h.1 k.1;
     written_spells = λ v b h. (h.0, each_written v b h.1);
     written_alone = λ s v b h. (h.0, each_written_alone s v b h.1);
     shortest = λ v b c h k. each_shortest v b c h.1 k.1;

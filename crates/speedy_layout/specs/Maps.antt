@@ -3,14 +3,14 @@ use Rattle.std.specs.Prelude.{◌≡◌, ℕ, List, [], ◌∷◌, Bool, true, f
 use Rattle.std.specs.Map.{keys_of}
 use Rattle.std.proofs.Common.{sym, ◌∙◌, ap, subst, inl, inr}
 use Rattle.speedy_base.specs.Encoding.{Encoding}
-use Rattle.speedy_layout.specs.Format.{Format}
-use Rattle.speedy_layout.specs.Laws.{Laws}
+use Rattle.speedy_layout.specs.Format.{Format, Each}
+use Rattle.speedy_layout.specs.Laws.{Laws, Decided}
+use Rattle.speedy_layout.specs.Sequences.{sequence}
 use Rattle.speedy_layout.specs.Tuples.{pair, pair_laws}
 use Rattle.speedy_layout.specs.Members.{IsIn, AreDistinct, Ascends, IsLast, InFirstOrder, IsIn-key, IsIn-pair, IsLast-in, IsIn-last, AreDistinct-keys, same_by_keys}
-use Rattle.speedy_layout.specs.Orders.{IsStrictOrder, same_ascending, own_first_order, same_first_order}
-use Rattle.speedy_layout.specs.Equality.{TellsApart}
-use Rattle.speedy_layout.specs.SeenItems.{AreSeen, find_seen}
-use Rattle.speedy_layout.specs.Gathering.{IsGathering, gathered, gathered_laws}
+use Rattle.speedy_layout.specs.Orders.{IsAsymmetric, same_ascending, own_first_order, same_first_order}
+use Rattle.speedy_layout.specs.SeenItems.{AreSeen}
+use Rattle.speedy_layout.specs.Gathering.{IsGathering, HasForms, gathered, gathered_laws}
 
 -- what is seen of a pair
 abbrev pub seen_pair : {K V A B : Type 0} → (K → A) → (V → B) → K × V → A × B
@@ -64,8 +64,8 @@ own_lasts es d = λ e. (IsIn-last e es d, IsLast-in e es)
 
 module _ {K V : Type 0} where
   -- pairs are ordered as their keys are
-  pub by_key_order : {less : K → K → Type 0} → IsStrictOrder less → IsStrictOrder {X = K × V} (by_key less)
-  by_key_order order = record { irreflexive = λ e. order.irreflexive e.0; transitive = λ e f g. order.transitive e.0 f.0 g.0 }
+  pub by_key_order : {less : K → K → Type 0} → IsAsymmetric less → IsAsymmetric {X = K × V} (by_key less)
+  by_key_order order = λ e f. order e.0 f.0
 
   -- and ascend where these do
   pub Ascends-by_key : (less : K → K → Type 0) (es : List (K × V)) → Ascends less (keys_of es) → Ascends (by_key less) es
@@ -73,10 +73,10 @@ module _ {K V : Type 0} where
   Ascends-by_key less (e ∷ es) h = (λ f s. h.0 f.0 (IsIn-key f es s), Ascends-by_key less es h.1)
 
   -- where they ascend, each key stands once
-  pub Ascends-distinct_keys : {less : K → K → Type 0} → IsStrictOrder less → (es : List (K × V)) → Ascends (by_key less) es → HasDistinctKeys es
+  pub Ascends-distinct_keys : {less : K → K → Type 0} → IsAsymmetric less → (es : List (K × V)) → Ascends (by_key less) es → HasDistinctKeys es
   Ascends-distinct_keys order [] h = tt
   Ascends-distinct_keys {less = less} order (e ∷ es) h = (
-    λ k. let p = IsIn-pair e.0 es k in order.irreflexive e.0 (subst (less e.0) (sym p.1) (h.0 p.0 p.2)),
+    λ k. let p = IsIn-pair e.0 es k in let l = subst (less e.0) (sym p.1) (h.0 p.0 p.2) in order e.0 e.0 l l,
     Ascends-distinct_keys order es h.1,
   )
 
@@ -91,7 +91,7 @@ module _ {K V : Type 0} where
       subst (λ x. IsIn x (keys_of fs)) (sym p.1) (IsIn-key p.0 fs (HasLasts-inside items es fs h k p.0 p.2))
 
   -- pairs that ascend stand for themselves
-  pub own_tree_map : {less : K → K → Type 0} → IsStrictOrder less → (es : List (K × V)) → Ascends (by_key less) es → GathersToTreeMap less es es
+  pub own_tree_map : {less : K → K → Type 0} → IsAsymmetric less → (es : List (K × V)) → Ascends (by_key less) es → GathersToTreeMap less es es
   own_tree_map order es h = (h, own_lasts es (Ascends-distinct_keys order es h))
 
   -- pairs with distinct keys that a list has are the last ones of each list of the same map
@@ -99,13 +99,13 @@ module _ {K V : Type 0} where
       → IsIn e items → IsIn e others
   inside_lasts items others es d h k e s = IsLast-in e others ((k e).0 ((h e).1 (IsIn-last e items d s)))
 
-  pub tree_map_is : {less : K → K → Type 0} → IsStrictOrder less → IsGathering false (GathersToTreeMap {V = V} less) (Ascends (by_key less))
+  pub tree_map_is : {less : K → K → Type 0} → IsAsymmetric less → IsGathering false (GathersToTreeMap {V = V} less) (Ascends (by_key less))
   tree_map_is {less = less} order = record {
     one_thing = one_map;
     form_distinct = λ items h. AreDistinct-keys items (Ascends-distinct_keys order items h);
     form_inside = λ items others es d h k. inside_lasts items others es (Ascends-distinct_keys order items d) h.1 k.1;
-    has_form = λ items es h. (es, own_tree_map order es h.0, h.0);
     one_form = λ _ items others es d e h k. one_map items items es (own_tree_map order items d) h ∙ one_map others es others k (own_tree_map order others e);
+    one_hashed = λ e. absurd (cc);
   } where
     one_map : (items es fs : List (K × V)) → GathersToTreeMap less items es → GathersToTreeMap less items fs → es ≡ fs
     one_map items es fs h k = same_ascending (by_key_order order) es fs h.0 k.0 (HasLasts-inside items es fs h.1 k.1) (HasLasts-inside items fs es k.1 h.1)
@@ -119,8 +119,8 @@ module _ {K V : Type 0} where
     one_thing = one_map;
     form_distinct = AreDistinct-keys;
     form_inside = λ items others es d h k. inside_lasts items others es d h.1 k.1;
-    has_form = λ items es h. (es, own_index_map es h.0, h.0);
     one_form = λ _ items others es d e h k. one_map items items es (own_index_map items d) h ∙ one_map others es others k (own_index_map others e);
+    one_hashed = λ e. absurd (cc);
   } where
     one_map : (items es fs : List (K × V)) → GathersToIndexMap items es → GathersToIndexMap items fs → es ≡ fs
     one_map items es fs h k =
@@ -135,40 +135,56 @@ same_option (Some v) p h = sym ((h v).0 refl)
 same_option None None h = refl
 same_option None (Some w) h = (h w).1 refl
 
--- keys that an equality tells apart just as they are seen apart
-module _ {K A : Type 0} {seen : K → A} {eq : K → K → Bool} (same_key : TellsApart eq seen) where
-  -- the last pairs of a list with their keys, each key once
-  pub lasts : {V : Type 0} (es : List (A × V)) → AreSeen seen (keys_of es) → (kept : List (A × V)) × AreDistinct (keys_of kept) × HasLasts es kept
-  lasts [] are = ([], tt, λ e. (λ h. h, λ h. h))
-  lasts {V = V} (f ∷ es) are =
-      let rest = lasts es (λ b h. are b (inr h)) in
-      let x = are f.0 (inl refl) in
-      elim (find_seen same_key x.0 (keys_of es) (λ b h. are b (inr h))) [
-        | inl h ↦
-            let again : IsIn f.0 (keys_of es) = subst (λ a. IsIn a (keys_of es)) x.1 h in (
-              rest.0,
-              rest.1,
-              λ e. (
-                λ s. inl ((rest.2 e).0 s),
-                λ s. elim s [ inl k ↦ (rest.2 e).1 k | inr k ↦ absurd (k.1 (subst (λ (p : A × V). IsIn p.0 (keys_of es)) (sym k.0) again)) ],
-              ),
-            )
-        | inr h ↦
-            let absent : IsIn f.0 (keys_of es) → ⊥ = λ s. h (subst (λ a. IsIn a (keys_of es)) (sym x.1) s) in (
-              f ∷ rest.0,
-              (
-                λ s. let p = IsIn-pair f.0 rest.0 s in absent (subst (λ a. IsIn a (keys_of es)) (sym p.1) (IsIn-key p.0 es (IsLast-in p.0 es ((rest.2 p.0).0 p.2)))),
-                rest.1,
-              ),
-              λ e. (
-                λ s. elim s [ inl k ↦ inr (k, λ r. absent (subst (λ (p : A × V). IsIn p.0 (keys_of es)) k r)) | inr k ↦ inl ((rest.2 e).0 k) ],
-                λ s. elim s [ inl k ↦ inr ((rest.2 e).1 k) | inr k ↦ inl k.0 ],
-              ),
-            )
-      ]
+-- whether a key is among others is decided of keys and pairs that have spellings
+key_decided : {A V : Type 0} {strict : Bool} {n : ℕ} {L : Format A} (M : Format V) → Laws strict n L → (a : A) (es : List (A × V)) (s t : List ℕ)
+    → L.spells a s → Each (pair L M).spells es t → Decided (IsIn a (keys_of es))
+unfolding sequence
+key_decided M laws a [] s t h k = inr (λ n. n)
+key_decided M laws a (e ∷ es) s t h k =
+    elim (laws.tells a e.0 s k.first_is.front h k.first_is.first_is) [
+      | inl same ↦ inl (inl same)
+      | inr first ↦ elim (key_decided M laws a es s k.back h k.second_is) [ inl i ↦ inl (inr i) | inr n ↦ inr (λ i. elim i [ inl same ↦ first same | inr j ↦ n j ]) ]
+    ]
 
-  pub hash_map_is : {V : Type 0} → IsGathering true (GathersToHashMap {V = V} seen) HasDistinctKeys
-  hash_map_is {V = V} = record {
+-- the last pairs with their keys of a list with a spelling, each key once
+lasts : {A V : Type 0} {strict : Bool} {n : ℕ} {L : Format A} (M : Format V) → Laws strict n L → (es : List (A × V)) (bytes : List ℕ) → Each (pair L M).spells es bytes
+    → (kept : List (A × V)) × AreDistinct (keys_of kept) × HasLasts es kept
+unfolding sequence
+lasts M laws [] bytes h = ([], tt, λ e. (λ h. h, λ h. h))
+lasts {A = A} {V = V} M laws (f ∷ es) bytes h =
+    let rest = lasts M laws es h.back h.second_is in
+    elim (key_decided M laws f.0 es h.first_is.front h.back h.first_is.first_is h.second_is) [
+      | inl again ↦ (
+        rest.0,
+        rest.1,
+        λ e. (
+          λ s. inl ((rest.2 e).0 s),
+          λ s. elim s [ inl k ↦ (rest.2 e).1 k | inr k ↦ absurd (k.1 (subst (λ (p : A × V). IsIn p.0 (keys_of es)) (sym k.0) again)) ],
+        ),
+      )
+      | inr absent ↦ (
+        f ∷ rest.0,
+        (
+          λ s. let p = IsIn-pair f.0 rest.0 s in absent (subst (λ a. IsIn a (keys_of es)) (sym p.1) (IsIn-key p.0 es (IsLast-in p.0 es ((rest.2 p.0).0 p.2)))),
+          rest.1,
+        ),
+        λ e. (
+          λ s. elim s [ inl k ↦ inr (k, λ r. absent (subst (λ (p : A × V). IsIn p.0 (keys_of es)) k r)) | inr k ↦ inl ((rest.2 e).0 k) ],
+          λ s. elim s [ inl k ↦ inr ((rest.2 e).1 k) | inr k ↦ inl k.0 ],
+        ),
+      )
+    ]
+
+module _ {K A V : Type 0} {seen : K → A} where
+  -- what one map finds another finds whose form has its pairs
+  finds_more : (xs ys : List (A × V)) (f g : K → Option V) → HasDistinctKeys ys → GathersToHashMap seen xs f → GathersToHashMap seen ys g
+      → ((e : A × V) → IsIn e xs → IsIn e ys) → (x : K) (v : V) → f x ≡ Some v → g x ≡ Some v
+  finds_more xs ys f g d h k there x v s =
+      let e : A × V = (seen x, v) in
+      (k.1 x v).1 (IsIn-last e ys d (there e (IsLast-in e xs ((h.1 x v).0 s))))
+
+  pub hash_map_is : IsGathering true (GathersToHashMap {V = V} seen) HasDistinctKeys
+  hash_map_is = record {
     one_thing = λ items f g h k. λ i x. same_option (f x) (g x) (λ v. (λ s. (k.1 x v).1 ((h.1 x v).0 s), λ s. (h.1 x v).1 ((k.1 x v).0 s))) i;
     form_distinct = AreDistinct-keys;
     form_inside = λ items others f d h k e s.
@@ -177,27 +193,30 @@ module _ {K A : Type 0} {seen : K → A} {eq : K → K → Bool} (same_key : Tel
         let same : e ≡ pair = ap (λ a. let p : A × V = (a, e.1) in p) (sym x.1) in
         let last = IsIn-last pair items d (subst (λ p. IsIn p items) same s) in
         subst (λ p. IsIn p others) (sym same) (IsLast-in pair others ((k.1 x.0 e.1).0 ((h.1 x.0 e.1).1 last)));
-    has_form = λ items f h.
-        let kept = lasts items h.0 in (
-          kept.0,
-          (
-            λ a s. let p = IsIn-pair a kept.0 s in h.0 a (subst (λ b. IsIn b (keys_of items)) (sym p.1) (IsIn-key p.0 items (IsLast-in p.0 items ((kept.2 p.0).0 p.2)))),
-            λ k v. (
-              λ s. IsIn-last (seen k, v) kept.0 kept.1 ((kept.2 (seen k, v)).1 ((h.1 k v).0 s)),
-              λ s. (h.1 k v).1 ((kept.2 (seen k, v)).0 (IsLast-in (seen k, v) kept.0 s)),
-            ),
-          ),
-          kept.1,
-        );
     one_form = λ e. absurd (cc);
+    one_hashed = λ _ xs ys f g d e h k there back. λ i x. same_option (f x) (g x) (λ v. (finds_more xs ys f g e h k there x v, finds_more ys xs g f d k h back x v)) i;
   }
 
-module _ {K V : Type 0} {n m : ℕ} {L : Format K} {M : Format V} (encoding : Encoding) (laws : Laws encoding.strict n L) (more : Laws encoding.strict m M) where
-  pub tree_map_laws : {less : K → K → Type 0} → IsStrictOrder less → Laws encoding.strict 4 (tree_map encoding less L M)
-  tree_map_laws order = gathered_laws encoding (pair_laws laws more) (tree_map_is order)
+  hash_map_forms : {strict : Bool} {n : ℕ} {L : Format A} (M : Format V) → Laws strict n L → HasForms (pair L M) (GathersToHashMap {V = V} seen) HasDistinctKeys
+  hash_map_forms M laws items bytes f spelled h =
+      let kept = lasts M laws items bytes spelled in (
+        kept.0,
+        (
+          λ a s. let p = IsIn-pair a kept.0 s in h.0 a (subst (λ b. IsIn b (keys_of items)) (sym p.1) (IsIn-key p.0 items (IsLast-in p.0 items ((kept.2 p.0).0 p.2)))),
+          λ k v. (
+            λ s. IsIn-last (seen k, v) kept.0 kept.1 ((kept.2 (seen k, v)).1 ((h.1 k v).0 s)),
+            λ s. (h.1 k v).1 ((kept.2 (seen k, v)).0 (IsLast-in (seen k, v) kept.0 s)),
+          ),
+        ),
+        kept.1,
+      )
 
-  pub hash_map_laws : {J : Type 0} {seen : J → K} {eq : J → J → Bool} → TellsApart eq seen → Laws encoding.strict 4 (hash_map encoding seen L M)
-  hash_map_laws same_key = gathered_laws encoding (pair_laws laws more) (hash_map_is same_key)
+module _ {K V : Type 0} {n m : ℕ} {L : Format K} {M : Format V} (encoding : Encoding) (laws : Laws encoding.strict n L) (more : Laws encoding.strict m M) where
+  pub tree_map_laws : {less : K → K → Type 0} → IsAsymmetric less → Laws encoding.strict 4 (tree_map encoding less L M)
+  tree_map_laws order = gathered_laws encoding (pair_laws laws more) (tree_map_is order) (λ items bytes es spelled h. (es, own_tree_map order es h.0, h.0))
+
+  pub hash_map_laws : {J : Type 0} (seen : J → K) → Laws encoding.strict 4 (hash_map encoding seen L M)
+  hash_map_laws seen = gathered_laws encoding (pair_laws laws more) hash_map_is (hash_map_forms M laws)
 
   pub index_map_laws : Laws encoding.strict 4 (index_map encoding L M)
-  index_map_laws = gathered_laws encoding (pair_laws laws more) index_map_is
+  index_map_laws = gathered_laws encoding (pair_laws laws more) index_map_is (λ items bytes es spelled h. (es, own_index_map es h.0, h.0))

@@ -1,21 +1,20 @@
--- Orders in which a list has its items: ascending by a strict order, or as they first occur in another list.
+-- Orders in which a list has its items: ascending, or as they first occur in another list.
 use Rattle.std.specs.Prelude.{◌≡◌, List, [], ◌∷◌, ◌++◌, ◌⊎◌, refl}
 use Rattle.std.proofs.Common.{sym, ◌∙◌, ap, subst, inl, inr}
 use Rattle.std.proofs.lemmas.List.{append_assoc, append-nil}
 use Rattle.speedy_layout.specs.Members.{IsIn, AreDistinct, Ascends, ComesFirst, InFirstOrder, IsIn-middle}
 
--- nothing is less than itself, and what is less chains
-pub record IsStrictOrder {X : Type 0} (less : X → X → Type 0) : Type 0 where
-  pub irreflexive : (x : X) → less x x → ⊥
-  pub transitive : (x y z : X) → less x y → less y z → less x z
+-- of two, one at most is less than the other; so nothing is less than itself
+abbrev pub IsAsymmetric : {X : Type 0} → (X → X → Type 0) → Type 0
+IsAsymmetric {X = X} less = (x y : X) → less x y → less y x → ⊥
 
 -- ---- ascending lists
 
-module _ {X : Type 0} {less : X → X → Type 0} (order : IsStrictOrder less) where
+module _ {X : Type 0} {less : X → X → Type 0} (order : IsAsymmetric less) where
   -- an ascending list has no item twice
   pub Ascends-distinct : (xs : List X) → Ascends less xs → AreDistinct xs
   Ascends-distinct [] h = tt
-  Ascends-distinct (x ∷ xs) h = (λ k. order.irreflexive x (h.0 x k), Ascends-distinct xs h.1)
+  Ascends-distinct (x ∷ xs) h = (λ k. order x x (h.0 x k) (h.0 x k), Ascends-distinct xs h.1)
 
   -- ascending lists of the same items are the same
   pub same_ascending : (xs ys : List X) → Ascends less xs → Ascends less ys → ((x : X) → IsIn x xs → IsIn x ys)
@@ -27,13 +26,13 @@ module _ {X : Type 0} {less : X → X → Type 0} (order : IsStrictOrder less) w
       let first : x ≡ y =
       elim (there x (inl refl)) [
         | inl e ↦ e
-        | inr s ↦ elim (back y (inl refl)) [ inl e ↦ sym e | inr t ↦ absurd (order.irreflexive x (order.transitive x y x (h.0 y t) (k.0 x s))) ]
+        | inr s ↦ elim (back y (inl refl)) [ inl e ↦ sym e | inr t ↦ absurd (order x y (h.0 y t) (k.0 x s)) ]
       ]
       in
       let more =
       same_ascending xs ys h.1 k.1
-      (λ z s. elim (there z (inr s)) [ inl e ↦ absurd (order.irreflexive x (subst (less x) (e ∙ sym first) (h.0 z s))) | inr t ↦ t ])
-      (λ z s. elim (back z (inr s)) [ inl e ↦ absurd (order.irreflexive y (subst (less y) (e ∙ first) (k.0 z s))) | inr t ↦ t ])
+      (λ z s. elim (there z (inr s)) [ inl e ↦ absurd (let l = subst (less x) (e ∙ sym first) (h.0 z s) in order x x l l) | inr t ↦ t ])
+      (λ z s. elim (back z (inr s)) [ inl e ↦ absurd (let l = subst (less y) (e ∙ first) (k.0 z s) in order y y l l) | inr t ↦ t ])
       in
       cc
 

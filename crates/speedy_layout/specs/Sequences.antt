@@ -1,9 +1,9 @@
 -- One part after another, where the second may depend on what the first is.
-use Rattle.std.specs.Prelude.{◌≡◌, ℕ, ◌+◌, List, ◌++◌, length, Bool, true, false, IsTrue, ◌||◌, ◌⊎◌, refl}
+use Rattle.std.specs.Prelude.{◌≡◌, ℕ, ◌+◌, List, [], ◌++◌, length, Bool, true, false, IsTrue, ◌||◌, ◌⊎◌, refl}
 use Rattle.std.proofs.Common.{sym, ◌∙◌, ap, subst, arith, inl, inr}
 use Rattle.std.proofs.lemmas.List.{append_assoc, length-append}
 use Rattle.speedy_layout.specs.Format.{Asks, asks_nothing, either_asks, Format, Parts}
-use Rattle.speedy_layout.specs.Laws.{Laws}
+use Rattle.speedy_layout.specs.Laws.{Laws, Decided}
 
 -- what is asked no more than that
 pub record AsksAtMost (few many : Asks) : Type 0 where
@@ -72,6 +72,19 @@ second_decodes {U = U} {W = W} M strict m more s t r q p h e u same =
     subst (λ (u : U). (w : W u) → (M u).spells w t → let whole : (u : U) × W u = (u, w) in (p ≡ whole) × (s ≡ t) × (r ≡ q)) same
     (λ w k. let d = (more p.0).decodes p.1 w s t r q h k e in (ap (λ (x : W p.0). let whole : (u : U) × W u = (p.0, x) in whole) d.0, d.1, d.2))
 
+-- once the first parts are the same, it is decided whether the second parts are
+second_tells : {U : Type 0} {W : U → Type 0} (M : (u : U) → Format (W u)) (strict : Bool) (m : ℕ)
+    → ((u : U) → Laws strict m (M u)) → (s : List ℕ) (p : (u : U) × W u) → (M p.0).spells p.1 s
+    → (u : U) → p.0 ≡ u → (w : W u) (t : List ℕ) → (M u).spells w t
+    → let whole : (u : U) × W u = (u, w) in (p ≡ whole) ⊎ ((b : List ℕ) → (M p.0).spells p.1 b → (M u).spells w b → ⊥)
+second_tells {U = U} {W = W} M strict m more s p h u same =
+    subst (λ (u : U). (w : W u) (t : List ℕ) → (M u).spells w t → let whole : (u : U) × W u = (u, w) in (p ≡ whole) ⊎ ((b : List ℕ) → (M p.0).spells p.1 b → (M u).spells w b → ⊥)) same
+    (λ w t k.
+    elim ((more p.0).tells p.1 w s t h k) [
+      | inl e ↦ inl (ap (λ (x : W p.0). let whole : (u : U) × W u = (p.0, x) in whole) e)
+      | inr n ↦ inr (λ b g l. n (((more p.0).decodes p.1 w b b [] [] g l refl).0))
+    ])
+
 module _ {U V : Type 0} {W : U → Type 0} {split : V → (u : U) × W u} {L : Format U} {asks : Asks} {M : (u : U) → Format (W u)} {strict : Bool} {n m : ℕ} where
   -- the laws of two parts, one after the other
   pub sequence_laws : Laws strict n L → ((u : U) → Laws strict m (M u)) → ((u : U) → AsksAtMost (M u).asks asks)
@@ -83,6 +96,15 @@ module _ {U V : Type 0} {W : U → Type 0} {split : V → (u : U) × W u} {L : F
         let first = laws.decodes (split v).0 (split w).0 h.front k.front (h.back ++ r) (k.back ++ q) h.first_is k.first_is joined in
         let second = second_decodes M strict m more h.back k.back r q (split v) h.second_is first.2 (split w).0 first.0 (split w).1 k.second_is in
         (injective v w second.0, h.whole_is ∙ (let a = first.1 in let b = second.1 in (cc)) ∙ sym k.whole_is, second.2);
+    tells = λ v w s t h k.
+        elim (laws.tells (split v).0 (split w).0 h.front k.front h.first_is k.first_is) [
+          | inl same ↦
+              elim (second_tells M strict m more h.back (split v) h.second_is (split w).0 same (split w).1 k.back k.second_is) [
+                | inl e ↦ inl (injective v w e)
+                | inr n ↦ inr (λ e. apart v w s n h (subst (λ (x : V). Parts (L.spells (split x).0) ((M (split x).0).spells (split x).1) s) e h))
+              ]
+          | inr n ↦ inr (λ e. n (ap (λ (x : V). (split x).0) e))
+        ];
     written_spells = λ v b h. record {
       front = h.front;
       back = h.back;
@@ -135,7 +157,13 @@ module _ {U V : Type 0} {W : U → Type 0} {split : V → (u : U) × W u} {L : F
           | inl h ↦ laws.refuses_own kind h
           | inr h ↦ (more h.0).refuses_own kind h.1
         ];
-  }
+  } where
+    -- no bytes are those of two values whose first parts are the same and whose second ones are not
+    apart : (v w : V) (s : List ℕ) → ((b : List ℕ) → (M (split v).0).spells (split v).1 b → (M (split w).0).spells (split w).1 b → ⊥)
+        → Parts (L.spells (split v).0) ((M (split v).0).spells (split v).1) s → Parts (L.spells (split w).0) ((M (split w).0).spells (split w).1) s → ⊥
+    apart v w s n h k =
+        let first = laws.decodes (split v).0 (split w).0 h.front k.front h.back k.back h.first_is k.first_is (sym h.whole_is ∙ k.whole_is) in
+        n h.back h.second_is (subst ((M (split w).0).spells (split w).1) (sym first.2) k.second_is)
 
 -- values that can be put together again from their parts differ in their parts
 pub told_apart : {U V : Type 0} {W : U → Type 0} (split : V → (u : U) × W u) (join : (u : U) → W u → V)

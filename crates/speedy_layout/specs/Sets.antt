@@ -2,13 +2,12 @@
 use Rattle.std.specs.Prelude.{◌≡◌, ℕ, List, [], ◌∷◌, Bool, true, false, IsTrue, ◌↔◌, refl}
 use Rattle.std.proofs.Common.{sym, ◌∙◌, subst, inl, inr}
 use Rattle.speedy_base.specs.Encoding.{Encoding}
-use Rattle.speedy_layout.specs.Format.{Format}
+use Rattle.speedy_layout.specs.Format.{Format, Each}
 use Rattle.speedy_layout.specs.Laws.{Laws}
 use Rattle.speedy_layout.specs.Members.{IsIn, AreDistinct, Ascends, InFirstOrder}
-use Rattle.speedy_layout.specs.Orders.{IsStrictOrder, Ascends-distinct, same_ascending, own_first_order, same_first_order}
-use Rattle.speedy_layout.specs.Gathering.{IsGathering, gathered, gathered_laws}
-use Rattle.speedy_layout.specs.Equality.{TellsApart}
-use Rattle.speedy_layout.specs.SeenItems.{AreSeen, find_seen}
+use Rattle.speedy_layout.specs.Orders.{IsAsymmetric, Ascends-distinct, same_ascending, own_first_order, same_first_order}
+use Rattle.speedy_layout.specs.Gathering.{IsGathering, HasForms, gathered, gathered_laws, in_decided}
+use Rattle.speedy_layout.specs.SeenItems.{AreSeen}
 
 -- the two lists have the same items
 abbrev pub HasItems : {T : Type 0} → List T → List T → Type 0
@@ -52,13 +51,13 @@ module _ {T : Type 0} where
   pub own_tree_set : (less : T → T → Type 0) (xs : List T) → Ascends less xs → GathersToTreeSet less xs xs
   own_tree_set less xs h = (h, own_items xs)
 
-  pub tree_set_is : {less : T → T → Type 0} → IsStrictOrder less → IsGathering false (GathersToTreeSet less) (Ascends less)
+  pub tree_set_is : {less : T → T → Type 0} → IsAsymmetric less → IsGathering false (GathersToTreeSet less) (Ascends less)
   tree_set_is {less = less} order = record {
     one_thing = one_set;
     form_distinct = Ascends-distinct order;
     form_inside = λ items others xs d h k x s. (k.1 x).0 ((h.1 x).1 s);
-    has_form = λ items xs h. (xs, own_tree_set less xs h.0, h.0);
     one_form = λ _ items others xs d e h k. one_set items items xs (own_tree_set less items d) h ∙ one_set others xs others k (own_tree_set less others e);
+    one_hashed = λ e. absurd (cc);
   } where
     one_set : (items xs ys : List T) → GathersToTreeSet less items xs → GathersToTreeSet less items ys → xs ≡ ys
     one_set items xs ys h k = same_ascending order xs ys h.0 k.0 (HasItems-inside items xs ys h.1 k.1) (HasItems-inside items ys xs k.1 h.1)
@@ -72,8 +71,8 @@ module _ {T : Type 0} where
     one_thing = one_set;
     form_distinct = λ items d. d;
     form_inside = λ items others xs d h k x s. (k.1 x).0 ((h.1 x).1 s);
-    has_form = λ items xs h. (xs, own_index_set xs h.0, h.0);
     one_form = λ _ items others xs d e h k. one_set items items xs (own_index_set items d) h ∙ one_set others xs others k (own_index_set others e);
+    one_hashed = λ e. absurd (cc);
   } where
     one_set : (items xs ys : List T) → GathersToIndexSet items xs → GathersToIndexSet items ys → xs ≡ ys
     one_set items xs ys h k = same_first_order items xs ys h.0 k.0 (HasItems-inside items xs ys h.1 k.1) (HasItems-inside items ys xs k.1 h.1) h.2 k.2
@@ -84,53 +83,55 @@ same_test true b h = sym (h.0 refl)
 same_test false true h = h.1 refl
 same_test false false h = refl
 
--- items that an equality tells apart just as they are seen apart
-module _ {T A : Type 0} {seen : T → A} {eq : T → T → Bool} (same_key : TellsApart eq seen) where
-  -- the items of a list, each once
-  pub once : (xs : List A) → AreSeen seen xs → (kept : List A) × AreDistinct kept × HasItems xs kept
-  once [] are = ([], tt, λ x. (λ h. h, λ h. h))
-  once (a ∷ xs) are =
-      let rest = once xs (λ b h. are b (inr h)) in
-      let x = are a (inl refl) in
-      elim (find_seen same_key x.0 xs (λ b h. are b (inr h))) [
-        | inl h ↦ (
-          rest.0,
-          rest.1,
-          λ y. (
-            λ s. inr ((rest.2 y).0 s),
-            λ s. elim s [ inl e ↦ (rest.2 y).1 (subst (λ z. IsIn z xs) (x.1 ∙ sym e) h) | inr k ↦ (rest.2 y).1 k ],
-          ),
-        )
-        | inr h ↦ (
-          a ∷ rest.0,
-          (λ s. h (subst (λ z. IsIn z xs) (sym x.1) ((rest.2 a).0 s)), rest.1),
-          λ y. (
-            λ s. elim s [ inl e ↦ inl e | inr k ↦ inr ((rest.2 y).0 k) ],
-            λ s. elim s [ inl e ↦ inl e | inr k ↦ inr ((rest.2 y).1 k) ],
-          ),
-        )
-      ]
+-- the items of a list with a spelling, each once
+once : {A : Type 0} {strict : Bool} {n : ℕ} {L : Format A} → Laws strict n L → (xs : List A) (bytes : List ℕ) → Each L.spells xs bytes
+    → (kept : List A) × AreDistinct kept × HasItems xs kept
+once laws [] bytes h = ([], tt, λ x. (λ h. h, λ h. h))
+once laws (a ∷ xs) bytes h =
+    let rest = once laws xs h.back h.second_is in
+    elim (in_decided laws a xs h.front h.back h.first_is h.second_is) [
+      | inl again ↦ (
+        rest.0,
+        rest.1,
+        λ y. (
+          λ s. inr ((rest.2 y).0 s),
+          λ s. elim s [ inl e ↦ (rest.2 y).1 (subst (λ z. IsIn z xs) (sym e) again) | inr k ↦ (rest.2 y).1 k ],
+        ),
+      )
+      | inr absent ↦ (
+        a ∷ rest.0,
+        (λ s. absent ((rest.2 a).0 s), rest.1),
+        λ y. (
+          λ s. elim s [ inl e ↦ inl e | inr k ↦ inr ((rest.2 y).0 k) ],
+          λ s. elim s [ inl e ↦ inl e | inr k ↦ inr ((rest.2 y).1 k) ],
+        ),
+      )
+    ]
 
+module _ {T A : Type 0} {seen : T → A} where
   pub hash_set_is : IsGathering true (GathersToHashSet seen) AreDistinct
   hash_set_is = record {
     one_thing = λ items f g h k. λ i x. same_test (f x) (g x) (λ s. (k.1 x).1 ((h.1 x).0 s), λ s. (h.1 x).1 ((k.1 x).0 s)) i;
     form_distinct = λ items d. d;
     form_inside = λ items others f d h k a s. let x = h.0 a s in subst (λ b. IsIn b others) x.1 ((k.1 x.0).0 ((h.1 x.0).1 (subst (λ b. IsIn b items) (sym x.1) s)));
-    has_form = λ items f h.
-        let kept = once items h.0 in (
-          kept.0,
-          (λ a s. h.0 a ((kept.2 a).0 s), λ x. (λ s. (kept.2 (seen x)).1 ((h.1 x).0 s), λ s. (h.1 x).1 ((kept.2 (seen x)).0 s))),
-          kept.1,
-        );
     one_form = λ e. absurd (cc);
+    one_hashed = λ _ xs ys f g d e h k there back. λ i x. same_test (f x) (g x) (λ s. (k.1 x).1 (there (seen x) ((h.1 x).0 s)), λ s. (h.1 x).1 (back (seen x) ((k.1 x).0 s))) i;
   }
 
-module _ {A : Type 0} {n : ℕ} {L : Format A} (encoding : Encoding) (laws : Laws encoding.strict n L) where
-  pub tree_set_laws : {less : A → A → Type 0} → IsStrictOrder less → Laws encoding.strict 4 (tree_set encoding less L)
-  tree_set_laws order = gathered_laws encoding laws (tree_set_is order)
+  hash_set_forms : {strict : Bool} {n : ℕ} {L : Format A} → Laws strict n L → HasForms L (GathersToHashSet seen) AreDistinct
+  hash_set_forms laws items bytes f spelled h =
+      let kept = once laws items bytes spelled in (
+        kept.0,
+        (λ a s. h.0 a ((kept.2 a).0 s), λ x. (λ s. (kept.2 (seen x)).1 ((h.1 x).0 s), λ s. (h.1 x).1 ((kept.2 (seen x)).0 s))),
+        kept.1,
+      )
 
-  pub hash_set_laws : {T : Type 0} {seen : T → A} {eq : T → T → Bool} → TellsApart eq seen → Laws encoding.strict 4 (hash_set encoding seen L)
-  hash_set_laws same_key = gathered_laws encoding laws (hash_set_is same_key)
+module _ {A : Type 0} {n : ℕ} {L : Format A} (encoding : Encoding) (laws : Laws encoding.strict n L) where
+  pub tree_set_laws : {less : A → A → Type 0} → IsAsymmetric less → Laws encoding.strict 4 (tree_set encoding less L)
+  tree_set_laws {less = less} order = gathered_laws encoding laws (tree_set_is order) (λ items bytes xs spelled h. (xs, own_tree_set less xs h.0, h.0))
+
+  pub hash_set_laws : {T : Type 0} (seen : T → A) → Laws encoding.strict 4 (hash_set encoding seen L)
+  hash_set_laws seen = gathered_laws encoding laws hash_set_is (hash_set_forms laws)
 
   pub index_set_laws : Laws encoding.strict 4 (index_set encoding L)
-  index_set_laws = gathered_laws encoding laws index_set_is
+  index_set_laws = gathered_laws encoding laws index_set_is (λ items bytes xs spelled h. (xs, own_index_set xs h.0, h.0))

@@ -15,7 +15,7 @@ use Rattle.std.specs.BTreeMap.{BTreeMap}
 use Rattle.std.specs.HashMap.{HashMap}
 use Rattle.speedy_layout.specs.Equality.{TellsApart}
 use Rattle.speedy_layout.specs.Collections.{HasLast, HasLastValues, IsTreeMapOf, IsHashMapOf}
-use Rattle.speedy_layout.specs.SeenItems.{AreSeen, IsLess, seen_order, cmp_tells_apart, item_seen, items_are_seen, differs, unique_seen, sorted_ascend}
+use Rattle.speedy_layout.specs.SeenItems.{AreSeen, IsLess, less_is_asymmetric, cmp_tells_apart, item_seen, items_are_seen, differs, unique_seen, sorted_ascend}
 use Rattle.speedy_layout.specs.Maps.{seen_pair, by_key, HasLasts, Ascends-distinct_keys, HasDistinctKeys, own_lasts, own_tree_map, GathersToTreeMap, GathersToHashMap, Ascends-by_key}
 
 -- what is seen of pairs
@@ -184,21 +184,20 @@ module _ {K V A B H : Type 0} {seen : K → A} {eq : K → K → Bool} (value : 
 
 -- ---- `BTreeMap`
 
-module _ {K V A B : Type 0} (seen : K → A) (value : V → B) (cmp : K → K → Ordering) where
-  -- keys that ascend are seen to ascend
-  pub sorted_pairs_ascend : (es : List (K × V)) → IsStrictlySortedBy cmp (keys_of es) → Ascends (by_key (IsLess seen cmp)) (seen_pairs seen value es)
-  sorted_pairs_ascend es h = Ascends-by_key (IsLess seen cmp) (seen_pairs seen value es) (subst (λ ks. Ascends (IsLess seen cmp) ks) (sym (keys_seen seen value es)) (sorted_ascend seen cmp (keys_of es) h))
-
 module _ {K V A B : Type 0} {seen : K → A} {cmp : K → K → Ordering} {eq : K → K → Bool} (value : V → B)
     (same_key : TellsApart eq seen) (total : IsTotalOrder cmp) (matches_eq : (x y : K) → eq x y ≡ eq_by_cmp cmp x y) where
+  -- keys that ascend are seen to ascend
+  pub sorted_pairs_ascend : (es : List (K × V)) → IsStrictlySortedBy cmp (keys_of es) → Ascends (by_key (IsLess seen cmp)) (seen_pairs seen value es)
+  sorted_pairs_ascend es h = Ascends-by_key (IsLess seen cmp) (seen_pairs seen value es) (subst (λ ks. Ascends (IsLess seen cmp) ks) (sym (keys_seen seen value es)) (sorted_ascend (cmp_tells_apart cmp same_key matches_eq) total (keys_of es) h))
+
   -- the map of a list is what its pairs gather to
   pub tree_map_seen : (xs : List (K × V)) (m : BTreeMap K V) → IsTreeMapOf cmp xs m
       → GathersToTreeMap (IsLess seen cmp) (seen_pairs seen value xs) (seen_pairs seen value m.entries)
   tree_map_seen xs m h =
-      let ascends = sorted_pairs_ascend seen value cmp m.entries h.1 in (
+      let ascends = sorted_pairs_ascend m.entries h.1 in (
         ascends,
         found_lasts seen value (cmp_tells_apart cmp same_key matches_eq) xs m.entries
-            (Ascends-distinct_keys (seen_order same_key total matches_eq) (seen_pairs seen value m.entries) ascends)
+            (Ascends-distinct_keys (less_is_asymmetric seen cmp) (seen_pairs seen value m.entries) ascends)
             h.0,
       )
 
@@ -206,5 +205,5 @@ module _ {K V A B : Type 0} {seen : K → A} {cmp : K → K → Ordering} {eq : 
   pub tree_map_entries : (m : BTreeMap K V) → tree.IsOrdered cmp m
       → GathersToTreeMap (IsLess seen cmp) (seen_pairs seen value m.entries) (seen_pairs seen value m.entries) × Ascends (by_key (IsLess seen cmp)) (seen_pairs seen value m.entries)
   tree_map_entries m h =
-      let ascends = sorted_pairs_ascend seen value cmp m.entries h in
-      (own_tree_map (seen_order same_key total matches_eq) (seen_pairs seen value m.entries) ascends, ascends)
+      let ascends = sorted_pairs_ascend m.entries h in
+      (own_tree_map (less_is_asymmetric seen cmp) (seen_pairs seen value m.entries) ascends, ascends)

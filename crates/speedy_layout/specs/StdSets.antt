@@ -3,6 +3,7 @@ use Rattle.std.specs.Prelude.{◌≡◌, List, [], ◌∷◌, map, Bool, true, f
 use Rattle.std.proofs.Common.{sym, ◌∙◌, subst, inl, inr}
 use Rattle.std.specs.declared.cmp.Ordering.{Ordering}
 use Rattle.std.specs.Ordering.{eq_by_cmp}
+use Rattle.std.specs.Cmp.{IsTotalOrder}
 use Rattle.std.specs.Set.{is_member}
 use Rattle.std.specs.BTreeSet as tree
 use Rattle.std.specs.HashSet as hash
@@ -55,17 +56,15 @@ module _ {T A H : Type 0} {seen : T → A} {eq : T → T → Bool} (same_key : T
 
 -- ---- `BTreeSet`
 
-module _ {T A : Type 0} (seen : T → A) (cmp : T → T → Ordering) where
+module _ {T A : Type 0} {seen : T → A} {cmp : T → T → Ordering} {eq : T → T → Bool} (same_key : TellsApart eq seen) (total : IsTotalOrder cmp)
+    (matches_eq : (x y : T) → eq x y ≡ eq_by_cmp cmp x y) where
   -- its items in their order are its form
   pub tree_set_items : (s : BTreeSet T) → tree.IsOrdered cmp s
       → GathersToTreeSet (IsLess seen cmp) (map seen s.keys) (map seen s.keys) × Ascends (IsLess seen cmp) (map seen s.keys)
-  tree_set_items s h = let ascends = sorted_ascend seen cmp s.keys h in (own_tree_set (IsLess seen cmp) (map seen s.keys) ascends, ascends)
+  tree_set_items s h = let ascends = sorted_ascend (cmp_tells_apart cmp same_key matches_eq) total s.keys h in (own_tree_set (IsLess seen cmp) (map seen s.keys) ascends, ascends)
 
--- the set of a list is what its items gather to
-pub tree_set_seen : {T A : Type 0} {seen : T → A} {eq : T → T → Bool} (cmp : T → T → Ordering) → TellsApart eq seen
-    → ((x y : T) → eq x y ≡ eq_by_cmp cmp x y) → (xs : List T) (s : BTreeSet T) → IsTreeSetOf cmp xs s
-    → GathersToTreeSet (IsLess seen cmp) (map seen xs) (map seen s.keys)
-tree_set_seen {seen = seen} cmp same_key matches_eq xs s h = (
-  sorted_ascend seen cmp s.keys h.1,
-  found_items seen (cmp_tells_apart cmp same_key matches_eq) xs s.keys h.0,
-)
+  -- the set of a list is what its items gather to
+  pub tree_set_seen : (xs : List T) (s : BTreeSet T) → IsTreeSetOf cmp xs s → GathersToTreeSet (IsLess seen cmp) (map seen xs) (map seen s.keys)
+  tree_set_seen xs s h =
+      let tells = cmp_tells_apart cmp same_key matches_eq in
+      (sorted_ascend tells total s.keys h.1, found_items seen tells xs s.keys h.0)

@@ -1,5 +1,5 @@
 -- Variable length integers: numbers below 2 ^ 64 in one to nine bytes, the same in both byte orders.
-use Rattle.std.specs.Prelude.{◌≡◌, ℕ, zero, suc, ◌+◌, ◌-◌, ◌*◌, ◌/◌, ◌%◌, ◌^◌, ◌<◌, ◌≤◌, List, [], ◌∷◌, ◌++◌, length, refl, IsTrue}
+use Rattle.std.specs.Prelude.{◌≡◌, ℕ, zero, suc, ◌+◌, ◌-◌, ◌*◌, ◌/◌, ◌%◌, ◌^◌, ◌<◌, ◌≤◌, List, [], ◌∷◌, ◌++◌, length, refl, IsTrue, false}
 use Rattle.std.proofs.Common.{sym, ◌∙◌, ap, ap₂, subst, inl, inr, lit<, arith}
 use Rattle.std.proofs.Math.Nat.{pow-suc, one-le-pow}
 use Rattle.std.proofs.Math.Pow.{pow_mono}
@@ -197,6 +197,11 @@ pub prefixed_digits_laws : (encoding : Encoding) → Laws encoding.strict 1 (pre
 prefixed_digits_laws encoding =
     sequence_laws {n = 1} {m = 0} (first_byte_laws encoding) (λ p. Laws-less (omega arith) (unsigned_number_laws p.0 (low_first encoding))) (prefixed_asks encoding) (λ v w e. e)
 
+-- no part of it is hashed
+prefixed_unhashed : (encoding : Encoding) → (prefixed_digits encoding).asks.hashed ≡ false
+unfolding sequence coding unsigned_number
+prefixed_unhashed encoding = refl
+
 -- a first byte and its digits, as they are written
 pub prefixed_written : (encoding : Encoding) (k low rest first : ℕ) (tail : List ℕ) → IsFirstByte k low first
     → SpellsNumber k LittleEndian rest tail → (prefixed_digits encoding).writes ((k, low), rest) (first ∷ tail)
@@ -255,6 +260,7 @@ varint_is_code encoding = record {
   one_chosen = λ _ p q n h k.
       let same = IsFewest-same p.0.0 q.0.0 n h.0 k.0 in
       chosen_is p n h ∙ (ap (code_of n) same ∙ sym (chosen_is q n k));
+  tells = λ e. absurd (let u = prefixed_unhashed encoding in (cc));
   chosen_means = λ p n h. sym (ap₂ (λ (a b : ℕ). a * 256 ^ p.0.0 + b) h.1 h.2 ∙ div-add-mod' n (256 ^ p.0.0));
   has_chosen = λ n bytes h.
       let is = prefixed-is encoding h.code bytes h.code_is in

@@ -1,7 +1,7 @@
 //! The layout of maps.
 ghost use Rattle.std.specs.Prelude.{List, map, Option, option_map};
 ghost use Rattle.std.specs.HashMap.{get};
-ghost use Rattle.speedy_layout.specs.SeenItems.{IsLess, seen_order};
+ghost use Rattle.speedy_layout.specs.SeenItems.{IsLess, less_is_asymmetric};
 ghost use Rattle.speedy_layout.specs.Maps.{seen_pair, tree_map, tree_map_laws, hash_map, hash_map_laws, index_map, index_map_laws};
 
 use crate::layout::Layout;
@@ -20,7 +20,7 @@ impl<K: SameKey + Ord, V: Layout> Layout for BTreeMap<K, V> {
     ghost least = { 4 };
 
     ghost layout_laws = { λ f. tree_map_laws f (K.layout_laws f) (V.layout_laws f)
-        (seen_order K.same_key K.total K.matches_eq) };
+        (less_is_asymmetric K.seen K.cmp) };
 }
 
 impl<K: SameKey + Hash, V: Layout, S: BuildHasher> Layout for HashMap<K, V, S> {
@@ -32,7 +32,7 @@ impl<K: SameKey + Hash, V: Layout, S: BuildHasher> Layout for HashMap<K, V, S> {
 
     ghost least = { 4 };
 
-    ghost layout_laws = { λ f. hash_map_laws f (K.layout_laws f) (V.layout_laws f) K.same_key };
+    ghost layout_laws = { λ f. hash_map_laws f (K.layout_laws f) (V.layout_laws f) K.seen };
 }
 
 impl<K: SameKey + Hash, V: Layout, S: BuildHasher> Layout for IndexMap<K, V, S> {

@@ -1,7 +1,7 @@
 //! The layout of sets.
 ghost use Rattle.std.specs.Prelude.{List, map, Bool};
 ghost use Rattle.std.specs.HashSet.{contains};
-ghost use Rattle.speedy_layout.specs.SeenItems.{IsLess, seen_order};
+ghost use Rattle.speedy_layout.specs.SeenItems.{IsLess, less_is_asymmetric};
 ghost use Rattle.speedy_layout.specs.Sets.{tree_set, tree_set_laws, hash_set, hash_set_laws, index_set, index_set_laws};
 
 use crate::layout::Layout;
@@ -20,7 +20,7 @@ impl<T: SameKey + Ord> Layout for BTreeSet<T> {
     ghost least = { 4 };
 
     ghost layout_laws = { λ f. tree_set_laws f (T.layout_laws f)
-        (seen_order T.same_key T.total T.matches_eq) };
+        (less_is_asymmetric T.seen T.cmp) };
 }
 
 impl<T: SameKey + Hash, S: BuildHasher> Layout for HashSet<T, S> {
@@ -32,7 +32,7 @@ impl<T: SameKey + Hash, S: BuildHasher> Layout for HashSet<T, S> {
 
     ghost least = { 4 };
 
-    ghost layout_laws = { λ f. hash_set_laws f (T.layout_laws f) T.same_key };
+    ghost layout_laws = { λ f. hash_set_laws f (T.layout_laws f) T.seen };
 }
 
 impl<T: SameKey + Hash, S: BuildHasher> Layout for IndexSet<T, S> {
