@@ -14,6 +14,7 @@ pub use Rattle.speedy_base.specs.SignedLemmas
 pub use Rattle.speedy_layout.specs.Adding
 pub use Rattle.speedy_layout.specs.Addresses
 pub use Rattle.speedy_layout.specs.Cases
+pub use Rattle.speedy_layout.specs.Codecs
 pub use Rattle.speedy_layout.specs.Codes
 pub use Rattle.speedy_layout.specs.Collecting
 pub use Rattle.speedy_layout.specs.Collections
@@ -27,7 +28,6 @@ pub use Rattle.speedy_layout.specs.Format
 pub use Rattle.speedy_layout.specs.GatheredLemmas
 pub use Rattle.speedy_layout.specs.Gathering
 pub use Rattle.speedy_layout.specs.Equality
-pub use Rattle.speedy_layout.specs.Keys
 pub use Rattle.speedy_layout.specs.Laws
 pub use Rattle.speedy_layout.specs.Leaves
 pub use Rattle.speedy_layout.specs.Lists
@@ -44,7 +44,6 @@ pub use Rattle.speedy_layout.specs.Sequences
 pub use Rattle.speedy_layout.specs.Sets
 pub use Rattle.speedy_layout.specs.Tags
 pub use Rattle.speedy_layout.specs.Texts
-pub use Rattle.speedy_layout.specs.TupleLaws
 pub use Rattle.speedy_layout.specs.Tuples
 pub use Rattle.speedy_layout.specs.Utf8
 pub use Rattle.speedy_layout.specs.Varint

@@ -18,9 +18,9 @@ fn read_written<'a, C: Context, T: Readable<'a, C>>(
     context: C,
     bytes: &'a [u8],
 ) -> Result<T, C::Error>
-    ensures same { (v : T.Seen) → (T.format (C.encoding context)).writes v bytes.now
+    ensures same { (v : T.Seen) → (T.layout.format (C.encoding context)).writes v bytes.now
         → IfOk result (λ x. T.seen x ≡ v) }
-    ensures refused { (v : T.Seen) → (T.format (C.encoding context)).writes v bytes.now
+    ensures refused { (v : T.Seen) → (T.layout.format (C.encoding context)).writes v bytes.now
         → IfErr result (C.Error.from_gives (error_of ErrorKind.OutOfMemory)) }
 {
     written_is_answered::<T, C>();
@@ -34,10 +34,10 @@ fn read_front<'a, C: Context, T: ReadFrom<&'a [u8], C>>(
     bytes: &'a [u8],
 ) -> Result<(T, usize), C::Error>
     ensures same { (v : T.Seen) (front rest : List ℕ) →
-        (T.format (C.encoding context)).writes v front → bytes.now ≡ front ++ rest
+        (T.layout.format (C.encoding context)).writes v front → bytes.now ≡ front ++ rest
         → IfOk result (λ x. (T.seen x.0 ≡ v) × (x.1 ≡ count rest)) }
     ensures refused { (v : T.Seen) (front rest : List ℕ) →
-        (T.format (C.encoding context)).writes v front → bytes.now ≡ front ++ rest
+        (T.layout.format (C.encoding context)).writes v front → bytes.now ≡ front ++ rest
         → IfErr result (C.Error.from_gives (error_of ErrorKind.OutOfMemory)) }
 {
     written_is_read::<T, C>();

@@ -21,8 +21,7 @@ use Rattle.speedy.specs.Owned.{owned_content, borrowed_content}
 use Rattle.speedy.specs.Reading.{ReaderState, IsTold, IsEnd}
 use Rattle.speedy.specs.Sequences.{sequence}
 use Rattle.speedy.specs.Texts.{raw_bytes, text_of_length, text, text_laws}
-use Rattle.speedy.specs.TupleLaws.{tuple2_laws}
-use Rattle.speedy.specs.Tuples.{pair}
+use Rattle.speedy.specs.Tuples.{pair, pair_laws}
 use Rattle.speedy.specs.WaysOfReading.{AnswersBuffer}
 use Rattle.speedy_examples.specs.Callers.{itself, IsFailure}
 
@@ -40,9 +39,7 @@ abbrev pub message : Format Message
 message = message_in (plain_encoding LittleEndian)
 
 pub message_laws : (encoding : Encoding) → Laws encoding.strict 6 (message_in encoding)
-message_laws encoding = tuple2_laws unsigned2 text_laws encoding where
-  unsigned2 : (f : Encoding) → Laws f.strict 2 (unsigned_number 2 f)
-  unsigned2 = unsigned_number_laws 2
+message_laws encoding = pair_laws (unsigned_number_laws 2 encoding) (text_laws encoding)
 
 pub message_lends_nothing : (encoding : Encoding) → (message_in encoding).asks.lending ≡ false
 unfolding sequence unsigned_number text

@@ -2,11 +2,11 @@
 use Rattle.std.specs.Prelude.{◌≡◌, ℕ, List, refl}
 use Rattle.std.proofs.Common.{inl, inr}
 use Rattle.speedy.specs.Cases.{Cases, case, no_case, Chosen, AnyCase, any_case, IsChoice, choice, case_laws, no_case_laws}
-use Rattle.speedy.specs.Lists.{list, list_laws}
-use Rattle.speedy.specs.Numbers.{unsigned_number, unsigned_number_laws}
-use Rattle.speedy.specs.Texts.{text, text_laws}
-use Rattle.speedy.specs.TupleLaws.{tuple2_laws}
-use Rattle.speedy.specs.Tuples.{unit, unit_laws, pair}
+use Rattle.speedy.specs.Codecs.{list_codec, pair_codec, text_codec, unit_codec, unsigned_codec}
+use Rattle.speedy.specs.Lists.{list}
+use Rattle.speedy.specs.Numbers.{unsigned_number}
+use Rattle.speedy.specs.Texts.{text}
+use Rattle.speedy.specs.Tuples.{unit, pair}
 use Rattle.speedy.specs.declared.one_of.OneOf3.{OneOf3}
 
 -- the numbers, and what stands behind each; the number has one byte
@@ -34,5 +34,5 @@ back (OneOf3.Second x) = refl
 back (OneOf3.Third x) = refl
 
 pub chosen : IsChoice cases split
-chosen = choice split join (case_laws 1 (λ _. unit_laws) (case_laws 5 (λ f. list_laws f (unsigned_number_laws 1 f))
-    (case_laws 9 (tuple2_laws text_laws (unsigned_number_laws 4)) (no_case_laws 1)))) back
+chosen = choice split join (case_laws 1 unit_codec.laws (case_laws 5 (list_codec (unsigned_codec 1)).laws
+    (case_laws 9 (pair_codec text_codec (unsigned_codec 4)).laws (no_case_laws 1)))) back

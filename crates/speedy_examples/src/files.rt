@@ -14,9 +14,9 @@ use std::fs::{File, Files, OpenOptions};
 
 /// Puts a record behind all that the sink has taken, and sees that none of it waits.
 pub fn put_record<S: Sink>(alloc: Global, sink: &mut S, entry: &(u16, String)) -> Result<(), Error>
-    ensures { let layout = ⟦<(u16, String) as Layout>⟧ in
-        let format = layout.format (plain_encoding Endianness.LittleEndian) in
-        WritesAndFlushes ⟦<Error as From<Error>>⟧.from_gives format (layout.seen entry.now) result
+    ensures { let it = ⟦<(u16, String) as Layout>⟧ in
+        let format = it.layout.format (plain_encoding Endianness.LittleEndian) in
+        WritesAndFlushes ⟦<Error as From<Error>>⟧.from_gives format (it.seen entry.now) result
         (S.sink sink.old) (S.sink sink.new) }
 {
     write_to_stream_and_flush_with_ctx(entry, alloc, LittleEndian {}, sink)
@@ -29,9 +29,9 @@ pub fn append_record<R: Files>(
     path: &str,
     entry: &(u16, String),
 ) -> Result<(), Error>
-    ensures { let layout = ⟦<(u16, String) as Layout>⟧ in
-        let format = layout.format (plain_encoding Endianness.LittleEndian) in
-        WritesToFile ⟦<Error as From<Error>>⟧.from_gives format (layout.seen entry.now) result }
+    ensures { let it = ⟦<(u16, String) as Layout>⟧ in
+        let format = it.layout.format (plain_encoding Endianness.LittleEndian) in
+        WritesToFile ⟦<Error as From<Error>>⟧.from_gives format (it.seen entry.now) result }
 {
     match OpenOptions::new().append(true).create(true).open(rt, path) {
         Ok(file) => put_record(alloc, &mut Counted::new(file), entry),
@@ -45,10 +45,10 @@ pub fn read_records<R: Files>(
     alloc: Global,
     path: &str,
 ) -> Result<Vec<(u16, String)>, Error>
-    ensures { let layout = ⟦<(u16, String) as Layout>⟧ in
-        let format = layout.format (plain_encoding Endianness.LittleEndian) in
+    ensures { let it = ⟦<(u16, String) as Layout>⟧ in
+        let format = it.layout.format (plain_encoding Endianness.LittleEndian) in
         MatchResult result (λ records. (bytes : List ℕ)
-        × Each format.spells (map layout.seen records.items) bytes)
+        × Each format.spells (map it.seen records.items) bytes)
         (λ e. IsFailure e ⊎ IsRefusal format e) }
 {
     match File::open(rt, path) {

@@ -1,20 +1,17 @@
 //! A fixed header: a magic number, a version, and a length.
 ghost use Rattle.std.specs.Prelude.{◌≡◌, ◌<◌, ◌++◌, ℕ, List, codes, length, map, IfOk, OnOk, IsErrAnd, IsTrue};
 ghost use Rattle.speedy.specs.Buffers.{bytes_state};
+ghost use Rattle.speedy.specs.Codecs.{constant_codec, pair_codec, unsigned_codec, varint_codec};
 ghost use Rattle.speedy.specs.Encoding.{plain_encoding};
 ghost use Rattle.speedy.specs.Error.{is_eof_error};
 ghost use Rattle.speedy.specs.Format.{Each};
-ghost use Rattle.speedy.specs.Numbers.{unsigned_number, unsigned_number_laws};
-ghost use Rattle.speedy.specs.Texts.{constant_bytes, constant_bytes_laws};
-ghost use Rattle.speedy.specs.Tuples.{pair, pair_laws};
 ghost use Rattle.speedy.specs.UntilEnd.{ReadsUntilEnd};
-ghost use Rattle.speedy.specs.Varint.{varint, varint_laws};
 
 use speedy::private::{read_constant, read_length_u64_varint, write_length_u64_varint};
 use speedy::readable::BufferReader;
 use speedy::{
     Context, Endianness, Error, ItemByItem, Layout, LendingReader, LittleEndian, ReadFrom,
-    ReadMany, Writable, Writer,
+    Writable, Writer,
 };
 use std::alloc::Global;
 use std::convert::AsSlice;
@@ -34,15 +31,12 @@ impl Layout for Header {
 
     ghost seen = { λ header. (codes "REC1", (header.version, header.length)) };
 
-    ghost format = { λ f. pair (constant_bytes f (codes "REC1")) (pair (unsigned_number 2 f) (varint f)) };
-
-    ghost least = { 7 };
-
-    ghost layout_laws = { λ f. pair_laws (constant_bytes_laws f (codes "REC1"))
-        (pair_laws (unsigned_number_laws 2 f) (varint_laws f)) };
+    ghost layout = { pair_codec (constant_codec (codes "REC1")) (pair_codec (unsigned_codec 2) varint_codec) };
 }
 
 impl<L: AsSlice<u8> + Drop, C: Context> ReadFrom<L, C> for Header {
+    type Strategy = ItemByItem<C>;
+
     fn read_from<R: LendingReader<L, C>>(reader: &mut R) -> Result<Header, C::Error> {
         read_constant(reader, MAGIC)?;
         let version = reader.read_u16()?;
@@ -53,10 +47,6 @@ impl<L: AsSlice<u8> + Drop, C: Context> ReadFrom<L, C> for Header {
     fn minimum_bytes_needed() -> usize {
         7
     }
-}
-
-impl<L: AsSlice<u8> + Drop, C: Context> ReadMany<L, C> for Header {
-    type Strategy = ItemByItem<C>;
 }
 
 impl<C: Context> Writable<C> for Header {
@@ -79,15 +69,15 @@ pub fn begins_header(alloc: Global, bytes: &[u8]) -> Result<(), Error>
 
 /// The records of a log, at most so many, without a last one that was cut short.
 pub fn read_log(alloc: Global, bytes: &[u8], greatest: usize) -> Result<Vec<(u16, String)>, Error>
-    ensures records { let layout = ⟦<(u16, String) as Layout>⟧ in
-        let format = layout.format (plain_encoding Endianness.LittleEndian) in
+    ensures records { let it = ⟦<(u16, String) as Layout>⟧ in
+        let format = it.layout.format (plain_encoding Endianness.LittleEndian) in
         IfOk result (λ records. (front : List ℕ) × (rest : List ℕ)
-        × Each format.spells (map layout.seen records.items) front × (bytes.now ≡ front ++ rest)) }
+        × Each format.spells (map it.seen records.items) front × (bytes.now ≡ front ++ rest)) }
     // No record begins the rest, and an error says why there are no records.
-    ensures until_end { let layout = ⟦<(u16, String) as Layout>⟧ in
+    ensures until_end { let it = ⟦<(u16, String) as Layout>⟧ in
         let encoding = plain_encoding Endianness.LittleEndian in
-        (left : List ℕ) × ReadsUntilEnd ⟦<Error as From<Error>>⟧.from_gives is_eof_error layout.seen
-        (λ items records. records.items ≡ items) (layout.format encoding) greatest result
+        (left : List ℕ) × ReadsUntilEnd ⟦<Error as From<Error>>⟧.from_gives is_eof_error it.seen
+        (λ items records. records.items ≡ items) (it.layout.format encoding) greatest result
         (bytes_state bytes.now encoding) (bytes_state left encoding) }
 {
     let mut reader = BufferReader::new(alloc, LittleEndian {}, bytes);

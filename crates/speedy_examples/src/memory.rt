@@ -28,8 +28,8 @@ pub fn again(
 ) -> Result<Option<String>, Error>
     ensures same { let seen = ⟦<Option<String> as Layout>⟧.seen in
         IfOk result (λ x. seen x ≡ seen value.now) }
-    ensures refused { let layout = ⟦<Option<String> as Layout>⟧ in
-        HasEncoding (layout.format (plain_encoding order)) (layout.seen value.now)
+    ensures refused { let it = ⟦<Option<String> as Layout>⟧ in
+        HasEncoding (it.layout.format (plain_encoding order)) (it.seen value.now)
         → IsOkUnless result (error_of ErrorKind.OutOfMemory) }
 {
     written_is_answered::<Option<String>, Endianness>();
@@ -47,7 +47,7 @@ pub fn again_in<'a, C: Context + Copy, T: Writable<C> + Readable<'a, C>>(
 ) -> Result<T, C::Error>
     ensures same { IfOk result (λ x. T.seen x ≡ T.seen value.now) }
     ensures refused { (bytes : List ℕ) →
-        (T.format (C.encoding context)).writes (T.seen value.now) bytes
+        (T.layout.format (C.encoding context)).writes (T.seen value.now) bytes
         → count bytes < 2 ^ 64 - 1 → count bytes ≤ count buffer.old
         → IfErr result (C.Error.from_gives (error_of ErrorKind.OutOfMemory)) }
 {
@@ -64,7 +64,7 @@ pub fn again_owned<T: Writable<Endianness> + ReadableOwned<Endianness>>(
     value: &T,
 ) -> Result<T, Error>
     ensures same { IfOk result (λ x. T.seen x ≡ T.seen value.now) }
-    ensures refused { HasEncoding (T.format (plain_encoding order)) (T.seen value.now)
+    ensures refused { HasEncoding (T.layout.format (plain_encoding order)) (T.seen value.now)
         → IsOkUnless result (error_of ErrorKind.OutOfMemory) }
 {
     written_is_answered::<T, Endianness>();
@@ -78,8 +78,8 @@ pub fn load<L: Buffer<Endianness>, T: ReadFrom<L, Endianness>>(
     order: Endianness,
     bytes: L,
 ) -> Result<T, Error>
-    ensures { (size : ℕ) × AnswersBuffer ⟦<Error as From<Error>>⟧.from_gives is_eof_error T.seen T.least
-        (T.format (plain_encoding order)) result size (L.items bytes) }
+    ensures { (size : ℕ) × AnswersBuffer ⟦<Error as From<Error>>⟧.from_gives is_eof_error T.seen T.layout.least
+        (T.layout.format (plain_encoding order)) result size (L.items bytes) }
 {
     bytes.read_front(alloc, order)
 }
@@ -90,15 +90,15 @@ pub fn read_slice<L: AsSlice<u8> + Drop, C: Context, R: LendingReader<L, C>, T: 
     reader: &mut R,
     length: usize,
 ) -> Result<Vec<T>, C::Error>
-    ensures reads { let format = vector length (T.format (R.state reader.old).encoding) in
+    ensures reads { let format = vector length (T.layout.format (R.state reader.old).encoding) in
         Reads C.Error.from_gives C.Error.eof (λ v. map T.seen v.items) format result
         (R.state reader.old) (R.state reader.new) }
     ensures written { let before = R.state reader.old in
         (items : List T.Seen) (bytes rest : List ℕ) →
-        Each (T.format before.encoding).writes items bytes → length ≡ count items
+        Each (T.layout.format before.encoding).writes items bytes → length ≡ count items
         → IsTrue before.fixed.tells → before.to_come ≡ bytes ++ rest
         → ReadsWritten C.Error.from_gives C.Error.eof (λ v. map T.seen v.items)
-        (vector length (T.format before.encoding)) items rest result before (R.state reader.new) }
+        (vector length (T.layout.format before.encoding)) items rest result before (R.state reader.new) }
 {
     written_items_are_read::<T, C>();
     reader.read_vec(length)
@@ -107,12 +107,12 @@ pub fn read_slice<L: AsSlice<u8> + Drop, C: Context, R: LendingReader<L, C>, T: 
 /// Reads a value from a prefix of a buffer and writes it again. The context reads only canonical encodings, so these are
 /// the very bytes that were read. If a prefix is one, the only error is out of memory.
 pub fn again_the_same_bytes(alloc: Global, bytes: &[u8]) -> Result<Vec<u8>, Error>
-    ensures same { let layout = ⟦<Option<String> as Layout>⟧ in
-        let format = layout.format (strict_encoding Endianness.LittleEndian) in
-        IfOk result (λ written. (value : layout.Seen) × (rest : List ℕ)
+    ensures same { let it = ⟦<Option<String> as Layout>⟧ in
+        let format = it.layout.format (strict_encoding Endianness.LittleEndian) in
+        IfOk result (λ written. (value : it.Seen) × (rest : List ℕ)
         × format.spells value written.items × (bytes.now ≡ written.items ++ rest)) }
-    ensures refused { let layout = ⟦<Option<String> as Layout>⟧ in
-        HasFront (layout.format (strict_encoding Endianness.LittleEndian)) bytes.now
+    ensures refused { let it = ⟦<Option<String> as Layout>⟧ in
+        HasFront (it.layout.format (strict_encoding Endianness.LittleEndian)) bytes.now
         → IsOkUnless result (error_of ErrorKind.OutOfMemory) }
 {
     written_form_alone::<Option<String>>();

@@ -1,16 +1,12 @@
 //! Enums whose tags are numbers of their own, in one byte: one without parts, and one with.
 ghost use Rattle.std.specs.Prelude.{◌≡◌, ◌⊎◌, ℕ};
-ghost use Rattle.speedy.specs.Cases.{tagged, tagged_laws};
-ghost use Rattle.speedy.specs.Codes.{subset, subset_laws};
-ghost use Rattle.speedy.specs.Numbers.{unsigned_number, unsigned_number_laws};
+ghost use Rattle.speedy.specs.Codecs.{subset_codec, tagged_codec, unsigned_codec};
 ghost use Rattle.speedy.specs.declared.error.ErrorKind.TheVariants.{InvalidEnumVariant};
 ghost use Rattle.speedy.specs.declared.one_of.OneOf3.{OneOf3};
-ghost use Rattle.speedy_examples.specs.Packets.{cases, Packets, split, chosen};
+ghost use Rattle.speedy_examples.specs.Packets.{Packets, chosen};
 
 use speedy::private::error_invalid_enum_variant;
-use speedy::{
-    Context, ItemByItem, Layout, LendingReader, Part, ReadFrom, ReadMany, Writable, Writer,
-};
+use speedy::{Context, ItemByItem, Layout, LendingReader, Part, ReadFrom, Writable, Writer};
 use std::convert::AsSlice;
 
 /// A colour: the number 1, 5 or 9.
@@ -28,15 +24,12 @@ impl Layout for Colour {
 
     ghost seen = { λ e. elim e [ Colour.Red ↦ 1 | Colour.Green ↦ 5 | Colour.Blue ↦ 9 ] };
 
-    ghost format = { λ f. subset f (λ n. (n ≡ 1) ⊎ (n ≡ 5) ⊎ (n ≡ 9)) InvalidEnumVariant (unsigned_number 1 f) };
-
-    ghost least = { 1 };
-
-    ghost layout_laws = { λ f.
-        subset_laws f (λ n. (n ≡ 1) ⊎ (n ≡ 5) ⊎ (n ≡ 9)) InvalidEnumVariant tt (unsigned_number_laws 1 f) };
+    ghost layout = { subset_codec (λ n. (n ≡ 1) ⊎ (n ≡ 5) ⊎ (n ≡ 9)) InvalidEnumVariant tt (unsigned_codec 1) };
 }
 
 impl<L: AsSlice<u8> + Drop, C: Context> ReadFrom<L, C> for Colour {
+    type Strategy = ItemByItem<C>;
+
     fn read_from<R: LendingReader<L, C>>(reader: &mut R) -> Result<Colour, C::Error> {
         match reader.read_u8()? {
             1 => Ok(Colour::Red),
@@ -49,10 +42,6 @@ impl<L: AsSlice<u8> + Drop, C: Context> ReadFrom<L, C> for Colour {
     fn minimum_bytes_needed() -> usize {
         1
     }
-}
-
-impl<L: AsSlice<u8> + Drop, C: Context> ReadMany<L, C> for Colour {
-    type Strategy = ItemByItem<C>;
 }
 
 impl<C: Context> Writable<C> for Colour {
@@ -84,14 +73,12 @@ impl Layout for Packet {
       | Packet.Named name count ↦ OneOf3.Third (⟦<(String, u32) as Layout>⟧.seen (name, count))
     ] };
 
-    ghost format = { tagged cases split };
-
-    ghost least = { 1 };
-
-    ghost layout_laws = { tagged_laws chosen };
+    ghost layout = { tagged_codec chosen };
 }
 
 impl<L: AsSlice<u8> + Drop, C: Context> ReadFrom<L, C> for Packet {
+    type Strategy = ItemByItem<C>;
+
     fn read_from<R: LendingReader<L, C>>(reader: &mut R) -> Result<Packet, C::Error> {
         match reader.read_u8()? {
             1 => {
@@ -110,10 +97,6 @@ impl<L: AsSlice<u8> + Drop, C: Context> ReadFrom<L, C> for Packet {
     fn minimum_bytes_needed() -> usize {
         1
     }
-}
-
-impl<L: AsSlice<u8> + Drop, C: Context> ReadMany<L, C> for Packet {
-    type Strategy = ItemByItem<C>;
 }
 
 impl<C: Context> Writable<C> for Packet {

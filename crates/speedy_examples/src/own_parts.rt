@@ -1,11 +1,6 @@
 //! A struct of more than eleven parts: a tuple whose last part is one again. Of so many the search does not answer where
 //! reading fails.
-ghost use Rattle.speedy.specs.Numbers.{unsigned_number_laws};
-ghost use Rattle.speedy.specs.TupleLaws.{tuple2_laws, tuple11_laws};
-
-use speedy::{
-    Context, ItemByItem, Layout, LendingReader, Part, ReadFrom, ReadMany, Writable, Writer,
-};
+use speedy::{Context, ItemByItem, Layout, LendingReader, Part, ReadFrom, Writable, Writer};
 use std::convert::AsSlice;
 
 /// A count for each month.
@@ -45,15 +40,12 @@ impl Layout for Months {
       (it.november, it.december),
     ) };
 
-    ghost format = { ⟦<Parts as Layout>⟧.format };
-
-    ghost least = { 12 };
-
-    ghost layout_laws = { let byte = unsigned_number_laws 1 in
-        tuple11_laws byte byte byte byte byte byte byte byte byte byte (tuple2_laws byte byte) };
+    ghost layout = { ⟦<Parts as Layout>⟧.layout };
 }
 
 impl<L: AsSlice<u8> + Drop, C: Context> ReadFrom<L, C> for Months {
+    type Strategy = ItemByItem<C>;
+
     fn read_from<R: LendingReader<L, C>>(reader: &mut R) -> Result<Months, C::Error> {
         let (
             january,
@@ -85,12 +77,8 @@ impl<L: AsSlice<u8> + Drop, C: Context> ReadFrom<L, C> for Months {
     }
 
     fn minimum_bytes_needed() -> usize {
-        12
+        <Parts as ReadFrom<L, C>>::minimum_bytes_needed()
     }
-}
-
-impl<L: AsSlice<u8> + Drop, C: Context> ReadMany<L, C> for Months {
-    type Strategy = ItemByItem<C>;
 }
 
 impl<C: Context> Writable<C> for Months {

@@ -26,9 +26,9 @@ pub fn round_trip(alloc: Global, numbers: &Vec<u16>) -> Result<Vec<u16>, Error>
 /// A message's number and text, which a prefix of the bytes encodes, or an error exactly where none does. The text is
 /// that of the bytes, where it lies.
 pub fn parse_message<'a>(alloc: Global, bytes: &'a [u8]) -> Result<(u16, &'a str), Error>
-    ensures answers { let layout = ⟦<(u16, &'a str) as Layout>⟧ in
-        let format = layout.format (plain_encoding Endianness.LittleEndian) in
-        (size : ℕ) × AnswersBuffer ⟦<Error as From<Error>>⟧.from_gives is_eof_error layout.seen layout.least
+    ensures answers { let it = ⟦<(u16, &'a str) as Layout>⟧ in
+        let format = it.layout.format (plain_encoding Endianness.LittleEndian) in
+        (size : ℕ) × AnswersBuffer ⟦<Error as From<Error>>⟧.from_gives is_eof_error it.seen it.layout.least
         format result size bytes.now }
     // The text is no UTF-8, or the bytes are too few.
     ensures kind { IfErr result (λ e. (e ≡ error_of kinds.InvalidUtf8)
@@ -41,9 +41,9 @@ pub fn parse_message<'a>(alloc: Global, bytes: &'a [u8]) -> Result<(u16, &'a str
 /// The next message: a number and a text. The source has lost just the bytes that encode it. An error is out of memory,
 /// that of a failed call of the source, or means that no prefix of its bytes encodes a message.
 pub fn next_message<S: Source>(alloc: Global, source: &mut S) -> Result<(u16, String), Error>
-    ensures { let layout = ⟦<(u16, String) as Layout>⟧ in
-        let format = layout.format (plain_encoding Endianness.LittleEndian) in
-        AnswersStream ⟦<Error as From<Error>>⟧.from_gives is_eof_error layout.seen format false
+    ensures { let it = ⟦<(u16, String) as Layout>⟧ in
+        let format = it.layout.format (plain_encoding Endianness.LittleEndian) in
+        AnswersStream ⟦<Error as From<Error>>⟧.from_gives is_eof_error it.seen format false
         result (S.source source.old) (S.source source.new) }
 {
     <(u16, String) as Readable<LittleEndian>>::read_from_stream_unbuffered(alloc, source)

@@ -25,8 +25,8 @@ pub fn again_through_a_sink(
 ) -> Result<Option<String>, Error>
     ensures same { let seen = ⟦<Option<String> as Layout>⟧.seen in
         IfOk result (λ x. seen x ≡ seen value.now) }
-    ensures refused { let layout = ⟦<Option<String> as Layout>⟧ in
-        HasEncoding (layout.format (plain_encoding order)) (layout.seen value.now)
+    ensures refused { let it = ⟦<Option<String> as Layout>⟧ in
+        HasEncoding (it.layout.format (plain_encoding order)) (it.seen value.now)
         → IfErr result IsFailure }
 {
     written_is_answered::<Option<String>, Endianness>();
@@ -39,9 +39,9 @@ pub fn again_through_a_sink(
 /// The next message: a number and a text. The source has lost just the bytes that encode it. An error is out of memory,
 /// that of a failed call of the source, or means that no prefix of its bytes encodes a message.
 pub fn next_message<S: Source>(alloc: Global, source: &mut S) -> Result<(u16, String), Error>
-    ensures { let layout = ⟦<(u16, String) as Layout>⟧ in
-        let format = layout.format (plain_encoding Endianness.LittleEndian) in
-        AnswersStream ⟦<Error as From<Error>>⟧.from_gives is_eof_error layout.seen format false
+    ensures { let it = ⟦<(u16, String) as Layout>⟧ in
+        let format = it.layout.format (plain_encoding Endianness.LittleEndian) in
+        AnswersStream ⟦<Error as From<Error>>⟧.from_gives is_eof_error it.seen format false
         result (S.source source.old) (S.source source.new) }
 {
     <(u16, String) as Readable<LittleEndian>>::read_from_stream_unbuffered(alloc, source)
@@ -56,14 +56,14 @@ pub fn read_nothing<S: Source>(alloc: Global, source: &mut S) -> Result<(), Erro
 
 /// Two messages that were written one behind the other. The only error is then out of memory.
 pub fn two_messages(alloc: Global, bytes: &[u8]) -> Result<((u16, String), (u16, String)), Error>
-    ensures same { let layout = ⟦<(u16, String) as Layout>⟧ in
-        let format = layout.format (plain_encoding Endianness.LittleEndian) in
-        (first second : layout.Seen) (front back : List ℕ) →
+    ensures same { let it = ⟦<(u16, String) as Layout>⟧ in
+        let format = it.layout.format (plain_encoding Endianness.LittleEndian) in
+        (first second : it.Seen) (front back : List ℕ) →
         format.writes first front → format.writes second back → bytes.now ≡ front ++ back
-        → IfOk result (λ both. (layout.seen both.0 ≡ first) × (layout.seen both.1 ≡ second)) }
-    ensures refused { let layout = ⟦<(u16, String) as Layout>⟧ in
-        let format = layout.format (plain_encoding Endianness.LittleEndian) in
-        (first second : layout.Seen) (front back : List ℕ) →
+        → IfOk result (λ both. (it.seen both.0 ≡ first) × (it.seen both.1 ≡ second)) }
+    ensures refused { let it = ⟦<(u16, String) as Layout>⟧ in
+        let format = it.layout.format (plain_encoding Endianness.LittleEndian) in
+        (first second : it.Seen) (front back : List ℕ) →
         format.writes first front → format.writes second back → bytes.now ≡ front ++ back
         → IsOkUnless result (error_of ErrorKind.OutOfMemory) }
 {
@@ -83,9 +83,9 @@ pub fn two_messages_again(
 ) -> Result<((u16, String), (u16, String)), Error>
     ensures same { let seen = ⟦<(u16, String) as Layout>⟧.seen in
         IfOk result (λ again. (seen again.0 ≡ seen first.now) × (seen again.1 ≡ seen second.now)) }
-    ensures refused { let layout = ⟦<(u16, String) as Layout>⟧ in
-        let format = layout.format (plain_encoding Endianness.LittleEndian) in
-        HasEncoding format (layout.seen first.now) → HasEncoding format (layout.seen second.now)
+    ensures refused { let it = ⟦<(u16, String) as Layout>⟧ in
+        let format = it.layout.format (plain_encoding Endianness.LittleEndian) in
+        HasEncoding format (it.seen first.now) → HasEncoding format (it.seen second.now)
         → IfErr result IsFailure }
 {
     let mut sink = VecSink::new(alloc);
@@ -102,25 +102,25 @@ pub fn next_or_end<L: AsSlice<u8> + Drop, R: LendingReader<L, LittleEndian>>(
     ensures kept { let before = R.state reader.old in
         let after = R.state reader.new in
         (after.fixed ≡ before.fixed) × (after.encoding ≡ before.encoding) }
-    ensures next { let layout = ⟦<(u16, String) as Layout>⟧ in
+    ensures next { let it = ⟦<(u16, String) as Layout>⟧ in
         let before = R.state reader.old in
         let after = R.state reader.new in
-        let format = layout.format before.encoding in
+        let format = it.layout.format before.encoding in
         IfOk result (λ next. MatchOption next
         (IsTold format before → IsTrue before.fixed.tells_faults → before.to_come ≡ [])
-        (λ message. (front : List ℕ) × format.spells (layout.seen message) front
+        (λ message. (front : List ℕ) × format.spells (it.seen message) front
         × (IsTrue before.fixed.tells → before.to_come ≡ front ++ after.to_come)
         × (after.faults ≡ before.faults))) }
     ensures refused { let before = R.state reader.old in
         let after = R.state reader.new in
         let itself = ⟦<Error as From<Error>>⟧.from_gives in
-        let format = ⟦<(u16, String) as Layout>⟧.format before.encoding in
+        let format = ⟦<(u16, String) as Layout>⟧.layout.format before.encoding in
         IfErr result (λ e. PeekWants itself e before after
         ⊎ (Excused itself format.asks.memory e before after
         ⊎ Refused itself is_eof_error format e before after)) }
     // Where no byte is left, only memory or the device is at fault.
     ensures ended { let before = R.state reader.old in
-        IsTold (⟦<(u16, String) as Layout>⟧.format before.encoding) before
+        IsTold (⟦<(u16, String) as Layout>⟧.layout.format before.encoding) before
         → IsTrue before.fixed.tells_faults → before.to_come ≡ [] → IfErr result IsFailure }
 {
     match reader.peek_u8() {
@@ -135,20 +135,20 @@ pub fn next_or_end<L: AsSlice<u8> + Drop, R: LendingReader<L, LittleEndian>>(
 /// All messages of a source, until it ends. If its bytes are messages and nothing else, the only errors are out of memory
 /// and that of the source.
 pub fn all_messages<S: Source>(alloc: Global, source: &mut S) -> Result<Vec<(u16, String)>, Error>
-    ensures all { let layout = ⟦<(u16, String) as Layout>⟧ in
-        let format = layout.format (plain_encoding Endianness.LittleEndian) in
+    ensures all { let it = ⟦<(u16, String) as Layout>⟧ in
+        let format = it.layout.format (plain_encoding Endianness.LittleEndian) in
         let before = S.source source.old in
         IfOk result (λ messages. (bytes : List ℕ)
-        × Each format.spells (map layout.seen messages.items) bytes
+        × Each format.spells (map it.seen messages.items) bytes
         × (IsTrue before.tells → AreBytes before.to_come → count before.to_come < 2 ^ 64 - 1
         → before.to_come ≡ bytes)) }
-    ensures refused { let layout = ⟦<(u16, String) as Layout>⟧ in
-        let format = layout.format (plain_encoding Endianness.LittleEndian) in
+    ensures refused { let it = ⟦<(u16, String) as Layout>⟧ in
+        let format = it.layout.format (plain_encoding Endianness.LittleEndian) in
         let before = S.source source.old in
-        (messages : List layout.Seen) → Each format.spells messages before.to_come
+        (messages : List it.Seen) → Each format.spells messages before.to_come
         → IsTrue before.tells → AreBytes before.to_come → count before.to_come < 2 ^ 64 - 1
         → IfErr result IsFailure }
-    ensures kind { let format = ⟦<(u16, String) as Layout>⟧.format (plain_encoding Endianness.LittleEndian) in
+    ensures kind { let format = ⟦<(u16, String) as Layout>⟧.layout.format (plain_encoding Endianness.LittleEndian) in
         IfErr result (λ e. IsFailure e ⊎ IsRefusal format e) }
 {
     let mut messages = Vec::new(alloc);

@@ -8,7 +8,6 @@ pub mod FixedNumbers
 pub mod NonZero
 pub mod Owned
 pub mod Tuples
-pub mod TupleLaws
 pub mod Flags
 pub mod Cases
 pub mod OneOf
@@ -35,5 +34,6 @@ pub mod Addresses
 pub mod Equality
 pub mod Varint
 pub mod Zigzag
+pub mod Codecs
 pub mod Views
 pub mod ViewIters

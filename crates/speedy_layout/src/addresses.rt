@@ -1,7 +1,8 @@
 //! The layout of addresses.
 ghost use Rattle.std.specs.Prelude.{ℕ, List, ◌⊎◌};
 ghost use Rattle.std.specs.Net.Addr.{ipv4_octets, ipv6_octets};
-ghost use Rattle.speedy_layout.specs.Addresses.{address, address_laws, ip_octets, ip_address, ip_address_laws};
+ghost use Rattle.speedy_layout.specs.Addresses.{ip_octets};
+ghost use Rattle.speedy_layout.specs.Codecs.{address_codec, ip_address_codec};
 
 use crate::layout::Layout;
 use std::net::{IpAddr, Ipv4Addr, Ipv6Addr};
@@ -11,11 +12,7 @@ impl Layout for Ipv4Addr {
 
     ghost seen = { ipv4_octets };
 
-    ghost format = { address 4 };
-
-    ghost least = { 4 };
-
-    ghost layout_laws = { address_laws 4 };
+    ghost layout = { address_codec 4 };
 }
 
 impl Layout for Ipv6Addr {
@@ -23,11 +20,7 @@ impl Layout for Ipv6Addr {
 
     ghost seen = { ipv6_octets };
 
-    ghost format = { address 16 };
-
-    ghost least = { 16 };
-
-    ghost layout_laws = { address_laws 16 };
+    ghost layout = { address_codec 16 };
 }
 
 impl Layout for IpAddr {
@@ -35,9 +28,5 @@ impl Layout for IpAddr {
 
     ghost seen = { ip_octets };
 
-    ghost format = { ip_address };
-
-    ghost least = { 5 };
-
-    ghost layout_laws = { ip_address_laws };
+    ghost layout = { ip_address_codec };
 }

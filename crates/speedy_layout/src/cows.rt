@@ -1,8 +1,9 @@
 //! The layout of what owns its content or borrows it, and adds no byte to it.
 ghost use Rattle.std.specs.Prelude.{ℕ, List, map};
 ghost use Rattle.std.specs.Cow.{cow_value, cow_slice_items, cow_str_bytes};
-ghost use Rattle.speedy_layout.specs.Lists.{list, list_laws};
-ghost use Rattle.speedy_layout.specs.Texts.{text, text_laws};
+ghost use Rattle.speedy_layout.specs.Lists.{list};
+ghost use Rattle.speedy_layout.specs.Texts.{text};
+ghost use Rattle.speedy_layout.specs.Codecs.{list_codec, text_codec};
 
 use crate::layout::Layout;
 use std::borrow::{Cow, CowSlice, CowStr};
@@ -13,11 +14,7 @@ impl<'a, T: Layout> Layout for Cow<'a, T> {
 
     ghost seen = { λ c. T.seen (cow_value c) };
 
-    ghost format = { T.format };
-
-    ghost least = { T.least };
-
-    ghost layout_laws = { T.layout_laws };
+    ghost layout = { T.layout };
 }
 
 // It may be read as an owned list, so it too needs a reader that lends only where its items do.
@@ -26,11 +23,7 @@ impl<'a, T: Layout> Layout for CowSlice<'a, T> {
 
     ghost seen = { λ c. map T.seen (cow_slice_items c) };
 
-    ghost format = { λ f. list f (T.format f) };
-
-    ghost least = { 4 };
-
-    ghost layout_laws = { λ f. list_laws f (T.layout_laws f) };
+    ghost layout = { list_codec T.layout };
 }
 
 // It may be read as an owned text.
@@ -39,9 +32,5 @@ impl<'a> Layout for CowStr<'a> {
 
     ghost seen = { cow_str_bytes };
 
-    ghost format = { text };
-
-    ghost least = { 4 };
-
-    ghost layout_laws = { text_laws };
+    ghost layout = { text_codec };
 }

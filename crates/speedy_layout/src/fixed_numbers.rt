@@ -28,13 +28,13 @@ pub trait FixedNumber: FixedSize + Layout + Copy + Default + Drop {
         ensures number { decoded order output.new ≡ self };
 
     /// The least size is `SIZE`.
-    ghost least_is: { Self.least ≡ Self.SIZE };
+    ghost least_is: { Self.layout.least ≡ Self.SIZE };
 
     /// An encoding always has `SIZE` bytes, and the order alone decides them.
-    ghost is_fixed: { IsFixed Self.SIZE Self.format };
+    ghost is_fixed: { IsFixed Self.SIZE Self.layout.format };
 
     /// Bytes encode the number that is decoded from them.
-    ghost decodes: { Decodes Self.SIZE Self.format Self.seen decoded };
+    ghost decodes: { Decodes Self.SIZE Self.layout.format Self.seen decoded };
 }
 
 impl FixedNumber for u8 {
@@ -246,7 +246,7 @@ pub fn append_each<T: FixedNumber>(
 ) -> Result<(), AllocError>
     requires { (count : ℕ) × (length bytes.now ≡ count * T.SIZE) }
     ensures { OnOk result ((more : List T) × (numbers.new.items ≡ numbers.old.items ++ more)
-        × Each (spelled_in T.format order) (map T.seen more) bytes.now) }
+        × Each (spelled_in T.layout.format order) (map T.seen more) bytes.now) }
 {
     numbers.extend(
         bytes
@@ -259,7 +259,7 @@ pub fn append_each<T: FixedNumber>(
 #[inline]
 pub fn take_each<T: FixedNumber>(places: &mut [T], order: Endianness, bytes: &[u8])
     requires { length bytes.now ≡ length places.old * T.SIZE }
-    ensures { Each (spelled_in T.format order) (map T.seen places.new) bytes.now }
+    ensures { Each (spelled_in T.layout.format order) (map T.seen places.new) bytes.now }
 {
     let mut at = 0;
     for place in places.iter_mut() {

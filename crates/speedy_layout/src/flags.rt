@@ -2,7 +2,8 @@
 ghost use Rattle.std.specs.Prelude.{Bool, Option, Result};
 ghost use Rattle.std.specs.Option.{option_map};
 ghost use Rattle.std.specs.Result.{result_map_both};
-ghost use Rattle.speedy_layout.specs.Flags.{flag, flag_laws, option, option_laws, alternative, alternative_laws};
+ghost use Rattle.speedy_layout.specs.Flags.{flag};
+ghost use Rattle.speedy_layout.specs.Codecs.{alternative_codec, flag_codec, option_codec};
 
 use crate::layout::Layout;
 
@@ -11,11 +12,7 @@ impl Layout for bool {
 
     ghost seen = { λ x. x };
 
-    ghost format = { flag };
-
-    ghost least = { 1 };
-
-    ghost layout_laws = { flag_laws };
+    ghost layout = { flag_codec };
 }
 
 impl<T: Layout> Layout for Option<T> {
@@ -23,11 +20,7 @@ impl<T: Layout> Layout for Option<T> {
 
     ghost seen = { option_map T.seen };
 
-    ghost format = { λ f. option f (T.format f) };
-
-    ghost least = { 1 };
-
-    ghost layout_laws = { λ f. option_laws f (T.layout_laws f) };
+    ghost layout = { option_codec T.layout };
 }
 
 impl<T: Layout, U: Layout> Layout for Result<T, U> {
@@ -35,9 +28,5 @@ impl<T: Layout, U: Layout> Layout for Result<T, U> {
 
     ghost seen = { result_map_both T.seen U.seen };
 
-    ghost format = { λ f. alternative f (T.format f) (U.format f) };
-
-    ghost least = { 1 };
-
-    ghost layout_laws = { λ f. alternative_laws f (T.layout_laws f) (U.layout_laws f) };
+    ghost layout = { alternative_codec T.layout U.layout };
 }

@@ -2,8 +2,7 @@
 ghost use Rattle.std.specs.Prelude.{ℕ, List};
 ghost use Rattle.speedy_base.specs.declared.endianness.Endianness.{Endianness as Order};
 ghost use Rattle.std.specs.Duration.{as_nanos};
-ghost use Rattle.speedy_layout.specs.Leaves.{character, character_laws, byte_order, byte_order_laws, duration, duration_laws};
-ghost use Rattle.speedy_layout.specs.Texts.{raw_bytes, raw_bytes_laws};
+ghost use Rattle.speedy_layout.specs.Codecs.{byte_order_codec, character_codec, duration_codec, raw_bytes_codec};
 
 use crate::layout::Layout;
 use speedy_base::endianness::Endianness;
@@ -15,11 +14,7 @@ impl Layout for char {
 
     ghost seen = { λ x. x };
 
-    ghost format = { character };
-
-    ghost least = { 4 };
-
-    ghost layout_laws = { character_laws };
+    ghost layout = { character_codec };
 }
 
 impl Layout for Endianness {
@@ -27,11 +22,7 @@ impl Layout for Endianness {
 
     ghost seen = { λ x. x };
 
-    ghost format = { byte_order };
-
-    ghost least = { 1 };
-
-    ghost layout_laws = { byte_order_laws };
+    ghost layout = { byte_order_codec };
 }
 
 impl Layout for Duration {
@@ -39,11 +30,7 @@ impl Layout for Duration {
 
     ghost seen = { as_nanos };
 
-    ghost format = { duration };
-
-    ghost least = { 12 };
-
-    ghost layout_laws = { duration_laws };
+    ghost layout = { duration_codec };
 }
 
 impl Layout for Uuid {
@@ -51,9 +38,5 @@ impl Layout for Uuid {
 
     ghost seen = { λ x. x };
 
-    ghost format = { λ f. raw_bytes 16 };
-
-    ghost least = { 16 };
-
-    ghost layout_laws = { λ f. raw_bytes_laws 16 };
+    ghost layout = { raw_bytes_codec 16 };
 }

@@ -24,7 +24,7 @@ pub mod varint;
 pub mod view_items;
 pub mod views;
 
-pub use layout::{Lawful, Layout};
+pub use layout::Layout;
 pub use same_key::SameKey;
 pub use varint::VarInt64;
 pub use view_items::{FixedSize, ViewItem, ZeroCopyable};

@@ -1,9 +1,7 @@
 //! The layout of lists: counted ones, and arrays.
-ghost use Rattle.std.specs.Prelude.{List, map, ◌*◌};
-ghost use Rattle.speedy_layout.specs.Lists.{list, list_laws, vector, vector_laws};
+ghost use Rattle.std.specs.Prelude.{List, map};
 ghost use Rattle.std.specs.Box.{boxed_slice_items};
-ghost use Rattle.speedy_layout.specs.Laws.{saturated_size, saturated_laws};
-ghost use Rattle.speedy_layout.specs.Owned.{borrowed_content, borrowed_content_laws};
+ghost use Rattle.speedy_layout.specs.Codecs.{borrowed_codec, list_codec, vector_codec};
 
 use crate::layout::Layout;
 use smallvec::SmallVec;
@@ -14,11 +12,7 @@ impl<T: Layout> Layout for Vec<T> {
 
     ghost seen = { λ v. map T.seen v.items };
 
-    ghost format = { λ f. list f (T.format f) };
-
-    ghost least = { 4 };
-
-    ghost layout_laws = { λ f. list_laws f (T.layout_laws f) };
+    ghost layout = { list_codec T.layout };
 }
 
 impl<'a, T: Layout> Layout for &'a [T] {
@@ -26,11 +20,7 @@ impl<'a, T: Layout> Layout for &'a [T] {
 
     ghost seen = { λ r. map T.seen r.now };
 
-    ghost format = { λ f. borrowed_content (list f (T.format f)) };
-
-    ghost least = { 4 };
-
-    ghost layout_laws = { λ f. borrowed_content_laws (list_laws f (T.layout_laws f)) };
+    ghost layout = { borrowed_codec (list_codec T.layout) };
 }
 
 impl<T: Layout> Layout for BoxedSlice<T> {
@@ -38,11 +28,7 @@ impl<T: Layout> Layout for BoxedSlice<T> {
 
     ghost seen = { λ b. map T.seen (boxed_slice_items b) };
 
-    ghost format = { λ f. list f (T.format f) };
-
-    ghost least = { 4 };
-
-    ghost layout_laws = { λ f. list_laws f (T.layout_laws f) };
+    ghost layout = { list_codec T.layout };
 }
 
 impl<T: Layout, const N: usize> Layout for SmallVec<T, N> {
@@ -50,11 +36,7 @@ impl<T: Layout, const N: usize> Layout for SmallVec<T, N> {
 
     ghost seen = { λ v. map T.seen v.items };
 
-    ghost format = { λ f. list f (T.format f) };
-
-    ghost least = { 4 };
-
-    ghost layout_laws = { λ f. list_laws f (T.layout_laws f) };
+    ghost layout = { list_codec T.layout };
 }
 
 impl<T: Layout, const N: usize> Layout for [T; N] {
@@ -62,9 +44,5 @@ impl<T: Layout, const N: usize> Layout for [T; N] {
 
     ghost seen = { map T.seen };
 
-    ghost format = { λ f. vector N (T.format f) };
-
-    ghost least = { saturated_size (N * T.least) };
-
-    ghost layout_laws = { λ f. saturated_laws (vector_laws (T.layout_laws f) N) };
+    ghost layout = { vector_codec N T.layout };
 }

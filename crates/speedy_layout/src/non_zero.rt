@@ -2,7 +2,7 @@
 ghost use Rattle.std.specs.Prelude.{ℕ, ℤ};
 ghost use Rattle.std.specs.Int.{w8, w16, w32, w64};
 ghost use Rattle.std.specs.Int.NonZero.{non_zero_u8_get, non_zero_u16_get, non_zero_u32_get, non_zero_u64_get, non_zero_i8_get, non_zero_i16_get, non_zero_i32_get, non_zero_i64_get};
-ghost use Rattle.speedy_layout.specs.NonZero.{non_zero_number, non_zero_number_laws, signed_non_zero_number, signed_non_zero_number_laws};
+ghost use Rattle.speedy_layout.specs.Codecs.{non_zero_codec, signed_non_zero_codec};
 
 use crate::layout::Layout;
 use std::num::{
@@ -14,11 +14,7 @@ impl Layout for NonZeroU8 {
 
     ghost seen = { non_zero_u8_get };
 
-    ghost format = { non_zero_number 1 };
-
-    ghost least = { 1 };
-
-    ghost layout_laws = { non_zero_number_laws 1 };
+    ghost layout = { non_zero_codec 1 };
 }
 
 impl Layout for NonZeroU16 {
@@ -26,11 +22,7 @@ impl Layout for NonZeroU16 {
 
     ghost seen = { non_zero_u16_get };
 
-    ghost format = { non_zero_number 2 };
-
-    ghost least = { 2 };
-
-    ghost layout_laws = { non_zero_number_laws 2 };
+    ghost layout = { non_zero_codec 2 };
 }
 
 impl Layout for NonZeroU32 {
@@ -38,11 +30,7 @@ impl Layout for NonZeroU32 {
 
     ghost seen = { non_zero_u32_get };
 
-    ghost format = { non_zero_number 4 };
-
-    ghost least = { 4 };
-
-    ghost layout_laws = { non_zero_number_laws 4 };
+    ghost layout = { non_zero_codec 4 };
 }
 
 impl Layout for NonZeroU64 {
@@ -50,11 +38,7 @@ impl Layout for NonZeroU64 {
 
     ghost seen = { non_zero_u64_get };
 
-    ghost format = { non_zero_number 8 };
-
-    ghost least = { 8 };
-
-    ghost layout_laws = { non_zero_number_laws 8 };
+    ghost layout = { non_zero_codec 8 };
 }
 
 impl Layout for NonZeroI8 {
@@ -62,11 +46,7 @@ impl Layout for NonZeroI8 {
 
     ghost seen = { non_zero_i8_get };
 
-    ghost format = { signed_non_zero_number w8 };
-
-    ghost least = { 1 };
-
-    ghost layout_laws = { signed_non_zero_number_laws w8 };
+    ghost layout = { signed_non_zero_codec w8 };
 }
 
 impl Layout for NonZeroI16 {
@@ -74,11 +54,7 @@ impl Layout for NonZeroI16 {
 
     ghost seen = { non_zero_i16_get };
 
-    ghost format = { signed_non_zero_number w16 };
-
-    ghost least = { 2 };
-
-    ghost layout_laws = { signed_non_zero_number_laws w16 };
+    ghost layout = { signed_non_zero_codec w16 };
 }
 
 impl Layout for NonZeroI32 {
@@ -86,11 +62,7 @@ impl Layout for NonZeroI32 {
 
     ghost seen = { non_zero_i32_get };
 
-    ghost format = { signed_non_zero_number w32 };
-
-    ghost least = { 4 };
-
-    ghost layout_laws = { signed_non_zero_number_laws w32 };
+    ghost layout = { signed_non_zero_codec w32 };
 }
 
 impl Layout for NonZeroI64 {
@@ -98,9 +70,5 @@ impl Layout for NonZeroI64 {
 
     ghost seen = { non_zero_i64_get };
 
-    ghost format = { signed_non_zero_number w64 };
-
-    ghost least = { 8 };
-
-    ghost layout_laws = { signed_non_zero_number_laws w64 };
+    ghost layout = { signed_non_zero_codec w64 };
 }

@@ -1,7 +1,7 @@
 //! The layout of numbers: so many digits, in the order of the encoding.
 ghost use Rattle.std.specs.Prelude.{ℕ, ℤ};
-ghost use Rattle.speedy_layout.specs.Numbers.{unsigned_number, unsigned_number_laws, signed_number, signed_number_laws, usize_number, usize_number_laws};
 ghost use Rattle.std.specs.Int.{w8, w16, w32, w64, w128};
+ghost use Rattle.speedy_layout.specs.Codecs.{signed_codec, unsigned_codec, usize_codec};
 
 use crate::layout::Layout;
 
@@ -10,11 +10,7 @@ impl Layout for u8 {
 
     ghost seen = { λ x. x };
 
-    ghost format = { unsigned_number 1 };
-
-    ghost least = { 1 };
-
-    ghost layout_laws = { unsigned_number_laws 1 };
+    ghost layout = { unsigned_codec 1 };
 }
 
 impl Layout for u16 {
@@ -22,11 +18,7 @@ impl Layout for u16 {
 
     ghost seen = { λ x. x };
 
-    ghost format = { unsigned_number 2 };
-
-    ghost least = { 2 };
-
-    ghost layout_laws = { unsigned_number_laws 2 };
+    ghost layout = { unsigned_codec 2 };
 }
 
 impl Layout for u32 {
@@ -34,11 +26,7 @@ impl Layout for u32 {
 
     ghost seen = { λ x. x };
 
-    ghost format = { unsigned_number 4 };
-
-    ghost least = { 4 };
-
-    ghost layout_laws = { unsigned_number_laws 4 };
+    ghost layout = { unsigned_codec 4 };
 }
 
 impl Layout for u64 {
@@ -46,11 +34,7 @@ impl Layout for u64 {
 
     ghost seen = { λ x. x };
 
-    ghost format = { unsigned_number 8 };
-
-    ghost least = { 8 };
-
-    ghost layout_laws = { unsigned_number_laws 8 };
+    ghost layout = { unsigned_codec 8 };
 }
 
 impl Layout for u128 {
@@ -58,11 +42,7 @@ impl Layout for u128 {
 
     ghost seen = { λ x. x };
 
-    ghost format = { unsigned_number 16 };
-
-    ghost least = { 16 };
-
-    ghost layout_laws = { unsigned_number_laws 16 };
+    ghost layout = { unsigned_codec 16 };
 }
 
 impl Layout for i8 {
@@ -70,11 +50,7 @@ impl Layout for i8 {
 
     ghost seen = { λ x. x };
 
-    ghost format = { signed_number w8 };
-
-    ghost least = { 1 };
-
-    ghost layout_laws = { signed_number_laws w8 };
+    ghost layout = { signed_codec w8 };
 }
 
 impl Layout for i16 {
@@ -82,11 +58,7 @@ impl Layout for i16 {
 
     ghost seen = { λ x. x };
 
-    ghost format = { signed_number w16 };
-
-    ghost least = { 2 };
-
-    ghost layout_laws = { signed_number_laws w16 };
+    ghost layout = { signed_codec w16 };
 }
 
 impl Layout for i32 {
@@ -94,11 +66,7 @@ impl Layout for i32 {
 
     ghost seen = { λ x. x };
 
-    ghost format = { signed_number w32 };
-
-    ghost least = { 4 };
-
-    ghost layout_laws = { signed_number_laws w32 };
+    ghost layout = { signed_codec w32 };
 }
 
 impl Layout for i64 {
@@ -106,11 +74,7 @@ impl Layout for i64 {
 
     ghost seen = { λ x. x };
 
-    ghost format = { signed_number w64 };
-
-    ghost least = { 8 };
-
-    ghost layout_laws = { signed_number_laws w64 };
+    ghost layout = { signed_codec w64 };
 }
 
 impl Layout for i128 {
@@ -118,11 +82,7 @@ impl Layout for i128 {
 
     ghost seen = { λ x. x };
 
-    ghost format = { signed_number w128 };
-
-    ghost least = { 16 };
-
-    ghost layout_laws = { signed_number_laws w128 };
+    ghost layout = { signed_codec w128 };
 }
 
 impl Layout for usize {
@@ -130,9 +90,5 @@ impl Layout for usize {
 
     ghost seen = { λ x. x };
 
-    ghost format = { usize_number };
-
-    ghost least = { 8 };
-
-    ghost layout_laws = { usize_number_laws };
+    ghost layout = { usize_codec };
 }

@@ -1,6 +1,6 @@
 //! One of several values, behind a tag of four bytes that says which: 0 the first, 1 the second, and so on. An enum of
 //! your own has the layout of one of these.
-ghost use Rattle.speedy_layout.specs.OneOf.{one_of2, one_of2_laws, one_of3, one_of3_laws, one_of4, one_of4_laws, one_of5, one_of5_laws, one_of6, one_of6_laws, one_of7, one_of7_laws, one_of8, one_of8_laws};
+ghost use Rattle.speedy_layout.specs.Codecs.{one_of2_codec, one_of3_codec, one_of4_codec, one_of5_codec, one_of6_codec, one_of7_codec, one_of8_codec};
 
 use crate::layout::Layout;
 
@@ -21,11 +21,7 @@ impl<T0: Layout, T1: Layout> Layout for OneOf2<T0, T1> {
       | OneOf2.Second x ↦ OneOf2.Second (T1.seen x)
     ] };
 
-    ghost format = { one_of2 T0.format T1.format };
-
-    ghost least = { 4 };
-
-    ghost layout_laws = { one_of2_laws T0.layout_laws T1.layout_laws };
+    ghost layout = { one_of2_codec T0.layout T1.layout };
 }
 
 /// One of three values, behind its tag.
@@ -47,11 +43,7 @@ impl<T0: Layout, T1: Layout, T2: Layout> Layout for OneOf3<T0, T1, T2> {
       | OneOf3.Third x ↦ OneOf3.Third (T2.seen x)
     ] };
 
-    ghost format = { one_of3 T0.format T1.format T2.format };
-
-    ghost least = { 4 };
-
-    ghost layout_laws = { one_of3_laws T0.layout_laws T1.layout_laws T2.layout_laws };
+    ghost layout = { one_of3_codec T0.layout T1.layout T2.layout };
 }
 
 /// One of four values, behind its tag.
@@ -75,11 +67,7 @@ impl<T0: Layout, T1: Layout, T2: Layout, T3: Layout> Layout for OneOf4<T0, T1, T
       | OneOf4.Fourth x ↦ OneOf4.Fourth (T3.seen x)
     ] };
 
-    ghost format = { one_of4 T0.format T1.format T2.format T3.format };
-
-    ghost least = { 4 };
-
-    ghost layout_laws = { one_of4_laws T0.layout_laws T1.layout_laws T2.layout_laws T3.layout_laws };
+    ghost layout = { one_of4_codec T0.layout T1.layout T2.layout T3.layout };
 }
 
 /// One of five values, behind its tag.
@@ -106,11 +94,7 @@ impl<T0: Layout, T1: Layout, T2: Layout, T3: Layout, T4: Layout> Layout
       | OneOf5.Fifth x ↦ OneOf5.Fifth (T4.seen x)
     ] };
 
-    ghost format = { one_of5 T0.format T1.format T2.format T3.format T4.format };
-
-    ghost least = { 4 };
-
-    ghost layout_laws = { one_of5_laws T0.layout_laws T1.layout_laws T2.layout_laws T3.layout_laws T4.layout_laws };
+    ghost layout = { one_of5_codec T0.layout T1.layout T2.layout T3.layout T4.layout };
 }
 
 /// One of six values, behind its tag.
@@ -139,11 +123,7 @@ impl<T0: Layout, T1: Layout, T2: Layout, T3: Layout, T4: Layout, T5: Layout> Lay
       | OneOf6.Sixth x ↦ OneOf6.Sixth (T5.seen x)
     ] };
 
-    ghost format = { one_of6 T0.format T1.format T2.format T3.format T4.format T5.format };
-
-    ghost least = { 4 };
-
-    ghost layout_laws = { one_of6_laws T0.layout_laws T1.layout_laws T2.layout_laws T3.layout_laws T4.layout_laws T5.layout_laws };
+    ghost layout = { one_of6_codec T0.layout T1.layout T2.layout T3.layout T4.layout T5.layout };
 }
 
 /// One of seven values, behind its tag.
@@ -174,11 +154,7 @@ impl<T0: Layout, T1: Layout, T2: Layout, T3: Layout, T4: Layout, T5: Layout, T6:
       | OneOf7.Seventh x ↦ OneOf7.Seventh (T6.seen x)
     ] };
 
-    ghost format = { one_of7 T0.format T1.format T2.format T3.format T4.format T5.format T6.format };
-
-    ghost least = { 4 };
-
-    ghost layout_laws = { one_of7_laws T0.layout_laws T1.layout_laws T2.layout_laws T3.layout_laws T4.layout_laws T5.layout_laws T6.layout_laws };
+    ghost layout = { one_of7_codec T0.layout T1.layout T2.layout T3.layout T4.layout T5.layout T6.layout };
 }
 
 /// One of eight values, behind its tag.
@@ -219,9 +195,5 @@ impl<
       | OneOf8.Eighth x ↦ OneOf8.Eighth (T7.seen x)
     ] };
 
-    ghost format = { one_of8 T0.format T1.format T2.format T3.format T4.format T5.format T6.format T7.format };
-
-    ghost least = { 4 };
-
-    ghost layout_laws = { one_of8_laws T0.layout_laws T1.layout_laws T2.layout_laws T3.layout_laws T4.layout_laws T5.layout_laws T6.layout_laws T7.layout_laws };
+    ghost layout = { one_of8_codec T0.layout T1.layout T2.layout T3.layout T4.layout T5.layout T6.layout T7.layout };
 }

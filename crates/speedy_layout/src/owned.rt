@@ -1,5 +1,5 @@
 //! The layout of what owns or borrows its content, and adds no byte to it.
-ghost use Rattle.speedy_layout.specs.Owned.{owned_content, owned_content_laws, borrowed_content, borrowed_content_laws};
+ghost use Rattle.speedy_layout.specs.Codecs.{borrowed_codec, owned_codec};
 
 use crate::layout::Layout;
 
@@ -8,11 +8,7 @@ impl<T: Layout> Layout for Box<T> {
 
     ghost seen = { λ b. T.seen b.value };
 
-    ghost format = { λ f. owned_content (T.format f) };
-
-    ghost least = { T.least };
-
-    ghost layout_laws = { λ f. owned_content_laws (T.layout_laws f) };
+    ghost layout = { owned_codec T.layout };
 }
 
 impl<'a, T: Layout> Layout for &'a T {
@@ -20,11 +16,7 @@ impl<'a, T: Layout> Layout for &'a T {
 
     ghost seen = { λ r. T.seen r.now };
 
-    ghost format = { λ f. borrowed_content (T.format f) };
-
-    ghost least = { T.least };
-
-    ghost layout_laws = { λ f. borrowed_content_laws (T.layout_laws f) };
+    ghost layout = { borrowed_codec T.layout };
 }
 
 impl<'a, T: Layout> Layout for &'a mut T {
@@ -32,9 +24,5 @@ impl<'a, T: Layout> Layout for &'a mut T {
 
     ghost seen = { λ r. T.seen r.now };
 
-    ghost format = { T.format };
-
-    ghost least = { T.least };
-
-    ghost layout_laws = { T.layout_laws };
+    ghost layout = { T.layout };
 }

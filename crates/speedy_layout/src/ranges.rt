@@ -1,8 +1,6 @@
 //! The layout of ranges: their two ends.
-ghost use Rattle.std.specs.Prelude.{◌+◌};
 ghost use Rattle.std.specs.Range.{range_inclusive_start, range_inclusive_end};
-ghost use Rattle.speedy_layout.specs.Laws.{saturated_size};
-ghost use Rattle.speedy_layout.specs.Tuples.{pair, pair_laws};
+ghost use Rattle.speedy_layout.specs.Codecs.{pair_codec};
 
 use crate::layout::Layout;
 use std::ops::{Range, RangeInclusive};
@@ -12,11 +10,7 @@ impl<T: Layout> Layout for Range<T> {
 
     ghost seen = { λ r. (T.seen r.start, T.seen r.end) };
 
-    ghost format = { λ f. pair (T.format f) (T.format f) };
-
-    ghost least = { saturated_size (T.least + T.least) };
-
-    ghost layout_laws = { λ f. pair_laws (T.layout_laws f) (T.layout_laws f) };
+    ghost layout = { pair_codec T.layout T.layout };
 }
 
 impl<T: Layout> Layout for RangeInclusive<T> {
@@ -24,9 +18,5 @@ impl<T: Layout> Layout for RangeInclusive<T> {
 
     ghost seen = { λ r. (T.seen (range_inclusive_start r), T.seen (range_inclusive_end r)) };
 
-    ghost format = { λ f. pair (T.format f) (T.format f) };
-
-    ghost least = { saturated_size (T.least + T.least) };
-
-    ghost layout_laws = { λ f. pair_laws (T.layout_laws f) (T.layout_laws f) };
+    ghost layout = { pair_codec T.layout T.layout };
 }

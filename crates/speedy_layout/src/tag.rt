@@ -1,6 +1,7 @@
 //! Tags of enums whose variants have no parts.
 ghost use Rattle.std.specs.Prelude.{◌≡◌, ◌<◌, ℕ};
-ghost use Rattle.speedy_layout.specs.Tags.{tag, tag_laws};
+ghost use Rattle.speedy_layout.specs.Tags.{tag};
+ghost use Rattle.speedy_layout.specs.Codecs.{tag_codec};
 
 use crate::layout::Layout;
 
@@ -29,9 +30,5 @@ impl<const N: u32> Layout for Tag<N> {
 
     ghost seen = { λ t. t.number };
 
-    ghost format = { tag N };
-
-    ghost least = { 4 };
-
-    ghost layout_laws = { tag_laws N };
+    ghost layout = { tag_codec N };
 }

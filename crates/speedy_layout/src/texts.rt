@@ -1,9 +1,8 @@
 //! The layout of texts.
 ghost use Rattle.std.specs.Prelude.{ℕ, List};
 ghost use Rattle.std.specs.String.{string_bytes};
-ghost use Rattle.speedy_layout.specs.Texts.{text, text_laws};
 ghost use Rattle.std.specs.Box.{boxed_str_bytes};
-ghost use Rattle.speedy_layout.specs.Owned.{borrowed_content, borrowed_content_laws};
+ghost use Rattle.speedy_layout.specs.Codecs.{borrowed_codec, text_codec};
 
 use crate::layout::Layout;
 use std::boxed::BoxedStr;
@@ -13,11 +12,7 @@ impl Layout for String {
 
     ghost seen = { string_bytes };
 
-    ghost format = { text };
-
-    ghost least = { 4 };
-
-    ghost layout_laws = { text_laws };
+    ghost layout = { text_codec };
 }
 
 impl<'a> Layout for &'a str {
@@ -25,11 +20,7 @@ impl<'a> Layout for &'a str {
 
     ghost seen = { λ r. r.now };
 
-    ghost format = { λ f. borrowed_content (text f) };
-
-    ghost least = { 4 };
-
-    ghost layout_laws = { λ f. borrowed_content_laws (text_laws f) };
+    ghost layout = { borrowed_codec text_codec };
 }
 
 impl Layout for BoxedStr {
@@ -37,9 +28,5 @@ impl Layout for BoxedStr {
 
     ghost seen = { boxed_str_bytes };
 
-    ghost format = { text };
-
-    ghost least = { 4 };
-
-    ghost layout_laws = { text_laws };
+    ghost layout = { text_codec };
 }

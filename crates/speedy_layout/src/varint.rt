@@ -1,8 +1,9 @@
 //! Integers of a variable length: one to nine bytes, the fewer the smaller the number.
-ghost use Rattle.std.specs.Prelude.{◌≡◌, ◌≤◌, ◌↔◌, ℕ, ◌∷◌, IsTrue, take, length};
+ghost use Rattle.std.specs.Prelude.{◌≡◌, ◌≤◌, ◌↔◌, ℕ, IsTrue, take, length};
 ghost use Rattle.speedy_base.specs.Encoding.{Encoding};
-ghost use Rattle.speedy_layout.specs.Varint.{varint, varint_laws, IsFewest, StartsVarint, VarintParts};
+ghost use Rattle.speedy_layout.specs.Varint.{varint, IsFewest, StartsVarint, VarintParts};
 ghost use Rattle.speedy_layout.specs.Zigzag.{varint_number, zigzag};
+ghost use Rattle.speedy_layout.specs.Codecs.{varint_codec};
 
 use crate::layout::Layout;
 
@@ -78,11 +79,7 @@ impl Layout for VarInt64 {
 
     ghost seen = { varint_number };
 
-    ghost format = { varint };
-
-    ghost least = { 1 };
-
-    ghost layout_laws = { varint_laws };
+    ghost layout = { varint_codec };
 }
 
 impl From<u8> for VarInt64 {

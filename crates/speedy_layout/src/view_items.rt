@@ -35,15 +35,15 @@ pub trait ViewItem: FixedSize + Layout + Copy + Drop {
     ghost few_bytes: { Self.SIZE < 2 ^ 32 };
 
     /// The least size is `SIZE`.
-    ghost least_is: { Self.least ≡ Self.SIZE };
+    ghost least_is: { Self.layout.least ≡ Self.SIZE };
 
     /// Each encoding of an item has `SIZE` bytes.
     ghost one_size: { (e : Encoding) (v : Self.Seen) (bytes : List ℕ) →
-        (Self.format e).spells v bytes → length bytes ≡ Self.SIZE };
+        (Self.layout.format e).spells v bytes → length bytes ≡ Self.SIZE };
 
     /// Bytes encode the item that is decoded from them.
     ghost decodes: { (bytes : List ℕ) → length bytes ≡ Self.SIZE → AreBytes bytes →
-        (Self.format (plain_encoding LittleOrder)).spells (Self.seen (decoded bytes)) bytes };
+        (Self.layout.format (plain_encoding LittleOrder)).spells (Self.seen (decoded bytes)) bytes };
 }
 
 /// Items of views that are read under a context: what encodes one in little endian encodes it under the context too.
@@ -52,8 +52,8 @@ pub trait ViewItem: FixedSize + Layout + Copy + Drop {
 pub trait ZeroCopyable<C: Context>: ViewItem {
     /// An encoding in little endian is one under the context.
     ghost as_little: { (context : C) (v : Self.Seen) (bytes : List ℕ) →
-        (Self.format (plain_encoding LittleOrder)).spells v bytes →
-        (Self.format (C.encoding context)).spells v bytes };
+        (Self.layout.format (plain_encoding LittleOrder)).spells v bytes →
+        (Self.layout.format (C.encoding context)).spells v bytes };
 }
 
 // Any bytes of a number's width spell one.

@@ -5,11 +5,9 @@ ghost use Rattle.std.specs.Cmp.Lexicographic.{pointwise, lists_equiv, lists_per}
 ghost use Rattle.std.specs.Iterator.{YieldsFirst, UpTo, item_count};
 ghost use Rattle.std.specs.Iterator.Runs.{YieldsInOrder};
 ghost use Rattle.std.specs.Iterator.SizeHint.{IsWithinCount};
-ghost use Rattle.speedy_layout.specs.Laws.{saturated_size, saturated_laws};
-ghost use Rattle.speedy_layout.specs.Lists.{list, list_laws, vector, vector_laws};
-ghost use Rattle.speedy_layout.specs.Owned.{borrowed_content, borrowed_content_laws};
 ghost use Rattle.speedy_layout.specs.ViewIters.{left_items};
 ghost use Rattle.speedy_layout.specs.Views.{shown_items, SpellsLittle};
+ghost use Rattle.speedy_layout.specs.Codecs.{borrowed_codec, list_codec, vector_codec};
 
 use crate::layout::Layout;
 use crate::view_items::{FixedSize, ViewItem};
@@ -35,7 +33,7 @@ impl<'a, T: ViewItem> SliceView<'a, T> {
     pub fn over(bytes: &'a [u8]) -> SliceView<'a, T>
         requires { length bytes.now % T.SIZE ≡ 0 }
         ensures bytes { result.bytes.now ≡ bytes.now }
-        ensures spelled { SpellsLittle T.format T.seen
+        ensures spelled { SpellsLittle T.layout.format T.seen
             (shown_items T.decoded T.SIZE result.bytes.now) bytes.now }
     {
         SliceView {
@@ -69,7 +67,7 @@ impl<'a, T: ViewItem> SliceView<'a, T> {
             ≡ shown_items T.decoded T.SIZE self.now.bytes.now }
         ensures runs { let left = left_items T.decoded T.SIZE in
             YieldsInOrder (YieldsFirst left) left }
-        ensures spelled { SpellsLittle T.format T.seen
+        ensures spelled { SpellsLittle T.layout.format T.seen
             (shown_items T.decoded T.SIZE self.now.bytes.now) self.now.bytes.now }
     {
         items_of(self.bytes)
@@ -130,11 +128,7 @@ impl<'a, T: ViewItem> Layout for SliceView<'a, T> {
 
     ghost seen = { λ view. map T.seen (shown_items T.decoded T.SIZE view.bytes.now) };
 
-    ghost format = { λ f. borrowed_content (list f (T.format f)) };
-
-    ghost least = { 4 };
-
-    ghost layout_laws = { λ f. borrowed_content_laws (list_laws f (T.layout_laws f)) };
+    ghost layout = { borrowed_codec (list_codec T.layout) };
 }
 
 /// An array of numbers over the bytes that encode them in little endian.
@@ -153,7 +147,7 @@ impl<'a, T: ViewItem, const N: usize> ArrayView<'a, T, N> {
     pub fn over(bytes: &'a [u8]) -> ArrayView<'a, T, N>
         requires { length bytes.now ≡ N * T.SIZE }
         ensures bytes { result.bytes.now ≡ bytes.now }
-        ensures spelled { SpellsLittle T.format T.seen
+        ensures spelled { SpellsLittle T.layout.format T.seen
             (shown_items T.decoded T.SIZE result.bytes.now) bytes.now }
     {
         ArrayView {
@@ -188,7 +182,7 @@ impl<'a, T: ViewItem, const N: usize> ArrayView<'a, T, N> {
             ≡ shown_items T.decoded T.SIZE self.now.bytes.now }
         ensures runs { let left = left_items T.decoded T.SIZE in
             YieldsInOrder (YieldsFirst left) left }
-        ensures spelled { SpellsLittle T.format T.seen
+        ensures spelled { SpellsLittle T.layout.format T.seen
             (shown_items T.decoded T.SIZE self.now.bytes.now) self.now.bytes.now }
     {
         items_of(self.bytes)
@@ -249,12 +243,7 @@ impl<'a, T: ViewItem, const N: usize> Layout for ArrayView<'a, T, N> {
 
     ghost seen = { λ view. map T.seen (shown_items T.decoded T.SIZE view.bytes.now) };
 
-    ghost format = { λ f. borrowed_content (vector N (T.format f)) };
-
-    ghost least = { saturated_size (N * T.least) };
-
-    ghost layout_laws = { λ f. borrowed_content_laws
-        (saturated_laws (vector_laws (T.layout_laws f) N)) };
+    ghost layout = { borrowed_codec (vector_codec N T.layout) };
 }
 
 // The item at an index among those that the bytes show.
@@ -280,7 +269,7 @@ fn items_of<'a, T: ViewItem>(bytes: &'a [u8]) -> ViewIter<'a, T>
     ensures runs { let left = left_items T.decoded T.SIZE in
         YieldsInOrder (YieldsFirst left) left }
     ensures spelled { (count : ℕ) → length bytes.now ≡ count * T.SIZE →
-        SpellsLittle T.format T.seen (shown_items T.decoded T.SIZE bytes.now) bytes.now }
+        SpellsLittle T.layout.format T.seen (shown_items T.decoded T.SIZE bytes.now) bytes.now }
 {
     ViewIter {
         rest: bytes,

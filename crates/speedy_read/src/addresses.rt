@@ -1,6 +1,6 @@
 //! How addresses are read.
 use crate::many::ItemByItem;
-use crate::readable::{ReadFrom, ReadMany};
+use crate::readable::ReadFrom;
 use crate::reader::LendingReader;
 use speedy_base::context::Context;
 use speedy_base::endianness::Endianness;
@@ -9,6 +9,8 @@ use std::convert::AsSlice;
 use std::net::{IpAddr, Ipv4Addr, Ipv6Addr};
 
 impl<L: AsSlice<u8> + Drop, C: Context> ReadFrom<L, C> for Ipv4Addr {
+    type Strategy = ItemByItem<C>;
+
     #[inline]
     fn read_from<R: LendingReader<L, C>>(reader: &mut R) -> Result<Ipv4Addr, C::Error> {
         let number = reader.read_u32()?;
@@ -21,11 +23,9 @@ impl<L: AsSlice<u8> + Drop, C: Context> ReadFrom<L, C> for Ipv4Addr {
     }
 }
 
-impl<L: AsSlice<u8> + Drop, C: Context> ReadMany<L, C> for Ipv4Addr {
-    type Strategy = ItemByItem<C>;
-}
-
 impl<L: AsSlice<u8> + Drop, C: Context> ReadFrom<L, C> for Ipv6Addr {
+    type Strategy = ItemByItem<C>;
+
     #[inline]
     fn read_from<R: LendingReader<L, C>>(reader: &mut R) -> Result<Ipv6Addr, C::Error> {
         let number = reader.read_u128()?;
@@ -38,11 +38,9 @@ impl<L: AsSlice<u8> + Drop, C: Context> ReadFrom<L, C> for Ipv6Addr {
     }
 }
 
-impl<L: AsSlice<u8> + Drop, C: Context> ReadMany<L, C> for Ipv6Addr {
-    type Strategy = ItemByItem<C>;
-}
-
 impl<L: AsSlice<u8> + Drop, C: Context> ReadFrom<L, C> for IpAddr {
+    type Strategy = ItemByItem<C>;
+
     #[inline]
     fn read_from<R: LendingReader<L, C>>(reader: &mut R) -> Result<IpAddr, C::Error> {
         let tag = reader.read_u8()?;
@@ -63,8 +61,4 @@ impl<L: AsSlice<u8> + Drop, C: Context> ReadFrom<L, C> for IpAddr {
     fn minimum_bytes_needed() -> usize {
         5
     }
-}
-
-impl<L: AsSlice<u8> + Drop, C: Context> ReadMany<L, C> for IpAddr {
-    type Strategy = ItemByItem<C>;
 }

@@ -34,7 +34,7 @@ pub trait ReadArrays<L: AsSlice<u8> + Drop, C: Context>: ReadFrom<L, C> {
     ) -> Result<Many<W, Self>, C::Error>
         ensures { (shown : W → List Self) → Reads C.Error.from_gives C.Error.eof
             (λ many. map Self.seen (many_items shown many))
-            (vector length (Self.format (R.state reader.old).encoding)) result
+            (vector length (Self.layout.format (R.state reader.old).encoding)) result
             (R.state reader.old) (R.state reader.new) };
 }
 
@@ -44,7 +44,7 @@ impl<L: AsSlice<u8> + Drop, C: Context, T: ReadMany<L, C>, const N: usize> ReadA
         reader: &mut R,
         length: usize,
     ) -> Result<Many<W, [T; N]>, C::Error> {
-        match <T::Strategy as Strategy<L, C, T>>::read_many_places::<[T; N], R>(reader, length) {
+        match <T::Way as Strategy<L, C, T>>::read_many_places::<[T; N], R>(reader, length) {
             Some(Ok(arrays)) => Ok(Many::Owned(arrays)),
             Some(Err(error)) => Err(error),
             None => read_each::<W, [T; N], L, C, R>(reader, length),
@@ -97,7 +97,7 @@ pub(crate) fn read_number_places<
 >(reader: &mut R, length: usize) -> Option<Result<Vec<P>, C::Error>>
     ensures { MatchOption result (R.state reader.new ≡ R.state reader.old) (λ read.
         Reads C.Error.from_gives C.Error.eof (λ v. map (λ p. map T.seen (P.shown p)) v.items)
-        (vector length (vector P.count (T.format (R.state reader.old).encoding))) read
+        (vector length (vector P.count (T.layout.format (R.state reader.old).encoding))) read
         (R.state reader.old) (R.state reader.new)) }
 {
     let width = P::count().checked_mul(T::SIZE)?;
@@ -129,7 +129,7 @@ fn places_of<
 ) -> Result<Vec<P>, AllocError>
     requires { (width ≡ P.count * T.SIZE) × (count_of digits.now ≡ count * width) }
     ensures whole { IfOk result (λ v. count_of v.items ≡ count) }
-    ensures taken { IfOk result (λ v. Each (spelled_in (λ e. vector P.count (T.format e)) order)
+    ensures taken { IfOk result (λ v. Each (spelled_in (λ e. vector P.count (T.layout.format e)) order)
         (map (λ p. map T.seen (P.shown p)) v.items) digits.now) }
 {
     let mut all = Vec::with_capacity(alloc, count)?;

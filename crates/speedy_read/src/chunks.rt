@@ -43,7 +43,7 @@ impl<L: AsSlice<u8> + Drop, C: Context, T: FixedNumber + ReadFrom<L, C>> Strateg
     ) -> Option<Result<P, C::Error>>
         ensures reads { MatchOption result (R.state reader.new ≡ R.state reader.old) (λ read.
             Reads C.Error.from_gives C.Error.eof (λ p. map T.seen (P.shown p))
-            (vector P.count (T.format (R.state reader.old).encoding)) read
+            (vector P.count (T.layout.format (R.state reader.old).encoding)) read
             (R.state reader.old) (R.state reader.new)) }
         ensures in_place { IsSome result }
     {
@@ -101,7 +101,7 @@ impl<L: AsSlice<u8> + Drop, C: Context> Strategy<L, C, u8> for Bytes {
     ) -> Option<Result<P, C::Error>>
         ensures reads { MatchOption result (R.state reader.new ≡ R.state reader.old) (λ read.
             Reads C.Error.from_gives C.Error.eof (λ p. map ⟦<u8 as Layout>⟧.seen (P.shown p))
-            (vector P.count (⟦<u8 as Layout>⟧.format (R.state reader.old).encoding)) read
+            (vector P.count (⟦<u8 as Layout>⟧.layout.format (R.state reader.old).encoding)) read
             (R.state reader.old) (R.state reader.new)) }
         ensures in_place { IsSome result }
     {
@@ -215,7 +215,7 @@ pub(crate) fn read_numbers<
 >(reader: &mut R, count: usize) -> Result<Many<W, T>, C::Error>
     ensures { (shown : W → List T) → Reads C.Error.from_gives C.Error.eof
         (λ many. map T.seen (many_items shown many))
-        (vector count (T.format (R.state reader.old).encoding)) result
+        (vector count (T.layout.format (R.state reader.old).encoding)) result
         (R.state reader.old) (R.state reader.new) }
 {
     // Numbers of more bytes than a `usize` counts are in no input.
@@ -251,7 +251,7 @@ pub(crate) fn fill_numbers<
     R: LendingReader<L, C>,
 >(reader: &mut R, places: &mut [T]) -> Result<(), C::Error>
     ensures { Reads C.Error.from_gives C.Error.eof (λ _. map T.seen places.new)
-        (vector (length places.old) (T.format (R.state reader.old).encoding)) result
+        (vector (length places.old) (T.layout.format (R.state reader.old).encoding)) result
         (R.state reader.old) (R.state reader.new) }
 {
     let Some(size) = places.len().checked_mul(T::SIZE) else {
@@ -286,7 +286,7 @@ fn fill_chunks<T: FixedNumber, L: AsSlice<u8> + Drop, C: Context, R: LendingRead
 ) -> Result<(), C::Error>
     requires { T.SIZE ≤ length chunk.old }
     ensures { Reads C.Error.from_gives C.Error.eof (λ _. map T.seen places.new)
-        (vector (length places.old) (T.format (R.state reader.old).encoding)) result
+        (vector (length places.old) (T.layout.format (R.state reader.old).encoding)) result
         (R.state reader.old) (R.state reader.new) }
 {
     let most = chunk.len() / T::SIZE;
@@ -309,7 +309,7 @@ fn numbers_of<T: FixedNumber>(
     count: usize,
 ) -> Result<Vec<T>, AllocError>
     requires { length digits.now ≡ count * T.SIZE }
-    ensures { IfOk result (λ v. Each (spelled_in T.format order) (map T.seen v.items) digits.now) }
+    ensures { IfOk result (λ v. Each (spelled_in T.layout.format order) (map T.seen v.items) digits.now) }
 {
     let mut numbers = Vec::with_capacity(alloc, count)?;
     append_each(&mut numbers, order, digits)?;
@@ -325,7 +325,7 @@ fn read_number_chunks<T: FixedNumber, L: AsSlice<u8> + Drop, C: Context, R: Lend
 ) -> Result<Vec<T>, C::Error>
     requires { T.SIZE ≤ length chunk.old }
     ensures { Reads C.Error.from_gives C.Error.eof (λ v. map T.seen v.items)
-        (vector count (T.format (R.state reader.old).encoding)) result
+        (vector count (T.layout.format (R.state reader.old).encoding)) result
         (R.state reader.old) (R.state reader.new) }
 {
     let mut numbers = vec_for::<T, L, C, R>(reader, T::SIZE, count)?;

@@ -311,7 +311,7 @@ pub(crate) fn collect_items<
     R: LendingReader<L, C>,
 >(reader: &mut R, length: usize) -> Result<F, C::Error>
     ensures { let items = gatherer T.seen F.gathers F.are_written in
-        Collects items (T.format (R.state reader.old).encoding) length
+        Collects items (T.layout.format (R.state reader.old).encoding) length
         C.Error.from_gives C.Error.eof result (R.state reader.old) (R.state reader.new) }
 {
     if reader.demands_written_form() {
@@ -334,7 +334,7 @@ fn collect_written<
 >(reader: &mut R, length: usize) -> Result<F, C::Error>
     requires { IsTrue (R.state reader.now).encoding.strict }
     ensures { let items = gatherer T.seen F.gathers F.are_written in
-        Collects items (T.format (R.state reader.old).encoding) length
+        Collects items (T.layout.format (R.state reader.old).encoding) length
         C.Error.from_gives C.Error.eof result (R.state reader.old) (R.state reader.new) }
 {
     let mut items = F::empty(reader.alloc());

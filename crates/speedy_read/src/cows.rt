@@ -11,6 +11,8 @@ use std::convert::AsSlice;
 
 // It is read as owned, by any reader.
 impl<'a, L: AsSlice<u8> + Drop, C: Context, T: ReadFrom<L, C>> ReadFrom<L, C> for Cow<'a, T> {
+    type Strategy = ItemByItem<C>;
+
     #[inline]
     fn read_from<R: LendingReader<L, C>>(reader: &mut R) -> Result<Cow<'a, T>, C::Error> {
         let value = T::read_from(reader)?;
@@ -23,12 +25,10 @@ impl<'a, L: AsSlice<u8> + Drop, C: Context, T: ReadFrom<L, C>> ReadFrom<L, C> fo
     }
 }
 
-impl<'a, L: AsSlice<u8> + Drop, C: Context, T: ReadFrom<L, C>> ReadMany<L, C> for Cow<'a, T> {
-    type Strategy = ItemByItem<C>;
-}
-
 // Bytes point into those that the reader lends; other items are owned.
 impl<'a, C: Context, T: ReadMany<&'a [u8], C> + 'a> ReadFrom<&'a [u8], C> for CowSlice<'a, T> {
+    type Strategy = ItemByItem<C>;
+
     #[inline]
     fn read_from<R: LendingReader<&'a [u8], C>>(
         reader: &mut R,
@@ -45,12 +45,10 @@ impl<'a, C: Context, T: ReadMany<&'a [u8], C> + 'a> ReadFrom<&'a [u8], C> for Co
     }
 }
 
-impl<'a, C: Context, T: ReadMany<&'a [u8], C> + 'a> ReadMany<&'a [u8], C> for CowSlice<'a, T> {
-    type Strategy = ItemByItem<C>;
-}
-
 // It points into the bytes that the reader lends, and is owned where it lends nothing.
 impl<'a, C: Context> ReadFrom<&'a [u8], C> for CowStr<'a> {
+    type Strategy = ItemByItem<C>;
+
     #[inline]
     fn read_from<R: LendingReader<&'a [u8], C>>(reader: &mut R) -> Result<CowStr<'a>, C::Error> {
         let length = reader.read_u32()?;
@@ -64,8 +62,4 @@ impl<'a, C: Context> ReadFrom<&'a [u8], C> for CowStr<'a> {
     {
         4
     }
-}
-
-impl<'a, C: Context> ReadMany<&'a [u8], C> for CowStr<'a> {
-    type Strategy = ItemByItem<C>;
 }

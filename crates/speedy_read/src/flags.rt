@@ -3,13 +3,15 @@ ghost use Rattle.std.specs.Prelude.{◌+◌};
 
 use crate::chunks::Flags;
 use crate::many::ItemByItem;
-use crate::readable::{ReadFrom, ReadMany};
+use crate::readable::ReadFrom;
 use crate::reader::LendingReader;
 use speedy_base::context::Context;
 use speedy_base::error::error_not_written_form;
 use std::convert::AsSlice;
 
 impl<L: AsSlice<u8> + Drop, C: Context> ReadFrom<L, C> for bool {
+    type Strategy = Flags;
+
     #[inline]
     fn read_from<R: LendingReader<L, C>>(reader: &mut R) -> Result<bool, C::Error> {
         let number = reader.read_u8()?;
@@ -26,11 +28,9 @@ impl<L: AsSlice<u8> + Drop, C: Context> ReadFrom<L, C> for bool {
     }
 }
 
-impl<L: AsSlice<u8> + Drop, C: Context> ReadMany<L, C> for bool {
-    type Strategy = Flags;
-}
-
 impl<L: AsSlice<u8> + Drop, C: Context, T: ReadFrom<L, C>> ReadFrom<L, C> for Option<T> {
+    type Strategy = ItemByItem<C>;
+
     #[inline]
     fn read_from<R: LendingReader<L, C>>(reader: &mut R) -> Result<Option<T>, C::Error> {
         let is_some = reader.read_value::<bool>()?;
@@ -47,12 +47,10 @@ impl<L: AsSlice<u8> + Drop, C: Context, T: ReadFrom<L, C>> ReadFrom<L, C> for Op
     }
 }
 
-impl<L: AsSlice<u8> + Drop, C: Context, T: ReadFrom<L, C>> ReadMany<L, C> for Option<T> {
-    type Strategy = ItemByItem<C>;
-}
-
 impl<L: AsSlice<u8> + Drop, C: Context, T: ReadFrom<L, C>, U: ReadFrom<L, C>> ReadFrom<L, C>
     for Result<T, U> {
+    type Strategy = ItemByItem<C>;
+
     #[inline]
     fn read_from<R: LendingReader<L, C>>(reader: &mut R) -> Result<Result<T, U>, C::Error> {
         let is_ok = reader.read_value::<bool>()?;
@@ -69,9 +67,4 @@ impl<L: AsSlice<u8> + Drop, C: Context, T: ReadFrom<L, C>, U: ReadFrom<L, C>> Re
     fn minimum_bytes_needed() -> usize {
         1
     }
-}
-
-impl<L: AsSlice<u8> + Drop, C: Context, T: ReadFrom<L, C>, U: ReadFrom<L, C>> ReadMany<L, C>
-    for Result<T, U> {
-    type Strategy = ItemByItem<C>;
 }

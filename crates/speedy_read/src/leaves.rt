@@ -3,7 +3,7 @@ ghost use Rattle.speedy_layout.specs.Leaves.{seconds_and_nanos};
 ghost use Rattle.speedy_read.specs.Reading.{Reads};
 
 use crate::many::ItemByItem;
-use crate::readable::{ReadFrom, ReadMany};
+use crate::readable::ReadFrom;
 use crate::reader::LendingReader;
 use speedy_base::context::Context;
 use speedy_base::endianness::Endianness;
@@ -16,6 +16,8 @@ use std::time::Duration;
 use uuid::Uuid;
 
 impl<L: AsSlice<u8> + Drop, C: Context> ReadFrom<L, C> for char {
+    type Strategy = ItemByItem<C>;
+
     #[inline]
     fn read_from<R: LendingReader<L, C>>(reader: &mut R) -> Result<char, C::Error> {
         let code = reader.read_u32()?;
@@ -31,11 +33,9 @@ impl<L: AsSlice<u8> + Drop, C: Context> ReadFrom<L, C> for char {
     }
 }
 
-impl<L: AsSlice<u8> + Drop, C: Context> ReadMany<L, C> for char {
-    type Strategy = ItemByItem<C>;
-}
-
 impl<L: AsSlice<u8> + Drop, C: Context> ReadFrom<L, C> for Endianness {
+    type Strategy = ItemByItem<C>;
+
     #[inline]
     fn read_from<R: LendingReader<L, C>>(reader: &mut R) -> Result<Endianness, C::Error> {
         match reader.read_u8()? {
@@ -51,11 +51,9 @@ impl<L: AsSlice<u8> + Drop, C: Context> ReadFrom<L, C> for Endianness {
     }
 }
 
-impl<L: AsSlice<u8> + Drop, C: Context> ReadMany<L, C> for Endianness {
-    type Strategy = ItemByItem<C>;
-}
-
 impl<L: AsSlice<u8> + Drop, C: Context> ReadFrom<L, C> for Duration {
+    type Strategy = ItemByItem<C>;
+
     /// Reads seconds and nanoseconds. Nanoseconds of a second and more carry into the seconds, unless the context reads
     /// only canonical encodings, which have fewer.
     #[inline]
@@ -82,10 +80,6 @@ impl<L: AsSlice<u8> + Drop, C: Context> ReadFrom<L, C> for Duration {
     }
 }
 
-impl<L: AsSlice<u8> + Drop, C: Context> ReadMany<L, C> for Duration {
-    type Strategy = ItemByItem<C>;
-}
-
 // Both numbers of a duration, by one read of their bytes.
 #[inline]
 fn read_seconds_and_nanos<L: AsSlice<u8> + Drop, C: Context, R: LendingReader<L, C>>(
@@ -102,6 +96,8 @@ fn read_seconds_and_nanos<L: AsSlice<u8> + Drop, C: Context, R: LendingReader<L,
 }
 
 impl<L: AsSlice<u8> + Drop, C: Context> ReadFrom<L, C> for Uuid {
+    type Strategy = ItemByItem<C>;
+
     #[inline]
     fn read_from<R: LendingReader<L, C>>(reader: &mut R) -> Result<Uuid, C::Error> {
         let mut bytes = [0u8; 16];
@@ -113,8 +109,4 @@ impl<L: AsSlice<u8> + Drop, C: Context> ReadFrom<L, C> for Uuid {
     fn minimum_bytes_needed() -> usize {
         16
     }
-}
-
-impl<L: AsSlice<u8> + Drop, C: Context> ReadMany<L, C> for Uuid {
-    type Strategy = ItemByItem<C>;
 }

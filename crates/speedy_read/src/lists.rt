@@ -21,6 +21,8 @@ use std::convert::AsSlice;
 use std::default::MadeWith;
 
 impl<L: AsSlice<u8> + Drop, C: Context, T: ReadMany<L, C>> ReadFrom<L, C> for Vec<T> {
+    type Strategy = ItemByItem<C>;
+
     #[inline]
     fn read_from<R: LendingReader<L, C>>(reader: &mut R) -> Result<Vec<T>, C::Error> {
         let length = reader.read_u32()?;
@@ -33,11 +35,9 @@ impl<L: AsSlice<u8> + Drop, C: Context, T: ReadMany<L, C>> ReadFrom<L, C> for Ve
     }
 }
 
-impl<L: AsSlice<u8> + Drop, C: Context, T: ReadMany<L, C>> ReadMany<L, C> for Vec<T> {
-    type Strategy = ItemByItem<C>;
-}
-
 impl<L: AsSlice<u8> + Drop, C: Context, T: ReadMany<L, C>> ReadFrom<L, C> for BoxedSlice<T> {
+    type Strategy = ItemByItem<C>;
+
     #[inline]
     fn read_from<R: LendingReader<L, C>>(reader: &mut R) -> Result<BoxedSlice<T>, C::Error> {
         let items: Vec<T> = reader.read_value()?;
@@ -50,16 +50,14 @@ impl<L: AsSlice<u8> + Drop, C: Context, T: ReadMany<L, C>> ReadFrom<L, C> for Bo
     }
 }
 
-impl<L: AsSlice<u8> + Drop, C: Context, T: ReadMany<L, C>> ReadMany<L, C> for BoxedSlice<T> {
-    type Strategy = ItemByItem<C>;
-}
-
 impl<
     L: AsSlice<u8> + Drop,
     C: Context,
     T: ReadMany<L, C> + MadeWith<Global>,
     const N: usize,
 > ReadFrom<L, C> for SmallVec<T, N> {
+    type Strategy = ItemByItem<C>;
+
     #[inline]
     fn read_from<R: LendingReader<L, C>>(reader: &mut R) -> Result<SmallVec<T, N>, C::Error> {
         let items: Vec<T> = reader.read_value()?;
@@ -72,23 +70,16 @@ impl<
     }
 }
 
-impl<
-    L: AsSlice<u8> + Drop,
-    C: Context,
-    T: ReadMany<L, C> + MadeWith<Global>,
-    const N: usize,
-> ReadMany<L, C> for SmallVec<T, N> {
-    type Strategy = ItemByItem<C>;
-}
-
 impl<L: AsSlice<u8> + Drop, C: Context, T: ReadMany<L, C>, const N: usize> ReadFrom<L, C>
     for [T; N] {
+    type Strategy = Arrays<C>;
+
     #[inline]
     fn read_from<R: LendingReader<L, C>>(reader: &mut R) -> Result<[T; N], C::Error> {
         if ends_before::<L, C, R>(reader, T::minimum_bytes_needed(), N) {
             return Err(error_end_of_input());
         }
-        if let Some(array) = <T::Strategy as Strategy<L, C, T>>::read_places::<[T; N], R>(reader) {
+        if let Some(array) = <T::Way as Strategy<L, C, T>>::read_places::<[T; N], R>(reader) {
             return array;
         }
         let items = T::read_many(reader, N)?;
@@ -102,11 +93,6 @@ impl<L: AsSlice<u8> + Drop, C: Context, T: ReadMany<L, C>, const N: usize> ReadF
     fn minimum_bytes_needed() -> usize {
         N.saturating_mul(T::minimum_bytes_needed())
     }
-}
-
-impl<L: AsSlice<u8> + Drop, C: Context, T: ReadMany<L, C>, const N: usize> ReadMany<L, C>
-    for [T; N] {
-    type Strategy = Arrays<C>;
 }
 
 impl<L: AsSlice<u8> + Drop, C: Context, T: ReadFrom<L, C>, const N: usize> Places<L, C, T>
@@ -141,11 +127,13 @@ impl<L: AsSlice<u8> + Drop, C: Context, T: ReadFrom<L, C>, const N: usize> Place
 
 // They are lent by the reader.
 impl<'a, C: Context> ReadFrom<&'a [u8], C> for &'a [u8] {
+    type Strategy = ItemByItem<C>;
+
     #[inline]
     fn read_from<R: LendingReader<&'a [u8], C>>(reader: &mut R) -> Result<&'a [u8], C::Error>
         ensures reads { let bytes = ⟦<&'a [u8] as Layout>⟧ in
             Reads C.Error.from_gives C.Error.eof bytes.seen
-            (bytes.format (R.state reader.old).encoding) result
+            (bytes.layout.format (R.state reader.old).encoding) result
             (R.state reader.old) (R.state reader.new) }
         ensures not_lent { let number = unsigned_number 4 (R.state reader.old).encoding in
             RefusesUnsized C.Error.from_gives C.Error.eof number result
@@ -163,17 +151,15 @@ impl<'a, C: Context> ReadFrom<&'a [u8], C> for &'a [u8] {
     }
 }
 
-impl<'a, C: Context> ReadMany<&'a [u8], C> for &'a [u8] {
-    type Strategy = ItemByItem<C>;
-}
-
 // They are lent by the reader, with no count before them.
 impl<'a, C: Context, const N: usize> ReadFrom<&'a [u8], C> for &'a [u8; N] {
+    type Strategy = ItemByItem<C>;
+
     #[inline]
     fn read_from<R: LendingReader<&'a [u8], C>>(reader: &mut R) -> Result<&'a [u8; N], C::Error>
         ensures reads { let bytes = ⟦<&'a [u8; N] as Layout>⟧ in
             Reads C.Error.from_gives C.Error.eof bytes.seen
-            (bytes.format (R.state reader.old).encoding) result
+            (bytes.layout.format (R.state reader.old).encoding) result
             (R.state reader.old) (R.state reader.new) }
         ensures not_lent { (R.state reader.old).fixed.lends ≡ false
             → IsErrAnd result (λ e. C.Error.from_gives (error_of ErrorKind.Unsized) e)
@@ -188,12 +174,8 @@ impl<'a, C: Context, const N: usize> ReadFrom<&'a [u8], C> for &'a [u8; N] {
 
     #[inline]
     fn minimum_bytes_needed() -> usize
-        ensures { result ≡ ⟦<&'a [u8; N] as Layout>⟧.least }
+        ensures { result ≡ ⟦<&'a [u8; N] as Layout>⟧.layout.least }
     {
         N
     }
-}
-
-impl<'a, C: Context, const N: usize> ReadMany<&'a [u8], C> for &'a [u8; N] {
-    type Strategy = ItemByItem<C>;
 }

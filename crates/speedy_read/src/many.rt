@@ -31,7 +31,7 @@ pub trait Strategy<L: AsSlice<u8> + Drop, C: Context, T: ReadFrom<L, C>> {
     ) -> Result<Many<W, T>, C::Error>
         ensures { Reads C.Error.from_gives C.Error.eof
             (λ many. map T.seen (many_items W.shown many))
-            (vector length (T.format (R.state reader.old).encoding)) result
+            (vector length (T.layout.format (R.state reader.old).encoding)) result
             (R.state reader.old) (R.state reader.new) };
 
     /// Reads as many values as there are places, into these, without a vector. `None` where that cannot be: then nothing
@@ -41,7 +41,7 @@ pub trait Strategy<L: AsSlice<u8> + Drop, C: Context, T: ReadFrom<L, C>> {
     ) -> Option<Result<P, C::Error>>
         ensures { MatchOption result (R.state reader.new ≡ R.state reader.old) (λ read.
             Reads C.Error.from_gives C.Error.eof (λ p. map T.seen (P.shown p))
-            (vector P.count (T.format (R.state reader.old).encoding)) read
+            (vector P.count (T.layout.format (R.state reader.old).encoding)) read
             (R.state reader.old) (R.state reader.new)) };
 
     /// Reads as many values as there are places, `length` times, all at once from bytes that the reader lends. `None`
@@ -52,7 +52,7 @@ pub trait Strategy<L: AsSlice<u8> + Drop, C: Context, T: ReadFrom<L, C>> {
     ) -> Option<Result<Vec<P>, C::Error>>
         ensures { MatchOption result (R.state reader.new ≡ R.state reader.old) (λ read.
             Reads C.Error.from_gives C.Error.eof (λ v. map (λ p. map T.seen (P.shown p)) v.items)
-            (vector length (vector P.count (T.format (R.state reader.old).encoding))) read
+            (vector length (vector P.count (T.layout.format (R.state reader.old).encoding))) read
             (R.state reader.old) (R.state reader.new)) };
 }
 
@@ -110,13 +110,13 @@ pub trait Places<L: AsSlice<u8> + Drop, C: Context, T: ReadFrom<L, C>>: Sized + 
     ) -> Result<(), C::Error>
         requires { count_of (shown self.old) ≡ count }
         ensures { Reads C.Error.from_gives C.Error.eof (λ _. map T.seen (shown self.new))
-            (vector count (T.format (R.state reader.old).encoding)) result
+            (vector count (T.layout.format (R.state reader.old).encoding)) result
             (R.state reader.old) (R.state reader.new) };
 
     /// Takes a value for each place from these bytes.
     fn take<D: Takes<T>>(&mut self, order: Endianness, bytes: &[u8])
         requires { (count_of (shown self.old) ≡ count) × (count_of bytes.now ≡ count * D.size) }
-        ensures { spelled_in (λ e. vector count (T.format e)) order (map T.seen (shown self.new)) bytes.now };
+        ensures { spelled_in (λ e. vector count (T.layout.format e)) order (map T.seen (shown self.new)) bytes.now };
 }
 
 /// How places are filled with values of a type.
@@ -127,7 +127,7 @@ pub trait Fills<L: AsSlice<u8> + Drop, C: Context, T: ReadFrom<L, C>> {
     /// Reads a value into each place. After an error nothing is said of them.
     fn fill<R: LendingReader<L, C>>(reader: &mut R, places: &mut [T]) -> Result<(), C::Error>
         ensures { Reads C.Error.from_gives C.Error.eof (λ _. map T.seen places.new)
-            (vector (count_of places.old) (T.format (R.state reader.old).encoding)) result
+            (vector (count_of places.old) (T.layout.format (R.state reader.old).encoding)) result
             (R.state reader.old) (R.state reader.new) };
 }
 
@@ -139,13 +139,13 @@ pub trait Takes<T: Layout> {
     /// Takes a value for each place from these bytes, one after another.
     fn take(places: &mut [T], order: Endianness, bytes: &[u8])
         requires { count_of bytes.now ≡ count_of places.old * size }
-        ensures { Each (spelled_in T.format order) (map T.seen places.new) bytes.now };
+        ensures { Each (spelled_in T.layout.format order) (map T.seen places.new) bytes.now };
 }
 
-/// How several values of a type are read at once. Types implement it beside [`ReadFrom`].
+/// How several values of a type are read at once. Each type that is read has it.
 pub trait ReadMany<L: AsSlice<u8> + Drop, C: Context>: ReadFrom<L, C> {
-    /// How several of its values are read: [`ItemByItem`] for a type of one's own.
-    type Strategy: Strategy<L, C, Self>;
+    /// How several of its values are read: what the impl of [`ReadFrom`] names.
+    type Way: Strategy<L, C, Self>;
 
     /// Reads `length` values, one after another, into a vector.
     #[inline]
@@ -154,7 +154,7 @@ pub trait ReadMany<L: AsSlice<u8> + Drop, C: Context>: ReadFrom<L, C> {
         length: usize,
     ) -> Result<Vec<Self>, C::Error>
         ensures { Reads C.Error.from_gives C.Error.eof (λ v. map Self.seen v.items)
-            (vector length (Self.format (R.state reader.old).encoding)) result
+            (vector length (Self.layout.format (R.state reader.old).encoding)) result
             (R.state reader.old) (R.state reader.new) }
     {
         Self::read_many_cow::<Vec<Self>, R>(reader, length)
@@ -167,10 +167,10 @@ pub trait ReadMany<L: AsSlice<u8> + Drop, C: Context>: ReadFrom<L, C> {
         length: usize,
     ) -> Result<W, C::Error>
         ensures { Reads C.Error.from_gives C.Error.eof (λ w. map Self.seen (W.shown w))
-            (vector length (Self.format (R.state reader.old).encoding)) result
+            (vector length (Self.layout.format (R.state reader.old).encoding)) result
             (R.state reader.old) (R.state reader.new) }
     {
-        match <Self::Strategy as Strategy<L, C, Self>>::read_many_lent::<W, R>(reader, length) {
+        match <Self::Way as Strategy<L, C, Self>>::read_many_lent::<W, R>(reader, length) {
             Ok(Many::Made(made)) => Ok(made),
             Ok(Many::Owned(values)) => Ok(W::from_values(values)),
             Err(error) => Err(error),
@@ -186,11 +186,18 @@ pub trait ReadMany<L: AsSlice<u8> + Drop, C: Context>: ReadFrom<L, C> {
         length: usize,
     ) -> Result<F, C::Error>
         ensures { let items = gatherer Self.seen F.gathers F.are_written in
-            Collects items (Self.format (R.state reader.old).encoding) length
+            Collects items (Self.layout.format (R.state reader.old).encoding) length
             C.Error.from_gives C.Error.eof result (R.state reader.old) (R.state reader.new) }
     {
         collect_items::<F, Self, L, C, R>(reader, length)
     }
+}
+
+impl<L: AsSlice<u8> + Drop, C: Context, T: ReadFrom<L, C>> ReadMany<L, C> for T
+where
+    T::Strategy: Strategy<L, C, T>,
+{
+    type Way = T::Strategy;
 }
 
 /// How bytes are seen as values.
@@ -298,7 +305,7 @@ pub(crate) fn read_each<
 >(reader: &mut R, length: usize) -> Result<Many<W, T>, C::Error>
     ensures { (shown : W → List T) → Reads C.Error.from_gives C.Error.eof
         (λ many. map T.seen (many_items shown many))
-        (vector length (T.format (R.state reader.old).encoding)) result
+        (vector length (T.layout.format (R.state reader.old).encoding)) result
         (R.state reader.old) (R.state reader.new) }
 {
     let mut items = vec_for::<T, L, C, R>(reader, T::minimum_bytes_needed(), length)?;

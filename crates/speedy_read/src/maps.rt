@@ -1,6 +1,6 @@
 //! How maps are read.
 use crate::many::ItemByItem;
-use crate::readable::{ReadFrom, ReadMany};
+use crate::readable::ReadFrom;
 use crate::reader::LendingReader;
 use indexmap::IndexMap;
 use speedy_base::context::Context;
@@ -15,6 +15,8 @@ impl<
     K: ReadFrom<L, C> + SameKey + Ord,
     V: ReadFrom<L, C>,
 > ReadFrom<L, C> for BTreeMap<K, V> {
+    type Strategy = ItemByItem<C>;
+
     #[inline]
     fn read_from<R: LendingReader<L, C>>(reader: &mut R) -> Result<BTreeMap<K, V>, C::Error> {
         let length = reader.read_u32()?;
@@ -30,19 +32,12 @@ impl<
 impl<
     L: AsSlice<u8> + Drop,
     C: Context,
-    K: ReadFrom<L, C> + SameKey + Ord,
-    V: ReadFrom<L, C>,
-> ReadMany<L, C> for BTreeMap<K, V> {
-    type Strategy = ItemByItem<C>;
-}
-
-impl<
-    L: AsSlice<u8> + Drop,
-    C: Context,
     K: ReadFrom<L, C> + SameKey + Hash,
     V: ReadFrom<L, C>,
     S: BuildHasher + Default + Drop,
 > ReadFrom<L, C> for HashMap<K, V, S> {
+    type Strategy = ItemByItem<C>;
+
     #[inline]
     fn read_from<R: LendingReader<L, C>>(reader: &mut R) -> Result<HashMap<K, V, S>, C::Error> {
         let length = reader.read_u32()?;
@@ -61,17 +56,9 @@ impl<
     K: ReadFrom<L, C> + SameKey + Hash,
     V: ReadFrom<L, C>,
     S: BuildHasher + Default + Drop,
-> ReadMany<L, C> for HashMap<K, V, S> {
-    type Strategy = ItemByItem<C>;
-}
-
-impl<
-    L: AsSlice<u8> + Drop,
-    C: Context,
-    K: ReadFrom<L, C> + SameKey + Hash,
-    V: ReadFrom<L, C>,
-    S: BuildHasher + Default + Drop,
 > ReadFrom<L, C> for IndexMap<K, V, S> {
+    type Strategy = ItemByItem<C>;
+
     #[inline]
     fn read_from<R: LendingReader<L, C>>(reader: &mut R) -> Result<IndexMap<K, V, S>, C::Error> {
         let length = reader.read_u32()?;
@@ -82,14 +69,4 @@ impl<
     fn minimum_bytes_needed() -> usize {
         4
     }
-}
-
-impl<
-    L: AsSlice<u8> + Drop,
-    C: Context,
-    K: ReadFrom<L, C> + SameKey + Hash,
-    V: ReadFrom<L, C>,
-    S: BuildHasher + Default + Drop,
-> ReadMany<L, C> for IndexMap<K, V, S> {
-    type Strategy = ItemByItem<C>;
 }

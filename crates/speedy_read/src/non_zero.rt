@@ -1,6 +1,6 @@
 //! How numbers that are not 0 are read.
 use crate::many::ItemByItem;
-use crate::readable::{ReadFrom, ReadMany};
+use crate::readable::ReadFrom;
 use crate::reader::LendingReader;
 use speedy_base::context::Context;
 use speedy_base::error::error_zero_non_zero;
@@ -10,6 +10,8 @@ use std::num::{
 };
 
 impl<L: AsSlice<u8> + Drop, C: Context> ReadFrom<L, C> for NonZeroU8 {
+    type Strategy = ItemByItem<C>;
+
     #[inline]
     fn read_from<R: LendingReader<L, C>>(reader: &mut R) -> Result<NonZeroU8, C::Error> {
         match NonZeroU8::new(reader.read_u8()?) {
@@ -24,11 +26,9 @@ impl<L: AsSlice<u8> + Drop, C: Context> ReadFrom<L, C> for NonZeroU8 {
     }
 }
 
-impl<L: AsSlice<u8> + Drop, C: Context> ReadMany<L, C> for NonZeroU8 {
-    type Strategy = ItemByItem<C>;
-}
-
 impl<L: AsSlice<u8> + Drop, C: Context> ReadFrom<L, C> for NonZeroU16 {
+    type Strategy = ItemByItem<C>;
+
     #[inline]
     fn read_from<R: LendingReader<L, C>>(reader: &mut R) -> Result<NonZeroU16, C::Error> {
         match NonZeroU16::new(reader.read_u16()?) {
@@ -43,11 +43,9 @@ impl<L: AsSlice<u8> + Drop, C: Context> ReadFrom<L, C> for NonZeroU16 {
     }
 }
 
-impl<L: AsSlice<u8> + Drop, C: Context> ReadMany<L, C> for NonZeroU16 {
-    type Strategy = ItemByItem<C>;
-}
-
 impl<L: AsSlice<u8> + Drop, C: Context> ReadFrom<L, C> for NonZeroU32 {
+    type Strategy = ItemByItem<C>;
+
     #[inline]
     fn read_from<R: LendingReader<L, C>>(reader: &mut R) -> Result<NonZeroU32, C::Error> {
         match NonZeroU32::new(reader.read_u32()?) {
@@ -62,11 +60,9 @@ impl<L: AsSlice<u8> + Drop, C: Context> ReadFrom<L, C> for NonZeroU32 {
     }
 }
 
-impl<L: AsSlice<u8> + Drop, C: Context> ReadMany<L, C> for NonZeroU32 {
-    type Strategy = ItemByItem<C>;
-}
-
 impl<L: AsSlice<u8> + Drop, C: Context> ReadFrom<L, C> for NonZeroU64 {
+    type Strategy = ItemByItem<C>;
+
     #[inline]
     fn read_from<R: LendingReader<L, C>>(reader: &mut R) -> Result<NonZeroU64, C::Error> {
         match NonZeroU64::new(reader.read_u64()?) {
@@ -81,11 +77,9 @@ impl<L: AsSlice<u8> + Drop, C: Context> ReadFrom<L, C> for NonZeroU64 {
     }
 }
 
-impl<L: AsSlice<u8> + Drop, C: Context> ReadMany<L, C> for NonZeroU64 {
-    type Strategy = ItemByItem<C>;
-}
-
 impl<L: AsSlice<u8> + Drop, C: Context> ReadFrom<L, C> for NonZeroI8 {
+    type Strategy = ItemByItem<C>;
+
     #[inline]
     fn read_from<R: LendingReader<L, C>>(reader: &mut R) -> Result<NonZeroI8, C::Error> {
         match NonZeroI8::new(reader.read_i8()?) {
@@ -100,11 +94,9 @@ impl<L: AsSlice<u8> + Drop, C: Context> ReadFrom<L, C> for NonZeroI8 {
     }
 }
 
-impl<L: AsSlice<u8> + Drop, C: Context> ReadMany<L, C> for NonZeroI8 {
-    type Strategy = ItemByItem<C>;
-}
-
 impl<L: AsSlice<u8> + Drop, C: Context> ReadFrom<L, C> for NonZeroI16 {
+    type Strategy = ItemByItem<C>;
+
     #[inline]
     fn read_from<R: LendingReader<L, C>>(reader: &mut R) -> Result<NonZeroI16, C::Error> {
         match NonZeroI16::new(reader.read_i16()?) {
@@ -119,11 +111,9 @@ impl<L: AsSlice<u8> + Drop, C: Context> ReadFrom<L, C> for NonZeroI16 {
     }
 }
 
-impl<L: AsSlice<u8> + Drop, C: Context> ReadMany<L, C> for NonZeroI16 {
-    type Strategy = ItemByItem<C>;
-}
-
 impl<L: AsSlice<u8> + Drop, C: Context> ReadFrom<L, C> for NonZeroI32 {
+    type Strategy = ItemByItem<C>;
+
     #[inline]
     fn read_from<R: LendingReader<L, C>>(reader: &mut R) -> Result<NonZeroI32, C::Error> {
         match NonZeroI32::new(reader.read_i32()?) {
@@ -138,11 +128,9 @@ impl<L: AsSlice<u8> + Drop, C: Context> ReadFrom<L, C> for NonZeroI32 {
     }
 }
 
-impl<L: AsSlice<u8> + Drop, C: Context> ReadMany<L, C> for NonZeroI32 {
-    type Strategy = ItemByItem<C>;
-}
-
 impl<L: AsSlice<u8> + Drop, C: Context> ReadFrom<L, C> for NonZeroI64 {
+    type Strategy = ItemByItem<C>;
+
     #[inline]
     fn read_from<R: LendingReader<L, C>>(reader: &mut R) -> Result<NonZeroI64, C::Error> {
         match NonZeroI64::new(reader.read_i64()?) {
@@ -155,8 +143,4 @@ impl<L: AsSlice<u8> + Drop, C: Context> ReadFrom<L, C> for NonZeroI64 {
     fn minimum_bytes_needed() -> usize {
         8
     }
-}
-
-impl<L: AsSlice<u8> + Drop, C: Context> ReadMany<L, C> for NonZeroI64 {
-    type Strategy = ItemByItem<C>;
 }

@@ -1,13 +1,15 @@
 //! How numbers are read.
 use crate::chunks::{Bytes, Numbers};
 use crate::many::ItemByItem;
-use crate::readable::{ReadFrom, ReadMany};
+use crate::readable::ReadFrom;
 use crate::reader::LendingReader;
 use speedy_base::context::Context;
 use speedy_base::error::error_too_big_usize_for_this_architecture;
 use std::convert::AsSlice;
 
 impl<L: AsSlice<u8> + Drop, C: Context> ReadFrom<L, C> for u8 {
+    type Strategy = Bytes;
+
     #[inline(always)]
     fn read_from<R: LendingReader<L, C>>(reader: &mut R) -> Result<u8, C::Error> {
         reader.read_u8()
@@ -19,11 +21,9 @@ impl<L: AsSlice<u8> + Drop, C: Context> ReadFrom<L, C> for u8 {
     }
 }
 
-impl<L: AsSlice<u8> + Drop, C: Context> ReadMany<L, C> for u8 {
-    type Strategy = Bytes;
-}
-
 impl<L: AsSlice<u8> + Drop, C: Context> ReadFrom<L, C> for u16 {
+    type Strategy = Numbers;
+
     #[inline(always)]
     fn read_from<R: LendingReader<L, C>>(reader: &mut R) -> Result<u16, C::Error> {
         reader.read_u16()
@@ -35,11 +35,9 @@ impl<L: AsSlice<u8> + Drop, C: Context> ReadFrom<L, C> for u16 {
     }
 }
 
-impl<L: AsSlice<u8> + Drop, C: Context> ReadMany<L, C> for u16 {
-    type Strategy = Numbers;
-}
-
 impl<L: AsSlice<u8> + Drop, C: Context> ReadFrom<L, C> for u32 {
+    type Strategy = Numbers;
+
     #[inline(always)]
     fn read_from<R: LendingReader<L, C>>(reader: &mut R) -> Result<u32, C::Error> {
         reader.read_u32()
@@ -51,11 +49,9 @@ impl<L: AsSlice<u8> + Drop, C: Context> ReadFrom<L, C> for u32 {
     }
 }
 
-impl<L: AsSlice<u8> + Drop, C: Context> ReadMany<L, C> for u32 {
-    type Strategy = Numbers;
-}
-
 impl<L: AsSlice<u8> + Drop, C: Context> ReadFrom<L, C> for u64 {
+    type Strategy = Numbers;
+
     #[inline(always)]
     fn read_from<R: LendingReader<L, C>>(reader: &mut R) -> Result<u64, C::Error> {
         reader.read_u64()
@@ -67,11 +63,9 @@ impl<L: AsSlice<u8> + Drop, C: Context> ReadFrom<L, C> for u64 {
     }
 }
 
-impl<L: AsSlice<u8> + Drop, C: Context> ReadMany<L, C> for u64 {
-    type Strategy = Numbers;
-}
-
 impl<L: AsSlice<u8> + Drop, C: Context> ReadFrom<L, C> for u128 {
+    type Strategy = Numbers;
+
     #[inline(always)]
     fn read_from<R: LendingReader<L, C>>(reader: &mut R) -> Result<u128, C::Error> {
         reader.read_u128()
@@ -83,11 +77,9 @@ impl<L: AsSlice<u8> + Drop, C: Context> ReadFrom<L, C> for u128 {
     }
 }
 
-impl<L: AsSlice<u8> + Drop, C: Context> ReadMany<L, C> for u128 {
-    type Strategy = Numbers;
-}
-
 impl<L: AsSlice<u8> + Drop, C: Context> ReadFrom<L, C> for i8 {
+    type Strategy = Numbers;
+
     #[inline(always)]
     fn read_from<R: LendingReader<L, C>>(reader: &mut R) -> Result<i8, C::Error> {
         reader.read_i8()
@@ -99,11 +91,9 @@ impl<L: AsSlice<u8> + Drop, C: Context> ReadFrom<L, C> for i8 {
     }
 }
 
-impl<L: AsSlice<u8> + Drop, C: Context> ReadMany<L, C> for i8 {
-    type Strategy = Numbers;
-}
-
 impl<L: AsSlice<u8> + Drop, C: Context> ReadFrom<L, C> for i16 {
+    type Strategy = Numbers;
+
     #[inline(always)]
     fn read_from<R: LendingReader<L, C>>(reader: &mut R) -> Result<i16, C::Error> {
         reader.read_i16()
@@ -115,11 +105,9 @@ impl<L: AsSlice<u8> + Drop, C: Context> ReadFrom<L, C> for i16 {
     }
 }
 
-impl<L: AsSlice<u8> + Drop, C: Context> ReadMany<L, C> for i16 {
-    type Strategy = Numbers;
-}
-
 impl<L: AsSlice<u8> + Drop, C: Context> ReadFrom<L, C> for i32 {
+    type Strategy = Numbers;
+
     #[inline(always)]
     fn read_from<R: LendingReader<L, C>>(reader: &mut R) -> Result<i32, C::Error> {
         reader.read_i32()
@@ -131,11 +119,9 @@ impl<L: AsSlice<u8> + Drop, C: Context> ReadFrom<L, C> for i32 {
     }
 }
 
-impl<L: AsSlice<u8> + Drop, C: Context> ReadMany<L, C> for i32 {
-    type Strategy = Numbers;
-}
-
 impl<L: AsSlice<u8> + Drop, C: Context> ReadFrom<L, C> for i64 {
+    type Strategy = Numbers;
+
     #[inline(always)]
     fn read_from<R: LendingReader<L, C>>(reader: &mut R) -> Result<i64, C::Error> {
         reader.read_i64()
@@ -147,11 +133,9 @@ impl<L: AsSlice<u8> + Drop, C: Context> ReadFrom<L, C> for i64 {
     }
 }
 
-impl<L: AsSlice<u8> + Drop, C: Context> ReadMany<L, C> for i64 {
-    type Strategy = Numbers;
-}
-
 impl<L: AsSlice<u8> + Drop, C: Context> ReadFrom<L, C> for i128 {
+    type Strategy = Numbers;
+
     #[inline(always)]
     fn read_from<R: LendingReader<L, C>>(reader: &mut R) -> Result<i128, C::Error> {
         reader.read_i128()
@@ -163,11 +147,9 @@ impl<L: AsSlice<u8> + Drop, C: Context> ReadFrom<L, C> for i128 {
     }
 }
 
-impl<L: AsSlice<u8> + Drop, C: Context> ReadMany<L, C> for i128 {
-    type Strategy = Numbers;
-}
-
 impl<L: AsSlice<u8> + Drop, C: Context> ReadFrom<L, C> for usize {
+    type Strategy = ItemByItem<C>;
+
     #[inline(always)]
     fn read_from<R: LendingReader<L, C>>(reader: &mut R) -> Result<usize, C::Error> {
         match usize::try_from(reader.read_u64()?) {
@@ -180,8 +162,4 @@ impl<L: AsSlice<u8> + Drop, C: Context> ReadFrom<L, C> for usize {
     fn minimum_bytes_needed() -> usize {
         8
     }
-}
-
-impl<L: AsSlice<u8> + Drop, C: Context> ReadMany<L, C> for usize {
-    type Strategy = ItemByItem<C>;
 }

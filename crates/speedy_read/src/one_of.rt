@@ -1,6 +1,6 @@
 //! How one of several values is read: a tag, and then the value that it says.
 use crate::many::ItemByItem;
-use crate::readable::{ReadFrom, ReadMany};
+use crate::readable::ReadFrom;
 use crate::reader::LendingReader;
 use speedy_base::context::Context;
 use speedy_base::error::error_invalid_enum_variant;
@@ -9,6 +9,8 @@ use std::convert::AsSlice;
 
 impl<L: AsSlice<u8> + Drop, C: Context, T0: ReadFrom<L, C>, T1: ReadFrom<L, C>> ReadFrom<L, C>
     for OneOf2<T0, T1> {
+    type Strategy = ItemByItem<C>;
+
     #[inline]
     fn read_from<R: LendingReader<L, C>>(reader: &mut R) -> Result<Self, C::Error> {
         match reader.read_u32()? {
@@ -24,11 +26,6 @@ impl<L: AsSlice<u8> + Drop, C: Context, T0: ReadFrom<L, C>, T1: ReadFrom<L, C>> 
     }
 }
 
-impl<L: AsSlice<u8> + Drop, C: Context, T0: ReadFrom<L, C>, T1: ReadFrom<L, C>> ReadMany<L, C>
-    for OneOf2<T0, T1> {
-    type Strategy = ItemByItem<C>;
-}
-
 impl<
     L: AsSlice<u8> + Drop,
     C: Context,
@@ -36,6 +33,8 @@ impl<
     T1: ReadFrom<L, C>,
     T2: ReadFrom<L, C>,
 > ReadFrom<L, C> for OneOf3<T0, T1, T2> {
+    type Strategy = ItemByItem<C>;
+
     #[inline]
     fn read_from<R: LendingReader<L, C>>(reader: &mut R) -> Result<Self, C::Error> {
         match reader.read_u32()? {
@@ -58,18 +57,10 @@ impl<
     T0: ReadFrom<L, C>,
     T1: ReadFrom<L, C>,
     T2: ReadFrom<L, C>,
-> ReadMany<L, C> for OneOf3<T0, T1, T2> {
-    type Strategy = ItemByItem<C>;
-}
-
-impl<
-    L: AsSlice<u8> + Drop,
-    C: Context,
-    T0: ReadFrom<L, C>,
-    T1: ReadFrom<L, C>,
-    T2: ReadFrom<L, C>,
     T3: ReadFrom<L, C>,
 > ReadFrom<L, C> for OneOf4<T0, T1, T2, T3> {
+    type Strategy = ItemByItem<C>;
+
     #[inline]
     fn read_from<R: LendingReader<L, C>>(reader: &mut R) -> Result<Self, C::Error> {
         match reader.read_u32()? {
@@ -94,19 +85,10 @@ impl<
     T1: ReadFrom<L, C>,
     T2: ReadFrom<L, C>,
     T3: ReadFrom<L, C>,
-> ReadMany<L, C> for OneOf4<T0, T1, T2, T3> {
-    type Strategy = ItemByItem<C>;
-}
-
-impl<
-    L: AsSlice<u8> + Drop,
-    C: Context,
-    T0: ReadFrom<L, C>,
-    T1: ReadFrom<L, C>,
-    T2: ReadFrom<L, C>,
-    T3: ReadFrom<L, C>,
     T4: ReadFrom<L, C>,
 > ReadFrom<L, C> for OneOf5<T0, T1, T2, T3, T4> {
+    type Strategy = ItemByItem<C>;
+
     #[inline]
     fn read_from<R: LendingReader<L, C>>(reader: &mut R) -> Result<Self, C::Error> {
         match reader.read_u32()? {
@@ -133,20 +115,10 @@ impl<
     T2: ReadFrom<L, C>,
     T3: ReadFrom<L, C>,
     T4: ReadFrom<L, C>,
-> ReadMany<L, C> for OneOf5<T0, T1, T2, T3, T4> {
-    type Strategy = ItemByItem<C>;
-}
-
-impl<
-    L: AsSlice<u8> + Drop,
-    C: Context,
-    T0: ReadFrom<L, C>,
-    T1: ReadFrom<L, C>,
-    T2: ReadFrom<L, C>,
-    T3: ReadFrom<L, C>,
-    T4: ReadFrom<L, C>,
     T5: ReadFrom<L, C>,
 > ReadFrom<L, C> for OneOf6<T0, T1, T2, T3, T4, T5> {
+    type Strategy = ItemByItem<C>;
+
     #[inline]
     fn read_from<R: LendingReader<L, C>>(reader: &mut R) -> Result<Self, C::Error> {
         match reader.read_u32()? {
@@ -175,21 +147,10 @@ impl<
     T3: ReadFrom<L, C>,
     T4: ReadFrom<L, C>,
     T5: ReadFrom<L, C>,
-> ReadMany<L, C> for OneOf6<T0, T1, T2, T3, T4, T5> {
-    type Strategy = ItemByItem<C>;
-}
-
-impl<
-    L: AsSlice<u8> + Drop,
-    C: Context,
-    T0: ReadFrom<L, C>,
-    T1: ReadFrom<L, C>,
-    T2: ReadFrom<L, C>,
-    T3: ReadFrom<L, C>,
-    T4: ReadFrom<L, C>,
-    T5: ReadFrom<L, C>,
     T6: ReadFrom<L, C>,
 > ReadFrom<L, C> for OneOf7<T0, T1, T2, T3, T4, T5, T6> {
+    type Strategy = ItemByItem<C>;
+
     #[inline]
     fn read_from<R: LendingReader<L, C>>(reader: &mut R) -> Result<Self, C::Error> {
         match reader.read_u32()? {
@@ -220,22 +181,10 @@ impl<
     T4: ReadFrom<L, C>,
     T5: ReadFrom<L, C>,
     T6: ReadFrom<L, C>,
-> ReadMany<L, C> for OneOf7<T0, T1, T2, T3, T4, T5, T6> {
-    type Strategy = ItemByItem<C>;
-}
-
-impl<
-    L: AsSlice<u8> + Drop,
-    C: Context,
-    T0: ReadFrom<L, C>,
-    T1: ReadFrom<L, C>,
-    T2: ReadFrom<L, C>,
-    T3: ReadFrom<L, C>,
-    T4: ReadFrom<L, C>,
-    T5: ReadFrom<L, C>,
-    T6: ReadFrom<L, C>,
     T7: ReadFrom<L, C>,
 > ReadFrom<L, C> for OneOf8<T0, T1, T2, T3, T4, T5, T6, T7> {
+    type Strategy = ItemByItem<C>;
+
     #[inline]
     fn read_from<R: LendingReader<L, C>>(reader: &mut R) -> Result<Self, C::Error> {
         match reader.read_u32()? {
@@ -255,19 +204,4 @@ impl<
     fn minimum_bytes_needed() -> usize {
         4
     }
-}
-
-impl<
-    L: AsSlice<u8> + Drop,
-    C: Context,
-    T0: ReadFrom<L, C>,
-    T1: ReadFrom<L, C>,
-    T2: ReadFrom<L, C>,
-    T3: ReadFrom<L, C>,
-    T4: ReadFrom<L, C>,
-    T5: ReadFrom<L, C>,
-    T6: ReadFrom<L, C>,
-    T7: ReadFrom<L, C>,
-> ReadMany<L, C> for OneOf8<T0, T1, T2, T3, T4, T5, T6, T7> {
-    type Strategy = ItemByItem<C>;
 }

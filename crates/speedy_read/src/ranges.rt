@@ -4,7 +4,7 @@ ghost use Rattle.std.specs.Range.{range_inclusive_exhausted};
 ghost use Rattle.speedy_read.specs.Reading.{Reads};
 
 use crate::many::ItemByItem;
-use crate::readable::{ReadFrom, ReadMany};
+use crate::readable::ReadFrom;
 use crate::reader::LendingReader;
 use speedy_base::context::Context;
 use speedy_layout::layout::Layout;
@@ -12,6 +12,8 @@ use std::convert::AsSlice;
 use std::ops::{Range, RangeInclusive};
 
 impl<L: AsSlice<u8> + Drop, C: Context, T: ReadFrom<L, C>> ReadFrom<L, C> for Range<T> {
+    type Strategy = ItemByItem<C>;
+
     #[inline]
     fn read_from<R: LendingReader<L, C>>(reader: &mut R) -> Result<Range<T>, C::Error> {
         let (start, end) = reader.read_value::<(T, T)>()?;
@@ -24,15 +26,13 @@ impl<L: AsSlice<u8> + Drop, C: Context, T: ReadFrom<L, C>> ReadFrom<L, C> for Ra
     }
 }
 
-impl<L: AsSlice<u8> + Drop, C: Context, T: ReadFrom<L, C>> ReadMany<L, C> for Range<T> {
-    type Strategy = ItemByItem<C>;
-}
-
 impl<L: AsSlice<u8> + Drop, C: Context, T: ReadFrom<L, C>> ReadFrom<L, C> for RangeInclusive<T> {
+    type Strategy = ItemByItem<C>;
+
     #[inline]
     fn read_from<R: LendingReader<L, C>>(reader: &mut R) -> Result<RangeInclusive<T>, C::Error>
         ensures reads { Reads C.Error.from_gives C.Error.eof ⟦<RangeInclusive<T> as Layout>⟧.seen
-            (⟦<RangeInclusive<T> as Layout>⟧.format (R.state reader.old).encoding) result
+            (⟦<RangeInclusive<T> as Layout>⟧.layout.format (R.state reader.old).encoding) result
             (R.state reader.old) (R.state reader.new) }
         ensures not_walked { IfOk result (λ range. range_inclusive_exhausted range ≡ false) }
     {
@@ -44,8 +44,4 @@ impl<L: AsSlice<u8> + Drop, C: Context, T: ReadFrom<L, C>> ReadFrom<L, C> for Ra
     fn minimum_bytes_needed() -> usize {
         T::minimum_bytes_needed().saturating_mul(2)
     }
-}
-
-impl<L: AsSlice<u8> + Drop, C: Context, T: ReadFrom<L, C>> ReadMany<L, C> for RangeInclusive<T> {
-    type Strategy = ItemByItem<C>;
 }

@@ -27,18 +27,21 @@ use std::path::AsPath;
 /// Most types are read whatever is lent; types that borrow are read where `L` is `&'a [u8]`. Types implement this trait,
 /// and users name them by [`Readable`].
 pub trait ReadFrom<L: AsSlice<u8> + Drop, C: Context>: Layout + Sized + Drop {
+    /// How several of its values are read: [`ItemByItem`](crate::many::ItemByItem) for a type of one's own.
+    type Strategy;
+
     /// Reads a value.
     ///
     /// A value that is answered is encoded by a prefix of the bytes to come, and just that prefix is taken. An error that
     /// is neither out of memory nor of a failed call means that no prefix encodes any value.
     fn read_from<R: LendingReader<L, C>>(reader: &mut R) -> Result<Self, C::Error>
         ensures { Reads C.Error.from_gives C.Error.eof Self.seen
-            (Self.format (R.state reader.old).encoding) result
+            (Self.layout.format (R.state reader.old).encoding) result
             (R.state reader.old) (R.state reader.new) };
 
     /// The least size: no value is encoded in fewer bytes.
     fn minimum_bytes_needed() -> usize
-        ensures { result ≡ Self.least };
+        ensures { result ≡ Self.layout.least };
 }
 
 /// Types that can be read from a buffer, a source or a file, with the ways of doing so. They may borrow for `'a`.
@@ -49,8 +52,8 @@ pub trait Readable<'a, C: Context>: ReadMany<&'a [u8], C> {
     final fn read_from_buffer(alloc: Global, buffer: &'a [u8]) -> Result<Self, C::Error>
     where
         C: PlainContext,
-        ensures { (count : ℕ) × AnswersBuffer C.Error.from_gives C.Error.eof Self.seen Self.least
-            (Self.format (plain_encoding Endianness.LittleEndian)) result count buffer.now }
+        ensures { (count : ℕ) × AnswersBuffer C.Error.from_gives C.Error.eof Self.seen Self.layout.least
+            (Self.layout.format (plain_encoding Endianness.LittleEndian)) result count buffer.now }
     {
         Self::read_from_buffer_with_ctx(alloc, C::plain(), buffer)
     }
@@ -64,8 +67,8 @@ pub trait Readable<'a, C: Context>: ReadMany<&'a [u8], C> {
     ) -> (Result<Self, C::Error>, usize)
     where
         C: PlainContext,
-        ensures { AnswersBuffer C.Error.from_gives C.Error.eof Self.seen Self.least
-            (Self.format (plain_encoding Endianness.LittleEndian)) result.0 result.1 buffer.now }
+        ensures { AnswersBuffer C.Error.from_gives C.Error.eof Self.seen Self.layout.least
+            (Self.layout.format (plain_encoding Endianness.LittleEndian)) result.0 result.1 buffer.now }
     {
         Self::read_with_length_from_buffer_with_ctx(alloc, C::plain(), buffer)
     }
@@ -78,8 +81,8 @@ pub trait Readable<'a, C: Context>: ReadMany<&'a [u8], C> {
         context: C,
         buffer: &'a [u8],
     ) -> Result<Self, C::Error>
-        ensures { (count : ℕ) × AnswersBuffer C.Error.from_gives C.Error.eof Self.seen Self.least
-            (Self.format (C.encoding context)) result count buffer.now }
+        ensures { (count : ℕ) × AnswersBuffer C.Error.from_gives C.Error.eof Self.seen Self.layout.least
+            (Self.layout.format (C.encoding context)) result count buffer.now }
     {
         Self::read_with_length_from_buffer_with_ctx(alloc, context, buffer).0
     }
@@ -92,8 +95,8 @@ pub trait Readable<'a, C: Context>: ReadMany<&'a [u8], C> {
         context: C,
         buffer: &'a [u8],
     ) -> (Result<Self, C::Error>, usize)
-        ensures { AnswersBuffer C.Error.from_gives C.Error.eof Self.seen Self.least
-            (Self.format (C.encoding context)) result.0 result.1 buffer.now }
+        ensures { AnswersBuffer C.Error.from_gives C.Error.eof Self.seen Self.layout.least
+            (Self.layout.format (C.encoding context)) result.0 result.1 buffer.now }
     {
         let least = Self::minimum_bytes_needed();
         if buffer.len() < least {
@@ -109,8 +112,8 @@ pub trait Readable<'a, C: Context>: ReadMany<&'a [u8], C> {
     final fn read_from_buffer_copying_data(alloc: Global, buffer: &[u8]) -> Result<Self, C::Error>
     where
         C: PlainContext,
-        ensures { (count : ℕ) × AnswersCopied C.Error.from_gives C.Error.eof Self.seen Self.least
-            (Self.format (plain_encoding Endianness.LittleEndian)) result count buffer.now }
+        ensures { (count : ℕ) × AnswersCopied C.Error.from_gives C.Error.eof Self.seen Self.layout.least
+            (Self.layout.format (plain_encoding Endianness.LittleEndian)) result count buffer.now }
     {
         Self::read_from_buffer_copying_data_with_ctx(alloc, C::plain(), buffer)
     }
@@ -123,8 +126,8 @@ pub trait Readable<'a, C: Context>: ReadMany<&'a [u8], C> {
     ) -> (Result<Self, C::Error>, usize)
     where
         C: PlainContext,
-        ensures { AnswersCopied C.Error.from_gives C.Error.eof Self.seen Self.least
-            (Self.format (plain_encoding Endianness.LittleEndian)) result.0 result.1 buffer.now }
+        ensures { AnswersCopied C.Error.from_gives C.Error.eof Self.seen Self.layout.least
+            (Self.layout.format (plain_encoding Endianness.LittleEndian)) result.0 result.1 buffer.now }
     {
         Self::read_with_length_from_buffer_copying_data_with_ctx(alloc, C::plain(), buffer)
     }
@@ -136,8 +139,8 @@ pub trait Readable<'a, C: Context>: ReadMany<&'a [u8], C> {
         context: C,
         buffer: &[u8],
     ) -> Result<Self, C::Error>
-        ensures { (count : ℕ) × AnswersCopied C.Error.from_gives C.Error.eof Self.seen Self.least
-            (Self.format (C.encoding context)) result count buffer.now }
+        ensures { (count : ℕ) × AnswersCopied C.Error.from_gives C.Error.eof Self.seen Self.layout.least
+            (Self.layout.format (C.encoding context)) result count buffer.now }
     {
         Self::read_with_length_from_buffer_copying_data_with_ctx(alloc, context, buffer).0
     }
@@ -149,8 +152,8 @@ pub trait Readable<'a, C: Context>: ReadMany<&'a [u8], C> {
         context: C,
         buffer: &[u8],
     ) -> (Result<Self, C::Error>, usize)
-        ensures { AnswersCopied C.Error.from_gives C.Error.eof Self.seen Self.least
-            (Self.format (C.encoding context)) result.0 result.1 buffer.now }
+        ensures { AnswersCopied C.Error.from_gives C.Error.eof Self.seen Self.layout.least
+            (Self.layout.format (C.encoding context)) result.0 result.1 buffer.now }
     {
         let mut context = context;
         Self::read_with_length_from_buffer_copying_data_with_ctx_mut(alloc, &mut context, buffer)
@@ -166,8 +169,8 @@ pub trait Readable<'a, C: Context>: ReadMany<&'a [u8], C> {
         buffer: &[u8],
     ) -> (Result<Self, C::Error>, usize)
         ensures encoding { C.encoding context.new ≡ C.encoding context.old }
-        ensures answers { AnswersCopied C.Error.from_gives C.Error.eof Self.seen Self.least
-            (Self.format (C.encoding context.old)) result.0 result.1 buffer.now }
+        ensures answers { AnswersCopied C.Error.from_gives C.Error.eof Self.seen Self.layout.least
+            (Self.layout.format (C.encoding context.old)) result.0 result.1 buffer.now }
     {
         let least = Self::minimum_bytes_needed();
         let length = buffer.len();
@@ -191,7 +194,7 @@ pub trait Readable<'a, C: Context>: ReadMany<&'a [u8], C> {
     where
         C: PlainContext,
         ensures { AnswersStream C.Error.from_gives C.Error.eof Self.seen
-            (Self.format (plain_encoding Endianness.LittleEndian)) false result
+            (Self.layout.format (plain_encoding Endianness.LittleEndian)) false result
             (S.source source.old) (S.source source.new) }
     {
         Self::read_from_stream_unbuffered_with_ctx(alloc, C::plain(), source)
@@ -204,7 +207,7 @@ pub trait Readable<'a, C: Context>: ReadMany<&'a [u8], C> {
         source: &mut S,
     ) -> Result<Self, C::Error>
         ensures { AnswersStream C.Error.from_gives C.Error.eof Self.seen
-            (Self.format (C.encoding context)) false result
+            (Self.layout.format (C.encoding context)) false result
             (S.source source.old) (S.source source.new) }
     {
         read_stream(alloc, context, source, false)
@@ -222,7 +225,7 @@ pub trait Readable<'a, C: Context>: ReadMany<&'a [u8], C> {
     where
         C: PlainContext,
         ensures { AnswersStream C.Error.from_gives C.Error.eof Self.seen
-            (Self.format (plain_encoding Endianness.LittleEndian)) true result
+            (Self.layout.format (plain_encoding Endianness.LittleEndian)) true result
             (S.source source.old) (S.source source.new) }
     {
         Self::read_from_stream_buffered_with_ctx(alloc, C::plain(), source)
@@ -235,7 +238,7 @@ pub trait Readable<'a, C: Context>: ReadMany<&'a [u8], C> {
         source: &mut S,
     ) -> Result<Self, C::Error>
         ensures { AnswersStream C.Error.from_gives C.Error.eof Self.seen
-            (Self.format (C.encoding context)) true result
+            (Self.layout.format (C.encoding context)) true result
             (S.source source.old) (S.source source.new) }
     {
         read_stream(alloc, context, source, true)
@@ -252,7 +255,7 @@ pub trait Readable<'a, C: Context>: ReadMany<&'a [u8], C> {
     where
         C: PlainContext,
         ensures { AnswersFile C.Error.from_gives C.Error.eof Self.seen
-            (Self.format (plain_encoding Endianness.LittleEndian)) result }
+            (Self.layout.format (plain_encoding Endianness.LittleEndian)) result }
     {
         Self::read_from_file_with_ctx(rt, alloc, C::plain(), path)
     }
@@ -265,7 +268,7 @@ pub trait Readable<'a, C: Context>: ReadMany<&'a [u8], C> {
         path: P,
     ) -> Result<Self, C::Error>
         ensures { AnswersFile C.Error.from_gives C.Error.eof Self.seen
-            (Self.format (C.encoding context)) result }
+            (Self.layout.format (C.encoding context)) result }
     {
         match File::open(rt, path) {
             Ok(file) => {
@@ -290,8 +293,8 @@ pub trait ReadableOwned<C: Context>: ReadMany<NothingLent, C> {
     final fn read_owned(alloc: Global, buffer: &[u8]) -> Result<Self, C::Error>
     where
         C: PlainContext,
-        ensures { (count : ℕ) × AnswersBuffer C.Error.from_gives C.Error.eof Self.seen Self.least
-            (Self.format (plain_encoding Endianness.LittleEndian)) result count buffer.now }
+        ensures { (count : ℕ) × AnswersBuffer C.Error.from_gives C.Error.eof Self.seen Self.layout.least
+            (Self.layout.format (plain_encoding Endianness.LittleEndian)) result count buffer.now }
     {
         Self::read_owned_with_ctx(alloc, C::plain(), buffer)
     }
@@ -300,8 +303,8 @@ pub trait ReadableOwned<C: Context>: ReadMany<NothingLent, C> {
     ///
     /// A buffer that is shorter than the type's least size is the error `InputBufferIsTooSmall`.
     final fn read_owned_with_ctx(alloc: Global, context: C, buffer: &[u8]) -> Result<Self, C::Error>
-        ensures { (count : ℕ) × AnswersBuffer C.Error.from_gives C.Error.eof Self.seen Self.least
-            (Self.format (C.encoding context)) result count buffer.now }
+        ensures { (count : ℕ) × AnswersBuffer C.Error.from_gives C.Error.eof Self.seen Self.layout.least
+            (Self.layout.format (C.encoding context)) result count buffer.now }
     {
         Self::read_owned_with_length_with_ctx(alloc, context, buffer).0
     }
@@ -314,8 +317,8 @@ pub trait ReadableOwned<C: Context>: ReadMany<NothingLent, C> {
         context: C,
         buffer: &[u8],
     ) -> (Result<Self, C::Error>, usize)
-        ensures { AnswersBuffer C.Error.from_gives C.Error.eof Self.seen Self.least
-            (Self.format (C.encoding context)) result.0 result.1 buffer.now }
+        ensures { AnswersBuffer C.Error.from_gives C.Error.eof Self.seen Self.layout.least
+            (Self.layout.format (C.encoding context)) result.0 result.1 buffer.now }
     {
         let least = Self::minimum_bytes_needed();
         let length = buffer.len();

@@ -382,7 +382,7 @@ pub trait LendingReader<L: AsSlice<u8> + Drop, C: Context> {
     final fn read_value<T: ReadFrom<L, C>>(&mut self) -> Result<T, C::Error>
     where
         Self: Sized,
-        ensures { Reads C.Error.from_gives C.Error.eof T.seen (T.format (state self.old).encoding)
+        ensures { Reads C.Error.from_gives C.Error.eof T.seen (T.layout.format (state self.old).encoding)
             result (state self.old) (state self.new) }
     {
         T::read_from(self)
@@ -393,7 +393,7 @@ pub trait LendingReader<L: AsSlice<u8> + Drop, C: Context> {
     final fn read_owned_value<T: ReadFrom<NothingLent, C>>(&mut self) -> Result<T, C::Error>
     where
         Self: Sized,
-        ensures { Reads C.Error.from_gives C.Error.eof T.seen (T.format (state self.old).encoding)
+        ensures { Reads C.Error.from_gives C.Error.eof T.seen (T.layout.format (state self.old).encoding)
             result (state self.old) (state self.new) }
     {
         let mut reader: OwnedReader<L, Self> = OwnedReader::new(self);
@@ -411,9 +411,9 @@ pub trait LendingReader<L: AsSlice<u8> + Drop, C: Context> {
     where
         Self: Sized,
         ensures reads { Reads C.Error.from_gives C.Error.eof (λ v. map T.seen v.items)
-            (vector length (T.format (state self.old).encoding)) result
+            (vector length (T.layout.format (state self.old).encoding)) result
             (state self.old) (state self.new) }
-        ensures early { ((2 ^ 64 ≤ T.least * length) ⊎ (can_read self.old (T.least * length) ≡ Some false))
+        ensures early { ((2 ^ 64 ≤ T.layout.least * length) ⊎ (can_read self.old (T.layout.least * length) ≡ Some false))
             → IsErrAnd result (λ e. C.Error.from_gives (error_of ErrorKind.UnexpectedEndOfInput) e)
             × (self.new ≡ self.old) }
     {
@@ -435,9 +435,9 @@ pub trait LendingReader<L: AsSlice<u8> + Drop, C: Context> {
     where
         Self: Sized,
         ensures reads { Reads C.Error.from_gives C.Error.eof (λ w. map T.seen (W.shown w))
-            (vector length (T.format (state self.old).encoding)) result
+            (vector length (T.layout.format (state self.old).encoding)) result
             (state self.old) (state self.new) }
-        ensures early { ((2 ^ 64 ≤ T.least * length) ⊎ (can_read self.old (T.least * length) ≡ Some false))
+        ensures early { ((2 ^ 64 ≤ T.layout.least * length) ⊎ (can_read self.old (T.layout.least * length) ≡ Some false))
             → IsErrAnd result (λ e. C.Error.from_gives (error_of ErrorKind.UnexpectedEndOfInput) e)
             × (self.new ≡ self.old) }
     {
@@ -457,7 +457,7 @@ pub trait LendingReader<L: AsSlice<u8> + Drop, C: Context> {
     where
         Self: Sized,
         ensures { let items = gatherer T.seen F.gathers F.are_written in
-            Collects items (T.format (state self.old).encoding) length
+            Collects items (T.layout.format (state self.old).encoding) length
             C.Error.from_gives C.Error.eof result (state self.old) (state self.new) }
     {
         T::collect_many(self, length)
@@ -473,7 +473,7 @@ pub trait LendingReader<L: AsSlice<u8> + Drop, C: Context> {
         Self: Sized,
         ensures { let pairs = ⟦<(K, V) as Layout>⟧ in
             let items = gatherer pairs.seen F.gathers F.are_written in
-            Collects items (pairs.format (state self.old).encoding) length
+            Collects items (pairs.layout.format (state self.old).encoding) length
             C.Error.from_gives C.Error.eof result (state self.old) (state self.new) }
     {
         <(K, V) as ReadMany<L, C>>::collect_many(self, length)
@@ -493,7 +493,7 @@ pub trait LendingReader<L: AsSlice<u8> + Drop, C: Context> {
         Self: Sized,
         ensures { let gathers : List T → Vec T → Type 0 = λ items v. v.items ≡ items in
             ReadsUntilEnd C.Error.from_gives C.Error.eof T.seen gathers
-            (T.format (state self.old).encoding) greatest result (state self.old) (state self.new) }
+            (T.layout.format (state self.old).encoding) greatest result (state self.old) (state self.new) }
     {
         gather_until_end::<Vec<T>, T, L, C, Self>(self, greatest)
     }
@@ -508,7 +508,7 @@ pub trait LendingReader<L: AsSlice<u8> + Drop, C: Context> {
         Self: Sized,
         ensures { let gathers : List T → W → Type 0 = λ items w. W.shown w ≡ items in
             ReadsUntilEnd C.Error.from_gives C.Error.eof T.seen gathers
-            (T.format (state self.old).encoding) greatest result (state self.old) (state self.new) }
+            (T.layout.format (state self.old).encoding) greatest result (state self.old) (state self.new) }
     {
         Ok(W::from_values(self.read_vec_until_eof(greatest)?))
     }
@@ -523,7 +523,7 @@ pub trait LendingReader<L: AsSlice<u8> + Drop, C: Context> {
     where
         Self: Sized,
         ensures { ReadsUntilEnd C.Error.from_gives C.Error.eof T.seen F.gathers
-            (T.format (state self.old).encoding) greatest result (state self.old) (state self.new) }
+            (T.layout.format (state self.old).encoding) greatest result (state self.old) (state self.new) }
     {
         gather_until_end::<F, T, L, C, Self>(self, greatest)
     }

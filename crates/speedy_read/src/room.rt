@@ -146,7 +146,7 @@ pub(crate) fn append_in_steps<T: FixedNumber>(
 ) -> Result<(), AllocError>
     requires { (count : ℕ) × (count_of digits.now ≡ count * T.SIZE) }
     ensures { OnOk result ((more : List T) × (numbers.new.items ≡ numbers.old.items ++ more)
-        × Each (spelled_in T.format order) (map T.seen more) digits.now) }
+        × Each (spelled_in T.layout.format order) (map T.seen more) digits.now) }
 {
     let count = digits.len() / T::SIZE;
     let mut at = 0;

@@ -11,6 +11,8 @@ use std::hash::{BuildHasher, Hash};
 
 impl<L: AsSlice<u8> + Drop, C: Context, T: ReadMany<L, C> + SameKey + Ord> ReadFrom<L, C>
     for BTreeSet<T> {
+    type Strategy = ItemByItem<C>;
+
     #[inline]
     fn read_from<R: LendingReader<L, C>>(reader: &mut R) -> Result<BTreeSet<T>, C::Error> {
         let length = reader.read_u32()?;
@@ -23,17 +25,14 @@ impl<L: AsSlice<u8> + Drop, C: Context, T: ReadMany<L, C> + SameKey + Ord> ReadF
     }
 }
 
-impl<L: AsSlice<u8> + Drop, C: Context, T: ReadMany<L, C> + SameKey + Ord> ReadMany<L, C>
-    for BTreeSet<T> {
-    type Strategy = ItemByItem<C>;
-}
-
 impl<
     L: AsSlice<u8> + Drop,
     C: Context,
     T: ReadMany<L, C> + SameKey + Hash,
     S: BuildHasher + Default + Drop,
 > ReadFrom<L, C> for HashSet<T, S> {
+    type Strategy = ItemByItem<C>;
+
     #[inline]
     fn read_from<R: LendingReader<L, C>>(reader: &mut R) -> Result<HashSet<T, S>, C::Error> {
         let length = reader.read_u32()?;
@@ -51,16 +50,9 @@ impl<
     C: Context,
     T: ReadMany<L, C> + SameKey + Hash,
     S: BuildHasher + Default + Drop,
-> ReadMany<L, C> for HashSet<T, S> {
-    type Strategy = ItemByItem<C>;
-}
-
-impl<
-    L: AsSlice<u8> + Drop,
-    C: Context,
-    T: ReadMany<L, C> + SameKey + Hash,
-    S: BuildHasher + Default + Drop,
 > ReadFrom<L, C> for IndexSet<T, S> {
+    type Strategy = ItemByItem<C>;
+
     #[inline]
     fn read_from<R: LendingReader<L, C>>(reader: &mut R) -> Result<IndexSet<T, S>, C::Error> {
         let length = reader.read_u32()?;
@@ -71,13 +63,4 @@ impl<
     fn minimum_bytes_needed() -> usize {
         4
     }
-}
-
-impl<
-    L: AsSlice<u8> + Drop,
-    C: Context,
-    T: ReadMany<L, C> + SameKey + Hash,
-    S: BuildHasher + Default + Drop,
-> ReadMany<L, C> for IndexSet<T, S> {
-    type Strategy = ItemByItem<C>;
 }

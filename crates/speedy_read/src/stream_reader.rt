@@ -422,7 +422,7 @@ pub(crate) fn read_stream<'a, T: ReadFrom<&'a [u8], C>, C: Context, S: Source>(
     source: &mut S,
     is_buffering: bool,
 ) -> Result<T, C::Error>
-    ensures { AnswersStream C.Error.from_gives C.Error.eof T.seen (T.format (C.encoding context))
+    ensures { AnswersStream C.Error.from_gives C.Error.eof T.seen (T.layout.format (C.encoding context))
         is_buffering result (S.source source.old) (S.source source.new) }
 {
     let Ok(ring) = first_ring(alloc, is_buffering) else {

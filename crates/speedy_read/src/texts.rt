@@ -6,7 +6,7 @@ ghost use Rattle.speedy_read.specs.Reading.{Reads, RefusesUnsized};
 use crate::lent::read_lent;
 use crate::many::ItemByItem;
 use crate::private::bytes_to_str;
-use crate::readable::{ReadFrom, ReadMany};
+use crate::readable::ReadFrom;
 use crate::reader::LendingReader;
 use speedy_base::context::Context;
 use speedy_layout::layout::Layout;
@@ -14,6 +14,8 @@ use std::boxed::BoxedStr;
 use std::convert::AsSlice;
 
 impl<L: AsSlice<u8> + Drop, C: Context> ReadFrom<L, C> for String {
+    type Strategy = ItemByItem<C>;
+
     #[inline]
     fn read_from<R: LendingReader<L, C>>(reader: &mut R) -> Result<String, C::Error> {
         let length = reader.read_u32()?;
@@ -26,11 +28,9 @@ impl<L: AsSlice<u8> + Drop, C: Context> ReadFrom<L, C> for String {
     }
 }
 
-impl<L: AsSlice<u8> + Drop, C: Context> ReadMany<L, C> for String {
-    type Strategy = ItemByItem<C>;
-}
-
 impl<L: AsSlice<u8> + Drop, C: Context> ReadFrom<L, C> for BoxedStr {
+    type Strategy = ItemByItem<C>;
+
     #[inline]
     fn read_from<R: LendingReader<L, C>>(reader: &mut R) -> Result<BoxedStr, C::Error> {
         let text: String = reader.read_value()?;
@@ -43,17 +43,15 @@ impl<L: AsSlice<u8> + Drop, C: Context> ReadFrom<L, C> for BoxedStr {
     }
 }
 
-impl<L: AsSlice<u8> + Drop, C: Context> ReadMany<L, C> for BoxedStr {
-    type Strategy = ItemByItem<C>;
-}
-
 // It points into the bytes that the reader lends.
 impl<'a, C: Context> ReadFrom<&'a [u8], C> for &'a str {
+    type Strategy = ItemByItem<C>;
+
     #[inline]
     fn read_from<R: LendingReader<&'a [u8], C>>(reader: &mut R) -> Result<&'a str, C::Error>
         ensures reads { let text = ⟦<&'a str as Layout>⟧ in
             Reads C.Error.from_gives C.Error.eof text.seen
-            (text.format (R.state reader.old).encoding) result
+            (text.layout.format (R.state reader.old).encoding) result
             (R.state reader.old) (R.state reader.new) }
         ensures not_lent { let number = unsigned_number 4 (R.state reader.old).encoding in
             RefusesUnsized C.Error.from_gives C.Error.eof number result
@@ -70,8 +68,4 @@ impl<'a, C: Context> ReadFrom<&'a [u8], C> for &'a str {
     {
         4
     }
-}
-
-impl<'a, C: Context> ReadMany<&'a [u8], C> for &'a str {
-    type Strategy = ItemByItem<C>;
 }

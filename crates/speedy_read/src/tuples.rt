@@ -3,12 +3,14 @@
 ghost use Rattle.std.specs.Prelude.{◌+◌};
 
 use crate::many::ItemByItem;
-use crate::readable::{ReadFrom, ReadMany};
+use crate::readable::ReadFrom;
 use crate::reader::LendingReader;
 use speedy_base::context::Context;
 use std::convert::AsSlice;
 
 impl<L: AsSlice<u8> + Drop, C: Context> ReadFrom<L, C> for () {
+    type Strategy = ItemByItem<C>;
+
     #[inline]
     fn read_from<R: LendingReader<L, C>>(_reader: &mut R) -> Result<(), C::Error> {
         Ok(())
@@ -20,11 +22,9 @@ impl<L: AsSlice<u8> + Drop, C: Context> ReadFrom<L, C> for () {
     }
 }
 
-impl<L: AsSlice<u8> + Drop, C: Context> ReadMany<L, C> for () {
-    type Strategy = ItemByItem<C>;
-}
-
 impl<L: AsSlice<u8> + Drop, C: Context, T0: ReadFrom<L, C>> ReadFrom<L, C> for (T0,) {
+    type Strategy = ItemByItem<C>;
+
     #[inline]
     fn read_from<R: LendingReader<L, C>>(reader: &mut R) -> Result<(T0,), C::Error> {
         let first = reader.read_value()?;
@@ -37,12 +37,10 @@ impl<L: AsSlice<u8> + Drop, C: Context, T0: ReadFrom<L, C>> ReadFrom<L, C> for (
     }
 }
 
-impl<L: AsSlice<u8> + Drop, C: Context, T0: ReadFrom<L, C>> ReadMany<L, C> for (T0,) {
-    type Strategy = ItemByItem<C>;
-}
-
 impl<L: AsSlice<u8> + Drop, C: Context, T0: ReadFrom<L, C>, T1: ReadFrom<L, C>> ReadFrom<L, C>
     for (T0, T1) {
+    type Strategy = ItemByItem<C>;
+
     #[inline]
     fn read_from<R: LendingReader<L, C>>(reader: &mut R) -> Result<(T0, T1), C::Error> {
         let first = reader.read_value()?;
@@ -56,11 +54,6 @@ impl<L: AsSlice<u8> + Drop, C: Context, T0: ReadFrom<L, C>, T1: ReadFrom<L, C>> 
     }
 }
 
-impl<L: AsSlice<u8> + Drop, C: Context, T0: ReadFrom<L, C>, T1: ReadFrom<L, C>> ReadMany<L, C>
-    for (T0, T1) {
-    type Strategy = ItemByItem<C>;
-}
-
 impl<
     L: AsSlice<u8> + Drop,
     C: Context,
@@ -68,6 +61,8 @@ impl<
     T1: ReadFrom<L, C>,
     T2: ReadFrom<L, C>,
 > ReadFrom<L, C> for (T0, T1, T2) {
+    type Strategy = ItemByItem<C>;
+
     #[inline]
     fn read_from<R: LendingReader<L, C>>(reader: &mut R) -> Result<Self, C::Error> {
         let (v0, (v1, v2)) = reader.read_value::<(T0, (T1, T2))>()?;
@@ -86,18 +81,10 @@ impl<
     T0: ReadFrom<L, C>,
     T1: ReadFrom<L, C>,
     T2: ReadFrom<L, C>,
-> ReadMany<L, C> for (T0, T1, T2) {
-    type Strategy = ItemByItem<C>;
-}
-
-impl<
-    L: AsSlice<u8> + Drop,
-    C: Context,
-    T0: ReadFrom<L, C>,
-    T1: ReadFrom<L, C>,
-    T2: ReadFrom<L, C>,
     T3: ReadFrom<L, C>,
 > ReadFrom<L, C> for (T0, T1, T2, T3) {
+    type Strategy = ItemByItem<C>;
+
     #[inline]
     fn read_from<R: LendingReader<L, C>>(reader: &mut R) -> Result<Self, C::Error> {
         let (v0, (v1, v2, v3)) = reader.read_value::<(T0, (T1, T2, T3))>()?;
@@ -117,19 +104,10 @@ impl<
     T1: ReadFrom<L, C>,
     T2: ReadFrom<L, C>,
     T3: ReadFrom<L, C>,
-> ReadMany<L, C> for (T0, T1, T2, T3) {
-    type Strategy = ItemByItem<C>;
-}
-
-impl<
-    L: AsSlice<u8> + Drop,
-    C: Context,
-    T0: ReadFrom<L, C>,
-    T1: ReadFrom<L, C>,
-    T2: ReadFrom<L, C>,
-    T3: ReadFrom<L, C>,
     T4: ReadFrom<L, C>,
 > ReadFrom<L, C> for (T0, T1, T2, T3, T4) {
+    type Strategy = ItemByItem<C>;
+
     #[inline]
     fn read_from<R: LendingReader<L, C>>(reader: &mut R) -> Result<Self, C::Error> {
         let (v0, (v1, v2, v3, v4)) = reader.read_value::<(T0, (T1, T2, T3, T4))>()?;
@@ -150,20 +128,10 @@ impl<
     T2: ReadFrom<L, C>,
     T3: ReadFrom<L, C>,
     T4: ReadFrom<L, C>,
-> ReadMany<L, C> for (T0, T1, T2, T3, T4) {
-    type Strategy = ItemByItem<C>;
-}
-
-impl<
-    L: AsSlice<u8> + Drop,
-    C: Context,
-    T0: ReadFrom<L, C>,
-    T1: ReadFrom<L, C>,
-    T2: ReadFrom<L, C>,
-    T3: ReadFrom<L, C>,
-    T4: ReadFrom<L, C>,
     T5: ReadFrom<L, C>,
 > ReadFrom<L, C> for (T0, T1, T2, T3, T4, T5) {
+    type Strategy = ItemByItem<C>;
+
     #[inline]
     fn read_from<R: LendingReader<L, C>>(reader: &mut R) -> Result<Self, C::Error> {
         let (v0, (v1, v2, v3, v4, v5)) = reader.read_value::<(T0, (T1, T2, T3, T4, T5))>()?;
@@ -185,21 +153,10 @@ impl<
     T3: ReadFrom<L, C>,
     T4: ReadFrom<L, C>,
     T5: ReadFrom<L, C>,
-> ReadMany<L, C> for (T0, T1, T2, T3, T4, T5) {
-    type Strategy = ItemByItem<C>;
-}
-
-impl<
-    L: AsSlice<u8> + Drop,
-    C: Context,
-    T0: ReadFrom<L, C>,
-    T1: ReadFrom<L, C>,
-    T2: ReadFrom<L, C>,
-    T3: ReadFrom<L, C>,
-    T4: ReadFrom<L, C>,
-    T5: ReadFrom<L, C>,
     T6: ReadFrom<L, C>,
 > ReadFrom<L, C> for (T0, T1, T2, T3, T4, T5, T6) {
+    type Strategy = ItemByItem<C>;
+
     #[inline]
     fn read_from<R: LendingReader<L, C>>(reader: &mut R) -> Result<Self, C::Error> {
         let (v0, (v1, v2, v3, v4, v5, v6)) = reader.read_value::<(T0, (T1, T2, T3, T4, T5, T6))>()?;
@@ -222,22 +179,10 @@ impl<
     T4: ReadFrom<L, C>,
     T5: ReadFrom<L, C>,
     T6: ReadFrom<L, C>,
-> ReadMany<L, C> for (T0, T1, T2, T3, T4, T5, T6) {
-    type Strategy = ItemByItem<C>;
-}
-
-impl<
-    L: AsSlice<u8> + Drop,
-    C: Context,
-    T0: ReadFrom<L, C>,
-    T1: ReadFrom<L, C>,
-    T2: ReadFrom<L, C>,
-    T3: ReadFrom<L, C>,
-    T4: ReadFrom<L, C>,
-    T5: ReadFrom<L, C>,
-    T6: ReadFrom<L, C>,
     T7: ReadFrom<L, C>,
 > ReadFrom<L, C> for (T0, T1, T2, T3, T4, T5, T6, T7) {
+    type Strategy = ItemByItem<C>;
+
     #[inline]
     fn read_from<R: LendingReader<L, C>>(reader: &mut R) -> Result<Self, C::Error> {
         let (v0, (v1, v2, v3, v4, v5, v6, v7)) = reader.read_value::<
@@ -263,23 +208,10 @@ impl<
     T5: ReadFrom<L, C>,
     T6: ReadFrom<L, C>,
     T7: ReadFrom<L, C>,
-> ReadMany<L, C> for (T0, T1, T2, T3, T4, T5, T6, T7) {
-    type Strategy = ItemByItem<C>;
-}
-
-impl<
-    L: AsSlice<u8> + Drop,
-    C: Context,
-    T0: ReadFrom<L, C>,
-    T1: ReadFrom<L, C>,
-    T2: ReadFrom<L, C>,
-    T3: ReadFrom<L, C>,
-    T4: ReadFrom<L, C>,
-    T5: ReadFrom<L, C>,
-    T6: ReadFrom<L, C>,
-    T7: ReadFrom<L, C>,
     T8: ReadFrom<L, C>,
 > ReadFrom<L, C> for (T0, T1, T2, T3, T4, T5, T6, T7, T8) {
+    type Strategy = ItemByItem<C>;
+
     #[inline]
     fn read_from<R: LendingReader<L, C>>(reader: &mut R) -> Result<Self, C::Error> {
         let (v0, (v1, v2, v3, v4, v5, v6, v7, v8)) = reader.read_value::<
@@ -306,24 +238,10 @@ impl<
     T6: ReadFrom<L, C>,
     T7: ReadFrom<L, C>,
     T8: ReadFrom<L, C>,
-> ReadMany<L, C> for (T0, T1, T2, T3, T4, T5, T6, T7, T8) {
-    type Strategy = ItemByItem<C>;
-}
-
-impl<
-    L: AsSlice<u8> + Drop,
-    C: Context,
-    T0: ReadFrom<L, C>,
-    T1: ReadFrom<L, C>,
-    T2: ReadFrom<L, C>,
-    T3: ReadFrom<L, C>,
-    T4: ReadFrom<L, C>,
-    T5: ReadFrom<L, C>,
-    T6: ReadFrom<L, C>,
-    T7: ReadFrom<L, C>,
-    T8: ReadFrom<L, C>,
     T9: ReadFrom<L, C>,
 > ReadFrom<L, C> for (T0, T1, T2, T3, T4, T5, T6, T7, T8, T9) {
+    type Strategy = ItemByItem<C>;
+
     #[inline]
     fn read_from<R: LendingReader<L, C>>(reader: &mut R) -> Result<Self, C::Error> {
         let (v0, (v1, v2, v3, v4, v5, v6, v7, v8, v9)) = reader.read_value::<
@@ -351,25 +269,10 @@ impl<
     T7: ReadFrom<L, C>,
     T8: ReadFrom<L, C>,
     T9: ReadFrom<L, C>,
-> ReadMany<L, C> for (T0, T1, T2, T3, T4, T5, T6, T7, T8, T9) {
-    type Strategy = ItemByItem<C>;
-}
-
-impl<
-    L: AsSlice<u8> + Drop,
-    C: Context,
-    T0: ReadFrom<L, C>,
-    T1: ReadFrom<L, C>,
-    T2: ReadFrom<L, C>,
-    T3: ReadFrom<L, C>,
-    T4: ReadFrom<L, C>,
-    T5: ReadFrom<L, C>,
-    T6: ReadFrom<L, C>,
-    T7: ReadFrom<L, C>,
-    T8: ReadFrom<L, C>,
-    T9: ReadFrom<L, C>,
     T10: ReadFrom<L, C>,
 > ReadFrom<L, C> for (T0, T1, T2, T3, T4, T5, T6, T7, T8, T9, T10) {
+    type Strategy = ItemByItem<C>;
+
     #[inline]
     fn read_from<R: LendingReader<L, C>>(reader: &mut R) -> Result<Self, C::Error> {
         let (v0, (v1, v2, v3, v4, v5, v6, v7, v8, v9, v10)) = reader.read_value::<
@@ -382,22 +285,4 @@ impl<
     fn minimum_bytes_needed() -> usize {
         <(T0, (T1, T2, T3, T4, T5, T6, T7, T8, T9, T10)) as ReadFrom<L, C>>::minimum_bytes_needed()
     }
-}
-
-impl<
-    L: AsSlice<u8> + Drop,
-    C: Context,
-    T0: ReadFrom<L, C>,
-    T1: ReadFrom<L, C>,
-    T2: ReadFrom<L, C>,
-    T3: ReadFrom<L, C>,
-    T4: ReadFrom<L, C>,
-    T5: ReadFrom<L, C>,
-    T6: ReadFrom<L, C>,
-    T7: ReadFrom<L, C>,
-    T8: ReadFrom<L, C>,
-    T9: ReadFrom<L, C>,
-    T10: ReadFrom<L, C>,
-> ReadMany<L, C> for (T0, T1, T2, T3, T4, T5, T6, T7, T8, T9, T10) {
-    type Strategy = ItemByItem<C>;
 }

@@ -14,7 +14,7 @@ use std::convert::AsSlice;
 fn read_unless_end<T: ReadFrom<L, C>, L: AsSlice<u8> + Drop, C: Context, R: LendingReader<L, C>>(
     reader: &mut R,
 ) -> Result<Option<T>, C::Error>
-    ensures { ReadsUnlessEnd C.Error.from_gives C.Error.eof T.seen (T.format (R.state reader.old).encoding)
+    ensures { ReadsUnlessEnd C.Error.from_gives C.Error.eof T.seen (T.layout.format (R.state reader.old).encoding)
         result (R.state reader.old) (R.state reader.new) }
 {
     match T::read_from(reader) {
@@ -37,7 +37,7 @@ pub(crate) fn gather_until_end<
     R: LendingReader<L, C>,
 >(reader: &mut R, greatest: usize) -> Result<F, C::Error>
     ensures { ReadsUntilEnd C.Error.from_gives C.Error.eof T.seen F.gathers
-        (T.format (R.state reader.old).encoding) greatest result
+        (T.layout.format (R.state reader.old).encoding) greatest result
         (R.state reader.old) (R.state reader.new) }
 {
     let mut whole = F::empty(reader.alloc());

@@ -1,12 +1,14 @@
 //! How integers of variable length are read.
 use crate::many::ItemByItem;
-use crate::readable::{ReadFrom, ReadMany};
+use crate::readable::ReadFrom;
 use crate::reader::LendingReader;
 use speedy_base::context::Context;
 use speedy_layout::VarInt64;
 use std::convert::AsSlice;
 
 impl<L: AsSlice<u8> + Drop, C: Context> ReadFrom<L, C> for VarInt64 {
+    type Strategy = ItemByItem<C>;
+
     #[inline]
     fn read_from<R: LendingReader<L, C>>(reader: &mut R) -> Result<VarInt64, C::Error> {
         Ok(VarInt64::from(reader.read_u64_varint()?))
@@ -16,8 +18,4 @@ impl<L: AsSlice<u8> + Drop, C: Context> ReadFrom<L, C> for VarInt64 {
     fn minimum_bytes_needed() -> usize {
         1
     }
-}
-
-impl<L: AsSlice<u8> + Drop, C: Context> ReadMany<L, C> for VarInt64 {
-    type Strategy = ItemByItem<C>;
 }

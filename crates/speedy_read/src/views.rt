@@ -8,7 +8,7 @@ ghost use Rattle.speedy_read.specs.Reading.{Reads, RefusesUnsized};
 
 use crate::lent::read_lent;
 use crate::many::ItemByItem;
-use crate::readable::{ReadFrom, ReadMany};
+use crate::readable::ReadFrom;
 use crate::reader::LendingReader;
 use speedy_base::context::Context;
 use speedy_base::error::{ErrorKind, error_end_of_input};
@@ -18,13 +18,15 @@ use speedy_layout::views::{ArrayView, SliceView};
 use std::convert::AsSlice;
 
 impl<'a, C: Context, T: ZeroCopyable<C>> ReadFrom<&'a [u8], C> for SliceView<'a, T> {
+    type Strategy = ItemByItem<C>;
+
     #[inline]
     fn read_from<R: LendingReader<&'a [u8], C>>(
         reader: &mut R,
     ) -> Result<SliceView<'a, T>, C::Error>
         ensures reads { let view = ⟦<SliceView<'a, T> as Layout>⟧ in
             Reads C.Error.from_gives C.Error.eof view.seen
-            (view.format (R.state reader.old).encoding) result
+            (view.layout.format (R.state reader.old).encoding) result
             (R.state reader.old) (R.state reader.new) }
         ensures not_lent { let number = unsigned_number 4 (R.state reader.old).encoding in
             RefusesUnsized C.Error.from_gives C.Error.eof number result
@@ -44,19 +46,17 @@ impl<'a, C: Context, T: ZeroCopyable<C>> ReadFrom<&'a [u8], C> for SliceView<'a,
     }
 }
 
-impl<'a, C: Context, T: ZeroCopyable<C>> ReadMany<&'a [u8], C> for SliceView<'a, T> {
-    type Strategy = ItemByItem<C>;
-}
-
 impl<'a, C: Context, T: ZeroCopyable<C>, const N: usize> ReadFrom<&'a [u8], C>
     for ArrayView<'a, T, N> {
+    type Strategy = ItemByItem<C>;
+
     #[inline]
     fn read_from<R: LendingReader<&'a [u8], C>>(
         reader: &mut R,
     ) -> Result<ArrayView<'a, T, N>, C::Error>
         ensures reads { let view = ⟦<ArrayView<'a, T, N> as Layout>⟧ in
             Reads C.Error.from_gives C.Error.eof view.seen
-            (view.format (R.state reader.old).encoding) result
+            (view.layout.format (R.state reader.old).encoding) result
             (R.state reader.old) (R.state reader.new) }
         ensures not_lent { (R.state reader.old).fixed.lends ≡ false
             → IsErrAnd result (λ e. C.Error.from_gives (error_of ErrorKind.Unsized) e)
@@ -74,15 +74,10 @@ impl<'a, C: Context, T: ZeroCopyable<C>, const N: usize> ReadFrom<&'a [u8], C>
 
     #[inline]
     fn minimum_bytes_needed() -> usize
-        ensures { result ≡ ⟦<ArrayView<'a, T, N> as Layout>⟧.least }
+        ensures { result ≡ ⟦<ArrayView<'a, T, N> as Layout>⟧.layout.least }
     {
         N.saturating_mul(T::SIZE)
     }
-}
-
-impl<'a, C: Context, T: ZeroCopyable<C>, const N: usize> ReadMany<&'a [u8], C>
-    for ArrayView<'a, T, N> {
-    type Strategy = ItemByItem<C>;
 }
 
 // What a proof knows of a context without a lifetime, it is told here for readers that lend for one.
@@ -90,8 +85,8 @@ impl<'a, C: Context, T: ZeroCopyable<C>, const N: usize> ReadMany<&'a [u8], C>
 fn spelled_as_little<T: ZeroCopyable<C>, L: AsSlice<u8> + Drop, C: Context, R: LendingReader<L, C>>(
     _reader: &R,
 )
-    ensures { (v : T.Seen) (bytes : List ℕ) → (T.format (plain_encoding LittleOrder)).spells v bytes
-        → (T.format (R.state _reader.now).encoding).spells v bytes }
+    ensures { (v : T.Seen) (bytes : List ℕ) → (T.layout.format (plain_encoding LittleOrder)).spells v bytes
+        → (T.layout.format (R.state _reader.now).encoding).spells v bytes }
 {}
 
 // How many bytes so many items have.

@@ -122,8 +122,8 @@ pub(crate) fn answer_as<
     T: ReadFrom<&'a [u8], C> + Writable<C>,
     C: Context<Error = Error> + Copy,
 >(alloc: Global, context: C, bytes: &'a [u8]) -> Result<Vec<u8>, AllocError>
-    ensures { let format = T.format (C.encoding context) in
-        IfOk result (λ text. AnswersBytes T.least format bytes.now text.items) }
+    ensures { let format = T.layout.format (C.encoding context) in
+        IfOk result (λ text. AnswersBytes T.layout.least format bytes.now text.items) }
 {
     let (result, count) = bytes.read_with_length::<T>(alloc, context);
     match result {

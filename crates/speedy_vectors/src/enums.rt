@@ -1,14 +1,10 @@
-//! Enums of your own, with and without parts. Each is one of the library's, and is proved with no answer.
-ghost use Rattle.speedy.specs.Numbers.{unsigned_number_laws};
-ghost use Rattle.speedy.specs.OneOf.{one_of3_laws};
-ghost use Rattle.speedy.specs.Tags.{tag_laws};
-ghost use Rattle.speedy.specs.TupleLaws.{tuple3_laws};
-ghost use Rattle.speedy.specs.Tuples.{unit_laws};
+//! Enums of your own, with and without parts. Each is one of the library's. To write one with parts takes an answer of a
+//! line an arm.
 ghost use Rattle.speedy.specs.declared.one_of.OneOf3.{OneOf3};
 
 use speedy::one_of::OneOf3;
 use speedy::tag::Tag;
-use speedy::{Context, ItemByItem, Layout, LendingReader, ReadFrom, ReadMany, Writable, Writer};
+use speedy::{Context, ItemByItem, Layout, LendingReader, ReadFrom, Writable, Writer};
 use std::convert::AsSlice;
 
 /// Variants without parts: the tags 0, 1 and 2.
@@ -26,14 +22,12 @@ impl Layout for Enum {
 
     ghost seen = { λ e. elim e [ Enum.A ↦ 0 | Enum.B ↦ 1 | Enum.C ↦ 2 ] };
 
-    ghost format = { ⟦<Tag<3> as Layout>⟧.format };
-
-    ghost least = { 4 };
-
-    ghost layout_laws = { tag_laws 3 };
+    ghost layout = { ⟦<Tag<3> as Layout>⟧.layout };
 }
 
 impl<L: AsSlice<u8> + Drop, C: Context> ReadFrom<L, C> for Enum {
+    type Strategy = ItemByItem<C>;
+
     fn read_from<R: LendingReader<L, C>>(reader: &mut R) -> Result<Enum, C::Error> {
         match reader.read_value::<Tag<3>>()?.number {
             0 => Ok(Enum::A),
@@ -45,10 +39,6 @@ impl<L: AsSlice<u8> + Drop, C: Context> ReadFrom<L, C> for Enum {
     fn minimum_bytes_needed() -> usize {
         4
     }
-}
-
-impl<L: AsSlice<u8> + Drop, C: Context> ReadMany<L, C> for Enum {
-    type Strategy = ItemByItem<C>;
 }
 
 impl<C: Context> Writable<C> for Enum {
@@ -83,15 +73,12 @@ impl Layout for DerivedEnum {
       | DerivedEnum.C a b c ↦ OneOf3.Third (a, (b, c))
     ] };
 
-    ghost format = { ⟦<Cases as Layout>⟧.format };
-
-    ghost least = { 4 };
-
-    ghost layout_laws = { let parts = tuple3_laws (unsigned_number_laws 1) (unsigned_number_laws 2) (unsigned_number_laws 4) in
-        one_of3_laws (λ _. unit_laws) parts parts };
+    ghost layout = { ⟦<Cases as Layout>⟧.layout };
 }
 
 impl<L: AsSlice<u8> + Drop, C: Context> ReadFrom<L, C> for DerivedEnum {
+    type Strategy = ItemByItem<C>;
+
     fn read_from<R: LendingReader<L, C>>(reader: &mut R) -> Result<DerivedEnum, C::Error> {
         match reader.read_value()? {
             OneOf3::First(()) => Ok(DerivedEnum::A),
@@ -103,10 +90,6 @@ impl<L: AsSlice<u8> + Drop, C: Context> ReadFrom<L, C> for DerivedEnum {
     fn minimum_bytes_needed() -> usize {
         4
     }
-}
-
-impl<L: AsSlice<u8> + Drop, C: Context> ReadMany<L, C> for DerivedEnum {
-    type Strategy = ItemByItem<C>;
 }
 
 impl<C: Context> Writable<C> for DerivedEnum {

@@ -1,18 +1,18 @@
 //! A frame: a constant, counted parts and a short note, made of lengths of other widths than the listed types have.
 ghost use Rattle.std.specs.Prelude.{◌≡◌, ℕ, List, codes, map};
-ghost use Rattle.speedy.specs.Lists.{counted_list, counted_list_laws};
-ghost use Rattle.speedy.specs.Numbers.{unsigned_number, unsigned_number_laws};
+ghost use Rattle.speedy.specs.Codecs.{constant_codec, counted_list_codec, counted_text_codec, pair_codec, unsigned_codec, varint_codec};
+ghost use Rattle.speedy.specs.Lists.{counted_list};
+ghost use Rattle.speedy.specs.Numbers.{unsigned_number};
 ghost use Rattle.speedy.specs.Reading.{Reads};
-ghost use Rattle.speedy.specs.Texts.{constant_bytes, constant_bytes_laws, counted_text, counted_text_laws};
-ghost use Rattle.speedy.specs.Tuples.{pair, pair_laws};
-ghost use Rattle.speedy.specs.Varint.{varint, varint_laws};
+ghost use Rattle.speedy.specs.Texts.{counted_text};
+ghost use Rattle.speedy.specs.Varint.{varint};
 ghost use Rattle.speedy.specs.Writing.{Writes};
 
 use speedy::private::{
     read_constant, read_length_u8, read_length_u64_varint, write_length_u8, write_length_u64_varint,
 };
 use speedy::varint::VarInt64;
-use speedy::{Context, ItemByItem, Layout, LendingReader, ReadFrom, ReadMany, Writable, Writer};
+use speedy::{Context, ItemByItem, Layout, LendingReader, ReadFrom, Writable, Writer};
 use std::convert::AsSlice;
 
 /// What a frame begins with.
@@ -31,13 +31,8 @@ impl Layout for Frame {
 
     ghost seen = { λ frame. (codes "SP", (⟦<Vec<VarInt64> as Layout>⟧.seen frame.parts, ⟦<String as Layout>⟧.seen frame.note)) };
 
-    ghost format = { λ f. pair (constant_bytes f (codes "SP"))
-        (pair (counted_list (varint f) (varint f)) (counted_text f (unsigned_number 1 f))) };
-
-    ghost least = { 4 };
-
-    ghost layout_laws = { λ f. pair_laws (constant_bytes_laws f (codes "SP"))
-        (pair_laws (counted_list_laws (varint_laws f) (varint_laws f)) (counted_text_laws f (unsigned_number_laws 1 f))) };
+    ghost layout = { pair_codec (constant_codec (codes "SP"))
+        (pair_codec (counted_list_codec varint_codec varint_codec) (counted_text_codec (unsigned_codec 1))) };
 }
 
 // The parts, behind their number.
@@ -65,6 +60,8 @@ fn read_note<L: AsSlice<u8> + Drop, C: Context, R: LendingReader<L, C>>(
 }
 
 impl<L: AsSlice<u8> + Drop, C: Context> ReadFrom<L, C> for Frame {
+    type Strategy = ItemByItem<C>;
+
     fn read_from<R: LendingReader<L, C>>(reader: &mut R) -> Result<Frame, C::Error> {
         read_constant(reader, MAGIC)?;
         let parts = read_parts(reader)?;
@@ -75,10 +72,6 @@ impl<L: AsSlice<u8> + Drop, C: Context> ReadFrom<L, C> for Frame {
     fn minimum_bytes_needed() -> usize {
         4
     }
-}
-
-impl<L: AsSlice<u8> + Drop, C: Context> ReadMany<L, C> for Frame {
-    type Strategy = ItemByItem<C>;
 }
 
 // The parts, behind their number.

@@ -1,8 +1,7 @@
 //! A number as a type of one's own, which is read and written item by item: what bulk reads and writes are compared with.
 ghost use Rattle.std.specs.Prelude.{ℕ};
-ghost use Rattle.speedy.specs.Numbers.{unsigned_number, unsigned_number_laws};
 
-use speedy::{Context, ItemByItem, Layout, LendingReader, ReadFrom, ReadMany, Writable, Writer};
+use speedy::{Context, ItemByItem, Layout, LendingReader, ReadFrom, Writable, Writer};
 use std::convert::AsSlice;
 
 /// A number that lies as a `u16` does.
@@ -14,14 +13,12 @@ impl Layout for Plain16 {
 
     ghost seen = { λ x. x.0 };
 
-    ghost format = { unsigned_number 2 };
-
-    ghost least = { 2 };
-
-    ghost layout_laws = { unsigned_number_laws 2 };
+    ghost layout = { ⟦<u16 as Layout>⟧.layout };
 }
 
 impl<L: AsSlice<u8> + Drop, C: Context> ReadFrom<L, C> for Plain16 {
+    type Strategy = ItemByItem<C>;
+
     fn read_from<R: LendingReader<L, C>>(reader: &mut R) -> Result<Plain16, C::Error> {
         Ok(Plain16(reader.read_u16()?))
     }
@@ -29,10 +26,6 @@ impl<L: AsSlice<u8> + Drop, C: Context> ReadFrom<L, C> for Plain16 {
     fn minimum_bytes_needed() -> usize {
         2
     }
-}
-
-impl<L: AsSlice<u8> + Drop, C: Context> ReadMany<L, C> for Plain16 {
-    type Strategy = ItemByItem<C>;
 }
 
 impl<C: Context> Writable<C> for Plain16 {

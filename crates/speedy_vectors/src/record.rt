@@ -1,17 +1,9 @@
 //! A record of your own: numbers, a text, a list that may point into what the record is read from, and an enum. It is
 //! proved with no answer.
 ghost use Rattle.std.specs.Prelude.{◌≡◌};
-ghost use Rattle.speedy.specs.Lists.{list_laws};
-ghost use Rattle.speedy.specs.Numbers.{signed_number_laws, unsigned_number_laws};
-ghost use Rattle.speedy.specs.Tags.{tag_laws};
-ghost use Rattle.speedy.specs.Texts.{text_laws};
-ghost use Rattle.speedy.specs.TupleLaws.{tuple5_laws};
-ghost use Rattle.std.specs.Int.{w64};
 
 use crate::enums::Enum;
-use speedy::{
-    Context, ItemByItem, Layout, LendingReader, Part, ReadFrom, ReadMany, Writable, Writer,
-};
+use speedy::{Context, ItemByItem, Layout, LendingReader, Part, ReadFrom, Writable, Writer};
 use std::borrow::CowSlice;
 
 /// The parts of a record, one after another.
@@ -32,15 +24,12 @@ impl<'a> Layout for Record<'a> {
 
     ghost seen = { λ it. ⟦<Parts<'a> as Layout>⟧.seen (it.number, it.string, it.vector, it.cow, it.enumeration) };
 
-    ghost format = { ⟦<Parts<'a> as Layout>⟧.format };
-
-    ghost least = { 24 };
-
-    ghost layout_laws = { tuple5_laws (unsigned_number_laws 8) text_laws
-        (λ f. list_laws f (unsigned_number_laws 1 f)) (λ f. list_laws f (signed_number_laws w64 f)) (tag_laws 3) };
+    ghost layout = { ⟦<Parts<'a> as Layout>⟧.layout };
 }
 
 impl<'a, C: Context> ReadFrom<&'a [u8], C> for Record<'a> {
+    type Strategy = ItemByItem<C>;
+
     fn read_from<R: LendingReader<&'a [u8], C>>(reader: &mut R) -> Result<Record<'a>, C::Error> {
         let (number, string, vector, cow, enumeration) = reader.read_value()?;
         Ok(Record {
@@ -57,10 +46,6 @@ impl<'a, C: Context> ReadFrom<&'a [u8], C> for Record<'a> {
     {
         24
     }
-}
-
-impl<'a, C: Context> ReadMany<&'a [u8], C> for Record<'a> {
-    type Strategy = ItemByItem<C>;
 }
 
 impl<'a, C: Context> Writable<C> for Record<'a> {

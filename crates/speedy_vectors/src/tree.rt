@@ -10,7 +10,7 @@ pub mod bounds;
 use speedy::private::{
     error_out_of_memory, error_out_of_range_length, push_in_steps, read_length, write_length,
 };
-use speedy::{Context, ItemByItem, Layout, LendingReader, ReadFrom, ReadMany, Writable, Writer};
+use speedy::{Context, ItemByItem, Layout, LendingReader, ReadFrom, Writable, Writer};
 use std::convert::AsSlice;
 
 /// How many levels a tree has at most. The root is level 1.
@@ -30,14 +30,12 @@ impl Layout for Tree {
 
     ghost seen = { view };
 
-    ghost format = { tree_format };
-
-    ghost least = { 5 };
-
-    ghost layout_laws = { tree_laws 16 };
+    ghost layout = { record { least = 5; format = tree_format; laws = tree_laws 16 } };
 }
 
 impl<L: AsSlice<u8> + Drop, C: Context> ReadFrom<L, C> for Tree {
+    type Strategy = ItemByItem<C>;
+
     fn read_from<R: LendingReader<L, C>>(reader: &mut R) -> Result<Tree, C::Error> {
         read_levels(reader, LEVELS)
     }
@@ -45,10 +43,6 @@ impl<L: AsSlice<u8> + Drop, C: Context> ReadFrom<L, C> for Tree {
     fn minimum_bytes_needed() -> usize {
         5
     }
-}
-
-impl<L: AsSlice<u8> + Drop, C: Context> ReadMany<L, C> for Tree {
-    type Strategy = ItemByItem<C>;
 }
 
 impl<C: Context> Writable<C> for Tree {

@@ -21,7 +21,7 @@ pub(crate) fn write_counted_items<
     requires ends { IsFinite (I.remaining items) }
     ensures { (shown : List T.Seen) → count ≡ length shown
         → AlwaysYields I.next_gives T.seen items shown
-        → Writes C.Error.from_gives (λ e. list e (T.format e)) shown result
+        → Writes C.Error.from_gives (λ e. list e (T.layout.format e)) shown result
         (W.state writer.old) (W.state writer.new) (λ b. W.appends writer.old b writer.new) }
 {
     write_length(count, writer)?;

@@ -100,7 +100,7 @@ impl<'a, C: Context> Writer<C> for BufferCollector<'a, C> {
     #[inline]
     fn put_fixed<T: Layout, P: FixedBytes<T>>(&mut self, values: &[T]) -> bool
         ensures puts { let writer = ⟦<BufferCollector<'a, C> as Writer<C>>⟧ in
-            IsTrue result → WritesEach C.Error.from_gives T.format T.seen values.now (Ok tt)
+            IsTrue result → WritesEach C.Error.from_gives T.layout.format T.seen values.now (Ok tt)
             (writer.state self.old) (writer.state self.new) (λ b. writer.appends self.old b self.new) }
         ensures unchanged { result ≡ false → self.new ≡ self.old }
         ensures fits { let writer = ⟦<BufferCollector<'a, C> as Writer<C>>⟧ in
@@ -224,7 +224,7 @@ impl<'a, C: Context> Writer<C> for VecCollector<'a, C> {
     #[inline]
     fn put_fixed<T: Layout, P: FixedBytes<T>>(&mut self, values: &[T]) -> bool
         ensures puts { let writer = ⟦<VecCollector<'a, C> as Writer<C>>⟧ in
-            IsTrue result → WritesEach C.Error.from_gives T.format T.seen values.now (Ok tt)
+            IsTrue result → WritesEach C.Error.from_gives T.layout.format T.seen values.now (Ok tt)
             (writer.state self.old) (writer.state self.new) (λ b. writer.appends self.old b self.new) }
         ensures unchanged { result ≡ false → self.new ≡ self.old }
         ensures fits { let writer = ⟦<VecCollector<'a, C> as Writer<C>>⟧ in

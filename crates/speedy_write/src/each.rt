@@ -12,7 +12,7 @@ pub(crate) fn write_items<C: Context, T: Writable<C>, W: Writer<C>>(
     items: &[T],
     writer: &mut W,
 ) -> Result<(), C::Error>
-    ensures { WritesEach C.Error.from_gives T.format T.seen items.now result
+    ensures { WritesEach C.Error.from_gives T.layout.format T.seen items.now result
         (W.state writer.old) (W.state writer.new) (λ b. W.appends writer.old b writer.new) }
 {
     if W::COUNTS {
@@ -31,7 +31,7 @@ pub(crate) fn write_item<C: Context, T: Writable<C>, W: Writer<C>>(
     item: &T,
     writer: &mut W,
 ) -> Result<(), C::Error>
-    ensures { Writes C.Error.from_gives T.format (T.seen item.now) result
+    ensures { Writes C.Error.from_gives T.layout.format (T.seen item.now) result
         (W.state writer.old) (W.state writer.new) (λ b. W.appends writer.old b writer.new) }
 {
     if W::COUNTS {
@@ -55,7 +55,7 @@ const MOST_BYTES: usize = 2_147_483_647;
 // Each is counted from zero, so that a compiler sees where each takes as many, and multiplies.
 fn count_each<C: Context, T: Writable<C>>(items: &[T], context: &mut C) -> Option<usize>
     ensures encoding { C.encoding context.new ≡ C.encoding context.old }
-    ensures counts { let format = T.format (C.encoding context.old) in
+    ensures counts { let format = T.layout.format (C.encoding context.old) in
         IfSome result (λ size. CountsEach format.writes (map T.seen items.now) size) }
 {
     if items.len() > MOST {

@@ -27,7 +27,7 @@ pub trait FixedBytes<T: Layout> {
     fn put(value: &T, order: Endianness, output: &mut [u8])
         requires { length output.old ≡ Self.BYTES }
         ensures { (encoding : Encoding) → order ≡ encoding.order →
-            (T.format encoding).writes (T.seen value.now) output.new };
+            (T.layout.format encoding).writes (T.seen value.now) output.new };
 }
 
 /// Numbers are put as their digits.
@@ -99,7 +99,7 @@ impl FixedBytes<Duration> for Codes {
 pub(crate) fn put_number<T: FixedNumber>(number: T, order: Endianness, output: &mut [u8])
     requires { length output.old ≡ T.SIZE }
     ensures { (encoding : Encoding) → order ≡ encoding.order →
-        (T.format encoding).writes (T.seen number) output.new }
+        (T.layout.format encoding).writes (T.seen number) output.new }
 {
     number.encode(order, output);
 }
@@ -109,7 +109,7 @@ pub(crate) fn put_number<T: FixedNumber>(number: T, order: Endianness, output: &
 fn put_values<T: Layout, P: FixedBytes<T>>(values: &[T], order: Endianness, output: &mut [u8])
     requires { length output.old ≡ length values.now * P.BYTES }
     ensures { (encoding : Encoding) → order ≡ encoding.order →
-        Each (T.format encoding).writes (map T.seen values.now) output.new }
+        Each (T.layout.format encoding).writes (map T.seen values.now) output.new }
 {
     let mut at = 0;
     for value in values {
@@ -128,7 +128,7 @@ pub(crate) fn put_values_at<T: Layout, P: FixedBytes<T>>(
     at: usize,
 ) -> usize
     requires { at + length values.now * P.BYTES ≤ length buffer.old }
-    ensures { PutsAt T.format T.seen values.now P.BYTES order at buffer.old result buffer.new }
+    ensures { PutsAt T.layout.format T.seen values.now P.BYTES order at buffer.old result buffer.new }
 {
     let end = at + values.len() * P::BYTES;
     if order == Endianness::LittleEndian && P::BYTES <= 8 && values.len() >= LEAST_COPIED {
@@ -148,7 +148,7 @@ const LEAST_COPIED: usize = 64;
 fn put_by_chunks<T: Layout, P: FixedBytes<T>>(values: &[T], order: Endianness, output: &mut [u8])
     requires { length output.old ≡ length values.now * P.BYTES }
     ensures { (encoding : Encoding) → order ≡ encoding.order →
-        Each (T.format encoding).writes (map T.seen values.now) output.new }
+        Each (T.layout.format encoding).writes (map T.seen values.now) output.new }
 {
     P::has_few_bytes();
     let mut chunk = [0; CHUNK];
@@ -171,7 +171,7 @@ pub(crate) fn write_values<C: Context, T: Layout, P: FixedBytes<T>, W: Writer<C>
     values: &[T],
     writer: &mut W,
 ) -> Result<(), C::Error>
-    ensures { WritesEach C.Error.from_gives T.format T.seen values.now result
+    ensures { WritesEach C.Error.from_gives T.layout.format T.seen values.now result
         (W.state writer.old) (W.state writer.new) (λ b. W.appends writer.old b writer.new) }
 {
     if writer.put_fixed::<T, P>(values) {
@@ -196,7 +196,7 @@ fn write_by_chunks<C: Context, T: Layout, P: FixedBytes<T>, W: Writer<C>>(
     values: &[T],
     writer: &mut W,
 ) -> Result<(), C::Error>
-    ensures { WritesEach C.Error.from_gives T.format T.seen values.now result
+    ensures { WritesEach C.Error.from_gives T.layout.format T.seen values.now result
         (W.state writer.old) (W.state writer.new) (λ b. W.appends writer.old b writer.new) }
 {
     P::has_few_bytes();
@@ -215,7 +215,7 @@ fn write_many_chunks<C: Context, T: Layout, P: FixedBytes<T>, W: Writer<C>>(
     writer: &mut W,
 ) -> Result<(), C::Error>
     requires { P.BYTES ≤ length chunk.old }
-    ensures { WritesEach C.Error.from_gives T.format T.seen values.now result
+    ensures { WritesEach C.Error.from_gives T.layout.format T.seen values.now result
         (W.state writer.old) (W.state writer.new) (λ b. W.appends writer.old b writer.new) }
 {
     writer.reserve(values.len().saturating_mul(P::BYTES));
@@ -230,7 +230,7 @@ fn write_chunks<C: Context, T: Layout, P: FixedBytes<T>, W: Writer<C>>(
     writer: &mut W,
 ) -> Result<(), C::Error>
     requires { P.BYTES ≤ length chunk.old }
-    ensures { WritesEach C.Error.from_gives T.format T.seen values.now result
+    ensures { WritesEach C.Error.from_gives T.layout.format T.seen values.now result
         (W.state writer.old) (W.state writer.new) (λ b. W.appends writer.old b writer.new) }
 {
     P::has_few_bytes();

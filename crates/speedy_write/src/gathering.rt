@@ -67,7 +67,7 @@ impl<'b> Waiting<'b> {
     #[inline(always)]
     fn add_values<T: Layout, P: FixedBytes<T>>(&mut self, values: &[T], order: Endianness)
         requires { self.old.end + length values.now * P.BYTES ≤ length self.old.room.now }
-        ensures { PutsBehind T.format T.seen values.now order (waiting self.old) (waiting self.new) }
+        ensures { PutsBehind T.layout.format T.seen values.now order (waiting self.old) (waiting self.new) }
     {
         self.end = put_values_at::<T, P>(values, order, &mut *self.room, self.end);
     }
@@ -309,7 +309,7 @@ impl<'s, S: Sink, C: Context> Writer<C> for GatheringCollector<'s, S, C> {
     #[inline]
     fn put_fixed<T: Layout, P: FixedBytes<T>>(&mut self, values: &[T]) -> bool
         ensures puts { let writer = ⟦<GatheringCollector<'s, S, C> as Writer<C>>⟧ in
-            IsTrue result → WritesEach C.Error.from_gives T.format T.seen values.now (Ok tt)
+            IsTrue result → WritesEach C.Error.from_gives T.layout.format T.seen values.now (Ok tt)
             (writer.state self.old) (writer.state self.new) (λ b. writer.appends self.old b self.new) }
         ensures unchanged { result ≡ false → self.new ≡ self.old }
         ensures fits { let held = self.old.waiting in

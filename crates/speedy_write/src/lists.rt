@@ -82,7 +82,7 @@ pub(crate) fn write_counted<C: Context, T: Writable<C>, W: Writer<C>>(
     items: &[T],
     writer: &mut W,
 ) -> Result<(), C::Error>
-    ensures { Writes C.Error.from_gives (λ e. list e (T.format e)) (map T.seen items.now) result
+    ensures { Writes C.Error.from_gives (λ e. list e (T.layout.format e)) (map T.seen items.now) result
         (W.state writer.old) (W.state writer.new) (λ b. W.appends writer.old b writer.new) }
 {
     write_length(items.len(), writer)?;

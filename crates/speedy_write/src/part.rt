@@ -15,11 +15,7 @@ impl<'t, T: Layout> Layout for Part<'t, T> {
 
     ghost seen = { λ part. T.seen part.0.now };
 
-    ghost format = { T.format };
-
-    ghost least = { T.least };
-
-    ghost layout_laws = { T.layout_laws };
+    ghost layout = { T.layout };
 }
 
 impl<'t, C: Context, T: Writable<C>> Writable<C> for Part<'t, T> {

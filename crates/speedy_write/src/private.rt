@@ -24,7 +24,7 @@ pub fn write_to_stream_and_flush_with_ctx<C: Context, T: Writable<C>, S: Sink>(
     context: C,
     sink: &mut S,
 ) -> Result<(), C::Error>
-    ensures { let format = T.format (C.encoding context) in
+    ensures { let format = T.layout.format (C.encoding context) in
         WritesAndFlushes C.Error.from_gives format (T.seen value.now) result
         (S.sink sink.old) (S.sink sink.new) }
 {

@@ -31,14 +31,14 @@ pub trait Writable<C: Context>: Layout {
     ///
     /// After an error some first bytes of an encoding may have been written.
     fn write_to<W: Writer<C>>(&self, writer: &mut W) -> Result<(), C::Error>
-        ensures { Writes C.Error.from_gives Self.format (Self.seen self.now) result
+        ensures { Writes C.Error.from_gives Self.layout.format (Self.seen self.now) result
             (W.state writer.old) (W.state writer.new) (λ b. W.appends writer.old b writer.new) };
 
     /// Writes the values, one after the other and with no count.
     final fn write_many<W: Writer<C>>(items: &[Self], writer: &mut W) -> Result<(), C::Error>
     where
         Self: Sized,
-        ensures { WritesEach C.Error.from_gives Self.format Self.seen items.now result
+        ensures { WritesEach C.Error.from_gives Self.layout.format Self.seen items.now result
             (W.state writer.old) (W.state writer.new) (λ b. W.appends writer.old b writer.new) }
     {
         if let Some(written) = Self::write_in_bulk(items, writer) {
@@ -56,7 +56,7 @@ pub trait Writable<C: Context>: Layout {
     where
         Self: Sized,
         ensures { MatchOption result (_writer.new ≡ _writer.old) (λ written.
-            WritesEach C.Error.from_gives Self.format Self.seen _items.now written
+            WritesEach C.Error.from_gives Self.layout.format Self.seen _items.now written
             (W.state _writer.old) (W.state _writer.new) (λ b. W.appends _writer.old b _writer.new)) }
     {
         None
@@ -65,7 +65,7 @@ pub trait Writable<C: Context>: Layout {
     /// The number of bytes that the value is written in. `usize::MAX` bytes and more are the error `OutOfRangeLength`.
     final fn bytes_needed(&self, context: &mut C) -> Result<usize, C::Error>
         ensures encoding { C.encoding context.new ≡ C.encoding context.old }
-        ensures needs { let format = Self.format (C.encoding context.old) in
+        ensures needs { let format = Self.layout.format (C.encoding context.old) in
             Needs C.Error.from_gives format (Self.seen self.now) result }
     {
         let mut counter = CountingCollector::new(context);
@@ -85,7 +85,7 @@ pub trait Writable<C: Context>: Layout {
     final fn write_to_buffer(&self, buffer: &mut [u8]) -> Result<(), C::Error>
     where
         C: PlainContext,
-        ensures { let format = Self.format (plain_encoding Endianness.LittleEndian) in
+        ensures { let format = Self.layout.format (plain_encoding Endianness.LittleEndian) in
             WritesToBuffer C.Error.from_gives format (Self.seen self.now) result
             buffer.old buffer.new }
     {
@@ -97,7 +97,7 @@ pub trait Writable<C: Context>: Layout {
     /// A buffer that is too short is the error `OutputBufferIsTooSmall`, with both sizes in bytes.
     #[inline]
     final fn write_to_buffer_with_ctx(&self, context: C, buffer: &mut [u8]) -> Result<(), C::Error>
-        ensures { let format = Self.format (C.encoding context) in
+        ensures { let format = Self.layout.format (C.encoding context) in
             WritesToBuffer C.Error.from_gives format (Self.seen self.now) result
             buffer.old buffer.new }
     {
@@ -114,7 +114,7 @@ pub trait Writable<C: Context>: Layout {
         buffer: &mut [u8],
     ) -> Result<(), C::Error>
         ensures encoding { C.encoding context.new ≡ C.encoding context.old }
-        ensures writes { let format = Self.format (C.encoding context.old) in
+        ensures writes { let format = Self.layout.format (C.encoding context.old) in
             WritesToBuffer C.Error.from_gives format (Self.seen self.now) result
             buffer.old buffer.new }
     {
@@ -131,7 +131,7 @@ pub trait Writable<C: Context>: Layout {
     final fn write_to_vec(&self, alloc: Global) -> Result<Vec<u8>, C::Error>
     where
         C: PlainContext,
-        ensures { let format = Self.format (plain_encoding Endianness.LittleEndian) in
+        ensures { let format = Self.layout.format (plain_encoding Endianness.LittleEndian) in
             WritesToVec C.Error.from_gives format (Self.seen self.now) (λ vec. vec.items) result }
     {
         self.write_to_vec_with_ctx(alloc, C::plain())
@@ -140,7 +140,7 @@ pub trait Writable<C: Context>: Layout {
     /// Encodes the value into a vector, under the context.
     #[inline]
     final fn write_to_vec_with_ctx(&self, alloc: Global, context: C) -> Result<Vec<u8>, C::Error>
-        ensures { let format = Self.format (C.encoding context) in
+        ensures { let format = Self.layout.format (C.encoding context) in
             WritesToVec C.Error.from_gives format (Self.seen self.now) (λ vec. vec.items) result }
     {
         let mut context = context;
@@ -154,7 +154,7 @@ pub trait Writable<C: Context>: Layout {
         context: &mut C,
     ) -> Result<Vec<u8>, C::Error>
         ensures encoding { C.encoding context.new ≡ C.encoding context.old }
-        ensures writes { let format = Self.format (C.encoding context.old) in
+        ensures writes { let format = Self.layout.format (C.encoding context.old) in
             WritesToVec C.Error.from_gives format (Self.seen self.now) (λ vec. vec.items) result }
     {
         let needed = self.bytes_needed(context)?;
@@ -166,7 +166,7 @@ pub trait Writable<C: Context>: Layout {
     final fn write_to_stream<S: Sink>(&self, alloc: Global, sink: &mut S) -> Result<(), C::Error>
     where
         C: PlainContext,
-        ensures { let format = Self.format (plain_encoding Endianness.LittleEndian) in
+        ensures { let format = Self.layout.format (plain_encoding Endianness.LittleEndian) in
             WritesToStream C.Error.from_gives format (Self.seen self.now) result
             (S.sink sink.old) (S.sink sink.new) }
     {
@@ -183,7 +183,7 @@ pub trait Writable<C: Context>: Layout {
         context: C,
         sink: &mut S,
     ) -> Result<(), C::Error>
-        ensures { let format = Self.format (C.encoding context) in
+        ensures { let format = Self.layout.format (C.encoding context) in
             WritesToStream C.Error.from_gives format (Self.seen self.now) result
             (S.sink sink.old) (S.sink sink.new) }
     {
@@ -200,7 +200,7 @@ pub trait Writable<C: Context>: Layout {
     ) -> Result<(), C::Error>
     where
         C: PlainContext,
-        ensures { let format = Self.format (plain_encoding Endianness.LittleEndian) in
+        ensures { let format = Self.layout.format (plain_encoding Endianness.LittleEndian) in
             WritesToFile C.Error.from_gives format (Self.seen self.now) result }
     {
         self.write_to_file_with_ctx(rt, alloc, C::plain(), path)
@@ -218,7 +218,7 @@ pub trait Writable<C: Context>: Layout {
         context: C,
         path: P,
     ) -> Result<(), C::Error>
-        ensures { let format = Self.format (C.encoding context) in
+        ensures { let format = Self.layout.format (C.encoding context) in
             WritesToFile C.Error.from_gives format (Self.seen self.now) result }
     {
         let file = match fs::create(rt, path) {
@@ -243,7 +243,7 @@ fn write_gathered<C: Context, T: Writable<C>, S: Sink>(
     sink: &mut S,
     room: &mut [u8],
 ) -> Result<(), C::Error>
-    ensures { let format = T.format (C.encoding context) in
+    ensures { let format = T.layout.format (C.encoding context) in
         WritesToStream C.Error.from_gives format (T.seen value.now) result
         (S.sink sink.old) (S.sink sink.new) }
 {
@@ -269,7 +269,7 @@ pub(crate) fn write_and_flush<C: Context, T: Writable<C>, S: Sink>(
     sink: &mut S,
     room: &mut [u8],
 ) -> Result<(), C::Error>
-    ensures { let format = T.format (C.encoding context) in
+    ensures { let format = T.layout.format (C.encoding context) in
         WritesAndFlushes C.Error.from_gives format (T.seen value.now) result
         (S.sink sink.old) (S.sink sink.new) }
 {
@@ -286,12 +286,12 @@ fn fill<C: Context, T: Writable<C>>(
     context: &mut C,
     buffer: &mut [u8],
 ) -> Result<(), C::Error>
-    requires { let format = T.format (C.encoding context.old) in
+    requires { let format = T.layout.format (C.encoding context.old) in
         ((bytes : List ℕ) × format.writes (T.seen value.now) bytes
         × (length bytes ≤ length buffer.old)) }
     ensures encoding { C.encoding context.new ≡ C.encoding context.old }
     ensures succeeds { IsOk result }
-    ensures stands { let format = T.format (C.encoding context.old) in
+    ensures stands { let format = T.layout.format (C.encoding context.old) in
         Stands format (T.seen value.now) buffer.old buffer.new }
 {
     let mut collector = BufferCollector::new(context, buffer);
@@ -307,10 +307,10 @@ fn fill_vec<C: Context, T: Writable<C>>(
     context: &mut C,
     room: usize,
 ) -> Result<Vec<u8>, C::Error>
-    requires { let format = T.format (C.encoding context.old) in
+    requires { let format = T.layout.format (C.encoding context.old) in
         ((bytes : List ℕ) × format.writes (T.seen value.now) bytes × (length bytes ≤ room)) }
     ensures encoding { C.encoding context.new ≡ C.encoding context.old }
-    ensures fills { let format = T.format (C.encoding context.old) in
+    ensures fills { let format = T.layout.format (C.encoding context.old) in
         MatchResult result (λ vec. IsShortest format (T.seen value.now) vec.items)
         (C.Error.from_gives (error_of ErrorKind.OutOfMemory)) }
 {

@@ -55,7 +55,7 @@ pub trait Writer<C: Context> {
     fn put_fixed<T: Layout, P: FixedBytes<T>>(&mut self, _values: &[T]) -> bool
     where
         Self: Sized,
-        ensures puts { IsTrue result → WritesEach C.Error.from_gives T.format T.seen _values.now (Ok tt)
+        ensures puts { IsTrue result → WritesEach C.Error.from_gives T.layout.format T.seen _values.now (Ok tt)
             (state self.old) (state self.new) (λ b. appends self.old b self.new) }
         ensures unchanged { result ≡ false → self.new ≡ self.old }
     {
@@ -235,7 +235,7 @@ pub trait Writer<C: Context> {
     final fn write_value<T: Writable<C>>(&mut self, item: &T) -> Result<(), C::Error>
     where
         Self: Sized,
-        ensures { Writes C.Error.from_gives T.format (T.seen item.now) result
+        ensures { Writes C.Error.from_gives T.layout.format (T.seen item.now) result
             (state self.old) (state self.new) (λ b. appends self.old b self.new) }
     {
         item.write_to(self)
@@ -246,7 +246,7 @@ pub trait Writer<C: Context> {
     final fn write_slice<T: Writable<C>>(&mut self, slice: &[T]) -> Result<(), C::Error>
     where
         Self: Sized,
-        ensures { WritesEach C.Error.from_gives T.format T.seen slice.now result
+        ensures { WritesEach C.Error.from_gives T.layout.format T.seen slice.now result
             (state self.old) (state self.new) (λ b. appends self.old b self.new) }
     {
         write_items(slice, self)
@@ -265,7 +265,7 @@ pub trait Writer<C: Context> {
         requires { IsFiniteIterable I.into_iter_gives
             I.IntoIter.can_next I.IntoIter.remaining items }
         ensures { WritesItems I.into_iter_gives I.IntoIter.next_gives T.seen
-            C.Error.from_gives T.format items result
+            C.Error.from_gives T.layout.format items result
             (state self.old) (state self.new) (λ b. appends self.old b self.new) }
     {
         for item in items {

@@ -12,11 +12,11 @@ use speedy::{Context, Layout, Writable};
 /// A tree that bytes encode has at most 16 levels, each one of those has a canonical encoding where its counts fit, and
 /// every error that the type names is the same.
 pub fn levels_are_bounded()
-    ensures spelled { let format = ⟦<Tree as Layout>⟧.format in
+    ensures spelled { let format = ⟦<Tree as Layout>⟧.layout.format in
         (f : Encoding) (r : Rose) (bytes : List ℕ) → (format f).spells r bytes → depth r ≤ 16 }
-    ensures written { let format = ⟦<Tree as Layout>⟧.format in
+    ensures written { let format = ⟦<Tree as Layout>⟧.layout.format in
         (f : Encoding) (r : Rose) → FitsDigits r → depth r ≤ 16 → (bytes : List ℕ) × (format f).writes r bytes }
-    ensures named { let format = ⟦<Tree as Layout>⟧.format in
+    ensures named { let format = ⟦<Tree as Layout>⟧.layout.format in
         (f : Encoding) (kind : ErrorKind) → (format f).names kind → kind ≡ OutOfRangeLength }
 {}
 

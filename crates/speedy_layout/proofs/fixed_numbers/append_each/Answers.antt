@@ -11,7 +11,7 @@ use Rattle.speedy_layout.proofs.fixed_numbers.append_each.Goals as goal
 pub returns : goal.returns
 returns g c =
     let ran = c.extend.ensures.ran in
-    let S = spelled_in g.T.Layout.format c.args.order in
+    let S = spelled_in g.T.Layout.layout.format c.args.order in
     let source = ap map_source ran.2 ∙ c.map.ensures.source in
     let bytes = ap chunks_exact_rest source ∙ c.chunks_exact.ensures.rest in
     on_success _ c.extend.result ran.4 (λ drains.

@@ -13,7 +13,7 @@ loop-i-preserved g c =
     let rest = c.loop-i.rest.now in
     let some = c.split_at.result.0.now in
     let seen = λ (p : g.row.P.Denot). map g.T.Layout.seen (g.P.Places.shown p) in
-    let spells = spelled_in (λ e. vector g.P.Places.count (g.T.Layout.format e)) c.args.order in
+    let spells = spelled_in (λ e. vector g.P.Places.count (g.T.Layout.layout.format e)) c.args.order in
     let items = seen_added seen _ _ c.take.new.self c.push_reserved.ensures.items in (
       ap length c.push_reserved.ensures.items ∙ (length_push c.loop-i.all.items c.take.new.self ∙ omega (arith, before.0)),
       omega (arith, c.push_reserved.ensures.capacity, before.1),

@@ -7,7 +7,7 @@ use Rattle.speedy_read.proofs.chunks.read_numbers.Goals as goal
 
 pub returns-in_default : goal.returns-in_default
 returns-in_default g c shown =
-    refused_early (g.met.T.Layout.layout_laws _) c.args.count
+    refused_early (g.T.Layout.layout.laws _) c.args.count
     (input_ended g.C.Error.From.from_gives g.C.Error.IsEof.eof _ _ c.error_end_of_input.ensures (g.met.C.Context.keeps_eof _ _ c.error_end_of_input.ensures))
     (λ told fit. past_usize (c.args.count * c.SIZE.result) _ _ c.in_default.ensures (ap (λ n. c.args.count * n) (c.SIZE.ensures ∙ sym g.met.T.FixedNumber.least_is)) fit)
 
@@ -18,7 +18,7 @@ numbers_of-requires g c =
 
 pub returns-in-Ok : goal.returns-in-Ok
 returns-in-Ok g c shown =
-    let laws = g.met.T.Layout.layout_laws in
+    let laws = g.T.Layout.layout.laws in
     let fixed = g.met.T.FixedNumber.is_fixed in
     let seen = g.T.Layout.seen in
     let numbers = c.in-Ok.numbers.items in
@@ -36,5 +36,5 @@ pub returns-in-Some-Err : goal.returns-in-Some-Err
 returns-in-Some-Err g c shown =
     let lent = lent_is _ (Err c.in-Some-Err.field-0-0) c.in-Some-Err.is c.in-Some-Err.field-0-is c.read_bytes_borrowed_from_reader.follows.holds-at-none in
     let e = c.error_end_of_input-in-Some-Err.ensures in
-    numbers_refused g.met.T.Layout.layout_laws g.met.T.FixedNumber.is_fixed _ g.T.Layout.seen c.args.count [] c.args.count (omega arith) (all_digits c.args.count c.SIZE.result c.in-Some.ensures.1 c.SIZE.ensures) (none_so_far refl) refl
+    numbers_refused g.T.Layout.layout.laws g.met.T.FixedNumber.is_fixed _ g.T.Layout.seen c.args.count [] c.args.count (omega arith) (all_digits c.args.count c.SIZE.result c.in-Some.ensures.1 c.SIZE.ensures) (none_so_far refl) refl
     (lent_refused _ (input_ended g.C.Error.From.from_gives g.C.Error.IsEof.eof _ _ e (g.met.C.Context.keeps_eof _ _ e)) lent)

@@ -18,7 +18,7 @@ append_each-requires g c =
 
 pub loop-at-preserved : goal.loop-at-preserved
 loop-at-preserved g c =
-    let S = spelled_in g.T.Layout.format c.args.order in
+    let S = spelled_in g.T.Layout.layout.format c.args.order in
     let within = steps_within g.met.T.FixedNumber.is_fixed.has_bytes c.SIZE.ensures (c.loop-at.at + c.min-some.result) c.args.digits.now (omega arith) in
     let before = c.loop-at.invariant.1 in
     let more = c.in_ok-append_each.ensures in (
@@ -35,4 +35,4 @@ pub returns : goal.returns
 returns g c =
     let done = steps_done g.met.T.FixedNumber.is_fixed.has_bytes c.SIZE.ensures c.requires.0 c.loop-at.at c.args.digits.now c.requires.1 (omega arith) in
     let items = c.loop-at.invariant.1 in
-    (items.0, items.1, subst (λ b. Each (spelled_in g.T.Layout.format c.args.order) (map g.T.Layout.seen items.0) b) (take_all _ c.args.digits.now done) items.2)
+    (items.0, items.1, subst (λ b. Each (spelled_in g.T.Layout.layout.format c.args.order) (map g.T.Layout.seen items.0) b) (take_all _ c.args.digits.now done) items.2)

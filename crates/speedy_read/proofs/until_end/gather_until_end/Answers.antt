@@ -36,4 +36,4 @@ pub returns : goal.returns
 returns g c =
     let so_far = c.loop-whole.invariant.1 in
     let ended = where_none _ _ c.in_default.not-Some (rw so_far.so_far.kept.encoding at c.in_ok-item.ensures) in
-    ended_before so_far (omega arith) {e = ended.0} (g.met.T.Layout.layout_laws _) g.met.C.Context.keeps_eof ended.1 ended.2
+    ended_before so_far (omega arith) {e = ended.0} (g.T.Layout.layout.laws _) g.met.C.Context.keeps_eof ended.1 ended.2

@@ -6,6 +6,6 @@ use Rattle.speedy_write.proofs.each.count_each.Given as goal
 abbrev pub invariant-loop-item : goal.invariant-loop-item
 invariant-loop-item g l =
     let encoding = g.C.Context.encoding in
-    let format = g.T.Layout.format (encoding l.fn.context) in
+    let format = g.T.Layout.layout.format (encoding l.fn.context) in
     (encoding l.context ≡ encoding l.fn.context) × (l.sum ≤ l.item-index * 2147483647)
     × CountsEach format.writes (map g.T.Layout.seen (take l.item-index l.items)) l.sum

@@ -8,7 +8,7 @@ returns-in_err-first g c = refused_first pair_composes c.from_residual.ensures.1
 pub returns-in_err-second : goal.returns-in_err-second
 returns-in_err-second g c =
     let first = c.in_ok-first.ensures in
-    refused_second pair_composes (g.met.T0.Layout.layout_laws _) first c.from_residual-in_err-second.ensures.1
+    refused_second pair_composes (g.T0.Layout.layout.laws _) first c.from_residual-in_err-second.ensures.1
     (rw first.kept.encoding at c.in_err-second.ensures)
 
 pub returns : goal.returns

@@ -3,7 +3,7 @@ use Rattle.std.proofs.lemmas.List.{length-map}
 use Rattle.std.specs.Map.Iter.{deref_pair}
 use Rattle.speedy_layout.specs.StdMaps.{tree_map_entries}
 use Rattle.speedy_layout.specs.Maps.{seen_pair, tree_map_is}
-use Rattle.speedy_layout.specs.SeenItems.{seen_order}
+use Rattle.speedy_layout.specs.SeenItems.{less_is_asymmetric}
 use Rattle.speedy_write.proofs.CollectionLemmas.{shown_in_order, map_written}
 use Rattle.speedy_write.proofs.maps.BTreeMapWritable.write_to.Goals as goal
 
@@ -14,5 +14,5 @@ returns g c =
     let same = g.met.K.SameKey.same_key in
     let order = g.met.K.Ord in
     let seen = seen_pair g.K.Layout.seen g.V.Layout.seen in
-    map_written {new = g.W.Writer.state after} {appended = λ b. g.W.Writer.appends c.args.writer.now b after} g.met.K.Layout.layout_laws g.met.V.Layout.layout_laws (tree_map_is (seen_order same order.total order.matches_eq)) (tree_map_entries g.V.Layout.seen same order.total order.matches_eq m c.iter-pairs.ensures.ordered)
+    map_written {new = g.W.Writer.state after} {appended = λ b. g.W.Writer.appends c.args.writer.now b after} g.K.Layout.layout.laws g.V.Layout.layout.laws (tree_map_is (less_is_asymmetric g.K.Layout.seen g.K.Ord.cmp)) (tree_map_entries g.V.Layout.seen same order.total order.matches_eq m c.iter-pairs.ensures.ordered)
     (c.write_counted_items.ensures (map seen m.entries) (c.len.ensures.len ∙ sym (length-map m.entries seen)) (shown_in_order deref_pair seen c.iter-pairs.ensures.rest))
