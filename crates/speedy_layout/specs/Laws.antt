@@ -1,6 +1,6 @@
 -- What holds of each layout.
 use Rattle.std.specs.Prelude.{◌≡◌, ℕ, ◌-◌, ◌^◌, ◌≤◌, List, [], ◌∷◌, ◌++◌, length, min, false, Bool, IsTrue, ◌⊎◌, refl}
-use Rattle.std.proofs.Common.{sym, ◌∙◌, ap, ap₂, subst, inl, inr, arith}
+use Rattle.std.proofs.Common.{ap, ap₂, subst, inl, inr, arith}
 use Rattle.std.proofs.lemmas.Bool.Decides.{eqb_tells}
 use Rattle.std.proofs.Math.Nat.{min-le_left}
 use Rattle.speedy_base.specs.declared.error.ErrorKind.{ErrorKind}

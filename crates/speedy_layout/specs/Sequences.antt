@@ -3,7 +3,7 @@ use Rattle.std.specs.Prelude.{◌≡◌, ℕ, ◌+◌, List, [], ◌++◌, lengt
 use Rattle.std.proofs.Common.{sym, ◌∙◌, ap, subst, arith, inl, inr}
 use Rattle.std.proofs.lemmas.List.{append_assoc, length-append}
 use Rattle.speedy_layout.specs.Format.{Asks, asks_nothing, either_asks, Format, Parts}
-use Rattle.speedy_layout.specs.Laws.{Laws, Decided}
+use Rattle.speedy_layout.specs.Laws.{Laws}
 
 -- what is asked no more than that
 pub record AsksAtMost (few many : Asks) : Type 0 where
