@@ -273,8 +273,8 @@ fn a_long_read_that_ends_early_is_refused_by_the_way_it_takes(rt: HostRuntime) {
     }
 }
 
-/// Asserts that a list of so many numbers of 2 bytes, of which the last byte lacks, is refused by a buffered reader as an
-/// end of the input: with the kind of a device's error, or as `UnexpectedEndOfInput` where there is none.
+/// Asserts that a list of so many numbers of 2 bytes, of which the last byte lacks, is refused by a buffered reader as
+/// an end of the input: with the kind of a device's error, or as `UnexpectedEndOfInput` where there is none.
 fn assert_list_ends_early(rt: &impl Abort, alloc: Global, count: u16, kind: Option<io::ErrorKind>) {
     let numbers = vec![in alloc; 7_u16; usize::from(count)].expect(rt, "a vector");
     let mut bytes = numbers

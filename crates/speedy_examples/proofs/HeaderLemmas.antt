@@ -8,8 +8,10 @@ use Rattle.speedy.specs.Reading.{ReaderState, Reads}
 use Rattle.speedy.specs.Texts.{constant_bytes, raw_bytes}
 
 -- bytes from which a constant was read begin with it
-pub constant_begins : {E A : Type 0} {gives : Error → E → Type 0} {eof : E → Bool} {constant : List ℕ} (encoding : Encoding) (result : Result A E)
-    {old new : ReaderState} → IsTrue old.fixed.tells → Reads gives eof (λ (_ : A). constant) (constant_bytes encoding constant) result old new
+pub constant_begins : {E A : Type 0} {gives : Error → E → Type 0}
+    {eof : E → Bool} {constant : List ℕ} (encoding : Encoding) (result : Result A E)
+    {old new : ReaderState} → IsTrue old.fixed.tells
+    → Reads gives eof (λ (_ : A). constant) (constant_bytes encoding constant) result old new
     → OnOk result ((rest : List ℕ) × (old.to_come ≡ constant ++ rest))
 unfolding constant_bytes coding raw_bytes
 constant_begins encoding (Ok x) {new = new} told r =

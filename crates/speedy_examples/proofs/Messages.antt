@@ -1,5 +1,6 @@
 -- Messages: a number and a text.
-use Rattle.std.specs.Prelude.{◌≡◌, ◌⊎◌, ◌≢◌, ℕ, ◌-◌, ◌^◌, ◌<◌, List, [], ◌++◌, length, Bool, false, IsTrue, String, Result, Ok, Err, IfErr, refl}
+use Rattle.std.specs.Prelude.{◌≡◌, ◌⊎◌, ◌≢◌, ℕ, ◌-◌, ◌^◌, ◌<◌, List, [], ◌++◌, length, Bool, false, IsTrue, String}
+use Rattle.std.specs.Prelude.{Result, Ok, Err, IfErr, refl}
 use Rattle.std.proofs.Common.{◌∙◌, ap, subst, arith, inl, inr}
 use Rattle.std.proofs.lemmas.Bool.{cases_lt}
 use Rattle.std.proofs.lemmas.List.{length-append}
@@ -50,13 +51,16 @@ unfolding sequence unsigned_number text
 message_asks_memory encoding = refl
 
 -- bytes in memory end as `UnexpectedEndOfInput`
-memory_end : {e : Error} (kind : ErrorKind) → EndsInput false kind → e ≡ error_of kind → e ≡ error_of kinds.UnexpectedEndOfInput
+memory_end : {e : Error} (kind : ErrorKind) → EndsInput false kind → e ≡ error_of kind
+    → e ≡ error_of kinds.UnexpectedEndOfInput
 memory_end kinds.UnexpectedEndOfInput ends is = is
 memory_end (kinds.IoError boxed) ends is = absurd (let never = ends.1 in cc)
 memory_end _ ends is = absurd ends
 
 -- a message whose text is borrowed names one kind of refusal
-pub lent_message_names : (kind : ErrorKind) → (pair (unsigned_number 2 (plain_encoding LittleEndian)) (borrowed_content (text (plain_encoding LittleEndian)))).names kind
+pub lent_message_names : (kind : ErrorKind)
+    → (pair (unsigned_number 2 (plain_encoding LittleEndian))
+    (borrowed_content (text (plain_encoding LittleEndian)))).names kind
     → kind ≡ kinds.InvalidUtf8
 unfolding sequence unsigned_number text text_of_length raw_bytes coding owned_content borrowed_content
 lent_message_names kind (inl none) = absurd none
@@ -68,7 +72,8 @@ lent_message_names kind (inr (n, inr (count, inr (inr demand)))) = absurd (let n
 -- which kinds a message is refused with whose text is borrowed from the bytes
 pub message_kind : {A : Type 0} {seen : A → Message} {count : ℕ} {bytes : List ℕ} (result : Result A Error)
     → (let encoding = plain_encoding LittleEndian in
-    AnswersBuffer itself is_eof_error seen 6 (pair (unsigned_number 2 encoding) (borrowed_content (text encoding))) result count bytes)
+    AnswersBuffer itself is_eof_error seen 6 (pair (unsigned_number 2 encoding) (borrowed_content (text encoding)))
+    result count bytes)
     → IfErr result (λ e. (e ≡ error_of kinds.InvalidUtf8)
     ⊎ ((e ≡ error_of kinds.UnexpectedEndOfInput) ⊎ (e ≡ error_of (kinds.InputBufferIsTooSmall (length bytes) 6))))
 unfolding sequence unsigned_number text text_of_length raw_bytes coding owned_content borrowed_content
@@ -81,8 +86,12 @@ message_kind {bytes = bytes} (Err e) a =
         | inr h ↦ of_kind h.kind
       ]
     ] where
-      of_kind : IsEnd itself is_eof_error false e ⊎ IsNamed itself (pair (unsigned_number 2 (plain_encoding LittleEndian)) (borrowed_content (text (plain_encoding LittleEndian)))).names e
-          → (e ≡ error_of kinds.InvalidUtf8) ⊎ ((e ≡ error_of kinds.UnexpectedEndOfInput) ⊎ (e ≡ error_of (kinds.InputBufferIsTooSmall (length bytes) 6)))
+      of_kind : IsEnd itself is_eof_error false e
+          ⊎ IsNamed itself (pair (unsigned_number 2 (plain_encoding LittleEndian))
+          (borrowed_content (text (plain_encoding LittleEndian)))).names e
+          → (e ≡ error_of kinds.InvalidUtf8)
+          ⊎ ((e ≡ error_of kinds.UnexpectedEndOfInput)
+          ⊎ (e ≡ error_of (kinds.InputBufferIsTooSmall (length bytes) 6)))
       of_kind (inl ends) = inr (inl (memory_end ends.0.0 ends.0.1 ends.0.2))
       of_kind (inr named) = inl (named.2 ∙ ap error_of (lent_message_names named.0 named.1))
 

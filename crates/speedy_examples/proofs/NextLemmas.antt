@@ -9,8 +9,10 @@ use Rattle.speedy.specs.Encoding.{Encoding}
 use Rattle.speedy.specs.Error.{error_of, kind_of, is_eof_error, IsIoErrorOf, IsNamed}
 use Rattle.speedy.specs.FailedCalls.{IsOfFailedCall}
 use Rattle.speedy.specs.Numbers.{unsigned_number}
-use Rattle.speedy.specs.Reading.{ReaderState, refusing_kinds, Excused, IsEnd, IsTold, PeekWants, Peeks, Reads, Refused, Unspelled}
-use Rattle.speedy_examples.proofs.Messages.{Message, message_in, message_lends_nothing, message_asks_memory, no_empty_message, nothing_malformed, end_kind}
+use Rattle.speedy.specs.Reading.{ReaderState, refusing_kinds, Excused, IsEnd, IsTold, PeekWants, Peeks, Reads, Refused}
+use Rattle.speedy.specs.Reading.{Unspelled}
+use Rattle.speedy_examples.proofs.Messages.{Message, message_in, message_lends_nothing, message_asks_memory}
+use Rattle.speedy_examples.proofs.Messages.{no_empty_message, nothing_malformed, end_kind}
 use Rattle.speedy_examples.specs.Callers.{itself, IsFailure, IsRefusal}
 
 -- why the next message is refused
@@ -48,7 +50,8 @@ no_byte {old = old} refused told = go old.to_come refl where
 
 -- a byte names no kind of its own
 byte_end : (by_device lends : Bool) {e : Error} (encoding : Encoding)
-    → IsEnd itself is_eof_error by_device e ⊎ IsNamed itself (refusing_kinds (unsigned_number 1 encoding) lends) e → IsEnd itself is_eof_error by_device e
+    → IsEnd itself is_eof_error by_device e ⊎ IsNamed itself (refusing_kinds (unsigned_number 1 encoding) lends) e
+    → IsEnd itself is_eof_error by_device e
 unfolding unsigned_number
 byte_end by_device lends encoding (inl ends) = ends
 byte_end by_device lends encoding (inr (kind, inl named, given)) = absurd named
@@ -133,7 +136,8 @@ ended_by_failure {e = e} {old = old} {new = new} tells_faults other peeks = of p
   of (inl wants) = inl wants.0
   of (inr (inl (inl wants))) = inl wants.0
   of (inr (inl (inr fault))) = let failed = fault.1 tells_faults in inr (failed.0, failed.2)
-  of (inr (inr refused)) = let ends = byte_end old.fixed.ends_by_device old.fixed.lends old.encoding refused.kind in only_device (end_kind old.fixed.ends_by_device ends.0.0 ends.0.1 ends.0.2)
+  of (inr (inr refused)) = let ends = byte_end old.fixed.ends_by_device old.fixed.lends old.encoding refused.kind in
+      only_device (end_kind old.fixed.ends_by_device ends.0.0 ends.0.1 ends.0.2)
 
 pub not_ended : {b : ℕ} {old mid : ReaderState} → (let peeked : Result ℕ Error = Ok b in PeeksByte peeked old mid) → IsTrue old.fixed.tells → old.to_come ≢ []
 unfolding unsigned_number
@@ -151,11 +155,13 @@ next_kind {e = e} {old = old} {new = new} tells_faults refused = of refused wher
   of_end (inl failure) = inl failure
   of_end (inr is) = inr (inr (inl is))
 
-  of_kind : IsEnd itself is_eof_error old.fixed.ends_by_device e ⊎ IsNamed itself (refusing_kinds (message_in old.encoding) old.fixed.lends) e
+  of_kind : IsEnd itself is_eof_error old.fixed.ends_by_device e
+      ⊎ IsNamed itself (refusing_kinds (message_in old.encoding) old.fixed.lends) e
       → IsFailure e ⊎ IsRefusal (message_in old.encoding) e
   of_kind (inl ends) = of_end (end_kind old.fixed.ends_by_device ends.0.0 ends.0.1 ends.0.2)
   of_kind (inr (kind, inl named, given)) = inr (inl (kind, named, given))
-  of_kind (inr (kind, inr unlent, given)) = absurd (let none : IsTrue false = subst IsTrue (message_lends_nothing old.encoding) unlent.0 in cc)
+  of_kind (inr (kind, inr unlent, given)) =
+      absurd (let none : IsTrue false = subst IsTrue (message_lends_nothing old.encoding) unlent.0 in cc)
 
   of : NextRefused e old new → IsFailure e ⊎ IsRefusal (message_in old.encoding) e
   of (inl wants) = inl (inl wants.0)

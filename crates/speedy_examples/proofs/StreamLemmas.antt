@@ -1,5 +1,6 @@
 -- Messages that are read from a source one after another, until it ends.
-use Rattle.std.specs.Prelude.{◌≡◌, ℕ, ◌-◌, ◌^◌, ◌<◌, ◌≤◌, List, [], ◌∷◌, ◌++◌, length, Bool, IsTrue, ◌⊎◌, Result, Ok, Err, OnOk, refl}
+use Rattle.std.specs.Prelude.{◌≡◌, ℕ, ◌-◌, ◌^◌, ◌<◌, ◌≤◌, List, [], ◌∷◌, ◌++◌, length, Bool, IsTrue, ◌⊎◌, Result, Ok}
+use Rattle.std.specs.Prelude.{Err, OnOk, refl}
 use Rattle.std.proofs.Common.{sym, ◌∙◌, ap, subst, arith, inl, inr}
 use Rattle.std.proofs.lemmas.List.{append_assoc, append-nil, length-append}
 use Rattle.speedy.specs.declared.error.Error.{Error}
@@ -23,7 +24,8 @@ use Rattle.speedy_examples.proofs.NextLemmas.{NextRefused}
 use Rattle.speedy_examples.specs.Callers.{itself, IsFailure}
 
 -- a value of no bytes leaves the source as it was
-pub nothing_taken : {E A : Type 0} {gives : Error → E → Type 0} {eof : E → Bool} {seen : A → Unit {0}} {buffers : Bool} (result : Result A E)
+pub nothing_taken : {E A : Type 0} {gives : Error → E → Type 0} {eof : E → Bool}
+    {seen : A → Unit {0}} {buffers : Bool} (result : Result A E)
     {old new : SourceState} → AnswersStream gives eof seen unit buffers result old new → OnOk result (new ≡ old)
 unfolding unit
 nothing_taken (Ok x) a = a.value.untouched a.value.front_is

@@ -1,5 +1,6 @@
 //! Values that go through sinks and come from sources.
-ghost use Rattle.std.specs.Prelude.{◌≡◌, ◌⊎◌, ◌-◌, ◌^◌, ◌<◌, [], ◌++◌, ℕ, List, length as count, map, false, IsTrue, IfOk, OnOk, IfErr, IsOkUnless, MatchOption};
+ghost use Rattle.std.specs.Prelude.{◌≡◌, ◌⊎◌, ◌-◌, ◌^◌, ◌<◌, [], ◌++◌, ℕ, List, length as count, map, false, IsTrue};
+ghost use Rattle.std.specs.Prelude.{IfOk, OnOk, IfErr, IsOkUnless, MatchOption};
 ghost use Rattle.speedy.specs.Digits.{AreBytes};
 ghost use Rattle.speedy.specs.Encoding.{plain_encoding};
 ghost use Rattle.speedy.specs.Error.{error_of, is_eof_error};

@@ -1,5 +1,6 @@
 -- One more item: when a list with it is still written, as what std's collections find says.
-use Rattle.std.specs.Prelude.{◌≡◌, List, [], ◌∷◌, ◌++◌, length, ◌<◌, map, Bool, true, false, not, IsTrue, IsSome, is_some, Option, Some, ◌⊎◌, ◌↔◌, refl}
+use Rattle.std.specs.Prelude.{◌≡◌, List, [], ◌∷◌, ◌++◌, length, ◌<◌, map, Bool, true, false, not, IsTrue, IsSome}
+use Rattle.std.specs.Prelude.{is_some, Option, Some, ◌⊎◌, ◌↔◌, refl}
 use Rattle.std.proofs.Common.{sym, ◌∙◌, ap, subst, inl, inr, arith}
 use Rattle.std.proofs.lemmas.List.{map-append}
 use Rattle.std.specs.List.{list_any}

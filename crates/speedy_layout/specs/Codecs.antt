@@ -202,7 +202,8 @@ one_of8_codec c0 c1 c2 c3 c4 c5 c6 c7 = record {
 
 -- the number of a case, and what stands behind it
 abbrev pub tagged_codec : {S : Type 0} {c : Cases} {split : S → Chosen c} → IsChoice c split → Codec S
-tagged_codec {c = c} {split = split} choice = record { least = width c; format = tagged c split; laws = tagged_laws choice }
+tagged_codec {c = c} {split = split} choice =
+    record { least = width c; format = tagged c split; laws = tagged_laws choice }
 
 -- ---- lists and texts
 

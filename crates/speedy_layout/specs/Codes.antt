@@ -65,7 +65,8 @@ pub record IsCode {U V : Type 0} (c : Code U V) (F : Format U) : Type 0 where
   pub one_meaning : (u : U) (v w : V) → c.means u v → c.means u w → v ≡ w
   -- at most one code is chosen for a value, where nothing is hashed
   pub one_chosen : F.asks.hashed ≡ false → (u w : U) (v : V) → c.chosen u v → c.chosen w v → u ≡ w
-  -- whether two values are the same is decided where it is of codes; where nothing is hashed, that follows from the chosen ones
+  -- whether two values are the same is decided where it is of codes; where nothing is hashed, that follows from the
+  -- chosen ones
   pub tells : F.asks.hashed ≡ true → ((u w : U) (s t : List ℕ) → F.spells u s → F.spells w t → Decided (u ≡ w))
       → (v w : V) (s t : List ℕ) → Coded F.spells c.means v s → Coded F.spells c.means w t → Decided (v ≡ w)
   -- and it means the value
@@ -139,14 +140,18 @@ coding_laws {U = U} {V = V} encoding {c = c} {F = F} laws is = record {
   meant : (v : V) (b : List ℕ) → Coded F.spells (Accepts strict c) v b → Coded F.spells c.means v b
   meant v b h = record { code = h.code; code_is = h.code_is; stands = means h.code v h.stands }
 
-  by_hashed : (b : Bool) → F.asks.hashed ≡ b → (v w : V) (s t : List ℕ) → Coded F.spells c.means v s → Coded F.spells c.means w t → Decided (v ≡ w)
+  by_hashed : (b : Bool) → F.asks.hashed ≡ b → (v w : V) (s t : List ℕ) → Coded F.spells c.means v s
+      → Coded F.spells c.means w t → Decided (v ≡ w)
   by_hashed true hashed v w s t h k = is.tells hashed laws.tells v w s t h k
   by_hashed false hashed v w s t h k =
       let x = is.has_chosen v s h in
       let y = is.has_chosen w t k in
       elim (laws.tells x.1.code y.1.code x.0 y.0 x.1.code_is y.1.code_is) [
-        | inl e ↦ inl (is.one_meaning y.1.code v w (subst (λ (u : U). c.means u v) e (is.chosen_means x.1.code v x.1.stands)) (is.chosen_means y.1.code w y.1.stands))
-        | inr n ↦ inr (λ e. n (is.one_chosen hashed x.1.code y.1.code w (subst (λ (z : V). c.chosen x.1.code z) e x.1.stands) y.1.stands))
+        | inl e ↦ inl (is.one_meaning y.1.code v w
+            (subst (λ (u : U). c.means u v) e (is.chosen_means x.1.code v x.1.stands))
+            (is.chosen_means y.1.code w y.1.stands))
+        | inr n ↦ inr (λ e. n (is.one_chosen hashed x.1.code y.1.code w
+            (subst (λ (z : V). c.chosen x.1.code z) e x.1.stands) y.1.stands))
       ]
 
 -- ---- one code for each value

@@ -1,5 +1,6 @@
 -- How lists gather to maps and sets: no items, one more item, and all of them as std's `collect` takes them.
-use Rattle.std.specs.Prelude.{◌≡◌, List, [], ◌∷◌, ◌++◌, length, Bool, true, false, cond, IsTrue, IsSome, is_some, Option, Some, None, if◌then◌else◌, ◌⊎◌, ◌↔◌, ◌||◌, refl}
+use Rattle.std.specs.Prelude.{◌≡◌, List, [], ◌∷◌, ◌++◌, length, Bool, true, false, cond, IsTrue, IsSome, is_some}
+use Rattle.std.specs.Prelude.{Option, Some, None, if◌then◌else◌, ◌⊎◌, ◌↔◌, ◌||◌, refl}
 use Rattle.std.proofs.Common.{sym, ◌∙◌, ap, subst, inl, inr, arith, true≢false}
 use Rattle.std.proofs.lemmas.List.{append_assoc, append-nil, length-append, map-append}
 use Rattle.std.proofs.lemmas.Map.Made.{is_some-lookup}
@@ -18,8 +19,10 @@ use Rattle.indexmap.specs.IndexMap.{insert_entry}
 use Rattle.indexmap.specs.IndexMap as index_map
 use Rattle.indexmap.specs.IndexSet.{insert_key}
 use Rattle.indexmap.specs.IndexSet as index_set
-use Rattle.speedy_layout.specs.Members.{IsIn, Around, ComesFirst, InFirstOrderBy, IsIn-left, IsIn-right, IsIn-either, IsIn-pair, around_last, Around-more}
-use Rattle.speedy_layout.specs.Collections.{HasLast, HasLastValues, HoldsItems, AreFirsts, IsTreeMapOf, IsHashMapOf, IsIndexMapOf, IsIndexSetOf}
+use Rattle.speedy_layout.specs.Members.{IsIn, Around, ComesFirst, InFirstOrderBy, IsIn-left, IsIn-right, IsIn-either}
+use Rattle.speedy_layout.specs.Members.{IsIn-pair, around_last, Around-more}
+use Rattle.speedy_layout.specs.Collections.{HasLast, HasLastValues, HoldsItems, AreFirsts, IsTreeMapOf, IsHashMapOf}
+use Rattle.speedy_layout.specs.Collections.{IsIndexMapOf, IsIndexSetOf}
 
 or_true : (b : Bool) → IsTrue (b || true)
 or_true true = refl

@@ -6,7 +6,8 @@ use Rattle.speedy_layout.specs.Format.{Format}
 use Rattle.speedy_layout.specs.Laws.{Laws}
 use Rattle.speedy_layout.specs.Codes.{Coded, coding, Accepts-means, Accepts-demanded}
 use Rattle.speedy_layout.specs.Lists.{list, list_laws}
-use Rattle.speedy_layout.specs.Gathering.{IsGathering, gathering, items_of, gathered, hashed_items, form_spelled, form_shortest}
+use Rattle.speedy_layout.specs.Gathering.{IsGathering, gathering, items_of, gathered, hashed_items, form_spelled}
+use Rattle.speedy_layout.specs.Gathering.{form_shortest}
 
 pub items_of_spells : {E : Type 0} (hashed : Bool) (encoding : Encoding) (L : Format E)
     → (items_of hashed encoding L).spells ≡ (list encoding L).spells
@@ -59,10 +60,15 @@ pub gathered_form_length : {E S : Type 0} {hashed : Bool} {stands : List E → S
 unfolding coding
 gathered_form_length {hashed = hashed} {stands = stands} {written = written} {L = L} encoding laws is s bytes h items stands_for is_written =
     let lists = list_laws encoding laws in
-    let x : (list encoding L).writes h.code bytes = subst (λ writes. writes h.code bytes) (items_of_writes hashed encoding L) h.code_is in
-    let read : Coded (list encoding L).spells stands s bytes = record { code = h.code; code_is = lists.written_spells h.code bytes x; stands = h.stands.0 } in
+    let x : (list encoding L).writes h.code bytes =
+    subst (λ writes. writes h.code bytes) (items_of_writes hashed encoding L) h.code_is in
+    let read : Coded (list encoding L).spells stands s bytes =
+    record { code = h.code; code_is = lists.written_spells h.code bytes x; stands = h.stands.0 } in
     let spelled = form_spelled encoding laws is s bytes read items stands_for is_written in
     let b = lists.has_written items spelled.0 spelled.1 in
-    let no_less = form_shortest encoding laws is s bytes b.0 (record { code = h.code; code_is = x; stands = h.stands }) (record { code = items; code_is = lists.written_spells items b.0 b.1; stands = stands_for }) in
-    let no_more = form_shortest encoding laws is s b.0 bytes (record { code = items; code_is = b.1; stands = (stands_for, is_written) }) read in
+    let no_less = form_shortest encoding laws is s bytes b.0
+    (record { code = h.code; code_is = x; stands = h.stands })
+    (record { code = items; code_is = lists.written_spells items b.0 b.1; stands = stands_for }) in
+    let no_more = form_shortest encoding laws is s b.0 bytes
+    (record { code = items; code_is = b.1; stands = (stands_for, is_written) }) read in
     (b.0, b.1, omega arith)

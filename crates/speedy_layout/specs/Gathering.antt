@@ -32,7 +32,8 @@ pub record IsGathering {E S : Type 0} (hashed : Bool) (stands : List E → S →
 -- a thing that some list with a spelling stands for has a form
 abbrev pub HasForms : {E S : Type 0} → Format E → (List E → S → Type 0) → (List E → Type 0) → Type 0
 HasForms {E = E} {S = S} L stands written =
-    (ys : List E) (bytes : List ℕ) (s : S) → Each L.spells ys bytes → stands ys s → (xs : List E) × stands xs s × written xs
+    (ys : List E) (bytes : List ℕ) (s : S) → Each L.spells ys bytes → stands ys s → (xs : List E) × stands xs s
+    × written xs
 
 -- a list is read as the thing that it stands for, and one that is a form is written
 abbrev pub gathering : {E S : Type 0} → (List E → S → Type 0) → (List E → Type 0) → Code (List E) S
@@ -129,11 +130,16 @@ module _ {V : Type 0} {strict : Bool} {least : ℕ} {F : Format V} (laws : Laws 
   in_decided x (y ∷ ys) s t h k =
       elim (laws.tells x y s k.front h k.first_is) [
         | inl e ↦ inl (inl e)
-        | inr first ↦ elim (in_decided x ys s k.back h k.second_is) [ inl i ↦ inl (inr i) | inr n ↦ inr (λ i. elim i [ inl e ↦ first e | inr j ↦ n j ]) ]
+        | inr first ↦ elim (in_decided x ys s k.back h k.second_is) [
+          | inl i ↦ inl (inr i)
+          | inr n
+              ↦ inr (λ i. elim i [ inl e ↦ first e | inr j ↦ n j ])
+        ]
       ]
 
   -- and so it is of all of them
-  inside_decided : (xs ys : List V) (s t : List ℕ) → Each F.spells xs s → Each F.spells ys t → Decided ((x : V) → IsIn x xs → IsIn x ys)
+  inside_decided : (xs ys : List V) (s t : List ℕ) → Each F.spells xs s → Each F.spells ys t
+      → Decided ((x : V) → IsIn x xs → IsIn x ys)
   inside_decided [] ys s t h k = inl (λ x n. absurd n)
   inside_decided (x ∷ xs) ys s t h k =
       elim (in_decided x ys h.front t h.first_is k) [
@@ -169,7 +175,8 @@ module _ {E S : Type 0} {hashed : Bool} {stands : List E → S → Type 0} {writ
       )
 
   -- and there is one
-  some_form_spelled : HasForms L stands written → (s : S) (bytes : List ℕ) → Coded (list encoding L).spells stands s bytes
+  some_form_spelled : HasForms L stands written → (s : S) (bytes : List ℕ)
+      → Coded (list encoding L).spells stands s bytes
       → (b : List ℕ) × Coded (list encoding L).spells (gathering stands written).chosen s b
   unfolding list sequence unsigned_number vector owned_content repeat
   some_form_spelled has s bytes h =
@@ -192,18 +199,21 @@ module _ {E S : Type 0} {hashed : Bool} {stands : List E → S → Type 0} {writ
       omega arith
 
   -- forms of things that are not hashed tell the things apart
-  forms_tell : hashed ≡ false → HasForms L stands written → (s t : S) (b d : List ℕ) → Coded (list encoding L).spells stands s b
+  forms_tell : hashed ≡ false → HasForms L stands written → (s t : S) (b d : List ℕ)
+      → Coded (list encoding L).spells stands s b
       → Coded (list encoding L).spells stands t d → Decided (s ≡ t)
   forms_tell ordered has s t b d h k =
       let x = some_form_spelled has s b h in
       let y = some_form_spelled has t d k in
       elim ((list_laws encoding laws).tells x.1.code y.1.code x.0 y.0 x.1.code_is y.1.code_is) [
         | inl e ↦ inl (is.one_thing y.1.code s t (subst (λ zs. stands zs s) e x.1.stands.0) y.1.stands.0)
-        | inr n ↦ inr (λ e. n (is.one_form ordered x.1.code y.1.code t x.1.stands.1 y.1.stands.1 (subst (stands x.1.code) e x.1.stands.0) y.1.stands.0))
+        | inr n ↦ inr (λ e. n (is.one_form ordered x.1.code y.1.code t x.1.stands.1 y.1.stands.1
+            (subst (stands x.1.code) e x.1.stands.0) y.1.stands.0))
       ]
 
   -- and so do the items of forms, where the things are hashed
-  hashed_tell : hashed ≡ true → HasForms L stands written → (s t : S) (b d : List ℕ) → Coded (list encoding L).spells stands s b
+  hashed_tell : hashed ≡ true → HasForms L stands written → (s t : S) (b d : List ℕ)
+      → Coded (list encoding L).spells stands s b
       → Coded (list encoding L).spells stands t d → Decided (s ≡ t)
   unfolding list sequence unsigned_number vector owned_content repeat
   hashed_tell unordered has s t b d h k =
@@ -216,8 +226,10 @@ module _ {E S : Type 0} {hashed : Bool} {stands : List E → S → Type 0} {writ
       elim (inside_decided laws xs ys left.back right.back left.second_is.1 right.second_is.1) [
         | inl there ↦
             elim (inside_decided laws ys xs right.back left.back right.second_is.1 left.second_is.1) [
-              | inl back ↦ inl (is.one_hashed unordered xs ys s t x.1.stands.1 y.1.stands.1 x.1.stands.0 y.1.stands.0 there back)
-              | inr n ↦ inr (λ e. n (is.form_inside ys xs t y.1.stands.1 y.1.stands.0 (subst (stands xs) e x.1.stands.0)))
+              | inl back ↦ inl (is.one_hashed unordered xs ys s t x.1.stands.1 y.1.stands.1 x.1.stands.0 y.1.stands.0
+                  there back)
+              | inr n ↦ inr (λ e. n (is.form_inside ys xs t y.1.stands.1 y.1.stands.0
+                  (subst (stands xs) e x.1.stands.0)))
             ]
         | inr n ↦ inr (λ e. n (is.form_inside xs ys t x.1.stands.1 (subst (stands xs) e x.1.stands.0) y.1.stands.0))
       ]
@@ -255,4 +267,5 @@ items_of_laws true encoding laws = hashed_items_laws (list_laws encoding laws)
 pub gathered_laws : {E S : Type 0} {hashed : Bool} {stands : List E → S → Type 0} {written : List E → Type 0} {least : ℕ} {L : Format E} (encoding : Encoding)
     → Laws encoding.strict least L → IsGathering hashed stands written → HasForms L stands written
     → Laws encoding.strict 4 (gathered hashed encoding stands written L)
-gathered_laws {hashed = hashed} encoding laws is has = coding_laws encoding (items_of_laws hashed encoding laws) (gathering_is_code encoding laws is has)
+gathered_laws {hashed = hashed} encoding laws is has =
+    coding_laws encoding (items_of_laws hashed encoding laws) (gathering_is_code encoding laws is has)

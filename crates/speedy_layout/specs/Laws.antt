@@ -42,7 +42,11 @@ same_bytes [] (c ∷ t) = inr (λ e. absurd (cc))
 same_bytes (b ∷ s) [] = inr (λ e. absurd (cc))
 same_bytes (b ∷ s) (c ∷ t) =
     elim (eqb_tells b c) [
-      | inl h ↦ elim (same_bytes s t) [ inl e ↦ inl (ap₂ ◌∷◌ h.1 e) | inr n ↦ inr (λ e. n (let tails : s ≡ t = cc in tails)) ]
+      | inl h ↦ elim (same_bytes s t) [
+        | inl e ↦ inl (ap₂ ◌∷◌ h.1 e)
+        | inr n
+            ↦ inr (λ e. n (let tails : s ≡ t = cc in tails))
+      ]
       | inr h ↦ inr (λ e. h.1 (let heads : b ≡ c = cc in heads))
     ]
 

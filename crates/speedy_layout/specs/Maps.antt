@@ -73,7 +73,8 @@ module _ {K V : Type 0} where
   Ascends-by_key less (e ∷ es) h = (λ f s. h.0 f.0 (IsIn-key f es s), Ascends-by_key less es h.1)
 
   -- where they ascend, each key stands once
-  pub Ascends-distinct_keys : {less : K → K → Type 0} → IsAsymmetric less → (es : List (K × V)) → Ascends (by_key less) es → HasDistinctKeys es
+  pub Ascends-distinct_keys : {less : K → K → Type 0} → IsAsymmetric less → (es : List (K × V))
+      → Ascends (by_key less) es → HasDistinctKeys es
   Ascends-distinct_keys order [] h = tt
   Ascends-distinct_keys {less = less} order (e ∷ es) h = (
     λ k. let p = IsIn-pair e.0 es k in let l = subst (less e.0) (sym p.1) (h.0 p.0 p.2) in order e.0 e.0 l l,
@@ -91,7 +92,8 @@ module _ {K V : Type 0} where
       subst (λ x. IsIn x (keys_of fs)) (sym p.1) (IsIn-key p.0 fs (HasLasts-inside items es fs h k p.0 p.2))
 
   -- pairs that ascend stand for themselves
-  pub own_tree_map : {less : K → K → Type 0} → IsAsymmetric less → (es : List (K × V)) → Ascends (by_key less) es → GathersToTreeMap less es es
+  pub own_tree_map : {less : K → K → Type 0} → IsAsymmetric less → (es : List (K × V)) → Ascends (by_key less) es
+      → GathersToTreeMap less es es
   own_tree_map order es h = (h, own_lasts es (Ascends-distinct_keys order es h))
 
   -- pairs with distinct keys that a list has are the last ones of each list of the same map
@@ -99,7 +101,8 @@ module _ {K V : Type 0} where
       → IsIn e items → IsIn e others
   inside_lasts items others es d h k e s = IsLast-in e others ((k e).0 ((h e).1 (IsIn-last e items d s)))
 
-  pub tree_map_is : {less : K → K → Type 0} → IsAsymmetric less → IsGathering false (GathersToTreeMap {V = V} less) (Ascends (by_key less))
+  pub tree_map_is : {less : K → K → Type 0} → IsAsymmetric less
+      → IsGathering false (GathersToTreeMap {V = V} less) (Ascends (by_key less))
   tree_map_is {less = less} order = record {
     one_thing = one_map;
     form_distinct = λ items h. AreDistinct-keys items (Ascends-distinct_keys order items h);
@@ -136,18 +139,24 @@ same_option None None h = refl
 same_option None (Some w) h = (h w).1 refl
 
 -- whether a key is among others is decided of keys and pairs that have spellings
-key_decided : {A V : Type 0} {strict : Bool} {n : ℕ} {L : Format A} (M : Format V) → Laws strict n L → (a : A) (es : List (A × V)) (s t : List ℕ)
+key_decided : {A V : Type 0} {strict : Bool} {n : ℕ} {L : Format A} (M : Format V) → Laws strict n L
+    → (a : A) (es : List (A × V)) (s t : List ℕ)
     → L.spells a s → Each (pair L M).spells es t → Decided (IsIn a (keys_of es))
 unfolding sequence
 key_decided M laws a [] s t h k = inr (λ n. n)
 key_decided M laws a (e ∷ es) s t h k =
     elim (laws.tells a e.0 s k.first_is.front h k.first_is.first_is) [
       | inl same ↦ inl (inl same)
-      | inr first ↦ elim (key_decided M laws a es s k.back h k.second_is) [ inl i ↦ inl (inr i) | inr n ↦ inr (λ i. elim i [ inl same ↦ first same | inr j ↦ n j ]) ]
+      | inr first ↦ elim (key_decided M laws a es s k.back h k.second_is) [
+        | inl i ↦ inl (inr i)
+        | inr n
+            ↦ inr (λ i. elim i [ inl same ↦ first same | inr j ↦ n j ])
+      ]
     ]
 
 -- the last pairs with their keys of a list with a spelling, each key once
-lasts : {A V : Type 0} {strict : Bool} {n : ℕ} {L : Format A} (M : Format V) → Laws strict n L → (es : List (A × V)) (bytes : List ℕ) → Each (pair L M).spells es bytes
+lasts : {A V : Type 0} {strict : Bool} {n : ℕ} {L : Format A} (M : Format V) → Laws strict n L
+    → (es : List (A × V)) (bytes : List ℕ) → Each (pair L M).spells es bytes
     → (kept : List (A × V)) × AreDistinct (keys_of kept) × HasLasts es kept
 unfolding sequence
 lasts M laws [] bytes h = ([], tt, λ e. (λ h. h, λ h. h))
@@ -159,17 +168,27 @@ lasts {A = A} {V = V} M laws (f ∷ es) bytes h =
         rest.1,
         λ e. (
           λ s. inl ((rest.2 e).0 s),
-          λ s. elim s [ inl k ↦ (rest.2 e).1 k | inr k ↦ absurd (k.1 (subst (λ (p : A × V). IsIn p.0 (keys_of es)) (sym k.0) again)) ],
+          λ s. elim s [
+            | inl k ↦ (rest.2 e).1 k
+            | inr k
+                ↦ absurd (k.1 (subst (λ (p : A × V). IsIn p.0 (keys_of es)) (sym k.0) again))
+          ],
         ),
       )
       | inr absent ↦ (
         f ∷ rest.0,
         (
-          λ s. let p = IsIn-pair f.0 rest.0 s in absent (subst (λ a. IsIn a (keys_of es)) (sym p.1) (IsIn-key p.0 es (IsLast-in p.0 es ((rest.2 p.0).0 p.2)))),
+          λ s. let p = IsIn-pair f.0 rest.0 s in
+              absent (subst (λ a. IsIn a (keys_of es)) (sym p.1)
+              (IsIn-key p.0 es (IsLast-in p.0 es ((rest.2 p.0).0 p.2)))),
           rest.1,
         ),
         λ e. (
-          λ s. elim s [ inl k ↦ inr (k, λ r. absent (subst (λ (p : A × V). IsIn p.0 (keys_of es)) k r)) | inr k ↦ inl ((rest.2 e).0 k) ],
+          λ s. elim s [
+            | inl k ↦ inr (k, λ r. absent (subst (λ (p : A × V). IsIn p.0 (keys_of es)) k r))
+            | inr k
+                ↦ inl ((rest.2 e).0 k)
+          ],
           λ s. elim s [ inl k ↦ inr ((rest.2 e).1 k) | inr k ↦ inl k.0 ],
         ),
       )
@@ -177,7 +196,8 @@ lasts {A = A} {V = V} M laws (f ∷ es) bytes h =
 
 module _ {K A V : Type 0} {seen : K → A} where
   -- what one map finds another finds whose form has its pairs
-  finds_more : (xs ys : List (A × V)) (f g : K → Option V) → HasDistinctKeys ys → GathersToHashMap seen xs f → GathersToHashMap seen ys g
+  finds_more : (xs ys : List (A × V)) (f g : K → Option V) → HasDistinctKeys ys → GathersToHashMap seen xs f
+      → GathersToHashMap seen ys g
       → ((e : A × V) → IsIn e xs → IsIn e ys) → (x : K) (v : V) → f x ≡ Some v → g x ≡ Some v
   finds_more xs ys f g d h k there x v s =
       let e : A × V = (seen x, v) in
@@ -194,15 +214,19 @@ module _ {K A V : Type 0} {seen : K → A} where
         let last = IsIn-last pair items d (subst (λ p. IsIn p items) same s) in
         subst (λ p. IsIn p others) (sym same) (IsLast-in pair others ((k.1 x.0 e.1).0 ((h.1 x.0 e.1).1 last)));
     one_form = λ e. absurd (cc);
-    one_hashed = λ _ xs ys f g d e h k there back. λ i x. same_option (f x) (g x) (λ v. (finds_more xs ys f g e h k there x v, finds_more ys xs g f d k h back x v)) i;
+    one_hashed = λ _ xs ys f g d e h k there back. λ i x. same_option (f x) (g x)
+        (λ v. (finds_more xs ys f g e h k there x v, finds_more ys xs g f d k h back x v)) i;
   }
 
-  hash_map_forms : {strict : Bool} {n : ℕ} {L : Format A} (M : Format V) → Laws strict n L → HasForms (pair L M) (GathersToHashMap {V = V} seen) HasDistinctKeys
+  hash_map_forms : {strict : Bool} {n : ℕ} {L : Format A} (M : Format V) → Laws strict n L
+      → HasForms (pair L M) (GathersToHashMap {V = V} seen) HasDistinctKeys
   hash_map_forms M laws items bytes f spelled h =
       let kept = lasts M laws items bytes spelled in (
         kept.0,
         (
-          λ a s. let p = IsIn-pair a kept.0 s in h.0 a (subst (λ b. IsIn b (keys_of items)) (sym p.1) (IsIn-key p.0 items (IsLast-in p.0 items ((kept.2 p.0).0 p.2)))),
+          λ a s. let p = IsIn-pair a kept.0 s in
+              h.0 a (subst (λ b. IsIn b (keys_of items)) (sym p.1)
+              (IsIn-key p.0 items (IsLast-in p.0 items ((kept.2 p.0).0 p.2)))),
           λ k v. (
             λ s. IsIn-last (seen k, v) kept.0 kept.1 ((kept.2 (seen k, v)).1 ((h.1 k v).0 s)),
             λ s. (h.1 k v).1 ((kept.2 (seen k, v)).0 (IsLast-in (seen k, v) kept.0 s)),
@@ -213,10 +237,12 @@ module _ {K A V : Type 0} {seen : K → A} where
 
 module _ {K V : Type 0} {n m : ℕ} {L : Format K} {M : Format V} (encoding : Encoding) (laws : Laws encoding.strict n L) (more : Laws encoding.strict m M) where
   pub tree_map_laws : {less : K → K → Type 0} → IsAsymmetric less → Laws encoding.strict 4 (tree_map encoding less L M)
-  tree_map_laws order = gathered_laws encoding (pair_laws laws more) (tree_map_is order) (λ items bytes es spelled h. (es, own_tree_map order es h.0, h.0))
+  tree_map_laws order = gathered_laws encoding (pair_laws laws more) (tree_map_is order)
+      (λ items bytes es spelled h. (es, own_tree_map order es h.0, h.0))
 
   pub hash_map_laws : {J : Type 0} (seen : J → K) → Laws encoding.strict 4 (hash_map encoding seen L M)
   hash_map_laws seen = gathered_laws encoding (pair_laws laws more) hash_map_is (hash_map_forms M laws)
 
   pub index_map_laws : Laws encoding.strict 4 (index_map encoding L M)
-  index_map_laws = gathered_laws encoding (pair_laws laws more) index_map_is (λ items bytes es spelled h. (es, own_index_map es h.0, h.0))
+  index_map_laws = gathered_laws encoding (pair_laws laws more) index_map_is
+      (λ items bytes es spelled h. (es, own_index_map es h.0, h.0))

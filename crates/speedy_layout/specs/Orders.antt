@@ -31,8 +31,15 @@ module _ {X : Type 0} {less : X → X → Type 0} (order : IsAsymmetric less) wh
       in
       let more =
       same_ascending xs ys h.1 k.1
-      (λ z s. elim (there z (inr s)) [ inl e ↦ absurd (let l = subst (less x) (e ∙ sym first) (h.0 z s) in order x x l l) | inr t ↦ t ])
-      (λ z s. elim (back z (inr s)) [ inl e ↦ absurd (let l = subst (less y) (e ∙ first) (k.0 z s) in order y y l l) | inr t ↦ t ])
+      (λ z s. elim (there z (inr s)) [
+        | inl e
+            ↦ absurd (let l = subst (less x) (e ∙ sym first) (h.0 z s) in order x x l l)
+        | inr t ↦ t
+      ])
+      (λ z s. elim (back z (inr s)) [
+        | inl e ↦ absurd (let l = subst (less y) (e ∙ first) (k.0 z s) in order y y l l)
+        | inr t ↦ t
+      ])
       in
       cc
 

@@ -7,7 +7,8 @@ use Rattle.speedy_layout.specs.Laws.{Laws, Laws-asking}
 unfoldable pub owned_content : {V : Type 0} → Format V → Format V
 owned_content F = record F { asks = record F.asks { memory = true } }
 
--- a value that is borrowed: it can be read only from a reader that lends, without a request for memory; its bytes are refused as before
+-- a value that is borrowed: it can be read only from a reader that lends, without a request for memory; its bytes are
+-- refused as before
 unfoldable pub borrowed_content : {V : Type 0} → Format V → Format V
 borrowed_content F = record F { asks = record F.asks { lending = true; memory = false } }
 
@@ -18,4 +19,5 @@ module _ {V : Type 0} {strict : Bool} {least : ℕ} {F : Format V} (laws : Laws 
 
   pub borrowed_content_laws : Laws strict least (borrowed_content F)
   unfolding borrowed_content
-  borrowed_content_laws = Laws-asking F.names (record F.asks { lending = true; memory = false }) laws.names_own (λ h. h) laws
+  borrowed_content_laws = Laws-asking F.names (record F.asks { lending = true; memory = false }) laws.names_own
+      (λ h. h) laws

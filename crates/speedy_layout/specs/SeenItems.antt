@@ -65,7 +65,8 @@ lt_is_less Less h = refl
 lt_is_less Equal h = absurd (cc)
 lt_is_less Greater h = absurd (cc)
 
-module _ {K S : Type 0} {seen : K → S} {cmp : K → K → Ordering} (same_key : TellsApart (eq_by_cmp cmp) seen) (total : IsTotalOrder cmp) where
+module _ {K S : Type 0} {seen : K → S}
+    {cmp : K → K → Ordering} (same_key : TellsApart (eq_by_cmp cmp) seen) (total : IsTotalOrder cmp) where
   -- keys that are seen alike compare alike
   alike : (x y lower higher : K) → seen lower ≡ seen x → seen higher ≡ seen y → cmp lower higher ≡ Less → cmp x y ≡ Less
   alike x y lower higher e f h =
@@ -96,7 +97,8 @@ module _ {K S : Type 0} {seen : K → S} {cmp : K → K → Ordering} (same_key 
   unfolding IsStrictlySortedBy
   sorted_ascend [] h = tt
   sorted_ascend (x ∷ xs) h = (λ a s. above xs h.0 a s, sorted_ascend xs h.1) where
-    above : (ys : List K) → AllByRecursion (λ y. cmp x y ≡ Less) ys → (a : S) → IsIn a (map seen ys) → IsLess seen cmp (seen x) a
+    above : (ys : List K) → AllByRecursion (λ y. cmp x y ≡ Less) ys → (a : S) → IsIn a (map seen ys)
+        → IsLess seen cmp (seen x) a
     above [] l a s = absurd s
     above (y ∷ ys) l a (inl s) = subst (IsLess seen cmp (seen x)) (sym s) (seen_less x y l.0)
     above (y ∷ ys) l a (inr s) = above ys l.1 a s

@@ -78,7 +78,8 @@ second_tells : {U : Type 0} {W : U → Type 0} (M : (u : U) → Format (W u)) (s
     → (u : U) → p.0 ≡ u → (w : W u) (t : List ℕ) → (M u).spells w t
     → let whole : (u : U) × W u = (u, w) in (p ≡ whole) ⊎ ((b : List ℕ) → (M p.0).spells p.1 b → (M u).spells w b → ⊥)
 second_tells {U = U} {W = W} M strict m more s p h u same =
-    subst (λ (u : U). (w : W u) (t : List ℕ) → (M u).spells w t → let whole : (u : U) × W u = (u, w) in (p ≡ whole) ⊎ ((b : List ℕ) → (M p.0).spells p.1 b → (M u).spells w b → ⊥)) same
+    subst (λ (u : U). (w : W u) (t : List ℕ) → (M u).spells w t → let whole : (u : U) × W u = (u, w) in
+    (p ≡ whole) ⊎ ((b : List ℕ) → (M p.0).spells p.1 b → (M u).spells w b → ⊥)) same
     (λ w t k.
     elim ((more p.0).tells p.1 w s t h k) [
       | inl e ↦ inl (ap (λ (x : W p.0). let whole : (u : U) × W u = (p.0, x) in whole) e)
@@ -99,9 +100,11 @@ module _ {U V : Type 0} {W : U → Type 0} {split : V → (u : U) × W u} {L : F
     tells = λ v w s t h k.
         elim (laws.tells (split v).0 (split w).0 h.front k.front h.first_is k.first_is) [
           | inl same ↦
-              elim (second_tells M strict m more h.back (split v) h.second_is (split w).0 same (split w).1 k.back k.second_is) [
+              elim (second_tells M strict m more h.back (split v) h.second_is (split w).0 same (split w).1 k.back
+              k.second_is) [
                 | inl e ↦ inl (injective v w e)
-                | inr n ↦ inr (λ e. apart v w s n h (subst (λ (x : V). Parts (L.spells (split x).0) ((M (split x).0).spells (split x).1) s) e h))
+                | inr n ↦ inr (λ e. apart v w s n h
+                    (subst (λ (x : V). Parts (L.spells (split x).0) ((M (split x).0).spells (split x).1) s) e h))
               ]
           | inr n ↦ inr (λ e. n (ap (λ (x : V). (split x).0) e))
         ];
@@ -159,10 +162,13 @@ module _ {U V : Type 0} {W : U → Type 0} {split : V → (u : U) × W u} {L : F
         ];
   } where
     -- no bytes are those of two values whose first parts are the same and whose second ones are not
-    apart : (v w : V) (s : List ℕ) → ((b : List ℕ) → (M (split v).0).spells (split v).1 b → (M (split w).0).spells (split w).1 b → ⊥)
-        → Parts (L.spells (split v).0) ((M (split v).0).spells (split v).1) s → Parts (L.spells (split w).0) ((M (split w).0).spells (split w).1) s → ⊥
+    apart : (v w : V) (s : List ℕ)
+        → ((b : List ℕ) → (M (split v).0).spells (split v).1 b → (M (split w).0).spells (split w).1 b → ⊥)
+        → Parts (L.spells (split v).0) ((M (split v).0).spells (split v).1) s
+        → Parts (L.spells (split w).0) ((M (split w).0).spells (split w).1) s → ⊥
     apart v w s n h k =
-        let first = laws.decodes (split v).0 (split w).0 h.front k.front h.back k.back h.first_is k.first_is (sym h.whole_is ∙ k.whole_is) in
+        let first = laws.decodes (split v).0 (split w).0 h.front k.front h.back k.back h.first_is k.first_is
+        (sym h.whole_is ∙ k.whole_is) in
         n h.back h.second_is (subst ((M (split w).0).spells (split w).1) (sym first.2) k.second_is)
 
 -- values that can be put together again from their parts differ in their parts

@@ -5,7 +5,8 @@ use Rattle.speedy_base.specs.Encoding.{Encoding}
 use Rattle.speedy_layout.specs.Format.{Format, Each}
 use Rattle.speedy_layout.specs.Laws.{Laws}
 use Rattle.speedy_layout.specs.Members.{IsIn, AreDistinct, Ascends, InFirstOrder}
-use Rattle.speedy_layout.specs.Orders.{IsAsymmetric, Ascends-distinct, same_ascending, own_first_order, same_first_order}
+use Rattle.speedy_layout.specs.Orders.{IsAsymmetric, Ascends-distinct, same_ascending, own_first_order}
+use Rattle.speedy_layout.specs.Orders.{same_first_order}
 use Rattle.speedy_layout.specs.Gathering.{IsGathering, HasForms, gathered, gathered_laws, in_decided}
 use Rattle.speedy_layout.specs.SeenItems.{AreSeen}
 
@@ -51,7 +52,8 @@ module _ {T : Type 0} where
   pub own_tree_set : (less : T → T → Type 0) (xs : List T) → Ascends less xs → GathersToTreeSet less xs xs
   own_tree_set less xs h = (h, own_items xs)
 
-  pub tree_set_is : {less : T → T → Type 0} → IsAsymmetric less → IsGathering false (GathersToTreeSet less) (Ascends less)
+  pub tree_set_is : {less : T → T → Type 0} → IsAsymmetric less
+      → IsGathering false (GathersToTreeSet less) (Ascends less)
   tree_set_is {less = less} order = record {
     one_thing = one_set;
     form_distinct = Ascends-distinct order;
@@ -84,7 +86,8 @@ same_test false true h = h.1 refl
 same_test false false h = refl
 
 -- the items of a list with a spelling, each once
-once : {A : Type 0} {strict : Bool} {n : ℕ} {L : Format A} → Laws strict n L → (xs : List A) (bytes : List ℕ) → Each L.spells xs bytes
+once : {A : Type 0} {strict : Bool} {n : ℕ} {L : Format A} → Laws strict n L → (xs : List A) (bytes : List ℕ)
+    → Each L.spells xs bytes
     → (kept : List A) × AreDistinct kept × HasItems xs kept
 once laws [] bytes h = ([], tt, λ x. (λ h. h, λ h. h))
 once laws (a ∷ xs) bytes h =
@@ -115,23 +118,30 @@ module _ {T A : Type 0} {seen : T → A} where
     form_distinct = λ items d. d;
     form_inside = λ items others f d h k a s. let x = h.0 a s in subst (λ b. IsIn b others) x.1 ((k.1 x.0).0 ((h.1 x.0).1 (subst (λ b. IsIn b items) (sym x.1) s)));
     one_form = λ e. absurd (cc);
-    one_hashed = λ _ xs ys f g d e h k there back. λ i x. same_test (f x) (g x) (λ s. (k.1 x).1 (there (seen x) ((h.1 x).0 s)), λ s. (h.1 x).1 (back (seen x) ((k.1 x).0 s))) i;
+    one_hashed = λ _ xs ys f g d e h k there back. λ i x. same_test (f x) (g x)
+        (λ s. (k.1 x).1 (there (seen x) ((h.1 x).0 s)), λ s. (h.1 x).1 (back (seen x) ((k.1 x).0 s))) i;
   }
 
-  hash_set_forms : {strict : Bool} {n : ℕ} {L : Format A} → Laws strict n L → HasForms L (GathersToHashSet seen) AreDistinct
+  hash_set_forms : {strict : Bool} {n : ℕ} {L : Format A} → Laws strict n L
+      → HasForms L (GathersToHashSet seen) AreDistinct
   hash_set_forms laws items bytes f spelled h =
       let kept = once laws items bytes spelled in (
         kept.0,
-        (λ a s. h.0 a ((kept.2 a).0 s), λ x. (λ s. (kept.2 (seen x)).1 ((h.1 x).0 s), λ s. (h.1 x).1 ((kept.2 (seen x)).0 s))),
+        (
+          λ a s. h.0 a ((kept.2 a).0 s),
+          λ x. (λ s. (kept.2 (seen x)).1 ((h.1 x).0 s), λ s. (h.1 x).1 ((kept.2 (seen x)).0 s)),
+        ),
         kept.1,
       )
 
 module _ {A : Type 0} {n : ℕ} {L : Format A} (encoding : Encoding) (laws : Laws encoding.strict n L) where
   pub tree_set_laws : {less : A → A → Type 0} → IsAsymmetric less → Laws encoding.strict 4 (tree_set encoding less L)
-  tree_set_laws {less = less} order = gathered_laws encoding laws (tree_set_is order) (λ items bytes xs spelled h. (xs, own_tree_set less xs h.0, h.0))
+  tree_set_laws {less = less} order =
+      gathered_laws encoding laws (tree_set_is order) (λ items bytes xs spelled h. (xs, own_tree_set less xs h.0, h.0))
 
   pub hash_set_laws : {T : Type 0} (seen : T → A) → Laws encoding.strict 4 (hash_set encoding seen L)
   hash_set_laws seen = gathered_laws encoding laws hash_set_is (hash_set_forms laws)
 
   pub index_set_laws : Laws encoding.strict 4 (index_set encoding L)
-  index_set_laws = gathered_laws encoding laws index_set_is (λ items bytes xs spelled h. (xs, own_index_set xs h.0, h.0))
+  index_set_laws = gathered_laws encoding laws index_set_is
+      (λ items bytes xs spelled h. (xs, own_index_set xs h.0, h.0))

@@ -1,5 +1,6 @@
 -- What std's maps and `IndexMap` say of themselves, as what lists gather to and how it is written.
-use Rattle.std.specs.Prelude.{◌≡◌, List, [], ◌∷◌, ◌++◌, map, Bool, true, false, cond, Option, Some, None, option_map, ◌↔◌, refl}
+use Rattle.std.specs.Prelude.{◌≡◌, List, [], ◌∷◌, ◌++◌, map, Bool, true, false, cond, Option, Some, None, option_map}
+use Rattle.std.specs.Prelude.{◌↔◌, refl}
 use Rattle.std.proofs.lemmas.List.{map-append}
 use Rattle.std.proofs.Common.{sym, ◌∙◌, ap, subst, inl, inr}
 use Rattle.std.specs.Map.{keys_of, lookup}
@@ -15,7 +16,8 @@ use Rattle.std.specs.BTreeMap.{BTreeMap}
 use Rattle.std.specs.HashMap.{HashMap}
 use Rattle.speedy_layout.specs.Equality.{TellsApart}
 use Rattle.speedy_layout.specs.Collections.{HasLast, HasLastValues, IsTreeMapOf, IsHashMapOf}
-use Rattle.speedy_layout.specs.SeenItems.{AreSeen, IsLess, less_is_asymmetric, cmp_tells_apart, item_seen, items_are_seen, differs, unique_seen, sorted_ascend}
+use Rattle.speedy_layout.specs.SeenItems.{AreSeen, IsLess, less_is_asymmetric, cmp_tells_apart, item_seen}
+use Rattle.speedy_layout.specs.SeenItems.{items_are_seen, differs, unique_seen, sorted_ascend}
 use Rattle.speedy_layout.specs.Maps.{seen_pair, by_key, HasLasts, Ascends-distinct_keys, HasDistinctKeys, own_lasts, own_tree_map, GathersToTreeMap, GathersToHashMap, Ascends-by_key}
 
 -- what is seen of pairs
@@ -185,10 +187,14 @@ module _ {K V A B H : Type 0} {seen : K → A} {eq : K → K → Bool} (value : 
 -- ---- `BTreeMap`
 
 module _ {K V A B : Type 0} {seen : K → A} {cmp : K → K → Ordering} {eq : K → K → Bool} (value : V → B)
-    (same_key : TellsApart eq seen) (total : IsTotalOrder cmp) (matches_eq : (x y : K) → eq x y ≡ eq_by_cmp cmp x y) where
+    (same_key : TellsApart eq seen) (total : IsTotalOrder cmp) (matches_eq : (x y : K)
+    → eq x y ≡ eq_by_cmp cmp x y) where
   -- keys that ascend are seen to ascend
   pub sorted_pairs_ascend : (es : List (K × V)) → IsStrictlySortedBy cmp (keys_of es) → Ascends (by_key (IsLess seen cmp)) (seen_pairs seen value es)
-  sorted_pairs_ascend es h = Ascends-by_key (IsLess seen cmp) (seen_pairs seen value es) (subst (λ ks. Ascends (IsLess seen cmp) ks) (sym (keys_seen seen value es)) (sorted_ascend (cmp_tells_apart cmp same_key matches_eq) total (keys_of es) h))
+  sorted_pairs_ascend es h =
+      Ascends-by_key (IsLess seen cmp) (seen_pairs seen value es)
+      (subst (λ ks. Ascends (IsLess seen cmp) ks) (sym (keys_seen seen value es))
+      (sorted_ascend (cmp_tells_apart cmp same_key matches_eq) total (keys_of es) h))
 
   -- the map of a list is what its pairs gather to
   pub tree_map_seen : (xs : List (K × V)) (m : BTreeMap K V) → IsTreeMapOf cmp xs m

@@ -56,15 +56,18 @@ module _ {T A H : Type 0} {seen : T → A} {eq : T → T → Bool} (same_key : T
 
 -- ---- `BTreeSet`
 
-module _ {T A : Type 0} {seen : T → A} {cmp : T → T → Ordering} {eq : T → T → Bool} (same_key : TellsApart eq seen) (total : IsTotalOrder cmp)
+module _ {T A : Type 0} {seen : T → A} {cmp : T → T → Ordering}
+    {eq : T → T → Bool} (same_key : TellsApart eq seen) (total : IsTotalOrder cmp)
     (matches_eq : (x y : T) → eq x y ≡ eq_by_cmp cmp x y) where
   -- its items in their order are its form
   pub tree_set_items : (s : BTreeSet T) → tree.IsOrdered cmp s
       → GathersToTreeSet (IsLess seen cmp) (map seen s.keys) (map seen s.keys) × Ascends (IsLess seen cmp) (map seen s.keys)
-  tree_set_items s h = let ascends = sorted_ascend (cmp_tells_apart cmp same_key matches_eq) total s.keys h in (own_tree_set (IsLess seen cmp) (map seen s.keys) ascends, ascends)
+  tree_set_items s h = let ascends = sorted_ascend (cmp_tells_apart cmp same_key matches_eq) total s.keys h in
+      (own_tree_set (IsLess seen cmp) (map seen s.keys) ascends, ascends)
 
   -- the set of a list is what its items gather to
-  pub tree_set_seen : (xs : List T) (s : BTreeSet T) → IsTreeSetOf cmp xs s → GathersToTreeSet (IsLess seen cmp) (map seen xs) (map seen s.keys)
+  pub tree_set_seen : (xs : List T) (s : BTreeSet T) → IsTreeSetOf cmp xs s
+      → GathersToTreeSet (IsLess seen cmp) (map seen xs) (map seen s.keys)
   tree_set_seen xs s h =
       let tells = cmp_tells_apart cmp same_key matches_eq in
       (sorted_ascend tells total s.keys h.1, found_items seen tells xs s.keys h.0)

@@ -1,6 +1,7 @@
 //! One of several values, behind a tag of four bytes that says which: 0 the first, 1 the second, and so on. An enum of
 //! your own has the layout of one of these.
-ghost use Rattle.speedy_layout.specs.Codecs.{one_of2_codec, one_of3_codec, one_of4_codec, one_of5_codec, one_of6_codec, one_of7_codec, one_of8_codec};
+ghost use Rattle.speedy_layout.specs.Codecs.{one_of2_codec, one_of3_codec, one_of4_codec, one_of5_codec};
+ghost use Rattle.speedy_layout.specs.Codecs.{one_of6_codec, one_of7_codec, one_of8_codec};
 
 use crate::layout::Layout;
 

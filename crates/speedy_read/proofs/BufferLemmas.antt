@@ -1,5 +1,6 @@
 -- Reads from bytes in memory.
-use Rattle.std.specs.Prelude.{◌≡◌, ℕ, ◌-◌, ◌^◌, ◌<◌, ◌≤◌, List, [], ◌++◌, length, take, drop, Bool, true, false, IsTrue, ◌⊎◌, Result, Ok, Err, refl}
+use Rattle.std.specs.Prelude.{◌≡◌, ℕ, ◌-◌, ◌^◌, ◌<◌, ◌≤◌, List, [], ◌++◌, length, take, drop, Bool, true, false, IsTrue}
+use Rattle.std.specs.Prelude.{◌⊎◌, Result, Ok, Err, refl}
 use Rattle.std.specs.List.{IsSplitAt}
 use Rattle.std.specs.Borrow.{GName}
 use Rattle.std.proofs.Common.{sym, ◌∙◌, ap, arith, inl, inr}
@@ -79,7 +80,8 @@ bytes_not_lent {E = E} {e = e} l = bytes_missed l (input_ended (ends_alone {E = 
 
 -- ---- forms
 
-module _ {E : Type 0} {gives : Error → E → Type 0} {eof : E → Bool} {A V : Type 0} {seen : A → V} (least : ℕ) {L : Format V} {name after : GName}
+module _ {E : Type 0} {gives : Error → E → Type 0} {eof : E → Bool} {A V : Type 0}
+    {seen : A → V} (least : ℕ) {L : Format V} {name after : GName}
     {bytes rest : List ℕ} {encoding encoding' : Encoding} where
   -- what a form answers that reads a value from a new reader of bytes that it copies
   pub copied_answered : (result : Result A E) → least ≤ length bytes → AreBytes bytes → length bytes < 2 ^ 64 - 1
@@ -96,14 +98,27 @@ module _ {E : Type 0} {gives : Error → E → Type 0} {eof : E → Bool} {A V :
     };
     refused = λ _. tt;
   }
-  copied_answered (Err e) enough are fit r = record { too_small = λ few. absurd (omega arith); value = tt; refused = λ _. why r.answer } where
-    why : Excused gives L.asks.memory e (copied_state name bytes encoding) (copied_state after rest encoding')
-        ⊎ Refused gives eof L e (copied_state name bytes encoding) (copied_state after rest encoding')
-        → (gives (error_of kinds.OutOfMemory) e × IsTrue L.asks.memory) ⊎ RefusesBufferIf gives eof (L.asks.lending ≡ false) (refusing_kinds L false) L e bytes
-    why (inl (inl want)) = inl (want.0, elim want.1 [ inl takes ↦ takes | inr never ↦ absurd (true≢false (sym never)) ])
-    why (inl (inr fault)) = absurd (elim fault.0 [ inl more ↦ omega arith | inr most ↦ omega arith ])
-    why (inr h) = inr (record {
-      kind = h.kind;
-      because = λ none.
-          h.because (record { tells = refl; are_bytes = are; fit = fit; lends = λ need. absurd (true≢false (sym need ∙ none)) });
-    })
+  copied_answered (Err e) enough are fit r =
+      record { too_small = λ few. absurd (omega arith); value = tt; refused = λ _. why r.answer } where
+        why : Excused gives L.asks.memory e (copied_state name bytes encoding) (copied_state after rest encoding')
+            ⊎ Refused gives eof L e (copied_state name bytes encoding) (copied_state after rest encoding')
+            → (gives (error_of kinds.OutOfMemory) e × IsTrue L.asks.memory)
+            ⊎ RefusesBufferIf gives eof (L.asks.lending ≡ false) (refusing_kinds L false) L e bytes
+        why (inl (inl want)) = inl (
+          want.0,
+          elim want.1 [
+            | inl takes ↦ takes
+            | inr never ↦ absurd (true≢false (sym never))
+          ],
+        )
+        why (inl (inr fault)) = absurd (elim fault.0 [ inl more ↦ omega arith | inr most ↦ omega arith ])
+        why (inr h) = inr (record {
+          kind = h.kind;
+          because = λ none.
+              h.because (record {
+                tells = refl;
+                are_bytes = are;
+                fit = fit;
+                lends = λ need. absurd (true≢false (sym need ∙ none));
+              });
+        })

@@ -179,7 +179,11 @@ collected_read {V = V} {g = g} {c = c} {L = L} {n = n} {gives = gives} {eof = eo
             code_refused old.encoding c refl items
         | inr y ↦ record {
           kept = r.kept;
-          answer = inr (record { no_fault = y.1.ahead.no_fault; kind = inr (kinds.NotWrittenForm, inl (inr (inr (y.1.demanded, refl, wider is y.1))), y.0); because = λ told. not_written_unspelled is y.1 laws y.0 told.tells });
+          answer = inr (record {
+            no_fault = y.1.ahead.no_fault;
+            kind = inr (kinds.NotWrittenForm, inl (inr (inr (y.1.demanded, refl, wider is y.1))), y.0);
+            because = λ told. not_written_unspelled is y.1 laws y.0 told.tells;
+          });
         }
       ]
     ]

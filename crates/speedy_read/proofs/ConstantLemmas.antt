@@ -1,5 +1,6 @@
 -- Bytes that are read a chunk at a time and compared with a constant.
-use Rattle.std.specs.Prelude.{◌≡◌, ℕ, ◌+◌, ◌<◌, ◌≤◌, List, ◌++◌, length, take, drop, Bool, true, false, IsTrue, ◌⊎◌, ◌↔◌, Result, Ok, Err, IsErrAnd, refl}
+use Rattle.std.specs.Prelude.{◌≡◌, ℕ, ◌+◌, ◌<◌, ◌≤◌, List, ◌++◌, length, take, drop, Bool, true, false, IsTrue, ◌⊎◌}
+use Rattle.std.specs.Prelude.{◌↔◌, Result, Ok, Err, IsErrAnd, refl}
 use Rattle.std.proofs.Common.{sym, ◌∙◌, ap, ap₂, subst, arith, inl, inr}
 use Rattle.std.proofs.lemmas.List.{length-append, length-take-le, take_all}
 use Rattle.std.proofs.Common.{take-add}
@@ -61,13 +62,16 @@ module _ {E : Type 0} {gives : Error → E → Type 0} {eof : E → Bool} (const
       refused_covered (any_covers_constant old.encoding constant) passed short
 
 -- where a chunk is refused, all are, as an end of the bytes
-pub chunk_fewer : {E : Type 0} {gives : Error → E → Type 0} {eof : E → Bool} {A B : Type 0} {seen : A → List ℕ} (size : ℕ) {spelled : List ℕ → Type 0}
+pub chunk_fewer : {E : Type 0} {gives : Error → E → Type 0} {eof : E → Bool} {A B : Type 0}
+    {seen : A → List ℕ} (size : ℕ) {spelled : List ℕ → Type 0}
     {old mid new : ReaderState} {e : E} (result : Result B E) → ReadSoFar spelled old mid → IsErrAnd result (λ x. x ≡ e)
     → Reads gives eof seen (raw_bytes size) (Err e) mid new
     → IsErrAnd result (λ e. Excused gives false e old new ⊎ IsEnd gives eof old.fixed.ends_by_device e)
 unfolding raw_bytes
-chunk_fewer {E = E} {gives = gives} {eof = eof} {B = B} size {old = old} {mid = mid} {new = new} {e = e} result so_far passed r =
-    subst (λ (x : Result B E). IsErrAnd x (λ e. Excused gives false e old new ⊎ IsEnd gives eof old.fixed.ends_by_device e)) (passed_on result e passed)
+chunk_fewer {E = E} {gives = gives} {eof = eof} {B = B} size {old = old} {mid = mid} {new = new} {e = e} result so_far
+    passed r =
+    subst (λ (x : Result B E). IsErrAnd x (λ e. Excused gives false e old new
+    ⊎ IsEnd gives eof old.fixed.ends_by_device e)) (passed_on result e passed)
     (elim r.answer [
       | inl x ↦ inl (excused_after gives false false e old mid new so_far.kept.fixed so_far.got.no_fault (λ t. t) x)
       | inr x ↦ elim x.kind [
@@ -77,7 +81,8 @@ chunk_fewer {E = E} {gives = gives} {eof = eof} {B = B} size {old = old} {mid = 
     ])
 
 -- where so many were read, not fewer were to come
-pub all_there : (constant : List ℕ) {at : ℕ} {same : Bool} {old mid : ReaderState} → at ≡ length constant → ComparedSoFar constant at same old mid
+pub all_there : (constant : List ℕ) {at : ℕ} {same : Bool} {old mid : ReaderState} → at ≡ length constant
+    → ComparedSoFar constant at same old mid
     → IsTrue old.fixed.tells → length old.to_come < length constant → ⊥
 all_there constant {mid = mid} all so_far told few =
     let whole = ap length (so_far.got.taken told) ∙ length-append so_far.got.front mid.to_come in

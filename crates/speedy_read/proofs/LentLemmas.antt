@@ -1,5 +1,6 @@
 -- Reads of what is lent make reads of what is borrowed.
-use Rattle.std.specs.Prelude.{◌≡◌, ℕ, ◌*◌, List, [], ◌∷◌, length, Bool, true, false, IsTrue, Result, Ok, Err, MatchResult, IfOk, IsErrAnd, refl}
+use Rattle.std.specs.Prelude.{◌≡◌, ℕ, ◌*◌, List, [], ◌∷◌, length, Bool, true, false, IsTrue, Result, Ok, Err}
+use Rattle.std.specs.Prelude.{MatchResult, IfOk, IsErrAnd, refl}
 use Rattle.std.specs.Borrow.{Bor}
 use Rattle.std.specs.Str.{IsUtf8}
 use Rattle.std.proofs.Common.{sym, ◌∙◌, ap, subst, inl, inr, arith}
@@ -59,7 +60,12 @@ borrowed_covers c = record {
 
 content_covers : {V : Type 0} {L : Format V} → L.asks.memory ≡ false → Covers L (borrowed_content L)
 unfolding borrowed_content
-content_covers none = record { under = λ v s h. (v, h); names = λ kind h. h; malformed = λ bytes _ h. inl h; asks = record { lending = λ _. refl; hashed = λ t. t; memory = λ t. absurd (cc) } }
+content_covers none = record {
+  under = λ v s h. (v, h);
+  names = λ kind h. h;
+  malformed = λ bytes _ h. inl h;
+  asks = record { lending = λ _. refl; hashed = λ t. t; memory = λ t. absurd (cc) };
+}
 
 -- where so many items of one size are spelled, there are the bytes of so many
 pub bytes_cover_items : {V : Type 0} (size : ℕ) (F : Format V) → ((v : V) (bytes : List ℕ) → F.spells v bytes → length bytes ≡ size) → (n : ℕ) {all : ℕ} → n * size ≡ all → Covers (raw_bytes all) (repeat n F)
@@ -91,7 +97,11 @@ module _ {E : Type 0} {gives : Error → E → Type 0} {eof : E → Bool} {old n
   unfolding borrowed_content
   not_lent L nothing same g = record {
     kept = subst (λ (s : ReaderState). Kept old s) (sym same) Kept-same;
-    answer = inr (record { no_fault = ap (λ (s : ReaderState). s.faults) same; kind = inr (kinds.Unsized, inr (refl, lends_nothing old.fixed.lends nothing, refl), g); because = λ told. absurd (nothing (told.lends refl)) });
+    answer = inr (record {
+      no_fault = ap (λ (s : ReaderState). s.faults) same;
+      kind = inr (kinds.Unsized, inr (refl, lends_nothing old.fixed.lends nothing, refl), g);
+      because = λ told. absurd (nothing (told.lends refl));
+    });
   }
 
   -- so many were lent

@@ -57,7 +57,8 @@ module _ {name after : GName} {old new : ReaderState} where
     tail = k.tail;
   }
 
-  unheld_got : {spelled : List ℕ → Type 0} → Got spelled (held_state name old) (held_state after new) → Got spelled old new
+  unheld_got : {spelled : List ℕ → Type 0} → Got spelled (held_state name old) (held_state after new)
+      → Got spelled old new
   unheld_got g = record {
     front = g.front;
     front_is = g.front_is;
@@ -68,7 +69,9 @@ module _ {name after : GName} {old new : ReaderState} where
 
   module _ {E : Type 0} {gives : Error → E → Type 0} {eof : E → Bool} {A V : Type 0} {seen : A → V} {L : Format V} where
     -- what was read by a reader that holds it was read from it
-    pub unheld_reads : {result : Result A E} → Reads gives eof seen L result (held_state name old) (held_state after new) → Reads gives eof seen L result old new
+    pub unheld_reads : {result : Result A E}
+        → Reads gives eof seen L result (held_state name old) (held_state after new)
+        → Reads gives eof seen L result old new
     unheld_reads {result = Ok x} r = record { kept = unheld_kept r.kept; answer = unheld_got r.answer }
     unheld_reads {result = Err e} r = record {
       kept = unheld_kept r.kept;
@@ -78,7 +81,8 @@ module _ {name after : GName} {old new : ReaderState} where
             | inr k ↦ inr (record {
               no_fault = k.no_fault;
               kind = k.kind;
-              because = λ told. k.because (record { tells = told.tells; are_bytes = told.are_bytes; fit = told.fit; lends = told.lends });
+              because = λ told. k.because
+                  (record { tells = told.tells; are_bytes = told.are_bytes; fit = told.fit; lends = told.lends });
             })
           ];
     }

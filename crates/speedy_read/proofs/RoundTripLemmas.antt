@@ -36,7 +36,9 @@ module _ {E A V : Type 0} (gives : Error → E → Type 0) (eof : E → Bool) (s
         let l : length buffer ≡ length bytes + length rest = ap length e ∙ length-append bytes rest in
         let want = refusal (a.refused (omega arith)) in
         record { same = tt; counted = tt; refused = want.0; asks_memory = want.1 } where
-          refusal : (gives (error_of kinds.OutOfMemory) x × IsTrue L.asks.memory) ⊎ RefusesBufferIf gives eof (Unit {0}) L.names L x buffer → gives (error_of kinds.OutOfMemory) x × IsTrue L.asks.memory
+          refusal : (gives (error_of kinds.OutOfMemory) x × IsTrue L.asks.memory)
+              ⊎ RefusesBufferIf gives eof (Unit {0}) L.names L x buffer → gives (error_of kinds.OutOfMemory) x
+              × IsTrue L.asks.memory
           refusal (inl m) = m
           refusal (inr r) = absurd ((r.because tt).no_front v bytes rest e (laws.written_spells v bytes written))
 
@@ -126,7 +128,8 @@ module _ {E A V : Type 0} (gives : Error → E → Type 0) (eof : E → Bool) (s
       }
 
 -- what borrows nothing is refused with a kind that it names
-owned_kind : {E V : Type 0} (gives : Error → E → Type 0) {e : E} (L : Format V) {lends : Bool} → L.asks.lending ≡ false → IsNamed gives (refusing_kinds L lends) e
+owned_kind : {E V : Type 0} (gives : Error → E → Type 0) {e : E} (L : Format V) {lends : Bool}
+    → L.asks.lending ≡ false → IsNamed gives (refusing_kinds L lends) e
     → IsNamed gives L.names e
 owned_kind gives L none (kind, inl named, given) = (kind, named, given)
 owned_kind gives L none (kind, inr unlent, given) = absurd (true≢false (sym unlent.0 ∙ none))
@@ -137,5 +140,12 @@ copied_alike {result = Ok x} none a = record { too_small = a.too_small; value = 
 copied_alike {gives = gives} {L = L} {result = Err e} none a = record {
   too_small = a.too_small;
   value = tt;
-  refused = λ l. elim (a.refused l) [ inl m ↦ inl m | inr x ↦ inr (record { kind = elim x.kind [ inl k ↦ inl k | inr k ↦ inr (owned_kind gives L none k) ]; because = λ _. x.because none }) ];
+  refused = λ l. elim (a.refused l) [
+    | inl m ↦ inl m
+    | inr x
+        ↦ inr (record {
+          kind = elim x.kind [ inl k ↦ inl k | inr k ↦ inr (owned_kind gives L none k) ];
+          because = λ _. x.because none;
+        })
+  ];
 }

@@ -39,7 +39,8 @@ module _ {V : Type 0} {strict : Bool} {least : ℕ} {L : Format V} (laws : Laws 
     as_many us b told l = let same = each_decodes laws us vs b.front bytes b.rest tail l b.front_is are (sym (b.stands told) ∙ whole_is) in (same.0, same.2)
 
   -- where all is lent that a type borrows, it is refused with a kind that it names
-  lent_kind : {E : Type 0} (gives : Error → E → Type 0) {e : E} {old : ReaderState} → IsNamed gives (refusing_kinds L old.fixed.lends) e → IsTold L old
+  lent_kind : {E : Type 0} (gives : Error → E → Type 0) {e : E} {old : ReaderState}
+      → IsNamed gives (refusing_kinds L old.fixed.lends) e → IsTold L old
       → IsNamed gives L.names e
   lent_kind gives (kind, inl named, given) told = (kind, named, given)
   lent_kind gives (kind, inr unlent, given) told = absurd (true≢false (sym (told.lends unlent.0) ∙ unlent.1))

@@ -51,7 +51,8 @@ module _ {E : Type 0} {gives : Error → E → Type 0} {eof : E → Bool} {S : T
         kept = Kept-same;
         answer = inr (record {
           no_fault = refl;
-          kind = inr (IsNamed-more gives {more = refusing_kinds (behind c old.encoding n) mid.fixed.lends} e (λ kind h. inl h) named);
+          kind = inr (IsNamed-more gives {more = refusing_kinds (behind c old.encoding n) mid.fixed.lends} e
+              (λ kind h. inl h) named);
           because = λ told. record { no_front = λ v front rest is h. none.empty v; too_short = λ v more h. absurd (none.empty v); malformed = λ _. named };
         });
       } in

@@ -43,13 +43,22 @@ module _ {U V : Type 0} {L : Format U} {N : Format V} (c : Covers L N) {E : Type
     -- where L is refused, N is
     pub refused_covered : {e : E} {result : Result B E} → IsErrAnd result (λ x. x ≡ e) → Reads gives eof seen L (Err e) old new
         → Reads gives eof seen' N result old new
-    refused_covered passed r = Reads-passed passed (record { kept = r.kept; answer = part_refused new refl refl c.asks.memory c.asks.lending c.names unspelled_covered r.answer })
+    refused_covered passed r =
+        Reads-passed passed (record {
+          kept = r.kept;
+          answer = part_refused new refl refl c.asks.memory c.asks.lending c.names
+              unspelled_covered r.answer;
+        })
 
     pub peek_refused_covered : {e : E} {result : Result B E} → IsErrAnd result (λ x. x ≡ e) → Peeks gives eof seen L (Err e) old new
         → Peeks gives eof seen' N result old new
     peek_refused_covered passed r = Peeks-passed passed (record {
       kept = r.kept;
-      answer = elim r.answer [ inl h ↦ inl h | inr h ↦ inr (part_refused new refl refl c.asks.memory c.asks.lending c.names unspelled_covered h) ];
+      answer = elim r.answer [
+        | inl h ↦ inl h
+        | inr h
+            ↦ inr (part_refused new refl refl c.asks.memory c.asks.lending c.names unspelled_covered h)
+      ];
     })
 
 -- what is read under L stands under N, if its spellings do
@@ -114,7 +123,8 @@ module _ {E : Type 0} {gives : Error → E → Type 0} {eof : E → Bool} {U V :
     kept = r.kept;
     answer = inr (record {
       no_fault = r.answer.no_fault;
-      kind = inr (IsNamed-more gives {more = refusing_kinds (coding encoding c L) old.fixed.lends} e (λ kind h. inl (inr h)) named);
+      kind = inr (IsNamed-more gives {more = refusing_kinds (coding encoding c L) old.fixed.lends} e
+          (λ kind h. inl (inr h)) named);
       because = λ told. unaccepted encoding c laws _ r.answer.front_is (r.answer.taken told.tells) nothing named;
     });
   }

@@ -11,7 +11,8 @@ use Rattle.speedy_base.specs.DigitsLemmas.{AreBytes-append_parts}
 use Rattle.speedy_base.specs.DeviceLemmas.{fault_after}
 use Rattle.speedy_base.specs.FailedCalls.{IsOfFault}
 use Rattle.speedy_layout.specs.Format.{Format}
-use Rattle.speedy_read.specs.Reading.{ReaderKind, ReaderState, Kept, KeptByPeek, Got, Ahead, IsTold, refusing_kinds, Excused, IsEnd, Unspelled, Refused, Reads, Peeks}
+use Rattle.speedy_read.specs.Reading.{ReaderKind, ReaderState, Kept, KeptByPeek, Got, Ahead, IsTold, refusing_kinds}
+use Rattle.speedy_read.specs.Reading.{Excused, IsEnd, Unspelled, Refused, Reads, Peeks}
 
 -- ---- states
 
@@ -113,18 +114,21 @@ pub part_refused : {E : Type 0} {gives : Error → E → Type 0} {eof : E → Bo
     → ((kind : ErrorKind) → L.names kind → N.names kind)
     → (IsTold N old → (IsTold L mid → Unspelled gives eof L e mid.to_come) → Unspelled gives eof N e old.to_come)
     → Excused gives L.asks.memory e mid new ⊎ Refused gives eof L e mid new → Excused gives N.asks.memory e old new ⊎ Refused gives eof N e old new
-part_refused {gives = gives} {L = L} {N = N} {e = e} {old = old} {mid = mid} new same clean takes lends names un (inl x) =
+part_refused {gives = gives} {L = L} {N = N} {e = e} {old = old} {mid = mid} new same clean takes lends names un
+    (inl x) =
     inl (excused_after gives L.asks.memory N.asks.memory e old mid new same clean takes x)
-part_refused {gives = gives} {eof = eof} {L = L} {N = N} {e = e} {old = old} {mid = mid} new same clean takes lends names un (inr x) = inr (record {
-  no_fault = x.no_fault ∙ clean;
-  kind =
-      let lent = ap (λ (kind : ReaderKind). kind.lends) same in
-      elim x.kind [
-        | inl h ↦ inl (subst (λ (kind : ReaderKind). IsEnd gives eof kind.ends_by_device e) same h)
-        | inr h ↦ inr (IsNamed-more gives {names = refusing_kinds L mid.fixed.lends} {more = refusing_kinds N old.fixed.lends} e (refusing_more L N lent lends names) h)
-      ];
-  because = λ told. un told x.because;
-})
+part_refused {gives = gives} {eof = eof} {L = L} {N = N} {e = e} {old = old} {mid = mid} new same clean takes lends
+    names un (inr x) = inr (record {
+      no_fault = x.no_fault ∙ clean;
+      kind =
+          let lent = ap (λ (kind : ReaderKind). kind.lends) same in
+          elim x.kind [
+            | inl h ↦ inl (subst (λ (kind : ReaderKind). IsEnd gives eof kind.ends_by_device e) same h)
+            | inr h ↦ inr (IsNamed-more gives {names = refusing_kinds L mid.fixed.lends}
+                {more = refusing_kinds N old.fixed.lends} e (refusing_more L N lent lends names) h)
+          ];
+      because = λ told. un told x.because;
+    })
 
 -- an input that ended before the least size of a format that refuses nothing itself, and no call of the device failed
 pub ends_early : {E : Type 0} {gives : Error → E → Type 0} {eof : E → Bool} {V : Type 0} {L : Format V} {e : E} {old new : ReaderState}

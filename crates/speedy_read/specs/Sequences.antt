@@ -69,7 +69,8 @@ module _ {U V : Type 0} {W : U → Type 0} {L : Format U} {M : (u : U) → Forma
       → IsErrAnd result (λ x. x ≡ e) → Reads gives eof seen L (Err e) old new → Reads gives eof seen' N result old new
   refused_first {new = new} passed r = Reads-passed passed (record {
     kept = r.kept;
-    answer = part_refused new refl refl c.asks_first.memory c.asks_first.lending c.names_first (λ told un. unspelled_first (un (IsTold-part c.asks_first.lending told))) r.answer;
+    answer = part_refused new refl refl c.asks_first.memory c.asks_first.lending c.names_first
+        (λ told un. unspelled_first (un (IsTold-part c.asks_first.lending told))) r.answer;
   })
 
   pub peek_refused_first : {A B : Type 0} {seen : A → U} {seen' : B → V} {e : E} {old new : ReaderState}
@@ -78,7 +79,8 @@ module _ {U V : Type 0} {W : U → Type 0} {L : Format U} {M : (u : U) → Forma
     kept = r.kept;
     answer = elim r.answer [
       | inl h ↦ inl h
-      | inr h ↦ inr (part_refused new refl refl c.asks_first.memory c.asks_first.lending c.names_first (λ told un. unspelled_first (un (IsTold-part c.asks_first.lending told))) h)
+      | inr h ↦ inr (part_refused new refl refl c.asks_first.memory c.asks_first.lending c.names_first
+          (λ told un. unspelled_first (un (IsTold-part c.asks_first.lending told))) h)
     ];
   }
 
@@ -111,7 +113,8 @@ module _ {U V : Type 0} {W : U → Type 0} {L : Format U} {M : (u : U) → Forma
       → Reads gives eof seen (M (first x)) (Err e) mid new → Reads gives eof seen' N result old new
   refused_second laws {first = first} {x = x} {e = e} {mid = mid} {new = new} h passed k = Reads-passed passed (record {
     kept = Kept-after h.kept k.kept;
-    answer = part_refused new h.kept.fixed h.answer.no_fault (c.asks_second (first x)).memory (c.asks_second (first x)).lending (c.names_second (first x))
+    answer = part_refused new h.kept.fixed h.answer.no_fault (c.asks_second (first x)).memory
+        (c.asks_second (first x)).lending (c.names_second (first x))
         (λ told un.
         subst (λ (bytes : List ℕ). Unspelled gives eof N e bytes) (sym (h.answer.taken told.tells))
         (unspelled_second laws (first x) h.answer.front mid.to_come h.answer.front_is (un (IsTold-after h.kept (c.asks_second (first x)).lending told))))

@@ -42,19 +42,22 @@ pub record WantsMemory {E : Type 0} (gives : Error → E → Type 0) (takes buff
 module _ {E : Type 0} (gives : Error → E → Type 0) (eof : E → Bool) where
   -- bytes that spell no value at their front are refused: as `UnexpectedEndOfInput` where they may begin a spelling,
   -- and else so or with one of these kinds; a refusal means so where this holds
-  pub record RefusesBufferIf {V : Type 0} (holds : Type 0) (names : ErrorKind → Type 0) (L : Format V) (e : E) (bytes : List ℕ) : Type 0 where
+  pub record RefusesBufferIf {V : Type 0} (holds : Type 0)
+      (names : ErrorKind → Type 0) (L : Format V) (e : E) (bytes : List ℕ) : Type 0 where
     pub kind : IsEnd gives eof false e ⊎ IsNamed gives names e
     pub because : holds → Unspelled gives eof L e bytes
 
   -- What a function that reads from a buffer answers: a buffer that is shorter than the least size is refused with both
   -- sizes; else a value is answered exactly when a front of the bytes spells it, where this holds, and the count is the
   -- length of that front.
-  pub record AnswersBufferIf {A V : Type 0} (holds : Type 0) (names : ErrorKind → Type 0) (seen : A → V) (least : ℕ) (L : Format V)
+  pub record AnswersBufferIf {A V : Type 0} (holds : Type 0) (names : ErrorKind → Type 0)
+      (seen : A → V) (least : ℕ) (L : Format V)
       (result : Result A E) (count : ℕ) (bytes : List ℕ) : Type 0 where
     pub too_small : length bytes < least → IsErrAnd result (λ e. gives (error_of (kinds.InputBufferIsTooSmall (length bytes) least)) e) × (count ≡ 0)
     pub value : IfOk result (λ x. Counts (L.spells (seen x)) count bytes)
     pub refused : least ≤ length bytes
-        → IfErr result (λ e. (gives (error_of kinds.OutOfMemory) e × IsTrue L.asks.memory) ⊎ RefusesBufferIf holds names L e bytes)
+        → IfErr result (λ e. (gives (error_of kinds.OutOfMemory) e × IsTrue L.asks.memory)
+        ⊎ RefusesBufferIf holds names L e bytes)
 
   -- from a buffer that is lent: refused with the kinds that the type names
   abbrev pub AnswersBuffer : {A V : Type 0} → (A → V) → ℕ → Format V → Result A E → ℕ → List ℕ → Type 0
@@ -62,7 +65,8 @@ module _ {E : Type 0} (gives : Error → E → Type 0) (eof : E → Bool) where
 
   -- from one that is copied: what borrows may be refused as `Unsized`, though the bytes spell a value
   abbrev pub AnswersCopied : {A V : Type 0} → (A → V) → ℕ → Format V → Result A E → ℕ → List ℕ → Type 0
-  AnswersCopied seen least L result count bytes = AnswersBufferIf (L.asks.lending ≡ false) (refusing_kinds L false) seen least L result count bytes
+  AnswersCopied seen least L result count bytes =
+      AnswersBufferIf (L.asks.lending ≡ false) (refusing_kinds L false) seen least L result count bytes
 
   -- a clean refusal of what a source gives: where its bytes are told, fewer than `usize::MAX` of them, and the type
   -- borrows nothing, no front of them spells a value
@@ -86,4 +90,6 @@ module _ {E : Type 0} (gives : Error → E → Type 0) (eof : E → Bool) where
   -- bytes of a file, or which of its calls failed.
   abbrev pub AnswersFile : {A V : Type 0} → (A → V) → Format V → Result A E → Type 0
   AnswersFile seen L result = MatchResult result (λ x. (bytes : List ℕ) × L.spells (seen x) bytes)
-      (λ e. ((error : StdIoError) × IsErrorOf gives error e) ⊎ (gives (error_of kinds.OutOfMemory) e ⊎ (IsEnd gives eof true e ⊎ IsNamed gives (refusing_kinds L false) e)))
+      (λ e. ((error : StdIoError) × IsErrorOf gives error e)
+      ⊎ (gives (error_of kinds.OutOfMemory) e
+      ⊎ (IsEnd gives eof true e ⊎ IsNamed gives (refusing_kinds L false) e)))

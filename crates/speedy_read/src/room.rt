@@ -92,8 +92,8 @@ fn make_room<T>(items: &mut Vec<T>, more: usize, left: usize) -> Result<(), Allo
     Ok(())
 }
 
-/// Adds an item, one of `left` that are still to read. Where its room is used up, the vector asks for room for that many
-/// items more, but for no more than 1,024: so a count that lies asks for little.
+/// Adds an item, one of `left` that are still to read. Where its room is used up, the vector asks for room for that
+/// many items more, but for no more than 1,024: so a count that lies asks for little.
 ///
 /// The items go in and out by value, so that a loop keeps their place and number in registers.
 #[inline(always)]

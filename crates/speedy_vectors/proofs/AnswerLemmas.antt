@@ -20,7 +20,10 @@ module _ {A V : Type 0} (seen : A → V) (least : ℕ) (L : Format V) (e : Error
   named_kind (inl h) = inl (its_kind h.0)
   named_kind (inr h) = inr (its_kind h)
 
-  refusal : (kind_of e ≡ kinds.OutOfMemory → ⊥) → answer ≡ refused_text (kind_of e) → least ≤ length bytes → ((e ≡ error_of kinds.OutOfMemory) × IsTrue L.asks.memory) ⊎ RefusesBufferIf (λ (x : Error) (y : Error). y ≡ x) is_eof_error (Unit {0}) L.names L e bytes → AnswersRefusal least L bytes answer
+  refusal : (kind_of e ≡ kinds.OutOfMemory → ⊥) → answer ≡ refused_text (kind_of e) → least ≤ length bytes
+      → ((e ≡ error_of kinds.OutOfMemory) × IsTrue L.asks.memory)
+      ⊎ RefusesBufferIf (λ (x : Error) (y : Error). y ≡ x) is_eof_error (Unit {0}) L.names L e bytes
+      → AnswersRefusal least L bytes answer
   refusal memory is enough (inl h) = absurd (memory (ap kind_of h.0))
   refusal memory is enough (inr h) = record {
     kind = kind_of e;

@@ -28,5 +28,6 @@ view_parts t = ap parts seen ∙ apart (out-Tree t).value (map view (out-Tree t)
   seen = search (rules, the_lemmas)
 
 -- what is seen of items and one item more
-pub seen_pushed : {X V : Type 0} (seen : X → V) {zs : List X} (xs : List X) (x : X) → zs ≡ xs ++ x ∷ [] → map seen zs ≡ map seen xs ++ seen x ∷ []
+pub seen_pushed : {X V : Type 0} (seen : X → V) {zs : List X} (xs : List X) (x : X) → zs ≡ xs ++ x ∷ []
+    → map seen zs ≡ map seen xs ++ seen x ∷ []
 seen_pushed seen xs x added = ap (map seen) added ∙ map-append seen xs (x ∷ [])

@@ -1,5 +1,5 @@
-//! Enums of your own, with and without parts. Each is one of the library's. To write one with parts takes an answer of a
-//! line an arm.
+//! Enums of your own, with and without parts. Each is one of the library's. To write one with parts takes an answer of
+//! a line an arm.
 ghost use Rattle.speedy.specs.declared.one_of.OneOf3.{OneOf3};
 
 use speedy::one_of::OneOf3;

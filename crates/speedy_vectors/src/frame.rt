@@ -1,6 +1,7 @@
 //! A frame: a constant, counted parts and a short note, made of lengths of other widths than the listed types have.
 ghost use Rattle.std.specs.Prelude.{◌≡◌, ℕ, List, codes, map};
-ghost use Rattle.speedy.specs.Codecs.{constant_codec, counted_list_codec, counted_text_codec, pair_codec, unsigned_codec, varint_codec};
+ghost use Rattle.speedy.specs.Codecs.{constant_codec, counted_list_codec, counted_text_codec, pair_codec};
+ghost use Rattle.speedy.specs.Codecs.{unsigned_codec, varint_codec};
 ghost use Rattle.speedy.specs.Lists.{counted_list};
 ghost use Rattle.speedy.specs.Numbers.{unsigned_number};
 ghost use Rattle.speedy.specs.Reading.{Reads};

@@ -70,8 +70,8 @@ fn read_levels<L: AsSlice<u8> + Drop, C: Context, R: LendingReader<L, C>>(
     Ok(Tree { value, children })
 }
 
-// Reads so many trees of at most so many levels. Room is asked for in steps as they come, whatever their count says, and
-// also where the reader knows that so many bytes are there: each level could claim them.
+// Reads so many trees of at most so many levels. Room is asked for in steps as they come, whatever their count says,
+// and also where the reader knows that so many bytes are there: each level could claim them.
 #[cycle(read)]
 fn read_children<L: AsSlice<u8> + Drop, C: Context, R: LendingReader<L, C>>(
     reader: &mut R,

@@ -36,5 +36,6 @@ pub returns-in-Some-Err : goal.returns-in-Some-Err
 returns-in-Some-Err g c shown =
     let lent = lent_is _ (Err c.in-Some-Err.field-0-0) c.in-Some-Err.is c.in-Some-Err.field-0-is c.read_bytes_borrowed_from_reader.follows.holds-at-none in
     let e = c.error_end_of_input-in-Some-Err.ensures in
-    numbers_refused g.T.Layout.layout.laws g.met.T.FixedNumber.is_fixed _ g.T.Layout.seen c.args.count [] c.args.count (omega arith) (all_digits c.args.count c.SIZE.result c.in-Some.ensures.1 c.SIZE.ensures) (none_so_far refl) refl
+    numbers_refused g.T.Layout.layout.laws g.met.T.FixedNumber.is_fixed _ g.T.Layout.seen c.args.count [] c.args.count
+    (omega arith) (all_digits c.args.count c.SIZE.result c.in-Some.ensures.1 c.SIZE.ensures) (none_so_far refl) refl
     (lent_refused _ (input_ended g.C.Error.From.from_gives g.C.Error.IsEof.eof _ _ e (g.met.C.Context.keeps_eof _ _ e)) lent)

@@ -10,7 +10,8 @@ loop-i-init g c = none_gathered c.empty-items.ensures g.met.F.FromItems.none_wri
 pub returns-in_err-item : goal.returns-in_err-item
 returns-in_err-item g c =
     let so_far = c.loop-i.invariant in
-    next_refused {new = g.R.LendingReader.state c.read_from.new.reader} so_far (g.T.Layout.layout.laws _) (let t = c.loop-i-test.true in omega arith) c.from_residual.ensures.1
+    next_refused {new = g.R.LendingReader.state c.read_from.new.reader} so_far (g.T.Layout.layout.laws _)
+    (let t = c.loop-i-test.true in omega arith) c.from_residual.ensures.1
     (rw so_far.kept.encoding at c.in_err-item.ensures)
 
 pub returns-then-is_err : goal.returns-then-is_err

@@ -22,7 +22,8 @@ pub returns-in_err-item : goal.returns-in_err-item
 returns-in_err-item g c shown =
     let so_far = c.loop-i.invariant.1 in
     let fewer : length (map g.T.Layout.seen c.loop-i.items.items) < c.args.length = let count = c.loop-i.invariant.0 in omega arith in
-    refused_item (g.T.Layout.layout.laws _) _ _ {new = g.R.LendingReader.state c.read_from.new.reader} fewer so_far c.from_residual-in_err-item.ensures.1
+    refused_item (g.T.Layout.layout.laws _) _ _ {new = g.R.LendingReader.state c.read_from.new.reader} fewer so_far
+    c.from_residual-in_err-item.ensures.1
     (rw so_far.kept.encoding at c.in_err-item.ensures)
 
 pub returns-in_err-items : goal.returns-in_err-items

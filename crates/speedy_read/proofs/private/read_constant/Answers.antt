@@ -1,7 +1,8 @@
 use Rattle.std.proofs.Common.{◌≡◌, ℕ, ◌+◌, ◌-◌, length, take, drop, refl, ◌∙◌, ap, arith}
 use Rattle.std.proofs.lemmas.List.{length-append, length-drop, length-take-le}
 use Rattle.speedy_read.proofs.ByteLemmas.{front_of}
-use Rattle.speedy_read.proofs.ConstantLemmas.{none_compared, chunk_compared, comparison_refused, chunk_fewer, all_there, constant_read, constant_differs}
+use Rattle.speedy_read.proofs.ConstantLemmas.{none_compared, chunk_compared, comparison_refused, chunk_fewer, all_there}
+use Rattle.speedy_read.proofs.ConstantLemmas.{constant_read, constant_differs}
 use Rattle.speedy_read.proofs.private.read_constant.Goals as goal
 
 pub loop-at-init : goal.loop-at-init
@@ -13,7 +14,8 @@ returns-in_err-read_bytes-clause-reads g c =
     comparison_refused c.args.constant.now c.loop-at.at _ (omega (arith, size)) c.loop-at.invariant.2 c.from_residual.ensures.1 c.in_err-read_bytes.ensures
 
 pub returns-in_err-read_bytes-clause-fewer : goal.returns-in_err-read_bytes-clause-fewer
-returns-in_err-read_bytes-clause-fewer g c told few = chunk_fewer _ _ c.loop-at.invariant.2 c.from_residual.ensures.1 c.in_err-read_bytes.ensures
+returns-in_err-read_bytes-clause-fewer g c told few =
+    chunk_fewer _ _ c.loop-at.invariant.2 c.from_residual.ensures.1 c.in_err-read_bytes.ensures
 
 pub loop-at-smaller : goal.loop-at-smaller
 loop-at-smaller g c = omega arith
@@ -36,7 +38,8 @@ pub returns-then-not-same-clause-nothing : goal.returns-then-not-same-clause-not
 returns-then-not-same-clause-nothing g c none = let same = (c.loop-at.invariant.3 none).1 in let not_same = c.if-not-same.true in absurd (cc)
 
 pub returns-then-not-same-clause-fewer : goal.returns-then-not-same-clause-fewer
-returns-then-not-same-clause-fewer g c told few = absurd (all_there c.args.constant.now (omega arith) c.loop-at.invariant.2 told few)
+returns-then-not-same-clause-fewer g c told few =
+    absurd (all_there c.args.constant.now (omega arith) c.loop-at.invariant.2 told few)
 
 pub returns-clause-fewer : goal.returns-clause-fewer
 returns-clause-fewer g c told few = absurd (all_there c.args.constant.now (omega arith) c.loop-at.invariant.2 told few)

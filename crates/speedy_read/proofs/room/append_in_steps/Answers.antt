@@ -34,5 +34,9 @@ loop-at-preserved g c =
 pub returns : goal.returns
 returns g c =
     let done = steps_done g.met.T.FixedNumber.is_fixed.has_bytes c.SIZE.ensures c.requires.0 c.loop-at.at c.args.digits.now c.requires.1 (omega arith) in
-    let items = c.loop-at.invariant.1 in
-    (items.0, items.1, subst (λ b. Each (spelled_in g.T.Layout.layout.format c.args.order) (map g.T.Layout.seen items.0) b) (take_all _ c.args.digits.now done) items.2)
+    let items = c.loop-at.invariant.1 in (
+      items.0,
+      items.1,
+      subst (λ b. Each (spelled_in g.T.Layout.layout.format c.args.order)
+          (map g.T.Layout.seen items.0) b) (take_all _ c.args.digits.now done) items.2,
+    )

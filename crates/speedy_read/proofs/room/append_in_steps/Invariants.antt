@@ -7,7 +7,8 @@ use Rattle.speedy_read.proofs.room.append_in_steps.Given as goal
 abbrev pub invariant-loop-at : goal.invariant-loop-at
 invariant-loop-at g l =
     (l.at ≤ l.count) × ((more : List g.row.T.Denot) × (l.numbers.items ≡ l.initial.numbers.items ++ more)
-    × Each (spelled_in g.T.Layout.layout.format l.order) (map g.T.Layout.seen more) (take (l.at * g.T.FixedSize.SIZE) l.digits))
+    × Each (spelled_in g.T.Layout.layout.format l.order) (map g.T.Layout.seen more)
+    (take (l.at * g.T.FixedSize.SIZE) l.digits))
 
 abbrev pub decreases-loop-at : goal.decreases-loop-at
 decreases-loop-at g l = l.count - l.at

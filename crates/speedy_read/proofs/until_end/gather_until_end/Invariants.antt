@@ -6,7 +6,8 @@ abbrev pub invariant-loop-whole : goal.invariant-loop-whole
 invariant-loop-whole g l =
     let old = g.R.LendingReader.state l.fn.reader in
     (l.left ≤ l.greatest)
-    × ItemsSoFar g.T.Layout.seen g.F.FromItems.gathers (g.T.Layout.layout.format old.encoding) (l.greatest - l.left) l.whole old (g.R.LendingReader.state l.reader)
+    × ItemsSoFar g.T.Layout.seen g.F.FromItems.gathers (g.T.Layout.layout.format old.encoding) (l.greatest - l.left)
+    l.whole old (g.R.LendingReader.state l.reader)
 
 abbrev pub decreases-loop-whole : goal.decreases-loop-whole
 decreases-loop-whole g l = l.left

@@ -9,5 +9,7 @@ returns g c =
     let format = g.T.Layout.layout.format (g.C.Context.encoding c.args.context) in
     let read = rw c.in-Err.is at c.read_with_length-result.ensures in
     IfOk-weaker c.refused_answer.result _ _
-    (λ text is. refusal_answers g.T.Layout.seen g.T.Layout.layout.least format c.in-Err.error _ c.args.bytes.now text.items read (λ memory. c.in_default.not-OutOfMemory (c.get_error_kind.ensures ∙ memory)) (is ∙ ap refused_text c.get_error_kind.ensures))
+    (λ text is. refusal_answers g.T.Layout.seen g.T.Layout.layout.least format c.in-Err.error _ c.args.bytes.now
+    text.items read (λ memory. c.in_default.not-OutOfMemory (c.get_error_kind.ensures ∙ memory))
+    (is ∙ ap refused_text c.get_error_kind.ensures))
     c.refused_answer.ensures

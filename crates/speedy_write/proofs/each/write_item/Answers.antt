@@ -13,7 +13,10 @@ returns-in-Some g c =
     let value = c.context_mut.ensures.value in
     let same = back w _ _ _ value c.bytes_needed.ensures.encoding refl in
     Writes-from same.state_is (λ b. same.joins b _)
-    (item_counted g.T.Layout.layout.laws (ap g.C.Context.encoding value ∙ (sym (W.encoding_at w) ∙ sym (ap (λ (s : WriterState). s.encoding) same.state_is))) c.in-Ok.ensures.needs.written c.in-Some.ensures)
+    (item_counted g.T.Layout.layout.laws
+    (ap g.C.Context.encoding value
+    ∙ (sym (W.encoding_at w) ∙ sym (ap (λ (s : WriterState). s.encoding) same.state_is)))
+    c.in-Ok.ensures.needs.written c.in-Some.ensures)
 
 pub returns : goal.returns
 returns g c =

@@ -13,7 +13,10 @@ returns-in-Some-count_bytes g c =
     let value = c.context_mut.ensures.value in
     let same = back w _ _ _ value c.count_each.ensures.encoding refl in
     Writes-from same.state_is (λ b. same.joins b _)
-    (items_counted g.T.Layout.seen c.args.items.now g.T.Layout.layout.laws (ap g.C.Context.encoding value ∙ (sym (W.encoding_at w) ∙ sym (ap (λ (s : WriterState). s.encoding) same.state_is))) c.in-Some.ensures.counts c.in-Some-count_bytes.ensures)
+    (items_counted g.T.Layout.seen c.args.items.now g.T.Layout.layout.laws
+    (ap g.C.Context.encoding value
+    ∙ (sym (W.encoding_at w) ∙ sym (ap (λ (s : WriterState). s.encoding) same.state_is)))
+    c.in-Some.ensures.counts c.in-Some-count_bytes.ensures)
 
 pub returns : goal.returns
 returns g c =

@@ -23,10 +23,14 @@ loop-rest-preserved g c =
       chunk_ends c.loop-rest.at (length c.loop-rest.rest.now) (length some) (length c.split_at.result.1.now) g.P.FixedBytes.BYTES (length c.put_values.new.output) (length c.loop-rest.output) before.0 (omega (arith, front_length, back_length)) (put_length ∙ (length-take-le _ _ fits ∙ ap (λ (n : ℕ). length some * n) c.BYTES-in-loop-rest.ensures)) ∙ sym (same_len_mid _ _ _ _ c.copy_from_slice.ensures.len),
       done ++ some,
       cut_off _ done _ c.split_at.ensures.front c.split_at.ensures.back before.2 ∙ sym (append_assoc done some c.split_at.result.1.now),
-      λ e same. chunk_put (g.T.Layout.layout.format e).writes g.T.Layout.seen done some c.loop-rest.at _ c.loop-rest.output c.put_values.new.output c.copy_from_slice.new.self c.copy_from_slice.ensures.after (omega (arith, before.0)) (before.3 e same) (c.put_values.ensures e same),
+      λ e same. chunk_put (g.T.Layout.layout.format e).writes g.T.Layout.seen done some c.loop-rest.at _
+          c.loop-rest.output c.put_values.new.output c.copy_from_slice.new.self c.copy_from_slice.ensures.after
+          (omega (arith, before.0)) (before.3 e same) (c.put_values.ensures e same),
     )
 
 pub returns : goal.returns
 returns g c e same =
     let before = c.loop-rest.invariant in
-    all_chunks_put (g.T.Layout.layout.format e).writes g.T.Layout.seen c.args.values.now before.1 c.loop-rest.rest.now c.loop-rest.at g.P.FixedBytes.BYTES c.loop-rest.output (eqb-true _ _ (sym c.loop-rest-test.ensures)) before.0 before.2 (before.3 e same)
+    all_chunks_put (g.T.Layout.layout.format e).writes g.T.Layout.seen c.args.values.now before.1 c.loop-rest.rest.now
+    c.loop-rest.at g.P.FixedBytes.BYTES c.loop-rest.output (eqb-true _ _ (sym c.loop-rest-test.ensures)) before.0
+    before.2 (before.3 e same)

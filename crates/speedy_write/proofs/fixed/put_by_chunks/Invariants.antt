@@ -8,7 +8,8 @@ abbrev pub invariant-loop-rest : goal.invariant-loop-rest
 invariant-loop-rest g l =
     (l.at + length l.rest * g.P.FixedBytes.BYTES ≡ length l.output)
     × (done : List g.row.T.Denot) × (l.values ≡ done ++ l.rest)
-    × ((encoding : Encoding) → l.order ≡ encoding.order → Each (g.T.Layout.layout.format encoding).writes (map g.T.Layout.seen done) (take l.at l.output))
+    × ((encoding : Encoding) → l.order ≡ encoding.order
+    → Each (g.T.Layout.layout.format encoding).writes (map g.T.Layout.seen done) (take l.at l.output))
 
 abbrev pub decreases-loop-rest : goal.decreases-loop-rest
 decreases-loop-rest g l = length l.rest

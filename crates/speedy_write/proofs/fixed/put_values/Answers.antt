@@ -24,10 +24,15 @@ loop-value-preserved g c =
       one_more_times g.P.FixedBytes.BYTES c.loop-value.value-index c.loop-value.at c.BYTES.result c.loop-value.invariant.0 c.BYTES.ensures,
       same_len_mid c.loop-value.at _ c.loop-value.output c.put.new.output c.put.auto.output ∙ c.loop-value.invariant.1,
       λ e same.
-          rw c.BYTES.ensures (one_more_put (g.T.Layout.layout.format e).writes g.T.Layout.seen c.args.values.now c.loop-value.value-index g.P.FixedBytes.BYTES c.loop-value.at c.loop-value.output c.put.new.output c.loop-value-test.true c.value-item.is (omega (arith, room, c.BYTES.ensures)) (omega (arith, put, c.BYTES.ensures)) (c.put.ensures e same) (c.loop-value.invariant.2 e same)),
+          rw c.BYTES.ensures (one_more_put (g.T.Layout.layout.format e).writes g.T.Layout.seen c.args.values.now
+          c.loop-value.value-index g.P.FixedBytes.BYTES c.loop-value.at c.loop-value.output c.put.new.output
+          c.loop-value-test.true c.value-item.is (omega (arith, room, c.BYTES.ensures))
+          (omega (arith, put, c.BYTES.ensures)) (c.put.ensures e same) (c.loop-value.invariant.2 e same)),
     )
 
 pub returns : goal.returns
 returns g c e same =
-    all_put (g.T.Layout.layout.format e).writes g.T.Layout.seen c.args.values.now c.loop-value.value-index g.P.FixedBytes.BYTES c.loop-value.at c.loop-value.output (let end = c.loop-value.auto.value-index-end in let test = c.loop-value-test.false in omega arith) c.loop-value.invariant.0 c.loop-value.invariant.1
+    all_put (g.T.Layout.layout.format e).writes g.T.Layout.seen c.args.values.now c.loop-value.value-index
+    g.P.FixedBytes.BYTES c.loop-value.at c.loop-value.output (let end = c.loop-value.auto.value-index-end in
+    let test = c.loop-value-test.false in omega arith) c.loop-value.invariant.0 c.loop-value.invariant.1
     (c.loop-value.invariant.2 e same)

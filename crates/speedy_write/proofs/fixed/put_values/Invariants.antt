@@ -7,4 +7,6 @@ use Rattle.speedy_write.proofs.fixed.put_values.Given as goal
 abbrev pub invariant-loop-value : goal.invariant-loop-value
 invariant-loop-value g l =
     (l.at ≡ l.value-index * g.P.FixedBytes.BYTES) × (length l.output ≡ length l.values * g.P.FixedBytes.BYTES)
-    × ((encoding : Encoding) → l.order ≡ encoding.order → Each (g.T.Layout.layout.format encoding).writes (map g.T.Layout.seen (take l.value-index l.values)) (take l.at l.output))
+    × ((encoding : Encoding) → l.order ≡ encoding.order
+    → Each (g.T.Layout.layout.format encoding).writes (map g.T.Layout.seen (take l.value-index l.values))
+    (take l.at l.output))

@@ -8,7 +8,8 @@ invariant-loop-rest g l =
     let W = g.W.Writer in
     let before = l.initial.writer in
     (done : List g.row.T.Denot) × (l.values ≡ done ++ l.rest)
-    × WritesEach g.C.Error.From.from_gives g.T.Layout.layout.format g.T.Layout.seen done (Ok tt) (W.state before) (W.state l.writer) (λ b. W.appends before b l.writer)
+    × WritesEach g.C.Error.From.from_gives g.T.Layout.layout.format g.T.Layout.seen done (Ok tt) (W.state before)
+    (W.state l.writer) (λ b. W.appends before b l.writer)
 
 abbrev pub decreases-loop-rest : goal.decreases-loop-rest
 decreases-loop-rest g l = length l.rest

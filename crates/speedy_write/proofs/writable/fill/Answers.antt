@@ -16,4 +16,6 @@ returns-clause-stands g c =
     let fixed = c.write_to-outcome.ensures.kept.fixed in
     let same_name = made.same_buffer in
     let finished = c.finish.ensures.buffer in
-    fill_stands {targets = model.context_name ∷ model.buffer_name ∷ []} (ap g.C.Context.encoding made.context) made.buffer made.position c.write_to-outcome.result g.T.Layout.layout.laws (returns-clause-succeeds g c) (grind arith) c.write_to-outcome.ensures
+    fill_stands {targets = model.context_name ∷ model.buffer_name ∷ []} (ap g.C.Context.encoding made.context)
+    made.buffer made.position c.write_to-outcome.result g.T.Layout.layout.laws (returns-clause-succeeds g c)
+    (grind arith) c.write_to-outcome.ensures

@@ -14,7 +14,9 @@ returns-in-Ok g c =
     let pushed_name = c.push_waiting-outcome.ensures.same_sink in
     let given_name = c.into_sink.ensures.same_sink in
     let given = c.into_sink.ensures.sink in
-    stream_written (g.T.Layout.layout.laws _) {other = g.C.Context.encoding writer.context} {other_name = writer.sink.ghost_name} _ _ (ap g.C.Context.encoding made.context) (ap g.S.Sink.sink made.sink) (ap g.S.Sink.sink (grind arith)) outcome
+    stream_written (g.T.Layout.layout.laws _) {other = g.C.Context.encoding writer.context}
+    {other_name = writer.sink.ghost_name} _ _ (ap g.C.Context.encoding made.context) (ap g.S.Sink.sink made.sink)
+    (ap g.S.Sink.sink (grind arith)) outcome
     (gathered_pushed outcome written c.push_waiting-outcome.ensures.pushes)
 
 pub returns-in-Err : goal.returns-in-Err
@@ -26,4 +28,6 @@ returns-in-Err g c =
     let same_name = made.same_sink in
     let given_name = c.into_sink-in-Err.ensures.same_sink in
     let given = c.into_sink-in-Err.ensures.sink in
-    stream_written (g.T.Layout.layout.laws _) {other = g.C.Context.encoding writer.context} {other_name = writer.sink.ghost_name} _ _ (ap g.C.Context.encoding made.context) (ap g.S.Sink.sink made.sink) (ap g.S.Sink.sink (grind arith)) _ (gathered_refused refl refused)
+    stream_written (g.T.Layout.layout.laws _) {other = g.C.Context.encoding writer.context}
+    {other_name = writer.sink.ghost_name} _ _ (ap g.C.Context.encoding made.context) (ap g.S.Sink.sink made.sink)
+    (ap g.S.Sink.sink (grind arith)) _ (gathered_refused refl refused)

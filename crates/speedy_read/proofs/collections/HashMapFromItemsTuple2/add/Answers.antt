@@ -3,4 +3,5 @@ use Rattle.speedy_read.proofs.collections.HashMapFromItemsTuple2.add.Goals as go
 
 pub returns-in-Ok : goal.returns-in-Ok
 returns-in-Ok g c = λ items h.
-    hash_map_added items c.args.item.0 c.args.item.1 g.K.PartialEq.eq c.args.self.now c.insert.new.self h c.in-Ok.ensures.updates c.insert.ensures.unique
+    hash_map_added items c.args.item.0 c.args.item.1 g.K.PartialEq.eq c.args.self.now c.insert.new.self h
+    c.in-Ok.ensures.updates c.insert.ensures.unique

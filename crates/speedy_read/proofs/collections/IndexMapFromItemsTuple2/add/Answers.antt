@@ -3,5 +3,6 @@ use Rattle.speedy_read.proofs.collections.IndexMapFromItemsTuple2.add.Goals as g
 
 pub returns-in-Ok : goal.returns-in-Ok
 returns-in-Ok g c = λ items h.
-    index_map_added items c.args.item.0 c.args.item.1 g.K.PartialEq.eq c.args.self.now c.insert.new.self g.met.K.Eq.laws h
+    index_map_added items c.args.item.0 c.args.item.1 g.K.PartialEq.eq c.args.self.now c.insert.new.self
+    g.met.K.Eq.laws h
     c.in-Ok.ensures.updates c.insert.ensures.unique c.in-Ok.ensures.entries

@@ -11,5 +11,6 @@ returns g c =
     let items = c.args.items.items in
     let count = c.into_iter.ensures.len ∙ c.args.items.ok.0 in
     let all = YieldsList-from_vec {s = c.into_iter.result} items c.into_iter.ensures.rest count in
-    let made = fact_from_collect (λ xs m. (m.entries ≡ insert_all eq [] xs) × IsFromIterResult eq xs m) c.collect.result c.collect.ensures.ran all in
+    let made = fact_from_collect (λ xs m. (m.entries ≡ insert_all eq [] xs)
+    × IsFromIterResult eq xs m) c.collect.result c.collect.ensures.ran all in
     IfOk-weaker c.collect.result _ _ (λ m h. index_map_collected eq items m g.met.K.Eq.laws h.0 h.1) made

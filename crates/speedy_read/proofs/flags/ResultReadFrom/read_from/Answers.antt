@@ -5,7 +5,9 @@ use Rattle.speedy_read.specs.Flags.{alternative_composes}
 use Rattle.speedy_read.proofs.flags.ResultReadFrom.read_from.Goals as goal
 
 pub returns-in_err-is_ok : goal.returns-in_err-is_ok
-returns-in_err-is_ok g c = refused_first (alternative_composes _ {L = g.T.Layout.layout.format _} {M = g.U.Layout.layout.format _}) c.from_residual.ensures.1
+returns-in_err-is_ok g c =
+    refused_first (alternative_composes _ {L = g.T.Layout.layout.format _} {M = g.U.Layout.layout.format _})
+    c.from_residual.ensures.1
     c.in_err-is_ok.ensures
 
 pub returns-in_err-value : goal.returns-in_err-value

@@ -14,5 +14,6 @@ unreachable-requires g c =
 pub returns-then-ends_before : goal.returns-then-ends_before
 returns-then-ends_before g c =
     let e = c.error_end_of_input.ensures in
-    refused_early (g.T.Layout.layout.laws _) _ (input_ended g.C.Error.From.from_gives g.C.Error.IsEof.eof _ _ e (g.met.C.Context.keeps_eof _ _ e))
+    refused_early (g.T.Layout.layout.laws _) _
+    (input_ended g.C.Error.From.from_gives g.C.Error.IsEof.eof _ _ e (g.met.C.Context.keeps_eof _ _ e))
     (λ told fit. rw (sym c.minimum_bytes_needed.ensures) (c.ends_before.ensures.fewer c.if-ends_before.true told fit))

@@ -6,11 +6,14 @@ use Rattle.speedy_read.proofs.CollectionLemmas.{gatherer_code, collection_read, 
 use Rattle.speedy_read.proofs.maps.HashMapReadFrom.read_from.Goals as goal
 
 pub returns-in_err-length : goal.returns-in_err-length
-returns-in_err-length g c = collection_refused _ true (pair_laws (g.K.Layout.layout.laws _) (g.V.Layout.layout.laws _)) c.from_residual.ensures.1
+returns-in_err-length g c =
+    collection_refused _ true (pair_laws (g.K.Layout.layout.laws _) (g.V.Layout.layout.laws _))
+    c.from_residual.ensures.1
     c.in_err-length.ensures
 
 pub returns : goal.returns
 returns g c =
     let seen = hash_map_seen g.V.Layout.seen g.met.K.SameKey.same_key in
     let is = gatherer_code seen (λ _ h. h) (λ _ h. h) HasDistinctKeys-first in
-    collection_read true (λ f. pair_laws (g.K.Layout.layout.laws f) (g.V.Layout.layout.laws f)) is c.in_ok-length.ensures c.read_key_value_collection.ensures
+    collection_read true (λ f. pair_laws (g.K.Layout.layout.laws f) (g.V.Layout.layout.laws f)) is
+    c.in_ok-length.ensures c.read_key_value_collection.ensures

@@ -5,8 +5,10 @@ use Rattle.speedy_read.specs.Cases.{tag_refused, no_case_read, case_refused, cas
 use Rattle.speedy_read.proofs.one_of.OneOf4ReadFrom.read_from.Given.{Over}
 use Rattle.speedy_read.proofs.one_of.OneOf4ReadFrom.read_from.Goals as goal
 
-chosen : (g : Over) → IsChoice4 g.T0.Layout.layout.format g.T1.Layout.layout.format g.T2.Layout.layout.format g.T3.Layout.layout.format
-chosen g = choice4 _ _ _ _ g.T0.Layout.layout.laws g.T1.Layout.layout.laws g.T2.Layout.layout.laws g.T3.Layout.layout.laws
+chosen : (g : Over) → IsChoice4 g.T0.Layout.layout.format g.T1.Layout.layout.format g.T2.Layout.layout.format
+    g.T3.Layout.layout.format
+chosen g = choice4 _ _ _ _ g.T0.Layout.layout.laws g.T1.Layout.layout.laws g.T2.Layout.layout.laws
+    g.T3.Layout.layout.laws
 
 pub returns-in_err-read_u32 : goal.returns-in_err-read_u32
 returns-in_err-read_u32 g c = tag_refused (chosen g) c.from_residual.ensures.1 c.in_err-read_u32.ensures

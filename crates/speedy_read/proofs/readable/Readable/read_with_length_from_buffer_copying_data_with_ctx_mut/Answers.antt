@@ -8,4 +8,5 @@ pub returns-clause-answers : goal.returns-clause-answers
 returns-clause-answers g c =
     let rest = c.new-reader.ensures.rest in
     rw (c.finish-left.ensures.rest, ← rest, ← c.new-reader.ensures.context)
-    (copied_answered _ _ (omega (arith, ap length rest)) (subst AreBytes (sym rest) (AreBytes-slice _ c.type_inv.buffer)) (search rules) c.read_from-result.ensures)
+    (copied_answered _ _ (omega (arith, ap length rest))
+    (subst AreBytes (sym rest) (AreBytes-slice _ c.type_inv.buffer)) (search rules) c.read_from-result.ensures)

@@ -5,7 +5,8 @@ use Rattle.speedy_read.proofs.CollectionLemmas.{gatherer_code, collection_read, 
 use Rattle.speedy_read.proofs.sets.IndexSetReadFrom.read_from.Goals as goal
 
 pub returns-in_err-length : goal.returns-in_err-length
-returns-in_err-length g c = collection_refused _ false (g.T.Layout.layout.laws _) c.from_residual.ensures.1 c.in_err-length.ensures
+returns-in_err-length g c =
+    collection_refused _ false (g.T.Layout.layout.laws _) c.from_residual.ensures.1 c.in_err-length.ensures
 
 pub returns : goal.returns
 returns g c =

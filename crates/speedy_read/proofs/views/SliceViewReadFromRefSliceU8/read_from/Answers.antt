@@ -14,19 +14,23 @@ over-requires g c =
     ap (λ n. n % g.T.FixedSize.SIZE) whole ∙ mul-mod_left c.in_ok-length.length g.T.FixedSize.SIZE
 
 pub returns-in_err-length-clause-reads : goal.returns-in_err-length-clause-reads
-returns-in_err-length-clause-reads g c = refused_first (borrowed_list_composes (g.T.Layout.layout.laws _) _) c.from_residual.ensures.1
+returns-in_err-length-clause-reads g c =
+    refused_first (borrowed_list_composes (g.T.Layout.layout.laws _) _) c.from_residual.ensures.1
     c.in_err-length.ensures
 
 pub returns-in_err-bytes-clause-reads : goal.returns-in_err-bytes-clause-reads
 returns-in_err-bytes-clause-reads g c =
-    refused_second (borrowed_list_composes (g.T.Layout.layout.laws _) _) (unsigned_number_laws 4 _) {A = List g.T.Layout.Seen} {seen = λ t. t} c.in_ok-length.ensures c.from_residual-in_err-bytes.ensures.1
+    refused_second (borrowed_list_composes (g.T.Layout.layout.laws _) _) (unsigned_number_laws 4 _)
+    {A = List g.T.Layout.Seen} {seen = λ t. t} c.in_ok-length.ensures c.from_residual-in_err-bytes.ensures.1
     (view_not_lent g.T.FixedSize.SIZE _ (g.met.T.ViewItem.one_size _) _ refl (rw c.size_of_items.ensures at c.in_err-bytes.ensures.reads))
 
 pub returns-clause-reads : goal.returns-clause-reads
 returns-clause-reads g c =
     let item = g.met.T.ViewItem in
     let lent = c.in_ok-bytes.ensures in
-    second_decides (borrowed_list_composes (g.T.Layout.layout.laws _) _) (unsigned_number_laws 4 _) {seen = λ view. map g.T.Layout.seen (shown_items g.T.ViewItem.decoded g.T.FixedSize.SIZE view.bytes.now)} c.in_ok-length.ensures
+    second_decides (borrowed_list_composes (g.T.Layout.layout.laws _) _) (unsigned_number_laws 4 _)
+    {seen = λ view. map g.T.Layout.seen (shown_items g.T.ViewItem.decoded g.T.FixedSize.SIZE view.bytes.now)}
+    c.in_ok-length.ensures
     (view_lent g.T.FixedSize.SIZE _ (item.one_size _) _ g.T.ViewItem.decoded g.T.Layout.seen item.some_bytes (λ bytes l are. c.spelled_as_little.ensures _ bytes (item.decodes bytes l are))
     (ap (λ b. map g.T.Layout.seen (shown_items g.T.ViewItem.decoded g.T.FixedSize.SIZE b)) c.over.ensures.bytes) lent.range (rw c.size_of_items.ensures at lent.reads))
     (λ _. refl)

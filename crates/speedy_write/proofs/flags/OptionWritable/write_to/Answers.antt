@@ -15,4 +15,5 @@ returns-in_ok-write_value-in-Some g c =
     c.in_ok-write_value-in-Some.ensures c.write_value-in-Some.ensures
 
 pub returns-in-None : goal.returns-in-None
-returns-in-None g c = absent_written g.T.Layout.layout.format g.T.Layout.seen _ c.in-None.is c.write_value-in-None.ensures
+returns-in-None g c = absent_written g.T.Layout.layout.format g.T.Layout.seen _ c.in-None.is
+    c.write_value-in-None.ensures

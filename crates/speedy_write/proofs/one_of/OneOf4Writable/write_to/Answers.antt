@@ -3,8 +3,10 @@ use Rattle.speedy_write.specs.Cases.{case_written}
 use Rattle.speedy_write.proofs.one_of.OneOf4Writable.write_to.Given.{Over}
 use Rattle.speedy_write.proofs.one_of.OneOf4Writable.write_to.Goals as goal
 
-chosen : (g : Over) → IsChoice4 g.T0.Layout.layout.format g.T1.Layout.layout.format g.T2.Layout.layout.format g.T3.Layout.layout.format
-chosen g = choice4 _ _ _ _ g.T0.Layout.layout.laws g.T1.Layout.layout.laws g.T2.Layout.layout.laws g.T3.Layout.layout.laws
+chosen : (g : Over) → IsChoice4 g.T0.Layout.layout.format g.T1.Layout.layout.format g.T2.Layout.layout.format
+    g.T3.Layout.layout.format
+chosen g = choice4 _ _ _ _ g.T0.Layout.layout.laws g.T1.Layout.layout.laws g.T2.Layout.layout.laws
+    g.T3.Layout.layout.laws
 
 pub returns-in-First : goal.returns-in-First
 returns-in-First g c = case_written (chosen g) 0 c.write_value.ensures (rw c.in-First.is)

@@ -7,5 +7,6 @@ returns-in_err-write_value g c = first_refused is_sequence refl c.from_residual.
 
 pub returns : goal.returns
 returns g c =
-    second_written is_sequence refl g.T.Layout.layout.laws (g.met.W.Writer.additive _ _ _) (rw c.start.ensures at c.in_ok-write_value.ensures)
+    second_written is_sequence refl g.T.Layout.layout.laws (g.met.W.Writer.additive _ _ _)
+    (rw c.start.ensures at c.in_ok-write_value.ensures)
     (rw c.end.ensures at c.write_value-2.ensures)

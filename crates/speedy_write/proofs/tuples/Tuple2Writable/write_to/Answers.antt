@@ -6,4 +6,5 @@ pub returns-in_err-write_value : goal.returns-in_err-write_value
 returns-in_err-write_value g c = first_refused is_sequence refl c.from_residual.ensures.1 c.in_err-write_value.ensures
 
 pub returns : goal.returns
-returns g c = second_written is_sequence refl g.T0.Layout.layout.laws (g.met.W.Writer.additive _ _ _) c.in_ok-write_value.ensures c.write_value-2.ensures
+returns g c = second_written is_sequence refl g.T0.Layout.layout.laws (g.met.W.Writer.additive _ _ _)
+    c.in_ok-write_value.ensures c.write_value-2.ensures

@@ -9,5 +9,6 @@ returns g c =
     let range = c.finish-size.type_inv in
     record {
       encoding = grind arith;
-      needs = counted (g.Self.Layout.layout.laws _) (ap g.C.Context.encoding made.context) made.size c.finish-size.ensures.size (omega arith) c.in_ok-outcome.ensures;
+      needs = counted (g.Self.Layout.layout.laws _) (ap g.C.Context.encoding made.context) made.size
+          c.finish-size.ensures.size (omega arith) c.in_ok-outcome.ensures;
     }

@@ -7,4 +7,5 @@ abbrev pub invariant-loop-item : goal.invariant-loop-item
 invariant-loop-item g l =
     let W = g.W.Writer in
     let before = l.initial.writer in
-    WritesEach g.C.Error.From.from_gives g.Self.Layout.layout.format g.Self.Layout.seen (take l.item-index l.items) (Ok tt) (W.state before) (W.state l.writer) (λ b. W.appends before b l.writer)
+    WritesEach g.C.Error.From.from_gives g.Self.Layout.layout.format g.Self.Layout.seen (take l.item-index l.items)
+    (Ok tt) (W.state before) (W.state l.writer) (λ b. W.appends before b l.writer)

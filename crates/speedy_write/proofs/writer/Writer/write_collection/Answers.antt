@@ -12,7 +12,8 @@ loop-item-preserved g c =
 pub returns-in_err-write_item : goal.returns-in_err-write_item
 returns-in_err-write_item g c =
     next_item_refused c.into_iter-item-iterator.result c.loop-item.yielded c.loop-item.item-iterator c.next.new.self c.into_iter-item-iterator.ensures.into_iter_gives c.loop-item.yielded_by
-    c.in-Some.item (g.met.Self.Writer.additive _ _ _) g.T.Layout.layout.laws c.from_residual.ensures.1 c.in-Some.ensures.steps c.loop-item.invariant c.in_err-write_item.ensures
+    c.in-Some.item (g.met.Self.Writer.additive _ _ _) g.T.Layout.layout.laws c.from_residual.ensures.1
+    c.in-Some.ensures.steps c.loop-item.invariant c.in_err-write_item.ensures
 
 pub returns : goal.returns
 returns g c =
