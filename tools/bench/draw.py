@@ -1,14 +1,15 @@
 #!/usr/bin/env python3
-"""Draws the ratios that tools/bench/run leaves as an SVG: one panel a way of reading or writing, one bar a case and order.
+"""Draws the ratios that tools/bench/run leaves as an SVG: a panel a way of reading or writing, a bar a case and order.
+
 usage: tools/bench/draw.py [--overview] JSON.. > FILE
 
 With --overview each way is one line, with a dot a case and order, its mean and its worst case.
 
-Of several files the least figures count. A bar begins at 1, where both take the same time: one to the right says that this
-crate takes longer than the original, one to the left that it takes less. The scale is logarithmic, and the same in all
-panels. A figure of 0 or less says nothing (the read that is taken off a write took longer than it), and neither does one of
-the original below 4 ns, for which the compiler left only a constant (an empty round takes 2): such a row is drawn as a
-dash.
+Of several files the least figures count. A bar begins at 1, where both take the same time: one to the right says that
+this crate takes longer than the original, one to the left that it takes less. The scale is logarithmic, and the same in
+all panels. A figure of 0 or less says nothing (the read that is taken off a write took longer than it), and neither
+does one of the original below 4 ns, for which the compiler left only a constant (an empty round takes 2): such a row is
+drawn as a dash.
 """
 import json
 import math
@@ -27,12 +28,12 @@ PANELS = [
 ORDERS = [("le", "little byte order", "#2b6cb0"), ("be", "big byte order", "#dd8a1e")]
 INK, SOFT, GRID, PAPER = "#1f2328", "#57606a", "#d8dee4", "#ffffff"
 
-LABELS, BARS, END = 190, 290, 30        # the widths of a panel's labels, its bars, and the room for a number at either end
-ROW, BAR = 24, 9                        # the heights of a case's row and of each of its two bars
-STRIP = 34                              # the height of a way's line in the overview
+LABELS, BARS, END = 190, 290, 30  # the widths of a panel's labels, its bars, and the room for a number at either end
+ROW, BAR = 24, 9  # the heights of a case's row and of each of its two bars
+STRIP = 34  # the height of a way's line in the overview
 MARGIN, HEAD, TITLE, AXIS = 20, 86, 26, 30
 COLUMNS = 2
-CONSTANT = 4.0                          # the nanoseconds below which the original's loop has nothing left to do
+CONSTANT = 4.0  # the nanoseconds below which the original's loop has nothing left to do
 
 
 def least_figures(files):
@@ -50,7 +51,9 @@ def least_figures(files):
 
 def ratios_of(figures):
     """Returns the ratio of each row, or None where its figures say nothing."""
-    return {key: port / original if port > 0 and original >= CONSTANT else None for key, (original, port) in figures.items()}
+    return {
+        key: port / original if port > 0 and original >= CONSTANT else None for key, (original, port) in figures.items()
+    }
 
 
 def mean_of(ratios):
@@ -62,7 +65,7 @@ def shown(ratio):
 
 
 class Scale:
-    """The logarithmic scale of all panels: from the power of two at or below the least ratio to that at or above the greatest."""
+    """The logarithmic scale of all panels, from a power of two at or below all ratios to one at or above them."""
 
     def __init__(self, ratios, width=BARS):
         self.width = width
@@ -74,11 +77,25 @@ class Scale:
 
     def ticks(self):
         step = 1 if self.high - self.low <= 8 else 2
-        return [2.0 ** power for power in range(self.low, self.high + 1) if power % step == 0]
+        return [2.0**power for power in range(self.low, self.high + 1) if power % step == 0]
 
 
 def text(x, y, words, size=11, ink=INK, anchor="start", weight="normal"):
-    return f'<text x="{x:.1f}" y="{y:.1f}" font-size="{size}" fill="{ink}" text-anchor="{anchor}" font-weight="{weight}">{escape(words)}</text>'
+    look = f'font-size="{size}" fill="{ink}" text-anchor="{anchor}" font-weight="{weight}"'
+    return f'<text x="{x:.1f}" y="{y:.1f}" {look}>{escape(words)}</text>'
+
+
+def stroke(at, top, bottom, ink, width=1):
+    """Draws a vertical line."""
+    return f'<line x1="{at:.1f}" y1="{top}" x2="{at:.1f}" y2="{bottom}" stroke="{ink}" stroke-width="{width}"/>'
+
+
+def grid(scale, left, top, bottom):
+    """Draws the scale: a line a tick, with its number below."""
+    for tick in scale.ticks():
+        at = left + scale.at(tick)
+        yield stroke(at, top, bottom, INK if tick == 1 else GRID)
+        yield text(at, bottom + 14, f"{tick:g}" if tick >= 1 else f"1/{1 / tick:g}", 10, SOFT, "middle")
 
 
 def panel(x, y, name, rows, scale):
@@ -88,11 +105,7 @@ def panel(x, y, name, rows, scale):
     yield text(x, y + 14, name, 13, weight="bold")
     if known:
         yield text(bars + BARS + END, y + 14, f"geometric mean {mean_of(known):.2f}", 11, SOFT, "end")
-    for tick in scale.ticks():
-        at = bars + scale.at(tick)
-        ink = INK if tick == 1 else GRID
-        yield f'<line x1="{at:.1f}" y1="{y + TITLE - 4}" x2="{at:.1f}" y2="{bottom}" stroke="{ink}" stroke-width="1"/>'
-        yield text(at, bottom + 14, f"{tick:g}" if tick >= 1 else f"1/{1 / tick:g}", 10, SOFT, "middle")
+    yield from grid(scale, bars, y + TITLE - 4, bottom)
     for place, (case, both) in enumerate(rows):
         top = y + TITLE + ROW * place
         yield text(bars - END, top + ROW / 2 + 3, case, 11, anchor="end")
@@ -107,7 +120,8 @@ def bar(bars, top, ratio, ink, scale):
         yield text(one + 4, top + BAR - 0.5, "–", 9, SOFT)
         return
     end = bars + scale.at(ratio)
-    yield f'<rect x="{min(one, end):.1f}" y="{top:.1f}" width="{max(abs(end - one), 1):.1f}" height="{BAR}" fill="{ink}"/>'
+    left, width = min(one, end), max(abs(end - one), 1)
+    yield f'<rect x="{left:.1f}" y="{top:.1f}" width="{width:.1f}" height="{BAR}" fill="{ink}"/>'
     if ratio < 1:
         yield text(end - 3, top + BAR - 0.5, shown(ratio), 9, INK, "end")
     else:
@@ -129,7 +143,8 @@ def picture(width, height, drawn):
         f'<svg xmlns="http://www.w3.org/2000/svg" viewBox="0 0 {width} {height}" width="{width}" height="{height}" '
         'font-family="DejaVu Sans, Verdana, Helvetica, Arial, sans-serif">',
         f'<rect width="{width}" height="{height}" rx="6" fill="{PAPER}"/>',
-        *drawn, "</svg>",
+        *drawn,
+        "</svg>",
     ]
 
 
@@ -144,7 +159,7 @@ def draw(ratios):
             panels.append((name, rows))
     wide, drawn, y = LABELS + BARS + END + MARGIN, [], HEAD
     for first in range(0, len(panels), COLUMNS):
-        beside = panels[first:first + COLUMNS]
+        beside = panels[first : first + COLUMNS]
         for column, (name, rows) in enumerate(beside):
             drawn.extend(panel(MARGIN + column * wide, y, name, rows, scale))
         y += TITLE + ROW * max(len(rows) for _, rows in beside) + AXIS
@@ -163,7 +178,7 @@ def strip(y, name, rows, scale):
     ratios = [ratio for _, _, ratio in rows]
     mean, (case, _, worst) = mean_of(ratios), max(rows, key=lambda row: row[2])
     at = left + scale.at(mean)
-    yield f'<line x1="{at:.1f}" y1="{middle - 11:.1f}" x2="{at:.1f}" y2="{middle + 11:.1f}" stroke="{INK}" stroke-width="2"/>'
+    yield stroke(at, f"{middle - 11:.1f}", f"{middle + 11:.1f}", INK, 2)
     yield text(left - 14, middle + 4, name, 12, anchor="end")
     yield text(left + scale.width + 16, middle + 4, f"mean {mean:.2f}; worst {shown(worst)}, {case}", 11, SOFT)
 
@@ -178,14 +193,11 @@ def draw_overview(ratios):
             ways.append((name, rows))
     bottom = top + STRIP * len(ways)
     width, height = left + scale.width + 16 + 250 + MARGIN, bottom + AXIS
-    lines = []
-    for tick in scale.ticks():
-        at = left + scale.at(tick)
-        lines.append(f'<line x1="{at:.1f}" y1="{top}" x2="{at:.1f}" y2="{bottom}" stroke="{INK if tick == 1 else GRID}" stroke-width="1"/>')
-        lines.append(text(at, bottom + 14, f"{tick:g}" if tick >= 1 else f"1/{1 / tick:g}", 10, SOFT, "middle"))
+    lines = [*grid(scale, left, top, bottom)]
     for place, (name, rows) in enumerate(ways):
         lines.extend(strip(top + STRIP * place, name, rows, scale))
-    return picture(width, height, [*legend("Each dot is a case; one to the left of 1 is faster than the original. The stroke is the geometric mean."), *lines])
+    words = "Each dot is a case; one to the left of 1 is faster than the original. The stroke is the geometric mean."
+    return picture(width, height, [*legend(words), *lines])
 
 
 def main():

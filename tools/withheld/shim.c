@@ -5,9 +5,10 @@
 //   cN  a read or write that would go past the N-th byte ends there; h: each ends anywhere, as hash32 says
 // and N is 0 where only their number is to be known.
 //
-// The word stands in WITHHELD, and then it holds from the start to the end. Or the program writes it to standard error, and
-// `.` where it ends to hold: then the shim writes the number of requests, or of reads and writes, or under c and h of the
-// bytes that they moved, and a space to standard output. Nothing that goes to standard error is withheld, counted or shown.
+// The word stands in WITHHELD, and then it holds from the start to the end. Or the program writes it to standard error,
+// and `.` where it ends to hold: then the shim writes the number of requests, or of reads and writes, or under c and h
+// of the bytes that they moved, and a space to standard output. Nothing that goes to standard error is withheld,
+// counted or shown.
 #define _GNU_SOURCE
 #include <dlfcn.h>
 #include <errno.h>

@@ -6,52 +6,62 @@ import tempfile
 
 HERE = os.path.dirname(os.path.realpath(__file__))
 TOP = os.path.dirname(os.path.dirname(HERE))
-PROGRAM = TOP + '/crates/speedy_vectors/'
+PROGRAM = TOP + "/crates/speedy_vectors/"
 
 # Names of types that borrow, of which no value is read where nothing is lent.
-BORROWING = set('str_ref bytes_ref bytes_ref_4 view_i8 array_view_i8_4 view_u16 array_view_u16_2 opt_str tuple_str_bytes '
-                'array_str_2 vec_str map_str_bytes'.split())
+BORROWING = set(
+    "str_ref bytes_ref bytes_ref_4 view_i8 array_view_i8_4 view_u16 array_view_u16_2 opt_str tuple_str_bytes "
+    "array_str_2 vec_str map_str_bytes".split()
+)
 # Names of types that may borrow, so that the ways by which nothing may be borrowed do not exist for them.
-NOT_OWNED = BORROWING | set('cow_str cow_u8 cow_u16 cow_u32 cow_u64 cow_strings record'.split())
+NOT_OWNED = BORROWING | set("cow_str cow_u8 cow_u16 cow_u32 cow_u64 cow_strings record".split())
 
 # The least sizes of types, as docs/LAYOUT.md has them.
 LEAST_SIZES = {
-    0: 'unit',
-    1: 'u8 i8 bool varint nonzero_u8 nonzero_i8 endianness opt_u16 res_u16_u8 opt_bool opt_varint res_u16_u16 res_string_vec '
-       'opt_str opt_cow_map box_u8',
-    2: 'u16 i16 nonzero_u16 nonzero_i16 tuple_1 box_u16 array_opt_u16_2',
-    3: 'tuple_u16_u8 tuple_3_u8',
-    4: 'u32 i32 nonzero_i32 nonzero_u32 char ipv4 range_u16 range_incl_u16 tuple_u16_u16 array_u8_4 array_u16_2 array_view_u16_2 tag_3 '
-       'bytes_ref_4 array_view_i8_4 frame enum derived_enum one_of_2 one_of_3 one_of_4 one_of_5 one_of_6 one_of_7 one_of_8 '
-       'string boxed_str box_string cow_str str_ref bytes_ref view_i8 view_u16 vec_u8 vec_u16 vec_u32 vec_u64 vec_u128 '
-       'vec_bool vec_char vec_unit vec_varint vec_duration vec_array_u16_4 vec_opt_string vec_string vec_vec_u8 vec_vec_u16 vec_record '
-       'vec_str boxed_u8 boxed_u16 boxed_strings small_vec_u16_4 small_strings_2 cow_u8 cow_u16 cow_u32 cow_u64 cow_strings '
-       'set_u16 set_varint set_string hash_set_u16 hash_set_string index_set_u16 index_set_string map_u8_u8 map_u16_bool '
-       'map_u16_u8 map_u8_map map_string_vec_u16 map_str_bytes hash_map_u16_bool hash_map_u16_u8 hash_map_string_vec_u16 '
-       'index_map_u8_u8 index_map_string_u16 cow_set_u16 cow_hash_set_u16 cow_map_u16_u8 cow_hash_map_u16_u8',
-    5: 'ip tree',
-    7: 'tuple_u8_u16_u32',
-    8: 'u64 i64 usize nonzero_u64 nonzero_i64 array_u16_4 array_string_2 array_str_2 tuple_pairs tuple_2_strings '
-       'range_string range_incl_string tuple_str_bytes',
-    12: 'duration',
-    16: 'u128 i128 uuid ipv6',
-    24: 'record',
-    32: 'array_u8_32',
-    39: 'tuple_11',
+    0: "unit",
+    1: """
+        u8 i8 bool varint nonzero_u8 nonzero_i8 endianness opt_u16 res_u16_u8 opt_bool opt_varint res_u16_u16
+        res_string_vec opt_str opt_cow_map box_u8
+    """,
+    2: "u16 i16 nonzero_u16 nonzero_i16 tuple_1 box_u16 array_opt_u16_2",
+    3: "tuple_u16_u8 tuple_3_u8",
+    4: """
+        u32 i32 nonzero_i32 nonzero_u32 char ipv4 range_u16 range_incl_u16 tuple_u16_u16 array_u8_4
+        array_u16_2 array_view_u16_2 tag_3 bytes_ref_4 array_view_i8_4 frame enum derived_enum one_of_2
+        one_of_3 one_of_4 one_of_5 one_of_6 one_of_7 one_of_8 string boxed_str box_string cow_str str_ref
+        bytes_ref view_i8 view_u16 vec_u8 vec_u16 vec_u32 vec_u64 vec_u128 vec_bool vec_char vec_unit
+        vec_varint vec_duration vec_array_u16_4 vec_opt_string vec_string vec_vec_u8 vec_vec_u16 vec_record
+        vec_str boxed_u8 boxed_u16 boxed_strings small_vec_u16_4 small_strings_2 cow_u8 cow_u16 cow_u32
+        cow_u64 cow_strings set_u16 set_varint set_string hash_set_u16 hash_set_string index_set_u16
+        index_set_string map_u8_u8 map_u16_bool map_u16_u8 map_u8_map map_string_vec_u16 map_str_bytes
+        hash_map_u16_bool hash_map_u16_u8 hash_map_string_vec_u16 index_map_u8_u8 index_map_string_u16
+        cow_set_u16 cow_hash_set_u16 cow_map_u16_u8 cow_hash_map_u16_u8
+    """,
+    5: "ip tree",
+    7: "tuple_u8_u16_u32",
+    8: """
+        u64 i64 usize nonzero_u64 nonzero_i64 array_u16_4 array_string_2 array_str_2 tuple_pairs
+        tuple_2_strings range_string range_incl_string tuple_str_bytes
+    """,
+    12: "duration",
+    16: "u128 i128 uuid ipv6",
+    24: "record",
+    32: "array_u8_32",
+    39: "tuple_11",
 }
 LEAST = {name: size for size, names in LEAST_SIZES.items() for name in names.split()}
 
-LENDING_WAYS = ['buffer']
-OTHER_WAYS = ['copy', 'unbuffered', 'buffered']
-OWNED_WAYS = ['owned', 'owned-unbuffered']
-BY_BYTE_WAYS = ['unbuffered-by-byte', 'buffered-by-byte']
+LENDING_WAYS = ["buffer"]
+OTHER_WAYS = ["copy", "unbuffered", "buffered"]
+OWNED_WAYS = ["owned", "owned-unbuffered"]
+BY_BYTE_WAYS = ["unbuffered-by-byte", "buffered-by-byte"]
 PEEK_WAYS = LENDING_WAYS + OTHER_WAYS
-WRITE_WAYS = ['needed', 'to-buffer', 'to-vec', 'to-sink', 'to-vec-sink']
+WRITE_WAYS = ["needed", "to-buffer", "to-vec", "to-sink", "to-vec-sink"]
 
-
-# A number of each type, of 16 bytes as long as it is, and an integer of variable length. Each is peeked at nine times and read.
-_BYTES = '00000000000000400000000000c05e40'
-PEEKED = [(order, ''.join(2 * _BYTES[:2 * size] for size in (1, 2, 4, 8, 16)) + '00') for order in ('le', 'be')]
+# A number of each type, of 16 bytes as long as it is, and an integer of variable length. Each is peeked at nine times
+# and read.
+_BYTES = "00000000000000400000000000c05e40"
+PEEKED = [(order, "".join(2 * _BYTES[: 2 * size] for size in (1, 2, 4, 8, 16)) + "00") for order in ("le", "be")]
 
 
 def folder_of(usage):
@@ -60,7 +70,7 @@ def folder_of(usage):
         sys.exit(usage)
     if sys.argv[1:]:
         return os.path.realpath(sys.argv[1])
-    return subprocess.run([HERE + '/build'], stdout=subprocess.PIPE, check=True, text=True).stdout.strip()
+    return subprocess.run([HERE + "/build"], stdout=subprocess.PIPE, check=True, text=True).stdout.strip()
 
 
 class Programs:
@@ -68,26 +78,34 @@ class Programs:
 
     def __init__(self, folder):
         self.folder = folder
-        self.shim = self.folder + '/shim.so'
+        self.shim = self.folder + "/shim.so"
         self.scratch_folder = tempfile.TemporaryDirectory()
-        self.scratch = self.scratch_folder.name + '/scratch'
+        self.scratch = self.scratch_folder.name + "/scratch"
 
     def ways(self, lines, withhold=True, path=None):
         """The answers of the program of this folder to lines."""
-        env = {'LD_PRELOAD': self.shim} if withhold else {}
-        ran = subprocess.run([self.folder + '/ways', path or self.scratch], input=('\n'.join(lines) + '\n').encode(),
-                             stdout=subprocess.PIPE, stderr=subprocess.DEVNULL, env=env)
-        answers = ran.stdout.decode().split('\n')[:-1]
+        env = {"LD_PRELOAD": self.shim} if withhold else {}
+        ran = subprocess.run(
+            [self.folder + "/ways", path or self.scratch],
+            input=("\n".join(lines) + "\n").encode(),
+            stdout=subprocess.PIPE,
+            stderr=subprocess.DEVNULL,
+            env=env,
+        )
+        answers = ran.stdout.decode().split("\n")[:-1]
         if ran.returncode != 0 or len(answers) != len(lines):
-            after = lines[len(answers)] if len(answers) < len(lines) else 'the last line'
-            raise SystemExit(f'status {ran.returncode}, {len(answers)} answers to {len(lines)} lines; it ended at: {after[:200]}')
+            after = lines[len(answers)] if len(answers) < len(lines) else "the last line"
+            raise SystemExit(
+                f"status {ran.returncode}, {len(answers)} answers to {len(lines)} lines; it ended at: {after[:200]}"
+            )
         return answers
 
     def answering(self, data, withheld=None):
         """How the answering program ends over bytes, and what it wrote."""
-        env = {'LD_PRELOAD': self.shim, 'WITHHELD': withheld} if withheld else {}
-        return subprocess.run([self.folder + '/speedy_vectors'], input=data, stdout=subprocess.PIPE, stderr=subprocess.PIPE,
-                              env=env)
+        env = {"LD_PRELOAD": self.shim, "WITHHELD": withheld} if withheld else {}
+        return subprocess.run(
+            [self.folder + "/speedy_vectors"], input=data, stdout=subprocess.PIPE, stderr=subprocess.PIPE, env=env
+        )
 
 
 class Row:
@@ -102,7 +120,7 @@ class Row:
         return f'{self.order} {self.name} {digits or "-"}'
 
     def line(self, withheld, way, digits=None):
-        return f'{withheld} {way} {self.asked(digits)}'
+        return f"{withheld} {way} {self.asked(digits)}"
 
     def size(self):
         return len(self.spelling) // 2
@@ -113,32 +131,32 @@ class Row:
 
 def test_rows():
     """The lines of the program's stored run that are answered with a value."""
-    lines, answers = (open(PROGRAM + file).read().split('\n') for file in ('stdin', 'stdout'))
+    lines, answers = (open(PROGRAM + file).read().split("\n") for file in ("stdin", "stdout"))
     rows = []
     for line, answer in zip(lines, answers):
-        if line.startswith(('le ', 'be ')) and answer.startswith('ok '):
+        if line.startswith(("le ", "be ")) and answer.startswith("ok "):
             order, name, digits = line.split()
             _, count, written = answer.split()
-            rows.append(Row(order, name, digits.lower().strip('-')[:2 * int(count)], written.strip('-')))
+            rows.append(Row(order, name, digits.lower().strip("-")[: 2 * int(count)], written.strip("-")))
     return rows
 
 
 def spelled(digits):
     """Digits with their repetitions written out."""
     parts = []
-    for part in digits.split(','):
-        item, _, times = part.partition('*')
+    for part in digits.split(","):
+        item, _, times = part.partition("*")
         parts.append(item * int(times or 1))
-    return ''.join(parts)
+    return "".join(parts)
 
 
 def own_rows():
     """The rows of this folder."""
     rows = []
-    for line in open(HERE + '/rows.txt'):
-        if line.strip() and not line.startswith('#'):
+    for line in open(HERE + "/rows.txt"):
+        if line.strip() and not line.startswith("#"):
             order, name, digits = line.split()
-            digits = spelled(digits.strip('-'))
+            digits = spelled(digits.strip("-"))
             rows.append(Row(order, name, digits, digits))
     return rows
 
@@ -147,7 +165,7 @@ def varint(number):
     """The shortest spelling of a number as an integer of variable length."""
     count = next(k for k in range(9) if k == 8 or number < 1 << 7 * (k + 1))
     first = 256 - (1 << 8 - count) + (number >> 8 * count if count < 8 else 0)
-    return bytes([first]) + (number % (1 << 8 * count)).to_bytes(count, 'little')
+    return bytes([first]) + (number % (1 << 8 * count)).to_bytes(count, "little")
 
 
 def varint_rows():
@@ -158,7 +176,7 @@ def varint_rows():
         numbers |= {power, power - 1, (power - 1) << 1, n * 0x9E3779B97F4A7C15}
         numbers |= {power * odd for odd in (2, 5, 10, 21, 42, 85, 170)}
     spellings = sorted({varint(number % (1 << 64)).hex() for number in numbers})
-    return [Row(order, 'varint', digits, digits) for digits in spellings for order in ('le', 'be')]
+    return [Row(order, "varint", digits, digits) for digits in spellings for order in ("le", "be")]
 
 
 def all_rows():
@@ -169,7 +187,9 @@ def places(size):
     """Where a spelling is cut: at each byte, and of a long one at its first and last bytes and some between."""
     if size <= 100:
         return range(size)
-    return sorted(set(list(range(40)) + list(range(size - 40, size)) + list(range(0, size, 499)) + [4, 1023, 1024, 1028]))
+    return sorted(
+        set(list(range(40)) + list(range(size - 40, size)) + list(range(0, size, 499)) + [4, 1023, 1024, 1028])
+    )
 
 
 def read_ways(name):
@@ -182,7 +202,7 @@ def read_ways(name):
 
 def is_counted(way):
     """Whether an answer of this way says how many bytes were taken."""
-    return way in ('buffer', 'copy', 'unbuffered', 'unbuffered-by-byte', 'owned', 'owned-unbuffered')
+    return way in ("buffer", "copy", "unbuffered", "unbuffered-by-byte", "owned", "owned-unbuffered")
 
 
 class Tally:
@@ -196,8 +216,8 @@ class Tally:
         if not is_right:
             self.failed += 1
             if self.failed <= 40:
-                print('FAILED: ' + what()[:400])
+                print("FAILED: " + what()[:400])
 
     def end(self):
-        print(f'{self.seen} looked at, {self.failed} failed')
+        print(f"{self.seen} looked at, {self.failed} failed")
         raise SystemExit(1 if self.failed else 0)
