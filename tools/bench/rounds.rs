@@ -1,4 +1,5 @@
-//! The original's loops, in the shape of rounds.rt.
+//! The original's loops, in the shape of rounds.rt. Each is written out: where a closure or a function
+//! stood between, the compiler put other calls in line.
 
 use crate::ports::{bench_keep, bench_length, bench_order};
 use speedy::{Endianness, Readable, Writable};
