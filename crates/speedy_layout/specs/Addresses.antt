@@ -10,27 +10,26 @@ use Rattle.speedy_base.specs.Digits.{SpellsNumber, AreBytes}
 use Rattle.speedy_base.specs.DigitsLemmas.{SpellsNumber-same_bytes, SpellsNumber-same_value}
 use Rattle.speedy_base.specs.Encoding.{Encoding}
 use Rattle.speedy_layout.specs.Format.{Format}
-use Rattle.speedy_layout.specs.Laws.{Laws, Laws-less}
-use Rattle.speedy_layout.specs.Codes.{Code, IsCode, coding, coding_laws, exact_code, exact_is_code, one_kind}
-use Rattle.speedy_layout.specs.Flags.{Branch, variant, variant_laws}
-use Rattle.speedy_layout.specs.Numbers.{unsigned_number, unsigned_number_laws}
-use Rattle.speedy_layout.specs.Sequences.{told_apart}
+use Rattle.speedy_layout.specs.Laws.{Codec}
+use Rattle.speedy_layout.specs.Codes.{Code, IsCode, coding_codec, exact_code, exact_is_code, one_kind}
+use Rattle.speedy_layout.specs.Flags.{Branch, variant_codec}
+use Rattle.speedy_layout.specs.Numbers.{unsigned_number, unsigned_codec}
 
 -- octets, whose number has them as its digits, greatest first
 abbrev pub octets_code : ℕ → Code ℕ (List ℕ)
 octets_code width = exact_code (SpellsNumber width BigEndian) (λ kind. ⊥)
 
--- addresses of so many octets: their number
-abbrev pub address : ℕ → Encoding → Format (List ℕ)
-address width encoding = coding encoding (octets_code width) (unsigned_number width encoding)
-
 pub octets_is_code : (width : ℕ) (encoding : Encoding) → IsCode (octets_code width) (unsigned_number width encoding)
 octets_is_code width encoding =
     exact_is_code (λ kind h. absurd h) (λ n v w h k. SpellsNumber-same_bytes width BigEndian n v w h k)
-    (λ n m v h k. SpellsNumber-same_value width BigEndian n m v h k) (unsigned_number_laws width encoding)
+    (λ n m v h k. SpellsNumber-same_value width BigEndian n m v h k)
 
-pub address_laws : (width : ℕ) (encoding : Encoding) → Laws encoding.strict width (address width encoding)
-address_laws width encoding = coding_laws encoding (unsigned_number_laws width encoding) (octets_is_code width encoding)
+-- addresses of so many octets: their number
+abbrev pub address_codec : ℕ → Codec (List ℕ)
+address_codec width = coding_codec (octets_code width) (unsigned_codec width) (octets_is_code width)
+
+abbrev pub address : ℕ → Encoding → Format (List ℕ)
+address width = (address_codec width).format
 
 -- octets that are joined in twos and taken apart again
 pub octets_of-segments_of : (k : ℕ) (octets : List ℕ) → length octets ≡ k * 2 → AreBytes octets → octets_of (segments_of octets) ≡ octets
@@ -49,10 +48,6 @@ address_tag_number false = 0
 abbrev pub address_tag_code : Code ℕ Bool
 address_tag_code = exact_code (λ n is_long. n ≡ address_tag_number is_long) (λ kind. kind ≡ kinds.InvalidEnumVariant)
 
--- the kind of an address: one byte, which has the number of one
-abbrev pub address_tag : Encoding → Format Bool
-address_tag encoding = coding encoding address_tag_code (unsigned_number 1 encoding)
-
 one_tag : (a b : Bool) → address_tag_number a ≡ address_tag_number b → a ≡ b
 one_tag true true e = refl
 one_tag false false e = refl
@@ -61,10 +56,11 @@ one_tag false true e = absurd (cc)
 
 pub address_tag_is_code : (encoding : Encoding) → IsCode address_tag_code (unsigned_number 1 encoding)
 address_tag_is_code encoding =
-    exact_is_code (one_kind kinds.InvalidEnumVariant tt) (λ n v w h k. one_tag v w (sym h ∙ k)) (λ n m v h k. h ∙ sym k) (unsigned_number_laws 1 encoding)
+    exact_is_code (one_kind kinds.InvalidEnumVariant tt) (λ n v w h k. one_tag v w (sym h ∙ k)) (λ n m v h k. h ∙ sym k)
 
-pub address_tag_laws : (encoding : Encoding) → Laws encoding.strict 1 (address_tag encoding)
-address_tag_laws encoding = coding_laws encoding (unsigned_number_laws 1 encoding) (address_tag_is_code encoding)
+-- the kind of an address: one byte, which has the number of one
+abbrev pub address_tag : Codec Bool
+address_tag = coding_codec address_tag_code (unsigned_codec 1) address_tag_is_code
 
 -- the octets of an address, 4 or 16 of them
 abbrev pub ip_octets : IpAddr → List ℕ ⊎ List ℕ
@@ -79,15 +75,14 @@ abbrev pub ip_join : (is_long : Bool) → Branch (List ℕ) (List ℕ) is_long �
 ip_join false octets = inl octets
 ip_join true octets = inr octets
 
--- an address of either kind: 0 and the address of 4 octets, or 1 and that of 16
-abbrev pub ip_address : Encoding → Format (List ℕ ⊎ List ℕ)
-ip_address encoding = variant ip_parts (address_tag encoding) (address 16 encoding) (address 4 encoding)
-
-ip_back : (v : List ℕ ⊎ List ℕ) → ip_join (ip_parts v).0 (ip_parts v).1 ≡ v
+pub ip_back : (v : List ℕ ⊎ List ℕ) → ip_join (ip_parts v).0 (ip_parts v).1 ≡ v
 ip_back (inl octets) = refl
 ip_back (inr octets) = refl
 
-pub ip_address_laws : (encoding : Encoding) → Laws encoding.strict 5 (ip_address encoding)
-ip_address_laws encoding =
-    variant_laws {least = 1} {n = 4} ip_parts (address_tag_laws encoding) (Laws-less (omega arith) (address_laws 16 encoding)) (address_laws 4 encoding)
-    (told_apart ip_parts ip_join ip_back)
+-- an address of either kind: 0 and the address of 4 octets, or 1 and that of 16
+abbrev pub ip_address_codec : Codec (List ℕ ⊎ List ℕ)
+ip_address_codec =
+    variant_codec ip_parts ip_join ip_back address_tag (address_codec 16) (address_codec 4) 4 (omega arith) (omega arith)
+
+abbrev pub ip_address : Encoding → Format (List ℕ ⊎ List ℕ)
+ip_address = ip_address_codec.format

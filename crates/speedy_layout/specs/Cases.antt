@@ -6,7 +6,7 @@ use Rattle.speedy_base.specs.declared.error.ErrorKind.{ErrorKind}
 use Rattle.speedy_base.specs.declared.error.ErrorKind.TheVariants as kinds
 use Rattle.speedy_base.specs.Encoding.{Encoding}
 use Rattle.speedy_layout.specs.Format.{Asks, asks_nothing, either_asks, Format, IsOwnKind}
-use Rattle.speedy_layout.specs.Laws.{Laws, Laws-less}
+use Rattle.speedy_layout.specs.Laws.{Laws, Codec, Laws-less}
 use Rattle.speedy_layout.specs.EachEncoding.{FormatOf, LawsOf}
 use Rattle.speedy_layout.specs.Numbers.{unsigned_number, unsigned_number_laws}
 use Rattle.speedy_layout.specs.Sequences.{AsksAtMost, asks_nothing_more, asks_left, asks_right, asks_after, sequence, sequence_laws, told_apart}
@@ -107,6 +107,10 @@ pub tagged_laws : {S : Type 0} {c : Cases} {split : S → Chosen c} → IsChoice
     → LawsOf (width c) (tagged c split)
 tagged_laws {c = c} choice f =
     Laws-less (omega arith) (sequence_laws (unsigned_number_laws (width c) f) (choice.lawful.laws f) (choice.lawful.within f) choice.apart)
+
+abbrev pub tagged_codec : {S : Type 0} {c : Cases} {split : S → Chosen c} → IsChoice c split → Codec S
+tagged_codec {c = c} {split = split} choice =
+    record { least = width c; format = tagged c split; laws = tagged_laws choice }
 
 -- ---- what is chosen, as one of several
 

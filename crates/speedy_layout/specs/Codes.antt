@@ -5,7 +5,7 @@ use Rattle.speedy_base.specs.declared.error.ErrorKind.{ErrorKind}
 use Rattle.speedy_base.specs.declared.error.ErrorKind.TheVariants as kinds
 use Rattle.speedy_base.specs.Encoding.{Encoding}
 use Rattle.speedy_layout.specs.Format.{Format, IsOwnKind}
-use Rattle.speedy_layout.specs.Laws.{Laws, Decided}
+use Rattle.speedy_layout.specs.Laws.{Laws, Codec, Decided}
 
 -- How values are coded as values of another type.
 pub record Code (U V : Type 0) : Type 1 where
@@ -73,8 +73,9 @@ pub record IsCode {U V : Type 0} (c : Code U V) (F : Format U) : Type 0 where
   pub chosen_means : (u : U) (v : V) → c.chosen u v → c.means u v
   -- one is chosen where the value has a spelling
   pub has_chosen : (v : V) (bytes : List ℕ) → Coded F.spells c.means v bytes → (b : List ℕ) × Coded F.spells c.chosen v b
-  -- no spelling of the value is shorter than those of the chosen code that are written
-  pub chosen_shortest : (v : V) (b d : List ℕ) → Coded F.writes c.chosen v b → Coded F.spells c.means v d → length b ≤ length d
+  -- no spelling of the value is shorter than those of the chosen code that are written, where none of a code is
+  pub chosen_shortest : ((u : U) (b d : List ℕ) → F.writes u b → F.spells u d → length b ≤ length d)
+      → (v : V) (b d : List ℕ) → Coded F.writes c.chosen v b → Coded F.spells c.means v d → length b ≤ length d
   pub refusals_own : (kind : ErrorKind) → c.refusals kind → IsOwnKind kind
 
 -- what is chosen is accepted
@@ -112,7 +113,7 @@ coding_laws {U = U} {V = V} encoding {c = c} {F = F} laws is = record {
   tells = λ v w s t h k. by_hashed F.asks.hashed refl v w s t (meant v s h) (meant w t k);
   written_spells = λ v b h. record { code = h.code; code_is = laws.written_spells h.code b h.code_is; stands = Accepts-chosen strict c h.code v (is.chosen_means h.code v) h.stands };
   written_alone = λ s v b h. record { code = h.code; code_is = laws.written_alone s h.code b h.code_is; stands = Accepts-demanded strict c h.code v s h.stands };
-  shortest = λ v b d h k. is.chosen_shortest v b d h (meant v d k);
+  shortest = λ v b d h k. is.chosen_shortest laws.shortest v b d h (meant v d k);
   least_size = λ v b h. laws.least_size h.code b h.code_is;
   has_written = λ v b h.
       let x = is.has_chosen v b (meant v b h) in
@@ -154,6 +155,14 @@ coding_laws {U = U} {V = V} encoding {c = c} {F = F} laws is = record {
             (subst (λ (z : V). c.chosen x.1.code z) e x.1.stands) y.1.stands))
       ]
 
+abbrev pub coding_codec : {U V : Type 0} (c : Code U V) (codes : Codec U)
+    → ((f : Encoding) → IsCode c (codes.format f)) → Codec V
+coding_codec c codes is = record {
+  least = codes.least;
+  format = λ f. coding f c (codes.format f);
+  laws = λ f. coding_laws f (codes.laws f) (is f);
+}
+
 -- ---- one code for each value
 
 -- each value is written as just what is read as it
@@ -173,11 +182,10 @@ Accepts-exact_means false means refusals u v h = h
 Accepts-exact_means true means refusals u v h = h
 
 -- that is lawful where a code means at most one value, and a value has at most one code
-pub exact_is_code : {U V : Type 0} {means : U → V → Type 0} {refusals : ErrorKind → Type 0}
+pub exact_is_code : {U V : Type 0} {means : U → V → Type 0} {refusals : ErrorKind → Type 0} {F : Format U}
     → ((kind : ErrorKind) → refusals kind → IsOwnKind kind) → ((u : U) (v w : V) → means u v → means u w → v ≡ w)
-    → ((u w : U) (v : V) → means u v → means w v → u ≡ w)
-    → {strict : Bool} {least : ℕ} {F : Format U} → Laws strict least F → IsCode (exact_code means refusals) F
-exact_is_code {U = U} {V = V} {means = means} own one_meaning one_code {F = F} laws = record {
+    → ((u w : U) (v : V) → means u v → means w v → u ≡ w) → IsCode (exact_code means refusals) F
+exact_is_code {U = U} {V = V} {means = means} {F = F} own one_meaning one_code = record {
   one_meaning = one_meaning;
   one_chosen = λ _. one_code;
   tells = λ _ decided v w s t h k.
@@ -187,7 +195,9 @@ exact_is_code {U = U} {V = V} {means = means} own one_meaning one_code {F = F} l
       ];
   chosen_means = λ u v h. h;
   has_chosen = λ v b h. (b, h);
-  chosen_shortest = λ v b d h k. laws.shortest h.code b d h.code_is (subst (λ (u : U). F.spells u d) (one_code k.code h.code v k.stands h.stands) k.code_is);
+  chosen_shortest = λ shortest v b d h k.
+      let same = one_code k.code h.code v k.stands h.stands in
+      shortest h.code b d h.code_is (subst (λ (u : U). F.spells u d) same k.code_is);
   refusals_own = own;
 }
 
@@ -205,11 +215,11 @@ subset_code pass refusal = exact_code (λ u v. (u ≡ v) × pass v) (λ kind. ki
 abbrev pub subset : {V : Type 0} → Encoding → (V → Type 0) → ErrorKind → Format V → Format V
 subset encoding pass refusal F = coding encoding (subset_code pass refusal) F
 
-pub subset_is_code : {V : Type 0} (pass : V → Type 0) (refusal : ErrorKind) → IsOwnKind refusal → {strict : Bool} {least : ℕ} {F : Format V}
-    → Laws strict least F → IsCode (subset_code pass refusal) F
-subset_is_code pass refusal own laws = exact_is_code (one_kind refusal own) (λ u v w h k. sym h.0 ∙ k.0) (λ u v w h k. h.0 ∙ sym k.0) laws
+pub subset_is_code : {V : Type 0} {F : Format V} (pass : V → Type 0) (refusal : ErrorKind) → IsOwnKind refusal
+    → IsCode (subset_code pass refusal) F
+subset_is_code pass refusal own =
+    exact_is_code (one_kind refusal own) (λ u v w h k. sym h.0 ∙ k.0) (λ u v w h k. h.0 ∙ sym k.0)
 
--- the laws of the values that pass a test
-pub subset_laws : {V : Type 0} (encoding : Encoding) (pass : V → Type 0) (refusal : ErrorKind) → IsOwnKind refusal
-    → {least : ℕ} {F : Format V} → Laws encoding.strict least F → Laws encoding.strict least (subset encoding pass refusal F)
-subset_laws encoding pass refusal own laws = coding_laws encoding laws (subset_is_code pass refusal own laws)
+abbrev pub subset_codec : {V : Type 0} (pass : V → Type 0) (refusal : ErrorKind) → IsOwnKind refusal → Codec V → Codec V
+subset_codec pass refusal own whole =
+    coding_codec (subset_code pass refusal) whole (λ f. subset_is_code pass refusal own)

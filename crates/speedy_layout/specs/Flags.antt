@@ -1,15 +1,15 @@
 -- Flags, tags, and values of the format that one chooses.
-use Rattle.std.specs.Prelude.{◌≡◌, ℕ, ◌+◌, ◌^◌, ◌<◌, Bool, true, false, Option, Some, None, Result, Ok, Err, refl}
+use Rattle.std.specs.Prelude.{◌≡◌, ℕ, ◌+◌, ◌^◌, ◌<◌, ◌≤◌, Bool, true, false, Option, Some, None, Result, Ok, Err, refl}
 use Rattle.std.proofs.Common.{sym, ◌∙◌, subst, arith}
 use Rattle.speedy_base.specs.Digits.{digits}
 use Rattle.speedy_base.specs.DigitsLemmas.{SpellsNumber-digits}
 use Rattle.speedy_base.specs.Encoding.{Encoding}
 use Rattle.speedy_layout.specs.Format.{either_asks, Format}
-use Rattle.speedy_layout.specs.Laws.{Laws, Laws-less}
-use Rattle.speedy_layout.specs.Codes.{ReadsWider, Code, IsCode, coding, coding_laws}
-use Rattle.speedy_layout.specs.Numbers.{unsigned_number, unsigned_number_laws}
+use Rattle.speedy_layout.specs.Laws.{Codec, Laws-less}
+use Rattle.speedy_layout.specs.Codes.{ReadsWider, Code, IsCode, coding_codec}
+use Rattle.speedy_layout.specs.Numbers.{unsigned_number, unsigned_codec}
 use Rattle.speedy_layout.specs.Sequences.{AsksAtMost, sequence, sequence_laws, asks_left, asks_right, told_apart}
-use Rattle.speedy_layout.specs.Tuples.{unit, unit_laws}
+use Rattle.speedy_layout.specs.Tuples.{unit, unit_codec}
 
 -- ---- flags
 
@@ -30,10 +30,6 @@ flag_code = record { means = λ n b. IsFlag b n; chosen = λ n b. n ≡ written_
 -- a flag above 1 is read as true, and not written
 pub flag_reads_wider : ReadsWider flag_code
 flag_reads_wider = record { code = 2; value = true; meant = omega arith; not_chosen = λ e. omega arith }
-
--- a flag: one byte
-abbrev pub flag : Encoding → Format Bool
-flag encoding = coding encoding flag_code (unsigned_number 1 encoding)
 
 one_flag : (b c : Bool) (n : ℕ) → IsFlag b n → IsFlag c n → b ≡ c
 one_flag true true n h k = refl
@@ -56,13 +52,24 @@ flag_is_code encoding = record {
   one_chosen = λ _ n m v h k. h ∙ sym k;
   tells = λ e. absurd (cc);
   chosen_means = λ n v h. subst (IsFlag v) (sym h) (written_flag_is v);
-  has_chosen = λ v b h. (digits encoding.order 1 (written_flag v), record { code = written_flag v; code_is = SpellsNumber-digits 1 encoding.order (written_flag v) (written_flag-below v); stands = refl });
-  chosen_shortest = λ v b d h k. let l = h.code_is.width_is in let m = k.code_is.width_is in omega arith;
+  has_chosen = λ v b h. (
+    digits encoding.order 1 (written_flag v),
+    record {
+      code = written_flag v;
+      code_is = SpellsNumber-digits 1 encoding.order (written_flag v) (written_flag-below v);
+      stands = refl;
+    },
+  );
+  chosen_shortest = λ _ v b d h k. let l = h.code_is.width_is in let m = k.code_is.width_is in omega arith;
   refusals_own = λ kind h. absurd h;
 }
 
-pub flag_laws : (encoding : Encoding) → Laws encoding.strict 1 (flag encoding)
-flag_laws encoding = coding_laws encoding (unsigned_number_laws 1 encoding) (flag_is_code encoding)
+-- a flag: one byte
+abbrev pub flag_codec : Codec Bool
+flag_codec = coding_codec flag_code (unsigned_codec 1) flag_is_code
+
+abbrev pub flag : Encoding → Format Bool
+flag = flag_codec.format
 
 -- ---- a value that a flag or a tag chooses
 
@@ -84,10 +91,16 @@ branch_asks L M true = asks_left L.asks M.asks
 branch_asks L M false = asks_right L.asks M.asks
 
 -- its least size is that of the tag and so many bytes more as each of the two has
-pub variant_laws : {U V W : Type 0} {strict : Bool} {least n : ℕ} {tags : Format Bool} {L : Format V} {M : Format W} (split : U → (b : Bool) × Branch V W b)
-    → Laws strict least tags → Laws strict n L → Laws strict n M → ((v w : U) → split v ≡ split w → v ≡ w)
-    → Laws strict (least + n) (variant split tags L M)
-variant_laws {L = L} {M = M} split laws first second injective = sequence_laws laws (elim [ true ↦ first | false ↦ second ]) (branch_asks L M) injective
+abbrev pub variant_codec : {U V W : Type 0} (split : U → (b : Bool) × Branch V W b) (join : (b : Bool) → Branch V W b → U)
+    → ((v : U) → join (split v).0 (split v).1 ≡ v) → Codec Bool → (first : Codec V) (second : Codec W) (n : ℕ)
+    → n ≤ first.least → n ≤ second.least → Codec U
+variant_codec split join back tags first second n in_first in_second = record {
+  least = tags.least + n;
+  format = λ f. variant split (tags.format f) (first.format f) (second.format f);
+  laws = λ f. sequence_laws (tags.laws f)
+      (elim [ true ↦ Laws-less in_first (first.laws f) | false ↦ Laws-less in_second (second.laws f) ])
+      (branch_asks (first.format f) (second.format f)) (told_apart split join back);
+}
 
 -- ---- options and results
 
@@ -115,21 +128,18 @@ alternative_join false w = Err w
 abbrev pub alternative : {V W : Type 0} → Encoding → Format V → Format W → Format (Result V W)
 alternative encoding L M = variant alternative_parts (flag encoding) L M
 
-option_back : {V : Type 0} (v : Option V) → option_join (option_parts v).0 (option_parts v).1 ≡ v
+pub option_back : {V : Type 0} (v : Option V) → option_join (option_parts v).0 (option_parts v).1 ≡ v
 option_back (Some v) = refl
 option_back None = refl
 
-alternative_back : {V W : Type 0} (v : Result V W) → alternative_join (alternative_parts v).0 (alternative_parts v).1 ≡ v
+pub alternative_back : {V W : Type 0} (v : Result V W) → alternative_join (alternative_parts v).0 (alternative_parts v).1 ≡ v
 alternative_back (Ok v) = refl
 alternative_back (Err w) = refl
 
-pub option_laws : {V : Type 0} {n : ℕ} {L : Format V} (encoding : Encoding) → Laws encoding.strict n L → Laws encoding.strict 1 (option encoding L)
-option_laws encoding laws =
-    variant_laws {least = 1} {n = 0} option_parts (flag_laws encoding) (Laws-less (omega arith) laws) unit_laws
-    (told_apart option_parts option_join option_back)
+abbrev pub option_codec : {V : Type 0} → Codec V → Codec (Option V)
+option_codec value =
+    variant_codec option_parts option_join option_back flag_codec value unit_codec 0 (omega arith) (omega arith)
 
-pub alternative_laws : {V W : Type 0} {n m : ℕ} {L : Format V} {M : Format W} (encoding : Encoding) → Laws encoding.strict n L
-    → Laws encoding.strict m M → Laws encoding.strict 1 (alternative encoding L M)
-alternative_laws encoding laws more =
-    variant_laws {least = 1} {n = 0} alternative_parts (flag_laws encoding) (Laws-less (omega arith) laws) (Laws-less (omega arith) more)
-    (told_apart alternative_parts alternative_join alternative_back)
+abbrev pub alternative_codec : {V W : Type 0} → Codec V → Codec W → Codec (Result V W)
+alternative_codec first second =
+    variant_codec alternative_parts alternative_join alternative_back flag_codec first second 0 (omega arith) (omega arith)

@@ -6,7 +6,7 @@ use Rattle.speedy_base.specs.Digits.{digits}
 use Rattle.speedy_base.specs.DigitsLemmas.{SpellsNumber-digits, SpellsNumber-below}
 use Rattle.speedy_base.specs.Encoding.{Encoding}
 use Rattle.speedy_layout.specs.Format.{Format, Each}
-use Rattle.speedy_layout.specs.Laws.{Laws, Laws-asking, Decided}
+use Rattle.speedy_layout.specs.Laws.{Laws, Codec, Laws-asking, Decided}
 use Rattle.speedy_layout.specs.Codes.{Code, Coded, IsCode, coding, coding_laws}
 use Rattle.speedy_layout.specs.Numbers.{unsigned_number}
 use Rattle.speedy_layout.specs.Owned.{owned_content}
@@ -54,7 +54,7 @@ gathered hashed encoding stands written L = coding encoding (gathering stands wr
 
 pub hashed_items_laws : {V : Type 0} {strict : Bool} {least : ℕ} {F : Format V} → Laws strict least F → Laws strict least (hashed_items F)
 unfolding hashed_items
-hashed_items_laws {F = F} laws = Laws-asking F.names (record F.asks { hashed = true }) laws.names_own (λ e. absurd (cc)) laws
+hashed_items_laws {F = F} laws = Laws-asking (record F.asks { hashed = true }) (λ e. absurd (cc)) laws
 
 -- ---- the spelling of what lies inside a list
 
@@ -235,37 +235,39 @@ module _ {E S : Type 0} {hashed : Bool} {stands : List E → S → Type 0} {writ
       ]
 
 -- what lists gather to is coded by them
-pub gathering_is_code : {E S : Type 0} {hashed : Bool} {stands : List E → S → Type 0} {written : List E → Type 0} {least : ℕ} {L : Format E} (encoding : Encoding)
-    → Laws encoding.strict least L → IsGathering hashed stands written → HasForms L stands written
-    → IsCode (gathering stands written) (items_of hashed encoding L)
+pub gathering_is_code : {E S : Type 0} (hashed : Bool) {stands : List E → S → Type 0} {written : List E → Type 0} {least : ℕ}
+    {L : Format E} (encoding : Encoding) → Laws encoding.strict least L → IsGathering hashed stands written
+    → HasForms L stands written → IsCode (gathering stands written) (items_of hashed encoding L)
 unfolding hashed_items
-gathering_is_code {hashed = false} encoding laws is has = record {
+gathering_is_code false encoding laws is has = record {
   one_meaning = is.one_thing;
   one_chosen = λ _ xs ys s h k. is.one_form refl xs ys s h.1 k.1 h.0 k.0;
   tells = λ _ _. forms_tell encoding laws is refl has;
   chosen_means = λ xs s h. h.0;
   has_chosen = some_form_spelled encoding laws is has;
-  chosen_shortest = form_shortest encoding laws is;
+  chosen_shortest = λ _. form_shortest encoding laws is;
   refusals_own = λ kind h. absurd h;
 }
-gathering_is_code {hashed = true} encoding laws is has = record {
+gathering_is_code true encoding laws is has = record {
   one_meaning = is.one_thing;
   one_chosen = λ e. absurd (cc);
   tells = λ _ _. hashed_tell encoding laws is refl has;
   chosen_means = λ xs s h. h.0;
   has_chosen = some_form_spelled encoding laws is has;
-  chosen_shortest = form_shortest encoding laws is;
+  chosen_shortest = λ _. form_shortest encoding laws is;
   refusals_own = λ kind h. absurd h;
 }
 
-items_of_laws : {E : Type 0} (hashed : Bool) {least : ℕ} {L : Format E} (encoding : Encoding) → Laws encoding.strict least L
-    → Laws encoding.strict 4 (items_of hashed encoding L)
+pub items_of_laws : {E : Type 0} (hashed : Bool) {least : ℕ} {L : Format E} (encoding : Encoding)
+    → Laws encoding.strict least L → Laws encoding.strict 4 (items_of hashed encoding L)
 items_of_laws false encoding laws = list_laws encoding laws
 items_of_laws true encoding laws = hashed_items_laws (list_laws encoding laws)
 
--- the laws of what lists gather to
-pub gathered_laws : {E S : Type 0} {hashed : Bool} {stands : List E → S → Type 0} {written : List E → Type 0} {least : ℕ} {L : Format E} (encoding : Encoding)
-    → Laws encoding.strict least L → IsGathering hashed stands written → HasForms L stands written
-    → Laws encoding.strict 4 (gathered hashed encoding stands written L)
-gathered_laws {hashed = hashed} encoding laws is has =
-    coding_laws encoding (items_of_laws hashed encoding laws) (gathering_is_code encoding laws is has)
+abbrev pub gathered_codec : {E S : Type 0} (hashed : Bool) {stands : List E → S → Type 0} {written : List E → Type 0}
+    → IsGathering hashed stands written → (item : Codec E)
+    → ((f : Encoding) → HasForms (item.format f) stands written) → Codec S
+gathered_codec hashed {stands = stands} {written = written} is item has = record {
+  least = 4;
+  format = λ f. gathered hashed f stands written (item.format f);
+  laws = λ f. coding_laws f (items_of_laws hashed f (item.laws f)) (gathering_is_code hashed f (item.laws f) is (has f));
+}

@@ -4,6 +4,7 @@ use Rattle.std.proofs.Common.{ap, ap₂, subst, inl, inr, arith}
 use Rattle.std.proofs.lemmas.Bool.Decides.{eqb_tells}
 use Rattle.std.proofs.Math.Nat.{min-le_left}
 use Rattle.speedy_base.specs.declared.error.ErrorKind.{ErrorKind}
+use Rattle.speedy_base.specs.Encoding.{Encoding}
 use Rattle.speedy_layout.specs.Format.{Asks, Format, plain_format, IsOwnKind}
 
 -- it holds or it does not, which is decided
@@ -34,6 +35,15 @@ pub record Laws {V : Type 0} (strict : Bool) (least : ℕ) (F : Format V) : Type
   pub names_own : (kind : ErrorKind) → F.names kind → IsOwnKind kind
   -- and so are those that its writing is refused with
   pub refuses_own : (kind : ErrorKind) → F.refuses_writing kind → IsOwnKind kind
+
+-- A format under each encoding, with its least size and its laws, as one value: what quotes a layout has its laws too.
+pub record Codec (V : Type 0) : Type 1 where
+  -- no value is encoded in fewer bytes
+  pub least : ℕ
+  -- which bytes encode which values
+  pub format : Encoding → Format V
+  -- bytes encode at most one value, the encodings are prefix-free, and a shortest one is written
+  pub laws : (f : Encoding) → Laws f.strict least (format f)
 
 -- whether two lists of bytes are the same is decided
 same_bytes : (s t : List ℕ) → Decided (s ≡ t)
@@ -73,11 +83,10 @@ plain_laws {spells = spells} decodes least_size one = record {
   refuses_own = λ kind h. absurd h;
 }
 
--- a format of the same bytes that names other kinds and asks otherwise, but is hashed where the first is
-pub Laws-asking : {V : Type 0} {strict : Bool} {least : ℕ} {F : Format V} (names : ErrorKind → Type 0) (asks : Asks)
-    → ((kind : ErrorKind) → names kind → IsOwnKind kind) → (asks.hashed ≡ false → F.asks.hashed ≡ false)
-    → Laws strict least F → Laws strict least (record F { names = names; asks = asks })
-Laws-asking names asks own hashed laws = record {
+-- a format of the same bytes that asks otherwise, but is hashed where the first is
+pub Laws-asking : {V : Type 0} {strict : Bool} {least : ℕ} {F : Format V} (asks : Asks)
+    → (asks.hashed ≡ false → F.asks.hashed ≡ false) → Laws strict least F → Laws strict least (record F { asks = asks })
+Laws-asking asks hashed laws = record {
   decodes = laws.decodes;
   tells = laws.tells;
   written_spells = laws.written_spells;
@@ -87,7 +96,7 @@ Laws-asking names asks own hashed laws = record {
   has_written = laws.has_written;
   one_written = λ h. laws.one_written (hashed h);
   malformed_unspelled = laws.malformed_unspelled;
-  names_own = own;
+  names_own = laws.names_own;
   refuses_own = laws.refuses_own;
 }
 

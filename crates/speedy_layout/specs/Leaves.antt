@@ -11,18 +11,19 @@ use Rattle.speedy_base.specs.Digits.{digits}
 use Rattle.speedy_base.specs.DigitsLemmas.{SpellsNumber-digits}
 use Rattle.speedy_base.specs.Encoding.{Encoding}
 use Rattle.speedy_layout.specs.Format.{Format}
-use Rattle.speedy_layout.specs.Laws.{Laws}
-use Rattle.speedy_layout.specs.Codes.{Code, IsCode, ReadsWider, coding, coding_laws, exact_code, exact_is_code, one_kind, subset, subset_laws}
-use Rattle.speedy_layout.specs.Numbers.{unsigned_number, unsigned_number_laws}
+use Rattle.speedy_layout.specs.Laws.{Codec}
+use Rattle.speedy_layout.specs.Codes.{Code, IsCode, ReadsWider, coding_codec, exact_code, exact_is_code, one_kind}
+use Rattle.speedy_layout.specs.Codes.{subset_codec}
+use Rattle.speedy_layout.specs.Numbers.{unsigned_number, unsigned_codec}
 use Rattle.speedy_layout.specs.Sequences.{sequence}
-use Rattle.speedy_layout.specs.Tuples.{pair, pair_laws}
+use Rattle.speedy_layout.specs.Tuples.{pair_codec}
 
 -- characters: four digits, whose number is at most 10FFFF and none of D800 to DFFF
-abbrev pub character : Encoding → Format ℕ
-character encoding = subset encoding InScalarRange kinds.InvalidChar (unsigned_number 4 encoding)
+abbrev pub character_codec : Codec ℕ
+character_codec = subset_codec InScalarRange kinds.InvalidChar tt (unsigned_codec 4)
 
-pub character_laws : (encoding : Encoding) → Laws encoding.strict 4 (character encoding)
-character_laws encoding = subset_laws encoding InScalarRange kinds.InvalidChar tt (unsigned_number_laws 4 encoding)
+abbrev pub character : Encoding → Format ℕ
+character = character_codec.format
 
 -- the number that stands for a byte order
 abbrev pub order_number : Endianness → ℕ
@@ -32,10 +33,6 @@ order_number BigEndian = 1
 abbrev pub order_code : Code ℕ Endianness
 order_code = exact_code (λ n order. n ≡ order_number order) (λ kind. kind ≡ kinds.InvalidEnumVariant)
 
--- byte orders: one byte, which has the number of one
-abbrev pub byte_order : Encoding → Format Endianness
-byte_order encoding = coding encoding order_code (unsigned_number 1 encoding)
-
 one_order : (a b : Endianness) → order_number a ≡ order_number b → a ≡ b
 one_order LittleEndian LittleEndian e = refl
 one_order LittleEndian BigEndian e = absurd (cc)
@@ -44,14 +41,21 @@ one_order BigEndian BigEndian e = refl
 
 pub order_is_code : (encoding : Encoding) → IsCode order_code (unsigned_number 1 encoding)
 order_is_code encoding =
-    exact_is_code (one_kind kinds.InvalidEnumVariant tt) (λ n v w h k. one_order v w (sym h ∙ k)) (λ n m v h k. h ∙ sym k) (unsigned_number_laws 1 encoding)
+    exact_is_code (one_kind kinds.InvalidEnumVariant tt) (λ n v w h k. one_order v w (sym h ∙ k)) (λ n m v h k. h ∙ sym k)
 
-pub byte_order_laws : (encoding : Encoding) → Laws encoding.strict 1 (byte_order encoding)
-byte_order_laws encoding = coding_laws encoding (unsigned_number_laws 1 encoding) (order_is_code encoding)
+-- byte orders: one byte, which has the number of one
+abbrev pub byte_order_codec : Codec Endianness
+byte_order_codec = coding_codec order_code (unsigned_codec 1) order_is_code
+
+abbrev pub byte_order : Encoding → Format Endianness
+byte_order = byte_order_codec.format
 
 -- seconds in eight digits, then nanoseconds in four
+abbrev pub seconds_and_nanos_codec : Codec (ℕ × ℕ)
+seconds_and_nanos_codec = pair_codec (unsigned_codec 8) (unsigned_codec 4)
+
 abbrev pub seconds_and_nanos : Encoding → Format (ℕ × ℕ)
-seconds_and_nanos encoding = pair (unsigned_number 8 encoding) (unsigned_number 4 encoding)
+seconds_and_nanos = seconds_and_nanos_codec.format
 
 -- the seconds and the nanoseconds together, in nanoseconds
 abbrev pub together : ℕ × ℕ → ℕ
@@ -69,9 +73,6 @@ duration_code = record {
 pub duration_reads_wider : ReadsWider duration_code
 duration_reads_wider = record { code = (0, 1_000_000_000); value = 1_000_000_000; meant = (refl, omega arith); not_chosen = λ h. let less = h.2 in omega arith }
 
-abbrev pub duration : Encoding → Format ℕ
-duration encoding = coding encoding duration_code (seconds_and_nanos encoding)
-
 pair_is : (p q : ℕ × ℕ) → p.0 ≡ q.0 → p.1 ≡ q.1 → p ≡ q
 pair_is p q h k = ap₂ (λ (a b : ℕ). let r : ℕ × ℕ = (a, b) in r) h k
 
@@ -82,9 +83,6 @@ twelve encoding p b h =
     let x = h.first_is.width_is in
     let y = h.second_is.width_is in
     omega arith
-
-pub seconds_and_nanos_laws : (encoding : Encoding) → Laws encoding.strict 12 (seconds_and_nanos encoding)
-seconds_and_nanos_laws encoding = pair_laws (unsigned_number_laws 8 encoding) (unsigned_number_laws 4 encoding)
 
 pub duration_is_code : (encoding : Encoding) → IsCode duration_code (seconds_and_nanos encoding)
 unfolding sequence unsigned_number
@@ -115,9 +113,15 @@ duration_is_code encoding = record {
           stands = (omega arith, fits, omega arith);
         },
       );
-  chosen_shortest = λ n b d h k. let l = twelve encoding h.code b h.code_is in let m = twelve encoding k.code d k.code_is in omega arith;
+  chosen_shortest = λ _ n b d h k.
+      let l = twelve encoding h.code b h.code_is in
+      let m = twelve encoding k.code d k.code_is in
+      omega arith;
   refusals_own = one_kind kinds.InvalidSystemTime tt;
 }
 
-pub duration_laws : (encoding : Encoding) → Laws encoding.strict 12 (duration encoding)
-duration_laws encoding = coding_laws encoding (seconds_and_nanos_laws encoding) (duration_is_code encoding)
+abbrev pub duration_codec : Codec ℕ
+duration_codec = coding_codec duration_code seconds_and_nanos_codec duration_is_code
+
+abbrev pub duration : Encoding → Format ℕ
+duration = duration_codec.format

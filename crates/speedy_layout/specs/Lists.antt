@@ -4,7 +4,7 @@ use Rattle.std.proofs.Common.{sym, ◌∙◌, ap, ap₂, subst, inl, inr, arith}
 use Rattle.std.proofs.lemmas.List.{append_assoc, append-nil, length-append}
 use Rattle.speedy_base.specs.Encoding.{Encoding}
 use Rattle.speedy_layout.specs.Format.{Format, Each}
-use Rattle.speedy_layout.specs.Laws.{Laws, Laws-less, Decided}
+use Rattle.speedy_layout.specs.Laws.{Laws, Codec, Laws-less, saturated_size, saturated_laws, Decided}
 use Rattle.speedy_layout.specs.Numbers.{unsigned_number, unsigned_number_laws}
 use Rattle.speedy_layout.specs.Owned.{owned_content, owned_content_laws}
 use Rattle.speedy_layout.specs.Sequences.{AsksAtMost, asks_same, sequence, sequence_laws, across}
@@ -169,16 +169,34 @@ pub vector_asks : {V : Type 0} (F : Format V) (n : ℕ) → AsksAtMost (vector n
 unfolding vector owned_content repeat
 vector_asks F n = asks_same
 
-pub counted_list_laws : {V : Type 0} {strict : Bool} {width least : ℕ} {count : Format ℕ} {F : Format V} → Laws strict width count → Laws strict least F
-    → Laws strict width (counted_list count F)
+pub counted_list_laws : {V : Type 0} {strict : Bool} {width least : ℕ} {count : Format ℕ} {F : Format V}
+    → Laws strict width count → Laws strict least F → Laws strict width (counted_list count F)
 counted_list_laws {V = V} {width = width} {F = F} count laws =
     Laws-less {n = width + 0} (omega arith)
-    (sequence_laws {n = width} {m = 0} count (λ n. Laws-less (omega arith) (vector_laws laws n)) (vector_asks F) (λ v w e. ap (λ (p : ℕ × List V). p.1) e))
+    (sequence_laws {n = width} {m = 0} count (λ n. Laws-less (omega arith) (vector_laws laws n)) (vector_asks F)
+    (λ v w e. ap (λ (p : ℕ × List V). p.1) e))
 
 pub list_laws : {V : Type 0} {least : ℕ} {F : Format V} (encoding : Encoding) → Laws encoding.strict least F
     → Laws encoding.strict 4 (list encoding F)
 unfolding list
 list_laws encoding laws = counted_list_laws (unsigned_number_laws 4 encoding) laws
+
+abbrev pub vector_codec : {V : Type 0} → ℕ → Codec V → Codec (List V)
+vector_codec n item = record {
+  least = saturated_size (n * item.least);
+  format = λ f. vector n (item.format f);
+  laws = λ f. saturated_laws (vector_laws (item.laws f) n);
+}
+
+abbrev pub counted_list_codec : {V : Type 0} → Codec ℕ → Codec V → Codec (List V)
+counted_list_codec count item = record {
+  least = count.least;
+  format = λ f. counted_list (count.format f) (item.format f);
+  laws = λ f. counted_list_laws (count.laws f) (item.laws f);
+}
+
+abbrev pub list_codec : {V : Type 0} → Codec V → Codec (List V)
+list_codec item = record { least = 4; format = λ f. list f (item.format f); laws = λ f. list_laws f (item.laws f) }
 
 -- so many items are spelled
 pub vector_length : {V : Type 0} (n : ℕ) (F : Format V) (vs : List V) (bytes : List ℕ) → (vector n F).spells vs bytes → length vs ≡ n

@@ -1,16 +1,17 @@
 -- Maps: the counted lists of pairs that gather to them. Of a key that is repeated the last value stands.
 use Rattle.std.specs.Prelude.{◌≡◌, ℕ, List, [], ◌∷◌, Bool, true, false, Option, Some, None, ◌↔◌, refl}
 use Rattle.std.specs.Map.{keys_of}
+use Rattle.std.specs.declared.cmp.Ordering.{Ordering}
 use Rattle.std.proofs.Common.{sym, ◌∙◌, ap, subst, inl, inr}
 use Rattle.speedy_base.specs.Encoding.{Encoding}
 use Rattle.speedy_layout.specs.Format.{Format, Each}
-use Rattle.speedy_layout.specs.Laws.{Laws, Decided}
+use Rattle.speedy_layout.specs.Laws.{Laws, Codec, Decided}
 use Rattle.speedy_layout.specs.Sequences.{sequence}
-use Rattle.speedy_layout.specs.Tuples.{pair, pair_laws}
+use Rattle.speedy_layout.specs.Tuples.{pair, pair_codec}
 use Rattle.speedy_layout.specs.Members.{IsIn, AreDistinct, Ascends, IsLast, InFirstOrder, IsIn-key, IsIn-pair, IsLast-in, IsIn-last, AreDistinct-keys, same_by_keys}
 use Rattle.speedy_layout.specs.Orders.{IsAsymmetric, same_ascending, own_first_order, same_first_order}
-use Rattle.speedy_layout.specs.SeenItems.{AreSeen}
-use Rattle.speedy_layout.specs.Gathering.{IsGathering, HasForms, gathered, gathered_laws}
+use Rattle.speedy_layout.specs.SeenItems.{AreSeen, less_is_asymmetric}
+use Rattle.speedy_layout.specs.Gathering.{IsGathering, HasForms, gathered, gathered_codec}
 
 -- what is seen of a pair
 abbrev pub seen_pair : {K V A B : Type 0} → (K → A) → (V → B) → K × V → A × B
@@ -218,7 +219,7 @@ module _ {K A V : Type 0} {seen : K → A} where
         (λ v. (finds_more xs ys f g e h k there x v, finds_more ys xs g f d k h back x v)) i;
   }
 
-  hash_map_forms : {strict : Bool} {n : ℕ} {L : Format A} (M : Format V) → Laws strict n L
+  pub hash_map_forms : {strict : Bool} {n : ℕ} {L : Format A} (M : Format V) → Laws strict n L
       → HasForms (pair L M) (GathersToHashMap {V = V} seen) HasDistinctKeys
   hash_map_forms M laws items bytes f spelled h =
       let kept = lasts M laws items bytes spelled in (
@@ -235,14 +236,16 @@ module _ {K A V : Type 0} {seen : K → A} where
         kept.1,
       )
 
-module _ {K V : Type 0} {n m : ℕ} {L : Format K} {M : Format V} (encoding : Encoding) (laws : Laws encoding.strict n L) (more : Laws encoding.strict m M) where
-  pub tree_map_laws : {less : K → K → Type 0} → IsAsymmetric less → Laws encoding.strict 4 (tree_map encoding less L M)
-  tree_map_laws order = gathered_laws encoding (pair_laws laws more) (tree_map_is order)
-      (λ items bytes es spelled h. (es, own_tree_map order es h.0, h.0))
+-- of keys that are seen so, and compared so
+abbrev pub tree_map_codec : {K A B : Type 0} → (K → A) → (K → K → Ordering) → Codec A → Codec B → Codec (List (A × B))
+tree_map_codec seen cmp key value =
+    gathered_codec false (tree_map_is (less_is_asymmetric seen cmp)) (pair_codec key value)
+    (λ f items bytes es spelled h. (es, own_tree_map (less_is_asymmetric seen cmp) es h.0, h.0))
 
-  pub hash_map_laws : {J : Type 0} (seen : J → K) → Laws encoding.strict 4 (hash_map encoding seen L M)
-  hash_map_laws seen = gathered_laws encoding (pair_laws laws more) hash_map_is (hash_map_forms M laws)
+abbrev pub hash_map_codec : {K A B : Type 0} → (K → A) → Codec A → Codec B → Codec (K → Option B)
+hash_map_codec seen key value =
+    gathered_codec true (hash_map_is {seen = seen}) (pair_codec key value) (λ f. hash_map_forms (value.format f) (key.laws f))
 
-  pub index_map_laws : Laws encoding.strict 4 (index_map encoding L M)
-  index_map_laws = gathered_laws encoding (pair_laws laws more) index_map_is
-      (λ items bytes es spelled h. (es, own_index_map es h.0, h.0))
+abbrev pub index_map_codec : {A B : Type 0} → Codec A → Codec B → Codec (List (A × B))
+index_map_codec key value =
+    gathered_codec false index_map_is (pair_codec key value) (λ f items bytes es spelled h. (es, own_index_map es h.0, h.0))

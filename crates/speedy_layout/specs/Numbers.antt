@@ -10,8 +10,8 @@ use Rattle.speedy_base.specs.Encoding.{Encoding}
 use Rattle.speedy_base.specs.Signed.{SpellsSigned}
 use Rattle.speedy_base.specs.SignedLemmas.{SpellsSigned-same_value}
 use Rattle.speedy_layout.specs.Format.{Format, plain_format}
-use Rattle.speedy_layout.specs.Laws.{Laws, plain_laws}
-use Rattle.speedy_layout.specs.Codes.{subset, subset_laws}
+use Rattle.speedy_layout.specs.Laws.{Laws, Codec, plain_laws}
+use Rattle.speedy_layout.specs.Codes.{subset_codec}
 
 -- numbers of so many bytes
 unfoldable pub unsigned_number : ℕ → Encoding → Format ℕ
@@ -24,14 +24,6 @@ signed_number w encoding = plain_format (SpellsSigned w encoding.order)
 -- the number is at most `usize::MAX`
 abbrev pub FitsUsize : ℕ → Type 0
 FitsUsize n = n ≤ 2 ^ 64 - 1
-
--- numbers of eight digits that a `usize` holds
-abbrev pub usize_number : Encoding → Format ℕ
-usize_number encoding = subset encoding FitsUsize kinds.OutOfRangeUsize (unsigned_number 8 encoding)
-
--- numbers of so many digits that are at most so great; greater ones are refused as lengths
-abbrev pub length_number : ℕ → ℕ → Encoding → Format ℕ
-length_number width greatest encoding = subset encoding (λ n. n ≤ greatest) kinds.OutOfRangeLength (unsigned_number width encoding)
 
 -- fronts of one length are one front
 pub same_fronts : (s t r q : List ℕ) → length s ≡ length t → s ++ r ≡ t ++ q → (s ≡ t) × (r ≡ q)
@@ -62,8 +54,22 @@ signed_number_laws w encoding =
     (λ z b h. laws.least_size (cast_unsigned w z) b h.digits)
     (λ z b c h k. SpellsNumber-same_bytes (byte_len w) encoding.order (cast_unsigned w z) b c h.digits k.digits)
 
-pub usize_number_laws : (encoding : Encoding) → Laws encoding.strict 8 (usize_number encoding)
-usize_number_laws encoding = subset_laws encoding FitsUsize kinds.OutOfRangeUsize tt (unsigned_number_laws 8 encoding)
+abbrev pub unsigned_codec : ℕ → Codec ℕ
+unsigned_codec width = record { least = width; format = unsigned_number width; laws = unsigned_number_laws width }
 
-pub length_number_laws : (width greatest : ℕ) (encoding : Encoding) → Laws encoding.strict width (length_number width greatest encoding)
-length_number_laws width greatest encoding = subset_laws encoding (λ n. n ≤ greatest) kinds.OutOfRangeLength tt (unsigned_number_laws width encoding)
+abbrev pub signed_codec : Width → Codec ℤ
+signed_codec w = record { least = byte_len w; format = signed_number w; laws = signed_number_laws w }
+
+-- numbers of eight digits that a `usize` holds
+abbrev pub usize_codec : Codec ℕ
+usize_codec = subset_codec FitsUsize kinds.OutOfRangeUsize tt (unsigned_codec 8)
+
+abbrev pub usize_number : Encoding → Format ℕ
+usize_number = usize_codec.format
+
+-- numbers of so many digits that are at most so great; greater ones are refused as lengths
+abbrev pub length_codec : ℕ → ℕ → Codec ℕ
+length_codec width greatest = subset_codec (λ n. n ≤ greatest) kinds.OutOfRangeLength tt (unsigned_codec width)
+
+abbrev pub length_number : ℕ → ℕ → Encoding → Format ℕ
+length_number width greatest = (length_codec width greatest).format

@@ -4,6 +4,7 @@ use Rattle.std.specs.Prelude.{◌≡◌, ℕ, refl}
 use Rattle.std.proofs.Common.{inl, inr}
 use Rattle.speedy_layout.specs.Cases.{Cases, case, no_case, Chosen, tagged, tagged_laws, IsChoice, AnyCase, any_case, choice, case_laws, no_case_laws}
 use Rattle.speedy_layout.specs.EachEncoding.{FormatOf, LawsOf}
+use Rattle.speedy_layout.specs.Laws.{Codec}
 use Rattle.speedy_layout.specs.declared.one_of.OneOf2.{OneOf2}
 use Rattle.speedy_layout.specs.declared.one_of.OneOf3.{OneOf3}
 use Rattle.speedy_layout.specs.declared.one_of.OneOf4.{OneOf4}
@@ -305,3 +306,55 @@ module _ {T0 T1 T2 T3 T4 T5 T6 T7 : Type 0} (F0 : FormatOf T0) (F1 : FormatOf T1
 pub one_of8_laws : {T0 T1 T2 T3 T4 T5 T6 T7 : Type 0} {n0 n1 n2 n3 n4 n5 n6 n7 : ℕ} {F0 : FormatOf T0} {F1 : FormatOf T1} {F2 : FormatOf T2} {F3 : FormatOf T3} {F4 : FormatOf T4} {F5 : FormatOf T5} {F6 : FormatOf T6} {F7 : FormatOf T7}
     → LawsOf n0 F0 → LawsOf n1 F1 → LawsOf n2 F2 → LawsOf n3 F3 → LawsOf n4 F4 → LawsOf n5 F5 → LawsOf n6 F6 → LawsOf n7 F7 → LawsOf 4 (one_of8 F0 F1 F2 F3 F4 F5 F6 F7)
 one_of8_laws l0 l1 l2 l3 l4 l5 l6 l7 = tagged_laws (choice8 _ _ _ _ _ _ _ _ l0 l1 l2 l3 l4 l5 l6 l7)
+
+-- ---- codecs
+
+abbrev pub one_of2_codec : {T0 T1 : Type 0} → Codec T0 → Codec T1 → Codec (OneOf2 T0 T1)
+one_of2_codec c0 c1 = record { least = 4; format = one_of2 c0.format c1.format; laws = one_of2_laws c0.laws c1.laws }
+
+abbrev pub one_of3_codec : {T0 T1 T2 : Type 0} → Codec T0 → Codec T1 → Codec T2 → Codec (OneOf3 T0 T1 T2)
+one_of3_codec c0 c1 c2 = record {
+  least = 4;
+  format = one_of3 c0.format c1.format c2.format;
+  laws = one_of3_laws c0.laws c1.laws c2.laws;
+}
+
+abbrev pub one_of4_codec : {T0 T1 T2 T3 : Type 0} → Codec T0 → Codec T1 → Codec T2 → Codec T3
+    → Codec (OneOf4 T0 T1 T2 T3)
+one_of4_codec c0 c1 c2 c3 = record {
+  least = 4;
+  format = one_of4 c0.format c1.format c2.format c3.format;
+  laws = one_of4_laws c0.laws c1.laws c2.laws c3.laws;
+}
+
+abbrev pub one_of5_codec : {T0 T1 T2 T3 T4 : Type 0} → Codec T0 → Codec T1 → Codec T2 → Codec T3 → Codec T4
+    → Codec (OneOf5 T0 T1 T2 T3 T4)
+one_of5_codec c0 c1 c2 c3 c4 = record {
+  least = 4;
+  format = one_of5 c0.format c1.format c2.format c3.format c4.format;
+  laws = one_of5_laws c0.laws c1.laws c2.laws c3.laws c4.laws;
+}
+
+abbrev pub one_of6_codec : {T0 T1 T2 T3 T4 T5 : Type 0} → Codec T0 → Codec T1 → Codec T2 → Codec T3 → Codec T4
+    → Codec T5 → Codec (OneOf6 T0 T1 T2 T3 T4 T5)
+one_of6_codec c0 c1 c2 c3 c4 c5 = record {
+  least = 4;
+  format = one_of6 c0.format c1.format c2.format c3.format c4.format c5.format;
+  laws = one_of6_laws c0.laws c1.laws c2.laws c3.laws c4.laws c5.laws;
+}
+
+abbrev pub one_of7_codec : {T0 T1 T2 T3 T4 T5 T6 : Type 0} → Codec T0 → Codec T1 → Codec T2 → Codec T3 → Codec T4
+    → Codec T5 → Codec T6 → Codec (OneOf7 T0 T1 T2 T3 T4 T5 T6)
+one_of7_codec c0 c1 c2 c3 c4 c5 c6 = record {
+  least = 4;
+  format = one_of7 c0.format c1.format c2.format c3.format c4.format c5.format c6.format;
+  laws = one_of7_laws c0.laws c1.laws c2.laws c3.laws c4.laws c5.laws c6.laws;
+}
+
+abbrev pub one_of8_codec : {T0 T1 T2 T3 T4 T5 T6 T7 : Type 0} → Codec T0 → Codec T1 → Codec T2 → Codec T3 → Codec T4
+    → Codec T5 → Codec T6 → Codec T7 → Codec (OneOf8 T0 T1 T2 T3 T4 T5 T6 T7)
+one_of8_codec c0 c1 c2 c3 c4 c5 c6 c7 = record {
+  least = 4;
+  format = one_of8 c0.format c1.format c2.format c3.format c4.format c5.format c6.format c7.format;
+  laws = one_of8_laws c0.laws c1.laws c2.laws c3.laws c4.laws c5.laws c6.laws c7.laws;
+}

@@ -1,14 +1,15 @@
 -- Sets: the counted lists of items that gather to them. An item may be repeated.
 use Rattle.std.specs.Prelude.{◌≡◌, ℕ, List, [], ◌∷◌, Bool, true, false, IsTrue, ◌↔◌, refl}
 use Rattle.std.proofs.Common.{sym, ◌∙◌, subst, inl, inr}
+use Rattle.std.specs.declared.cmp.Ordering.{Ordering}
 use Rattle.speedy_base.specs.Encoding.{Encoding}
 use Rattle.speedy_layout.specs.Format.{Format, Each}
-use Rattle.speedy_layout.specs.Laws.{Laws}
+use Rattle.speedy_layout.specs.Laws.{Laws, Codec}
 use Rattle.speedy_layout.specs.Members.{IsIn, AreDistinct, Ascends, InFirstOrder}
 use Rattle.speedy_layout.specs.Orders.{IsAsymmetric, Ascends-distinct, same_ascending, own_first_order}
 use Rattle.speedy_layout.specs.Orders.{same_first_order}
-use Rattle.speedy_layout.specs.Gathering.{IsGathering, HasForms, gathered, gathered_laws, in_decided}
-use Rattle.speedy_layout.specs.SeenItems.{AreSeen}
+use Rattle.speedy_layout.specs.Gathering.{IsGathering, HasForms, gathered, gathered_codec, in_decided}
+use Rattle.speedy_layout.specs.SeenItems.{AreSeen, IsLess, less_is_asymmetric}
 
 -- the two lists have the same items
 abbrev pub HasItems : {T : Type 0} → List T → List T → Type 0
@@ -122,7 +123,7 @@ module _ {T A : Type 0} {seen : T → A} where
         (λ s. (k.1 x).1 (there (seen x) ((h.1 x).0 s)), λ s. (h.1 x).1 (back (seen x) ((k.1 x).0 s))) i;
   }
 
-  hash_set_forms : {strict : Bool} {n : ℕ} {L : Format A} → Laws strict n L
+  pub hash_set_forms : {strict : Bool} {n : ℕ} {L : Format A} → Laws strict n L
       → HasForms L (GathersToHashSet seen) AreDistinct
   hash_set_forms laws items bytes f spelled h =
       let kept = once laws items bytes spelled in (
@@ -134,14 +135,15 @@ module _ {T A : Type 0} {seen : T → A} where
         kept.1,
       )
 
-module _ {A : Type 0} {n : ℕ} {L : Format A} (encoding : Encoding) (laws : Laws encoding.strict n L) where
-  pub tree_set_laws : {less : A → A → Type 0} → IsAsymmetric less → Laws encoding.strict 4 (tree_set encoding less L)
-  tree_set_laws {less = less} order =
-      gathered_laws encoding laws (tree_set_is order) (λ items bytes xs spelled h. (xs, own_tree_set less xs h.0, h.0))
+-- of items that are seen so, and compared so
+abbrev pub tree_set_codec : {T A : Type 0} → (T → A) → (T → T → Ordering) → Codec A → Codec (List A)
+tree_set_codec seen cmp item =
+    gathered_codec false (tree_set_is (less_is_asymmetric seen cmp)) item
+    (λ f items bytes xs spelled h. (xs, own_tree_set (IsLess seen cmp) xs h.0, h.0))
 
-  pub hash_set_laws : {T : Type 0} (seen : T → A) → Laws encoding.strict 4 (hash_set encoding seen L)
-  hash_set_laws seen = gathered_laws encoding laws hash_set_is (hash_set_forms laws)
+abbrev pub hash_set_codec : {T A : Type 0} → (T → A) → Codec A → Codec (T → Bool)
+hash_set_codec seen item = gathered_codec true (hash_set_is {seen = seen}) item (λ f. hash_set_forms (item.laws f))
 
-  pub index_set_laws : Laws encoding.strict 4 (index_set encoding L)
-  index_set_laws = gathered_laws encoding laws index_set_is
-      (λ items bytes xs spelled h. (xs, own_index_set xs h.0, h.0))
+abbrev pub index_set_codec : {A : Type 0} → Codec A → Codec (List A)
+index_set_codec item =
+    gathered_codec false index_set_is item (λ f items bytes xs spelled h. (xs, own_index_set xs h.0, h.0))

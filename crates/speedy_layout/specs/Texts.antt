@@ -9,10 +9,10 @@ use Rattle.speedy_base.specs.Digits.{SpellsNumber, AreBytes}
 use Rattle.speedy_base.specs.DigitsLemmas.{SpellsNumber-one_byte, SpellsNumber-is_one_byte}
 use Rattle.speedy_base.specs.Encoding.{Encoding}
 use Rattle.speedy_layout.specs.Format.{asks_nothing, Format, plain_format, Each, IsOwnKind}
-use Rattle.speedy_layout.specs.Laws.{Laws, Laws-less, plain_laws}
-use Rattle.speedy_layout.specs.Codes.{subset, subset_laws, coding, coding_laws, exact_code, exact_is_code}
-use Rattle.speedy_layout.specs.Numbers.{unsigned_number, unsigned_number_laws, same_fronts}
-use Rattle.speedy_layout.specs.Owned.{owned_content, owned_content_laws}
+use Rattle.speedy_layout.specs.Laws.{Laws, Codec, Laws-less, plain_laws}
+use Rattle.speedy_layout.specs.Codes.{subset, subset_codec, coding, coding_laws, exact_code, exact_is_code}
+use Rattle.speedy_layout.specs.Numbers.{unsigned_number, unsigned_codec, same_fronts}
+use Rattle.speedy_layout.specs.Owned.{owned_content, owned_codec}
 use Rattle.speedy_layout.specs.Sequences.{AsksAtMost, asks_same, sequence, sequence_laws}
 
 -- so many bytes, as they are
@@ -56,32 +56,50 @@ raw_bytes_laws n =
     (λ v b h. let l = h.1 in omega arith)
     (λ v b c h k. sym h.0 ∙ k.0)
 
+abbrev pub raw_bytes_codec : ℕ → Codec (List ℕ)
+raw_bytes_codec n = record { least = n; format = λ _. raw_bytes n; laws = λ _. raw_bytes_laws n }
+
 expected_own : (constant : List ℕ) (kind : ErrorKind) → IsExpected constant kind → IsOwnKind kind
 expected_own constant (kinds.ExpectedConstant c) h = tt
 expected_own constant _ h = absurd h
 
-pub constant_bytes_laws : (encoding : Encoding) (constant : List ℕ) → Laws encoding.strict (length constant) (constant_bytes encoding constant)
+pub constant_bytes_laws : (encoding : Encoding) (constant : List ℕ)
+    → Laws encoding.strict (length constant) (constant_bytes encoding constant)
 unfolding constant_bytes
 constant_bytes_laws encoding constant =
-    let laws = raw_bytes_laws (length constant) in
-    coding_laws encoding laws (exact_is_code (expected_own constant) (λ u v w h k. sym h.0 ∙ k.0) (λ u w v h k. h.0 ∙ sym k.0) laws)
+    coding_laws encoding (raw_bytes_laws (length constant))
+    (exact_is_code (expected_own constant) (λ u v w h k. sym h.0 ∙ k.0) (λ u w v h k. h.0 ∙ sym k.0))
+
+abbrev pub constant_codec : List ℕ → Codec (List ℕ)
+constant_codec bytes = record {
+  least = length bytes;
+  format = λ f. constant_bytes f bytes;
+  laws = λ f. constant_bytes_laws f bytes;
+}
 
 pub text_of_length_laws : (encoding : Encoding) (n : ℕ) → Laws encoding.strict n (text_of_length encoding n)
 unfolding text_of_length
-text_of_length_laws encoding n = owned_content_laws (subset_laws encoding IsUtf8 kinds.InvalidUtf8 tt (raw_bytes_laws n))
+text_of_length_laws encoding n = (owned_codec (subset_codec IsUtf8 kinds.InvalidUtf8 tt (raw_bytes_codec n))).laws encoding
 
 pub text_asks : (encoding : Encoding) (n : ℕ) → AsksAtMost (text_of_length encoding n).asks (record asks_nothing { memory = true })
 unfolding text_of_length owned_content coding raw_bytes
 text_asks encoding n = asks_same
 
-pub counted_text_laws : (encoding : Encoding) {width : ℕ} {count : Format ℕ} → Laws encoding.strict width count → Laws encoding.strict width (counted_text encoding count)
-counted_text_laws encoding {width = width} count =
-    Laws-less {n = width + 0} (omega arith)
-    (sequence_laws {n = width} {m = 0} count (λ n. Laws-less (omega arith) (text_of_length_laws encoding n)) (text_asks encoding) (λ v w e. ap (λ (p : ℕ × List ℕ). p.1) e))
+abbrev pub counted_text_codec : Codec ℕ → Codec (List ℕ)
+counted_text_codec count = record {
+  least = count.least;
+  format = λ f. counted_text f (count.format f);
+  laws = λ f. Laws-less {n = count.least + 0} (omega arith)
+      (sequence_laws {n = count.least} {m = 0} (count.laws f) (λ n. Laws-less (omega arith) (text_of_length_laws f n))
+      (text_asks f) (λ v w e. ap (λ (p : ℕ × List ℕ). p.1) e));
+}
 
 pub text_laws : (encoding : Encoding) → Laws encoding.strict 4 (text encoding)
 unfolding text
-text_laws encoding = counted_text_laws encoding (unsigned_number_laws 4 encoding)
+text_laws = (counted_text_codec (unsigned_codec 4)).laws
+
+abbrev pub text_codec : Codec (List ℕ)
+text_codec = record { least = 4; format = text; laws = text_laws }
 
 -- ---- bytes as numbers
 

@@ -1,8 +1,8 @@
 -- No bytes, and two values one after the other. A tuple of more parts is a pair of its first one and the tuple of the others.
-use Rattle.std.specs.Prelude.{◌≡◌, ℕ, ◌+◌, [], ◌++◌, refl, Bool}
+use Rattle.std.specs.Prelude.{◌≡◌, ◌+◌, [], ◌++◌, refl, Bool}
 use Rattle.std.proofs.Common.{sym, ◌∙◌, ap, arith}
 use Rattle.speedy_layout.specs.Format.{Format, plain_format}
-use Rattle.speedy_layout.specs.Laws.{Laws, plain_laws, saturated_size, saturated_laws}
+use Rattle.speedy_layout.specs.Laws.{Laws, Codec, plain_laws, saturated_size, saturated_laws}
 use Rattle.speedy_layout.specs.Sequences.{sequence, sequence_laws, asks_same}
 
 -- no bytes
@@ -17,10 +17,16 @@ unit_laws =
     (λ v b h. omega arith)
     (λ v b c h k. h ∙ sym k)
 
+abbrev pub unit_codec : Codec (Unit {0})
+unit_codec = record { least = 0; format = λ _. unit; laws = λ _. unit_laws }
+
 -- two values, one after the other
 abbrev pub pair : {U W : Type 0} → Format U → Format W → Format (U × W)
 pair L M = sequence (λ p. p) L M.asks (λ _. M)
 
-pub pair_laws : {U W : Type 0} {strict : Bool} {n m : ℕ} {L : Format U} {M : Format W} → Laws strict n L → Laws strict m M
-    → Laws strict (saturated_size (n + m)) (pair L M)
-pair_laws laws more = saturated_laws (sequence_laws laws (λ _. more) (λ _. asks_same) (λ v w e. e))
+abbrev pub pair_codec : {U W : Type 0} → Codec U → Codec W → Codec (U × W)
+pair_codec first second = record {
+  least = saturated_size (first.least + second.least);
+  format = λ f. pair (first.format f) (second.format f);
+  laws = λ f. saturated_laws (sequence_laws (first.laws f) (λ _. second.laws f) (λ _. asks_same) (λ v w e. e));
+}

@@ -11,9 +11,10 @@ use Rattle.speedy_base.specs.Digits.{SpellsNumber, digits}
 use Rattle.speedy_base.specs.DigitsLemmas.{SpellsNumber-below, SpellsNumber-digits, SpellsNumber-one_byte, SpellsNumber-is_one_byte}
 use Rattle.speedy_base.specs.Encoding.{Encoding}
 use Rattle.speedy_layout.specs.Format.{asks_nothing, Format}
-use Rattle.speedy_layout.specs.Laws.{Laws, Laws-less}
-use Rattle.speedy_layout.specs.Codes.{Code, IsCode, coding, coding_laws, exact_code, exact_is_code, Accepts-exact_means, Accepts-is}
-use Rattle.speedy_layout.specs.Numbers.{unsigned_number, unsigned_number_laws}
+use Rattle.speedy_layout.specs.Laws.{Laws, Codec, Laws-less}
+use Rattle.speedy_layout.specs.Codes.{Code, IsCode, coding, coding_codec, exact_code, exact_is_code, Accepts-exact_means}
+use Rattle.speedy_layout.specs.Codes.{Accepts-is}
+use Rattle.speedy_layout.specs.Numbers.{unsigned_number, unsigned_number_laws, unsigned_codec}
 use Rattle.speedy_layout.specs.Sequences.{AsksAtMost, asks_same, sequence, sequence_laws}
 
 -- a first byte: so many leading one bits, and a low part below the first zero bit, which is 0 where no bit is left for it
@@ -26,16 +27,9 @@ pub record IsFirstByte (ones low byte : ℕ) : Type 0 where
 abbrev pub first_byte_code : Code ℕ (ℕ × ℕ)
 first_byte_code = exact_code (λ byte p. IsFirstByte p.0 p.1 byte) (λ kind. ⊥)
 
-abbrev pub first_byte : Encoding → Format (ℕ × ℕ)
-first_byte encoding = coding encoding first_byte_code (unsigned_number 1 encoding)
-
 -- the same with digits least first
 abbrev pub low_first : Encoding → Encoding
 low_first encoding = record encoding { order = LittleEndian }
-
--- a first byte, and after it as many digits as it has leading ones, least first
-abbrev pub prefixed_digits : Encoding → Format ((ℕ × ℕ) × ℕ)
-prefixed_digits encoding = sequence (λ p. p) (first_byte encoding) asks_nothing (λ p. unsigned_number p.0 (low_first encoding))
 
 -- no fewer bytes after the first one hold the number: j of them, up to 7, hold what is below 2 ^ (7 * (j + 1))
 abbrev pub HasNoShorter : ℕ → ℕ → Type 0
@@ -62,10 +56,6 @@ pub record VarintParts (first : ℕ) (tail : List ℕ) (n : ℕ) : Type 0 where
   pub first_is : IsFirstByte (length tail) low first
   pub tail_is : SpellsNumber (length tail) LittleEndian rest tail
   pub value_is : n ≡ low * 256 ^ length tail + rest
-
--- numbers of a variable length
-unfoldable pub varint : Encoding → Format ℕ
-varint encoding = coding encoding varint_code (prefixed_digits encoding)
 
 -- a first byte after which so many bytes follow
 abbrev pub StartsVarint : ℕ → ℕ → Type 0
@@ -185,27 +175,38 @@ one_first_byte byte p q h g =
     let lows : p.1 ≡ q.1 = IsFirstByte-same_low p.0 p.1 q.1 byte h (subst (λ (k : ℕ). IsFirstByte k q.1 byte) ones g) in
     ap₂ (λ (a b : ℕ). let r : ℕ × ℕ = (a, b) in r) (sym ones) lows
 
-pub first_byte_laws : (encoding : Encoding) → Laws encoding.strict 1 (first_byte encoding)
-first_byte_laws encoding =
-    coding_laws encoding (unsigned_number_laws 1 encoding)
-    (exact_is_code (λ kind h. absurd h) one_first_byte (λ a b p h k. h.byte_is ∙ sym k.byte_is) (unsigned_number_laws 1 encoding))
+pub first_byte_is_code : {F : Format ℕ} → IsCode first_byte_code F
+first_byte_is_code =
+    exact_is_code (λ kind h. absurd h) one_first_byte (λ a b p h k. h.byte_is ∙ sym k.byte_is)
+
+abbrev pub first_byte : Codec (ℕ × ℕ)
+first_byte = coding_codec first_byte_code (unsigned_codec 1) (λ _. first_byte_is_code)
 
 pub prefixed_asks : (encoding : Encoding) (p : ℕ × ℕ) → AsksAtMost (unsigned_number p.0 (low_first encoding)).asks asks_nothing
 unfolding unsigned_number
 prefixed_asks encoding p = asks_same
 
-pub prefixed_digits_laws : (encoding : Encoding) → Laws encoding.strict 1 (prefixed_digits encoding)
-prefixed_digits_laws encoding =
-    sequence_laws {n = 1} {m = 0} (first_byte_laws encoding) (λ p. Laws-less (omega arith) (unsigned_number_laws p.0 (low_first encoding))) (prefixed_asks encoding) (λ v w e. e)
+-- a first byte, and after it as many digits as it has leading ones, least first
+abbrev pub prefixed_digits : Codec ((ℕ × ℕ) × ℕ)
+prefixed_digits = record {
+  least = 1;
+  format = λ f. sequence (λ p. p) (first_byte.format f) asks_nothing (λ p. unsigned_number p.0 (low_first f));
+  laws = λ f. sequence_laws {n = 1} {m = 0} (first_byte.laws f)
+      (λ p. Laws-less (omega arith) (unsigned_number_laws p.0 (low_first f))) (prefixed_asks f) (λ v w e. e);
+}
+
+-- numbers of a variable length
+unfoldable pub varint : Encoding → Format ℕ
+varint encoding = coding encoding varint_code (prefixed_digits.format encoding)
 
 -- no part of it is hashed
-prefixed_unhashed : (encoding : Encoding) → (prefixed_digits encoding).asks.hashed ≡ false
+prefixed_unhashed : (encoding : Encoding) → (prefixed_digits.format encoding).asks.hashed ≡ false
 unfolding sequence coding unsigned_number
 prefixed_unhashed encoding = refl
 
 -- a first byte and its digits, as they are written
 pub prefixed_written : (encoding : Encoding) (k low rest first : ℕ) (tail : List ℕ) → IsFirstByte k low first
-    → SpellsNumber k LittleEndian rest tail → (prefixed_digits encoding).writes ((k, low), rest) (first ∷ tail)
+    → SpellsNumber k LittleEndian rest tail → (prefixed_digits.format encoding).writes ((k, low), rest) (first ∷ tail)
 unfolding sequence coding unsigned_number
 prefixed_written encoding k low rest first tail h digits = record {
   front = first ∷ [];
@@ -217,8 +218,10 @@ prefixed_written encoding k low rest first tail h digits = record {
 
 -- and as they are read
 pub prefixed-spelled : (encoding : Encoding) (k low rest first : ℕ) (tail : List ℕ) → IsFirstByte k low first
-    → SpellsNumber k LittleEndian rest tail → (prefixed_digits encoding).spells ((k, low), rest) (first ∷ tail)
-prefixed-spelled encoding k low rest first tail h digits = (prefixed_digits_laws encoding).written_spells ((k, low), rest) (first ∷ tail) (prefixed_written encoding k low rest first tail h digits)
+    → SpellsNumber k LittleEndian rest tail → (prefixed_digits.format encoding).spells ((k, low), rest) (first ∷ tail)
+prefixed-spelled encoding k low rest first tail h digits =
+    (prefixed_digits.laws encoding).written_spells ((k, low), rest) (first ∷ tail)
+    (prefixed_written encoding k low rest first tail h digits)
 
 -- what a spelling says of its code
 pub record IsPrefixed (p : (ℕ × ℕ) × ℕ) (bytes : List ℕ) : Type 0 where
@@ -229,7 +232,7 @@ pub record IsPrefixed (p : (ℕ × ℕ) × ℕ) (bytes : List ℕ) : Type 0 wher
   pub first_is : IsFirstByte p.0.0 p.0.1 first
   pub holds : p.0.1 * 256 ^ p.0.0 + p.1 < 2 ^ (7 - p.0.0) * 256 ^ p.0.0
 
-pub prefixed-is : (encoding : Encoding) (p : (ℕ × ℕ) × ℕ) (bytes : List ℕ) → (prefixed_digits encoding).spells p bytes → IsPrefixed p bytes
+pub prefixed-is : (encoding : Encoding) (p : (ℕ × ℕ) × ℕ) (bytes : List ℕ) → (prefixed_digits.format encoding).spells p bytes → IsPrefixed p bytes
 unfolding sequence coding unsigned_number
 prefixed-is encoding p bytes h =
     let first = h.first_is in
@@ -255,7 +258,7 @@ code_of n k = ((k, n / 256 ^ k), n % 256 ^ k)
 chosen_is : (p : (ℕ × ℕ) × ℕ) (n : ℕ) → varint_code.chosen p n → p ≡ code_of n p.0.0
 chosen_is p n h = ap₂ (λ (a b : ℕ). let r : (ℕ × ℕ) × ℕ = ((p.0.0, a), b) in r) h.1 h.2
 
-pub varint_is_code : (encoding : Encoding) → IsCode varint_code (prefixed_digits encoding)
+pub varint_is_code : (encoding : Encoding) → IsCode varint_code (prefixed_digits.format encoding)
 varint_is_code encoding = record {
   one_meaning = λ p n m h k. h ∙ sym k;
   one_chosen = λ _ p q n h k.
@@ -279,8 +282,8 @@ varint_is_code encoding = record {
           stands = (f.1, refl, refl);
         },
       );
-  chosen_shortest = λ n b d h k.
-      let own = prefixed-is encoding h.code b ((prefixed_digits_laws encoding).written_spells h.code b h.code_is) in
+  chosen_shortest = λ _ n b d h k.
+      let own = prefixed-is encoding h.code b ((prefixed_digits.laws encoding).written_spells h.code b h.code_is) in
       let other = prefixed-is encoding k.code d k.code_is in
       let below : n < 2 ^ (7 - k.code.0.0) * 256 ^ k.code.0.0 = let e = k.stands in let l = other.holds in omega arith in
       let fewest = IsFewest-least h.code.0.0 k.code.0.0 n h.stands.0 below in
@@ -294,7 +297,10 @@ varint_is_code encoding = record {
 
 pub varint_laws : (encoding : Encoding) → Laws encoding.strict 1 (varint encoding)
 unfolding varint
-varint_laws encoding = coding_laws encoding (prefixed_digits_laws encoding) (varint_is_code encoding)
+varint_laws = (coding_codec varint_code prefixed_digits varint_is_code).laws
+
+abbrev pub varint_codec : Codec ℕ
+varint_codec = record { least = 1; format = varint; laws = varint_laws }
 
 -- ---- for readers
 
