@@ -9,17 +9,12 @@ use Rattle.speedy_layout.specs.Lists.{list, list_laws}
 use Rattle.speedy_layout.specs.Gathering.{IsGathering, gathering, items_of, gathered, hashed_items, form_spelled}
 use Rattle.speedy_layout.specs.Gathering.{form_shortest}
 
-pub items_of_spells : {E : Type 0} (hashed : Bool) (encoding : Encoding) (L : Format E)
-    → (items_of hashed encoding L).spells ≡ (list encoding L).spells
+items_of_list : {E : Type 0} (hashed : Bool) (encoding : Encoding) (L : Format E)
+    → ((items_of hashed encoding L).spells ≡ (list encoding L).spells)
+    × ((items_of hashed encoding L).writes ≡ (list encoding L).writes)
 unfolding hashed_items
-items_of_spells false encoding L = refl
-items_of_spells true encoding L = refl
-
-pub items_of_writes : {E : Type 0} (hashed : Bool) (encoding : Encoding) (L : Format E)
-    → (items_of hashed encoding L).writes ≡ (list encoding L).writes
-unfolding hashed_items
-items_of_writes false encoding L = refl
-items_of_writes true encoding L = refl
+items_of_list false encoding L = (refl, refl)
+items_of_list true encoding L = (refl, refl)
 
 module _ {E S : Type 0} (hashed : Bool) (encoding : Encoding) (stands : List E → S → Type 0) (written : List E → Type 0) (L : Format E) where
   -- what is spelled is read from a list that stands for it and that is written, under a demand
@@ -28,7 +23,7 @@ module _ {E S : Type 0} (hashed : Bool) (encoding : Encoding) (stands : List E �
   unfolding coding
   gathered_spelled s bytes h = (
     h.code,
-    subst (λ spells. spells h.code bytes) (items_of_spells hashed encoding L) h.code_is,
+    subst (λ spells. spells h.code bytes) (items_of_list hashed encoding L).0 h.code_is,
     Accepts-means encoding.strict (gathering stands written) h.code s (λ c. c.0) h.stands,
     λ t. (Accepts-demanded encoding.strict (gathering stands written) h.code s t h.stands).1,
   )
@@ -39,7 +34,7 @@ module _ {E S : Type 0} (hashed : Bool) (encoding : Encoding) (stands : List E �
   unfolding coding
   gathered_writes items s bytes h k w = record {
     code = items;
-    code_is = subst (λ writes. writes items bytes) (sym (items_of_writes hashed encoding L)) h;
+    code_is = subst (λ writes. writes items bytes) (sym (items_of_list hashed encoding L).1) h;
     stands = (k, w);
   }
 
@@ -61,7 +56,7 @@ unfolding coding
 gathered_form_length {hashed = hashed} {stands = stands} {written = written} {L = L} encoding laws is s bytes h items stands_for is_written =
     let lists = list_laws encoding laws in
     let x : (list encoding L).writes h.code bytes =
-    subst (λ writes. writes h.code bytes) (items_of_writes hashed encoding L) h.code_is in
+    subst (λ writes. writes h.code bytes) (items_of_list hashed encoding L).1 h.code_is in
     let read : Coded (list encoding L).spells stands s bytes =
     record { code = h.code; code_is = lists.written_spells h.code bytes x; stands = h.stands.0 } in
     let spelled = form_spelled encoding laws is s bytes read items stands_for is_written in

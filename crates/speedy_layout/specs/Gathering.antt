@@ -54,7 +54,7 @@ gathered hashed encoding stands written L = coding encoding (gathering stands wr
 
 pub hashed_items_laws : {V : Type 0} {strict : Bool} {least : ℕ} {F : Format V} → Laws strict least F → Laws strict least (hashed_items F)
 unfolding hashed_items
-hashed_items_laws {F = F} laws = Laws-asking (record F.asks { hashed = true }) (λ e. absurd (cc)) laws
+hashed_items_laws {F = F} laws = Laws-asking (record F.asks { hashed = true }) (λ e. absurd (cc)) (omega arith) laws
 
 -- ---- the spelling of what lies inside a list
 
@@ -198,11 +198,11 @@ module _ {E S : Type 0} {hashed : Bool} {stands : List E → S → Type 0} {writ
       let m = ap length k.code_is.whole_is ∙ length-append k.code_is.front k.code_is.back in
       omega arith
 
-  -- forms of things that are not hashed tell the things apart
-  forms_tell : hashed ≡ false → HasForms L stands written → (s t : S) (b d : List ℕ)
-      → Coded (list encoding L).spells stands s b
-      → Coded (list encoding L).spells stands t d → Decided (s ≡ t)
-  forms_tell ordered has s t b d h k =
+  -- their forms tell things apart, and where things are hashed, the items of the forms
+  things_tell : (unordered : Bool) → hashed ≡ unordered → HasForms L stands written → (s t : S) (b d : List ℕ)
+      → Coded (list encoding L).spells stands s b → Coded (list encoding L).spells stands t d → Decided (s ≡ t)
+  unfolding list sequence unsigned_number vector owned_content repeat
+  things_tell false ordered has s t b d h k =
       let x = some_form_spelled has s b h in
       let y = some_form_spelled has t d k in
       elim ((list_laws encoding laws).tells x.1.code y.1.code x.0 y.0 x.1.code_is y.1.code_is) [
@@ -210,13 +210,7 @@ module _ {E S : Type 0} {hashed : Bool} {stands : List E → S → Type 0} {writ
         | inr n ↦ inr (λ e. n (is.one_form ordered x.1.code y.1.code t x.1.stands.1 y.1.stands.1
             (subst (stands x.1.code) e x.1.stands.0) y.1.stands.0))
       ]
-
-  -- and so do the items of forms, where the things are hashed
-  hashed_tell : hashed ≡ true → HasForms L stands written → (s t : S) (b d : List ℕ)
-      → Coded (list encoding L).spells stands s b
-      → Coded (list encoding L).spells stands t d → Decided (s ≡ t)
-  unfolding list sequence unsigned_number vector owned_content repeat
-  hashed_tell unordered has s t b d h k =
+  things_tell true unordered has s t b d h k =
       let x = some_form_spelled has s b h in
       let y = some_form_spelled has t d k in
       let xs = x.1.code in
@@ -242,7 +236,7 @@ unfolding hashed_items
 gathering_is_code false encoding laws is has = record {
   one_meaning = is.one_thing;
   one_chosen = λ _ xs ys s h k. is.one_form refl xs ys s h.1 k.1 h.0 k.0;
-  tells = λ _ _. forms_tell encoding laws is refl has;
+  tells = λ _ _. things_tell encoding laws is false refl has;
   chosen_means = λ xs s h. h.0;
   has_chosen = some_form_spelled encoding laws is has;
   chosen_shortest = λ _. form_shortest encoding laws is;
@@ -251,7 +245,7 @@ gathering_is_code false encoding laws is has = record {
 gathering_is_code true encoding laws is has = record {
   one_meaning = is.one_thing;
   one_chosen = λ e. absurd (cc);
-  tells = λ _ _. hashed_tell encoding laws is refl has;
+  tells = λ _ _. things_tell encoding laws is true refl has;
   chosen_means = λ xs s h. h.0;
   has_chosen = some_form_spelled encoding laws is has;
   chosen_shortest = λ _. form_shortest encoding laws is;

@@ -83,26 +83,10 @@ plain_laws {spells = spells} decodes least_size one = record {
   refuses_own = λ kind h. absurd h;
 }
 
--- a format of the same bytes that asks otherwise, but is hashed where the first is
-pub Laws-asking : {V : Type 0} {strict : Bool} {least : ℕ} {F : Format V} (asks : Asks)
-    → (asks.hashed ≡ false → F.asks.hashed ≡ false) → Laws strict least F → Laws strict least (record F { asks = asks })
-Laws-asking asks hashed laws = record {
-  decodes = laws.decodes;
-  tells = laws.tells;
-  written_spells = laws.written_spells;
-  written_alone = laws.written_alone;
-  shortest = laws.shortest;
-  least_size = laws.least_size;
-  has_written = laws.has_written;
-  one_written = λ h. laws.one_written (hashed h);
-  malformed_unspelled = laws.malformed_unspelled;
-  names_own = laws.names_own;
-  refuses_own = laws.refuses_own;
-}
-
--- a smaller least size
-pub Laws-less : {V : Type 0} {strict : Bool} {n m : ℕ} {F : Format V} → m ≤ n → Laws strict n F → Laws strict m F
-Laws-less less laws = record {
+-- a smaller least size, of a format of the same bytes that asks otherwise, but is hashed where the first is
+pub Laws-asking : {V : Type 0} {strict : Bool} {n m : ℕ} {F : Format V} (asks : Asks)
+    → (asks.hashed ≡ false → F.asks.hashed ≡ false) → m ≤ n → Laws strict n F → Laws strict m (record F { asks = asks })
+Laws-asking asks hashed less laws = record {
   decodes = laws.decodes;
   tells = laws.tells;
   written_spells = laws.written_spells;
@@ -110,11 +94,14 @@ Laws-less less laws = record {
   shortest = laws.shortest;
   least_size = λ v b h. let l = laws.least_size v b h in omega arith;
   has_written = laws.has_written;
-  one_written = laws.one_written;
+  one_written = λ h. laws.one_written (hashed h);
   malformed_unspelled = laws.malformed_unspelled;
   names_own = laws.names_own;
   refuses_own = laws.refuses_own;
 }
+
+pub Laws-less : {V : Type 0} {strict : Bool} {n m : ℕ} {F : Format V} → m ≤ n → Laws strict n F → Laws strict m F
+Laws-less {F = F} less laws = Laws-asking F.asks (λ h. h) less laws
 
 -- the number, or `usize::MAX` where it passes that
 abbrev pub saturated_size : ℕ → ℕ

@@ -1,5 +1,5 @@
 -- Lists: so many items one after the other, and counted lists.
-use Rattle.std.specs.Prelude.{◌≡◌, ℕ, zero, suc, ◌+◌, ◌*◌, ◌≤◌, List, [], ◌∷◌, ◌++◌, length, Bool, true, false, IsTrue, refl}
+use Rattle.std.specs.Prelude.{◌≡◌, ℕ, zero, suc, ◌+◌, ◌*◌, ◌≤◌, List, [], ◌∷◌, ◌++◌, length, Bool, true, false, refl}
 use Rattle.std.proofs.Common.{sym, ◌∙◌, ap, ap₂, subst, inl, inr, arith}
 use Rattle.std.proofs.lemmas.List.{append_assoc, append-nil, length-append}
 use Rattle.speedy_base.specs.Encoding.{Encoding}
@@ -7,7 +7,7 @@ use Rattle.speedy_layout.specs.Format.{Format, Each}
 use Rattle.speedy_layout.specs.Laws.{Laws, Codec, Laws-less, saturated_size, saturated_laws, Decided}
 use Rattle.speedy_layout.specs.Numbers.{unsigned_number, unsigned_number_laws}
 use Rattle.speedy_layout.specs.Owned.{owned_content, owned_content_laws}
-use Rattle.speedy_layout.specs.Sequences.{AsksAtMost, asks_same, sequence, sequence_laws, across}
+use Rattle.speedy_layout.specs.Sequences.{AsksAtMost, asks_same, sequence, sequence_laws, across, Parts-as}
 
 -- so many items, one after the other
 unfoldable pub repeat : {V : Type 0} → ℕ → Format V → Format (List V)
@@ -54,7 +54,7 @@ each_more spells vs v s t h k = each_append spells vs (v ∷ []) s t h (record {
 -- what is so of each item in one way is so in another
 pub each_as : {V : Type 0} {R S : V → List ℕ → Type 0} → ((v : V) (b : List ℕ) → R v b → S v b) → (vs : List V) (b : List ℕ) → Each R vs b → Each S vs b
 each_as f [] b h = h
-each_as f (v ∷ vs) b h = record { front = h.front; back = h.back; whole_is = h.whole_is; first_is = f v h.front h.first_is; second_is = each_as f vs h.back h.second_is }
+each_as f (v ∷ vs) b h = Parts-as (f v) (λ s k. each_as f vs s k) h
 
 module _ {V : Type 0} {strict : Bool} {least : ℕ} {F : Format V} (laws : Laws strict least F) where
   -- lists of one length decode item by item
@@ -87,28 +87,6 @@ module _ {V : Type 0} {strict : Bool} {least : ℕ} {F : Format V} (laws : Laws 
             ]
         | inr n ↦ inr (λ e. n (let heads : v ≡ w = cc in heads))
       ]
-
-  -- each item's written form makes a written form, which spells the items
-  pub each_written : (vs : List V) (b : List ℕ) → Each F.writes vs b → Each F.spells vs b
-  each_written [] b h = h
-  each_written (v ∷ vs) b h = record {
-    front = h.front;
-    back = h.back;
-    whole_is = h.whole_is;
-    first_is = laws.written_spells v h.front h.first_is;
-    second_is = each_written vs h.back h.second_is;
-  }
-
-  -- under a demand for the written form, what spells the items is written
-  pub each_written_alone : IsTrue strict → (vs : List V) (b : List ℕ) → Each F.spells vs b → Each F.writes vs b
-  each_written_alone s [] b h = h
-  each_written_alone s (v ∷ vs) b h = record {
-    front = h.front;
-    back = h.back;
-    whole_is = h.whole_is;
-    first_is = laws.written_alone s v h.front h.first_is;
-    second_is = each_written_alone s vs h.back h.second_is;
-  }
 
   -- no spelling of the items is shorter than a written one
   pub each_shortest : (vs : List V) (b c : List ℕ) → Each F.writes vs b → Each F.spells vs c → length b ≤ length c
@@ -150,8 +128,8 @@ module _ {V : Type 0} {strict : Bool} {least : ℕ} {F : Format V} (laws : Laws 
   repeat_laws n = record {
     decodes = λ v w s t r q h k e. each_decodes v w s t r q (h.0 ∙ sym k.0) h.1 k.1 e;
     tells = λ v w s t h k. each_tells v w s t h.1 k.1;
-    written_spells = λ v b h. (h.0, each_written v b h.1);
-    written_alone = λ s v b h. (h.0, each_written_alone s v b h.1);
+    written_spells = λ v b h. (h.0, each_as laws.written_spells v b h.1);
+    written_alone = λ s v b h. (h.0, each_as (laws.written_alone s) v b h.1);
     shortest = λ v b c h k. each_shortest v b c h.1 k.1;
     least_size = λ v b h. subst (λ m. m * least ≤ length b) h.0 (each_size v b h.1);
     has_written = λ v b h. let w = each_has_written v b h.1 in (w.0, (h.0, w.1));

@@ -1,5 +1,6 @@
 -- What owns or borrows a value, and adds no byte of its own.
 use Rattle.std.specs.Prelude.{ℕ, Bool, true, false}
+use Rattle.std.proofs.Common.{arith}
 use Rattle.speedy_layout.specs.Format.{Format}
 use Rattle.speedy_layout.specs.Laws.{Laws, Codec, Laws-asking}
 
@@ -15,11 +16,11 @@ borrowed_content F = record F { asks = record F.asks { lending = true; memory = 
 module _ {V : Type 0} {strict : Bool} {least : ℕ} {F : Format V} (laws : Laws strict least F) where
   pub owned_content_laws : Laws strict least (owned_content F)
   unfolding owned_content
-  owned_content_laws = Laws-asking (record F.asks { memory = true }) (λ h. h) laws
+  owned_content_laws = Laws-asking (record F.asks { memory = true }) (λ h. h) (omega arith) laws
 
   pub borrowed_content_laws : Laws strict least (borrowed_content F)
   unfolding borrowed_content
-  borrowed_content_laws = Laws-asking (record F.asks { lending = true; memory = false }) (λ h. h) laws
+  borrowed_content_laws = Laws-asking (record F.asks { lending = true; memory = false }) (λ h. h) (omega arith) laws
 
 abbrev pub owned_codec : {V : Type 0} → Codec V → Codec V
 owned_codec c = record { least = c.least; format = λ f. owned_content (c.format f); laws = λ f. owned_content_laws (c.laws f) }

@@ -63,6 +63,17 @@ not_asked false b f h = refl
 pub across : (s t r q a b c d : List ℕ) → s ≡ a ++ b → t ≡ c ++ d → s ++ r ≡ t ++ q → a ++ (b ++ r) ≡ c ++ (d ++ q)
 across s t r q a b c d h k e = sym (append_assoc a b r) ∙ (ap (λ x. x ++ r) (sym h) ∙ (e ∙ (ap (λ x. x ++ q) k ∙ append_assoc c d q)))
 
+-- two parts, each of them in other words
+pub Parts-as : {P R Q S : List ℕ → Type 0} {b : List ℕ} → ((s : List ℕ) → P s → R s) → ((s : List ℕ) → Q s → S s)
+    → Parts P Q b → Parts R S b
+Parts-as f g h = record {
+  front = h.front;
+  back = h.back;
+  whole_is = h.whole_is;
+  first_is = f h.front h.first_is;
+  second_is = g h.back h.second_is;
+}
+
 -- once the first parts are the same, the second parts decode
 second_decodes : {U : Type 0} {W : U → Type 0} (M : (u : U) → Format (W u)) (strict : Bool) (m : ℕ)
     → ((u : U) → Laws strict m (M u)) → (s t r q : List ℕ) (p : (u : U) × W u) → (M p.0).spells p.1 s → s ++ r ≡ t ++ q
@@ -108,20 +119,10 @@ module _ {U V : Type 0} {W : U → Type 0} {split : V → (u : U) × W u} {L : F
               ]
           | inr n ↦ inr (λ e. n (ap (λ (x : V). (split x).0) e))
         ];
-    written_spells = λ v b h. record {
-      front = h.front;
-      back = h.back;
-      whole_is = h.whole_is;
-      first_is = laws.written_spells (split v).0 h.front h.first_is;
-      second_is = (more (split v).0).written_spells (split v).1 h.back h.second_is;
-    };
-    written_alone = λ s v b h. record {
-      front = h.front;
-      back = h.back;
-      whole_is = h.whole_is;
-      first_is = laws.written_alone s (split v).0 h.front h.first_is;
-      second_is = (more (split v).0).written_alone s (split v).1 h.back h.second_is;
-    };
+    written_spells = λ v b h.
+        Parts-as (laws.written_spells (split v).0) ((more (split v).0).written_spells (split v).1) h;
+    written_alone = λ s v b h.
+        Parts-as (laws.written_alone s (split v).0) ((more (split v).0).written_alone s (split v).1) h;
     shortest = λ v b c h k.
         let first = laws.shortest (split v).0 h.front k.front h.first_is k.first_is in
         let second = (more (split v).0).shortest (split v).1 h.back k.back h.second_is k.second_is in
