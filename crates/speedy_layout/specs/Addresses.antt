@@ -82,7 +82,8 @@ ip_back (inr octets) = refl
 -- an address of either kind: 0 and the address of 4 octets, or 1 and that of 16
 abbrev pub ip_address_codec : Codec (List ℕ ⊎ List ℕ)
 ip_address_codec =
-    variant_codec ip_parts ip_join ip_back address_tag (address_codec 16) (address_codec 4) 4 (omega arith) (omega arith)
+    variant_codec ip_parts ip_join ip_back address_tag (address_codec 16) (address_codec 4) 4 (omega arith)
+    (omega arith)
 
 abbrev pub ip_address : Encoding → Format (List ℕ ⊎ List ℕ)
 ip_address = ip_address_codec.format

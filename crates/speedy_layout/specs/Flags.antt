@@ -91,9 +91,9 @@ branch_asks L M true = asks_left L.asks M.asks
 branch_asks L M false = asks_right L.asks M.asks
 
 -- its least size is that of the tag and so many bytes more as each of the two has
-abbrev pub variant_codec : {U V W : Type 0} (split : U → (b : Bool) × Branch V W b) (join : (b : Bool) → Branch V W b → U)
-    → ((v : U) → join (split v).0 (split v).1 ≡ v) → Codec Bool → (first : Codec V) (second : Codec W) (n : ℕ)
-    → n ≤ first.least → n ≤ second.least → Codec U
+abbrev pub variant_codec : {U V W : Type 0} (split : U → (b : Bool) × Branch V W b)
+    (join : (b : Bool) → Branch V W b → U) → ((v : U) → join (split v).0 (split v).1 ≡ v) → Codec Bool
+    → (first : Codec V) (second : Codec W) (n : ℕ) → n ≤ first.least → n ≤ second.least → Codec U
 variant_codec split join back tags first second n in_first in_second = record {
   least = tags.least + n;
   format = λ f. variant split (tags.format f) (first.format f) (second.format f);
@@ -132,7 +132,8 @@ pub option_back : {V : Type 0} (v : Option V) → option_join (option_parts v).0
 option_back (Some v) = refl
 option_back None = refl
 
-pub alternative_back : {V W : Type 0} (v : Result V W) → alternative_join (alternative_parts v).0 (alternative_parts v).1 ≡ v
+pub alternative_back : {V W : Type 0} (v : Result V W)
+    → alternative_join (alternative_parts v).0 (alternative_parts v).1 ≡ v
 alternative_back (Ok v) = refl
 alternative_back (Err w) = refl
 
@@ -142,4 +143,5 @@ option_codec value =
 
 abbrev pub alternative_codec : {V W : Type 0} → Codec V → Codec W → Codec (Result V W)
 alternative_codec first second =
-    variant_codec alternative_parts alternative_join alternative_back flag_codec first second 0 (omega arith) (omega arith)
+    variant_codec alternative_parts alternative_join alternative_back flag_codec first second 0 (omega arith)
+    (omega arith)

@@ -229,8 +229,8 @@ module _ {E S : Type 0} {hashed : Bool} {stands : List E → S → Type 0} {writ
       ]
 
 -- what lists gather to is coded by them
-pub gathering_is_code : {E S : Type 0} (hashed : Bool) {stands : List E → S → Type 0} {written : List E → Type 0} {least : ℕ}
-    {L : Format E} (encoding : Encoding) → Laws encoding.strict least L → IsGathering hashed stands written
+pub gathering_is_code : {E S : Type 0} (hashed : Bool) {stands : List E → S → Type 0} {written : List E → Type 0}
+    {least : ℕ} {L : Format E} (encoding : Encoding) → Laws encoding.strict least L → IsGathering hashed stands written
     → HasForms L stands written → IsCode (gathering stands written) (items_of hashed encoding L)
 unfolding hashed_items
 gathering_is_code false encoding laws is has = record {
@@ -263,5 +263,6 @@ abbrev pub gathered_codec : {E S : Type 0} (hashed : Bool) {stands : List E → 
 gathered_codec hashed {stands = stands} {written = written} is item has = record {
   least = 4;
   format = λ f. gathered hashed f stands written (item.format f);
-  laws = λ f. coding_laws f (items_of_laws hashed f (item.laws f)) (gathering_is_code hashed f (item.laws f) is (has f));
+  laws = λ f.
+      coding_laws f (items_of_laws hashed f (item.laws f)) (gathering_is_code hashed f (item.laws f) is (has f));
 }

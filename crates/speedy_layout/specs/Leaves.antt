@@ -41,7 +41,8 @@ one_order BigEndian BigEndian e = refl
 
 pub order_is_code : (encoding : Encoding) → IsCode order_code (unsigned_number 1 encoding)
 order_is_code encoding =
-    exact_is_code (one_kind kinds.InvalidEnumVariant tt) (λ n v w h k. one_order v w (sym h ∙ k)) (λ n m v h k. h ∙ sym k)
+    exact_is_code (one_kind kinds.InvalidEnumVariant tt) (λ n v w h k. one_order v w (sym h ∙ k))
+    (λ n m v h k. h ∙ sym k)
 
 -- byte orders: one byte, which has the number of one
 abbrev pub byte_order_codec : Codec Endianness

@@ -244,8 +244,10 @@ tree_map_codec seen cmp key value =
 
 abbrev pub hash_map_codec : {K A B : Type 0} → (K → A) → Codec A → Codec B → Codec (K → Option B)
 hash_map_codec seen key value =
-    gathered_codec true (hash_map_is {seen = seen}) (pair_codec key value) (λ f. hash_map_forms (value.format f) (key.laws f))
+    gathered_codec true (hash_map_is {seen = seen}) (pair_codec key value)
+    (λ f. hash_map_forms (value.format f) (key.laws f))
 
 abbrev pub index_map_codec : {A B : Type 0} → Codec A → Codec B → Codec (List (A × B))
 index_map_codec key value =
-    gathered_codec false index_map_is (pair_codec key value) (λ f items bytes es spelled h. (es, own_index_map es h.0, h.0))
+    gathered_codec false index_map_is (pair_codec key value)
+    (λ f items bytes es spelled h. (es, own_index_map es h.0, h.0))

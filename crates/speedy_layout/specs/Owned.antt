@@ -23,7 +23,11 @@ module _ {V : Type 0} {strict : Bool} {least : ℕ} {F : Format V} (laws : Laws 
   borrowed_content_laws = Laws-asking (record F.asks { lending = true; memory = false }) (λ h. h) (omega arith) laws
 
 abbrev pub owned_codec : {V : Type 0} → Codec V → Codec V
-owned_codec c = record { least = c.least; format = λ f. owned_content (c.format f); laws = λ f. owned_content_laws (c.laws f) }
+owned_codec c = record {
+  least = c.least;
+  format = λ f. owned_content (c.format f);
+  laws = λ f. owned_content_laws (c.laws f);
+}
 
 abbrev pub borrowed_codec : {V : Type 0} → Codec V → Codec V
 borrowed_codec c = record {

@@ -79,7 +79,8 @@ constant_codec bytes = record {
 
 pub text_of_length_laws : (encoding : Encoding) (n : ℕ) → Laws encoding.strict n (text_of_length encoding n)
 unfolding text_of_length
-text_of_length_laws encoding n = (owned_codec (subset_codec IsUtf8 kinds.InvalidUtf8 tt (raw_bytes_codec n))).laws encoding
+text_of_length_laws encoding n =
+    (owned_codec (subset_codec IsUtf8 kinds.InvalidUtf8 tt (raw_bytes_codec n))).laws encoding
 
 pub text_asks : (encoding : Encoding) (n : ℕ) → AsksAtMost (text_of_length encoding n).asks (record asks_nothing { memory = true })
 unfolding text_of_length owned_content coding raw_bytes

@@ -12,8 +12,8 @@ use Rattle.speedy_base.specs.DigitsLemmas.{SpellsNumber-below, SpellsNumber-digi
 use Rattle.speedy_base.specs.Encoding.{Encoding}
 use Rattle.speedy_layout.specs.Format.{asks_nothing, Format}
 use Rattle.speedy_layout.specs.Laws.{Laws, Codec, Laws-less}
-use Rattle.speedy_layout.specs.Codes.{Code, IsCode, coding, coding_codec, exact_code, exact_is_code, Accepts-exact_means}
-use Rattle.speedy_layout.specs.Codes.{Accepts-is}
+use Rattle.speedy_layout.specs.Codes.{Code, IsCode, coding, coding_codec, exact_code, exact_is_code}
+use Rattle.speedy_layout.specs.Codes.{Accepts-exact_means, Accepts-is}
 use Rattle.speedy_layout.specs.Numbers.{unsigned_number, unsigned_number_laws, unsigned_codec}
 use Rattle.speedy_layout.specs.Sequences.{AsksAtMost, asks_same, sequence, sequence_laws}
 
@@ -232,7 +232,8 @@ pub record IsPrefixed (p : (ℕ × ℕ) × ℕ) (bytes : List ℕ) : Type 0 wher
   pub first_is : IsFirstByte p.0.0 p.0.1 first
   pub holds : p.0.1 * 256 ^ p.0.0 + p.1 < 2 ^ (7 - p.0.0) * 256 ^ p.0.0
 
-pub prefixed-is : (encoding : Encoding) (p : (ℕ × ℕ) × ℕ) (bytes : List ℕ) → (prefixed_digits.format encoding).spells p bytes → IsPrefixed p bytes
+pub prefixed-is : (encoding : Encoding) (p : (ℕ × ℕ) × ℕ) (bytes : List ℕ)
+    → (prefixed_digits.format encoding).spells p bytes → IsPrefixed p bytes
 unfolding sequence coding unsigned_number
 prefixed-is encoding p bytes h =
     let first = h.first_is in

@@ -7,7 +7,9 @@ use Rattle.speedy_read.specs.Sequences.{Composes}
 use Rattle.speedy_read.specs.Flags.{variant_composes}
 
 -- an address of either kind is read as a tag, and then the address of the kind that it names
-pub ip_address_composes : (encoding : Encoding) → Composes (address_tag encoding) (branch (address 16 encoding) (address 4 encoding)) (ip_address encoding) ip_join
+pub ip_address_composes : (encoding : Encoding)
+    → Composes (address_tag.format encoding) (branch (address 16 encoding) (address 4 encoding)) (ip_address encoding)
+    ip_join
 ip_address_composes encoding = variant_composes ip_parts back where
   back : (b : Bool) (w : Branch (List ℕ) (List ℕ) b) → let whole : (b : Bool) × Branch (List ℕ) (List ℕ) b = (b, w) in ip_parts (ip_join b w) ≡ whole
   back true w = refl

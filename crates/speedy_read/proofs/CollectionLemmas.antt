@@ -6,9 +6,9 @@ use Rattle.speedy_base.specs.declared.error.ErrorKind.TheVariants as kinds
 use Rattle.speedy_base.specs.declared.error.Error.{Error}
 use Rattle.speedy_base.specs.Error.{error_of, passed_on}
 use Rattle.speedy_layout.specs.Format.{Format, Each}
-use Rattle.speedy_layout.specs.Laws.{Laws}
+use Rattle.speedy_layout.specs.Laws.{Laws, Codec}
 use Rattle.speedy_layout.specs.Codes.{Code, ReadsWider, coding, Accepts-is, Accepts-demanded}
-use Rattle.speedy_layout.specs.Sequences.{across, sequence, asks_after, asks_hashed}
+use Rattle.speedy_layout.specs.Sequences.{across, sequence, asks_after, asks_hashed, Parts-as}
 use Rattle.speedy_layout.specs.Numbers.{unsigned_number, unsigned_number_laws}
 use Rattle.speedy_layout.specs.Gathering.{gathering, items_of, hashed_items}
 use Rattle.speedy_base.specs.Encoding.{Encoding}
@@ -189,22 +189,18 @@ collected_read {V = V} {g = g} {c = c} {L = L} {n = n} {gives = gives} {eof = eo
     ]
 
 -- a coded list is read as its length, and then so many items
-pub coded_list_composes : {V S : Type 0} {strict : Bool} {least : ℕ} {L : Format V} (laws : Laws strict least L) (encoding : Encoding) (c : Code (List V) S) → Composes (unsigned_number 4 encoding) (λ n. coding encoding c (vector n L)) (coding encoding c (list encoding L)) (λ n s. s)
+coded_list_composes : {V S : Type 0} (L : Format V) (encoding : Encoding) (c : Code (List V) S)
+    → Composes (unsigned_number 4 encoding) (λ n. coding encoding c (vector n L)) (coding encoding c (list encoding L))
+    (λ n s. s)
 unfolding coding list sequence
-coded_list_composes {V = V} {L = L} laws encoding c =
-    let parts = list_composes laws encoding in
+coded_list_composes L encoding c =
+    let parts = list_composes L encoding in
     record {
       joins = λ n s a b h k. record { code = k.code; code_is = parts.joins n k.code a b h k.code_is; stands = k.stands };
       splits = λ s bytes h. (
         length h.code,
         s,
-        record {
-          front = h.code_is.front;
-          back = h.code_is.back;
-          whole_is = h.code_is.whole_is;
-          first_is = h.code_is.first_is;
-          second_is = record { code = h.code; code_is = h.code_is.second_is; stands = h.stands };
-        },
+        Parts-as (λ a k. k) (λ a k. record { code = h.code; code_is = k; stands = h.stands }) h.code_is,
       );
       names_first = λ kind h. inl (parts.names_first kind h);
       names_second = λ n kind h. elim h [ inl x ↦ inl (parts.names_second n kind x) | inr x ↦ inr x ];
@@ -212,7 +208,7 @@ coded_list_composes {V = V} {L = L} laws encoding c =
           elim h [
             | inl x ↦ elim (parts.malformed bytes x) [
               | inl y ↦ inl y
-              | inr y ↦ inr (y.0, record { front = y.1.front; back = y.1.back; whole_is = y.1.whole_is; first_is = y.1.first_is; second_is = inl y.1.second_is })
+              | inr y ↦ inr (y.0, Parts-as (λ a k. k) (λ a k. inl k) y.1)
             ]
             | inr x ↦
                 let list_is = x.code_is in
@@ -232,12 +228,13 @@ coded_list_composes {V = V} {L = L} laws encoding c =
     }
 
 -- the items of a thing that has no order of its own are read alike
-pub gathered_composes : {V S : Type 0} {strict : Bool} {least : ℕ} {L : Format V} (hashed : Bool) (laws : Laws strict least L) (encoding : Encoding) (c : Code (List V) S)
-    → Composes (unsigned_number 4 encoding) (λ n. coding encoding c (vector n L)) (coding encoding c (items_of hashed encoding L)) (λ n s. s)
+gathered_composes : {V S : Type 0} (hashed : Bool) (L : Format V) (encoding : Encoding) (c : Code (List V) S)
+    → Composes (unsigned_number 4 encoding) (λ n. coding encoding c (vector n L))
+    (coding encoding c (items_of hashed encoding L)) (λ n s. s)
 unfolding coding hashed_items
-gathered_composes false laws encoding c = coded_list_composes laws encoding c
-gathered_composes true laws encoding c =
-    let same = coded_list_composes laws encoding c in
+gathered_composes false L encoding c = coded_list_composes L encoding c
+gathered_composes true L encoding c =
+    let same = coded_list_composes L encoding c in
     record {
       joins = same.joins;
       splits = same.splits;
@@ -258,14 +255,22 @@ gatherer_code {g = g} stands to from first = record {
 }
 
 -- the number of items and then the items are read as what they gather to
-pub collection_read : {T F V S : Type 0} {g : Gatherer T F V} {c : Code (List V) S} {seen' : F → S} {L : Encoding → Format V} {n : ℕ} {E : Type 0} {gives : Error → E → Type 0} {eof : E → Bool} {result : Result F E} {old mid new : ReaderState} {least : ℕ} (hashed : Bool)
-    → ((encoding : Encoding) → Laws encoding.strict least (L encoding)) → IsCodeOf g c seen' → Reads gives eof (λ x. x) (unsigned_number 4 old.encoding) (Ok n) old mid → Collects g (L mid.encoding) n gives eof result mid new
-    → Reads gives eof seen' (coding old.encoding c (items_of hashed old.encoding (L old.encoding))) result old new
-collection_read {c = c} {seen' = seen'} {L = L} {n = n} {gives = gives} {eof = eof} {result = result} {old = old} {mid = mid} {new = new} hashed laws is number r =
-    second_decides (gathered_composes hashed (laws old.encoding) old.encoding c) (unsigned_number_laws 4 old.encoding) number
-    (subst (λ (e : Encoding). Reads gives eof seen' (coding e c (vector n (L e))) result mid new) number.kept.encoding (collected_read (laws mid.encoding) is r)) (λ _. refl)
+pub collection_read : {T F V S : Type 0} {g : Gatherer T F V} {c : Code (List V) S} {seen' : F → S} {n : ℕ} {E : Type 0}
+    {gives : Error → E → Type 0} {eof : E → Bool} {result : Result F E} {old mid new : ReaderState} (hashed : Bool)
+    (item : Codec V) → IsCodeOf g c seen' → Reads gives eof (λ x. x) (unsigned_number 4 old.encoding) (Ok n) old mid
+    → Collects g (item.format mid.encoding) n gives eof result mid new
+    → Reads gives eof seen' (coding old.encoding c (items_of hashed old.encoding (item.format old.encoding))) result old
+    new
+collection_read {c = c} {seen' = seen'} {n = n} {gives = gives} {eof = eof} {result = result} {old = old} {mid = mid}
+    {new = new} hashed item is number r =
+    second_decides (gathered_composes hashed _ old.encoding c) (unsigned_number_laws 4 old.encoding) number
+    (subst (λ (e : Encoding). Reads gives eof seen' (coding e c (vector n (item.format e))) result mid new)
+    number.kept.encoding (collected_read (item.laws mid.encoding) is r)) (λ _. refl)
 
 -- and where the number is refused, so is the collection
-pub collection_refused : {V S : Type 0} (c : Code (List V) S) {L : Format V} {E : Type 0} {gives : Error → E → Type 0} {eof : E → Bool} {A B : Type 0} {seen : A → ℕ} {seen' : B → S} {e : E} {result : Result B E} {old new : ReaderState} {strict : Bool} {least : ℕ} (hashed : Bool) → Laws strict least L → IsErrAnd result (λ x. x ≡ e)
-    → Reads gives eof seen (unsigned_number 4 old.encoding) (Err e) old new → Reads gives eof seen' (coding old.encoding c (items_of hashed old.encoding L)) result old new
-collection_refused c {old = old} hashed laws passed r = refused_first (gathered_composes hashed laws old.encoding c) passed r
+pub collection_refused : {V S : Type 0} (c : Code (List V) S) (L : Format V) {E : Type 0} {gives : Error → E → Type 0}
+    {eof : E → Bool} {A B : Type 0} {seen : A → ℕ} {seen' : B → S} {e : E} {result : Result B E} {old new : ReaderState}
+    (hashed : Bool) → IsErrAnd result (λ x. x ≡ e)
+    → Reads gives eof seen (unsigned_number 4 old.encoding) (Err e) old new
+    → Reads gives eof seen' (coding old.encoding c (items_of hashed old.encoding L)) result old new
+collection_refused c L {old = old} hashed passed r = refused_first (gathered_composes hashed L old.encoding c) passed r

@@ -10,7 +10,6 @@ use Rattle.speedy_base.specs.Error.{error_of}
 use Rattle.speedy_base.specs.Digits.{AreBytes, SpellsNumber}
 use Rattle.speedy_base.specs.Encoding.{Encoding}
 use Rattle.speedy_layout.specs.Format.{Format, Each}
-use Rattle.speedy_layout.specs.Laws.{Laws}
 use Rattle.speedy_layout.specs.Lists.{repeat, vector, list}
 use Rattle.speedy_layout.specs.Numbers.{unsigned_number}
 use Rattle.speedy_layout.specs.Owned.{owned_content, borrowed_content}
@@ -143,6 +142,8 @@ pub str_composes : (encoding : Encoding) → Composes (unsigned_number 4 encodin
 unfolding unsigned_number
 str_composes encoding = borrowed_composes refl (text_composes encoding)
 
-pub borrowed_list_composes : {V : Type 0} {strict : Bool} {least : ℕ} {F : Format V} → Laws strict least F → (encoding : Encoding) → Composes (unsigned_number 4 encoding) (λ n. borrowed_content (vector n F)) (borrowed_content (list encoding F)) (λ n vs. vs)
+pub borrowed_list_composes : {V : Type 0} (F : Format V) (encoding : Encoding)
+    → Composes (unsigned_number 4 encoding) (λ n. borrowed_content (vector n F)) (borrowed_content (list encoding F))
+    (λ n vs. vs)
 unfolding unsigned_number
-borrowed_list_composes laws encoding = borrowed_composes refl (list_composes laws encoding)
+borrowed_list_composes F encoding = borrowed_composes refl (list_composes F encoding)

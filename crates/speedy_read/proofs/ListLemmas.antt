@@ -22,6 +22,12 @@ use Rattle.speedy_read.proofs.OwnedLemmas.{memory_refused}
 pub seen_added : {X V : Type 0} (seen : X → V) (xs zs : List X) (x : X) → zs ≡ xs ++ x ∷ [] → map seen zs ≡ map seen xs ++ seen x ∷ []
 seen_added seen xs zs x added = ap (map seen) added ∙ map-append seen xs (x ∷ [])
 
+-- a list is read as its length, and then so many items
+pub list_composes : {V : Type 0} (L : Format V) (encoding : Encoding)
+    → Composes (unsigned_number 4 encoding) (λ n. vector n L) (list encoding L) (λ n vs. vs)
+unfolding list
+list_composes L encoding = counted_list_composes (unsigned_number 4 encoding) L
+
 module _ {V : Type 0} {strict : Bool} {least : ℕ} {L : Format V} (laws : Laws strict least L) where
   -- where more items are spelled than were read, the next one is spelled by what is left
   pub next_item : (vs ws : List V) (s t r q : List ℕ) → length vs < length ws → Each L.spells vs s → Each L.spells ws t → s ++ r ≡ t ++ q → (w : V) × (front rest : List ℕ) × (r ≡ front ++ rest) × L.spells w front
@@ -33,11 +39,6 @@ module _ {V : Type 0} {strict : Bool} {least : ℕ} {L : Format V} (laws : Laws 
       let first = laws.decodes v w h.front k.front (h.back ++ r) (k.back ++ q) h.first_is k.first_is joined in
       let fewer : length vs < length ws = omega arith in
       next_item vs ws h.back k.back r q fewer h.second_is k.second_is first.2
-
-  -- a list is read as its length, and then so many items
-  pub list_composes : (encoding : Encoding) → Composes (unsigned_number 4 encoding) (λ n. vector n L) (list encoding L) (λ n vs. vs)
-  unfolding list
-  list_composes encoding = counted_list_composes (unsigned_number 4 encoding) L
 
   module _ {E : Type 0} {gives : Error → E → Type 0} {eof : E → Bool} {B : Type 0} {seen' : B → List V} (n : ℕ) {old : ReaderState} where
     -- fewer bytes are to come than so many items have at least

@@ -11,7 +11,9 @@ use Rattle.speedy_layout.specs.Codes.{ReadsWider, coding, Accepts-exact, Accepts
 use Rattle.speedy_layout.specs.Sequences.{sequence}
 use Rattle.speedy_layout.specs.Numbers.{unsigned_number}
 use Rattle.speedy_layout.specs.Texts.{raw_bytes}
-use Rattle.speedy_layout.specs.Varint.{varint, IsFirstByte, StartsVarint, StartsVarint-same, varint-starts, IsFewest, VarintParts, varint_code, first_byte, first_byte_code, low_first, prefixed_digits, prefixed_asks, first_byte_laws, prefixed_digits_laws, varint_is_code, varint-chosen, prefixed-is, prefixed-spelled}
+use Rattle.speedy_layout.specs.Varint.{varint, IsFirstByte, StartsVarint, StartsVarint-same, varint-starts, IsFewest}
+use Rattle.speedy_layout.specs.Varint.{VarintParts, varint_code, first_byte, first_byte_code, low_first}
+use Rattle.speedy_layout.specs.Varint.{prefixed_digits, prefixed_asks, varint_is_code, varint-chosen, prefixed-is, prefixed-spelled}
 use Rattle.speedy_read.specs.Reading.{ReaderKind, ReaderState, IsTold, Unspelled, Reads, Peeks}
 use Rattle.speedy_read.specs.ReadingLemmas.{tells_still, KeptByPeek-after, part_refused, Peeks-passed}
 use Rattle.speedy_read.specs.Sequences.{Composes, sequence_composes, refused_first, refused_second, got_both, peek_refused_first}
@@ -26,7 +28,9 @@ reads_wider : {first n : ℕ} {tail : List ℕ} → VarintParts first tail n →
 reads_wider {n = n} {tail = tail} parts not_fewest = record { code = ((length tail, parts.low), parts.rest); value = n; meant = parts.value_is; not_chosen = λ h. not_fewest h.0 }
 
 -- a first byte and its digits are read one after the other
-prefixed_composes : (encoding : Encoding) → Composes (first_byte encoding) (λ p. unsigned_number p.0 (low_first encoding)) (prefixed_digits encoding) (λ p n. (p, n))
+prefixed_composes : (encoding : Encoding)
+    → Composes (first_byte.format encoding) (λ p. unsigned_number p.0 (low_first encoding))
+    (prefixed_digits.format encoding) (λ p n. (p, n))
 prefixed_composes encoding = sequence_composes (λ p. p) (prefixed_asks encoding) (λ u w s h. refl)
 
 -- a byte below 128 holds a number by itself
@@ -57,7 +61,9 @@ module _ {E : Type 0} {gives : Error → E → Type 0} {eof : E → Bool} (encod
       peek_refused_covered (codes_cover encoding varint_code) {seen = λ (p : (ℕ × ℕ) × ℕ). p} passed
       (peek_refused_first (prefixed_composes encoding) {seen = λ (p : ℕ × ℕ). p} (peek_refused_covered (codes_cover encoding first_byte_code) refl r))
 
-  first_byte_read : {mid : ReaderState} {first : ℕ} (more low : ℕ) → IsFirstByte more low first → Reads gives eof (λ n. n) (unsigned_number 1 encoding) (Ok first) old mid → Reads gives eof (λ (p : ℕ × ℕ). p) (first_byte encoding) (Ok (more, low)) old mid
+  first_byte_read : {mid : ReaderState} {first : ℕ} (more low : ℕ) → IsFirstByte more low first
+      → Reads gives eof (λ n. n) (unsigned_number 1 encoding) (Ok first) old mid
+      → Reads gives eof (λ (p : ℕ × ℕ). p) (first_byte.format encoding) (Ok (more, low)) old mid
   first_byte_read more low h r = exact_code_read encoding (λ (byte : ℕ) (p : ℕ × ℕ). IsFirstByte p.0 p.1 byte) (λ kind. ⊥) h r
 
   -- where the bytes after it are, the integer is
@@ -66,12 +72,14 @@ module _ {E : Type 0} {gives : Error → E → Type 0} {eof : E → Bool} (encod
   unfolding varint
   varint_rest_refused {mid = mid} {new = new} more starts one {seen = seen} {e = e} sized passed r =
       code_refused encoding varint_code {seen = λ (p : (ℕ × ℕ) × ℕ). p} passed
-      (refused_second (prefixed_composes encoding) (first_byte_laws encoding) (first_byte_read more starts.0 starts.1 one) refl
+      (refused_second (prefixed_composes encoding) (first_byte.laws encoding)
+      (first_byte_read more starts.0 starts.1 one) refl
       (refused_covered (bytes_cover_digits more (low_first encoding)) {seen' = λ (n : ℕ). n} refl (subst (λ (n : ℕ). Reads gives eof seen (raw_bytes n) (Err e) mid new) sized r)))
 
   -- the first byte, the digits after it and their number
   prefixed_read : {mid new : ReaderState} {first n : ℕ} {A : Type 0} {seen : A → List ℕ} {x : A} → (parts : VarintParts first (seen x) n) → Reads gives eof (λ n. n) (unsigned_number 1 encoding) (Ok first) old mid → (size : ℕ) → Reads gives eof seen (raw_bytes size) (Ok x) mid new
-      → Reads gives eof (λ (p : (ℕ × ℕ) × ℕ). p) (prefixed_digits encoding) (Ok ((length (seen x), parts.low), parts.rest)) old new
+      → Reads gives eof (λ (p : (ℕ × ℕ) × ℕ). p) (prefixed_digits.format encoding)
+      (Ok ((length (seen x), parts.low), parts.rest)) old new
   unfolding raw_bytes unsigned_number
   prefixed_read {seen = seen} {x = x} parts one size r =
       got_both (prefixed_composes encoding) (first_byte_read (length (seen x)) parts.low parts.first_is one)
@@ -88,14 +96,17 @@ module _ {E : Type 0} {gives : Error → E → Type 0} {eof : E → Bool} (encod
   unfolding varint unsigned_number short_parts
   short_answered {first = first} short one =
       let parts = short_parts first short in
-      let stands : (s : List ℕ) → (unsigned_number 1 encoding).spells first s → (prefixed_digits encoding).spells ((0, first), 0) s = λ s h. subst ((prefixed_digits encoding).spells ((0, first), 0)) (sym (SpellsNumber-is_one_byte encoding.order first s h)) (prefixed-spelled encoding 0 first 0 first [] parts.first_is parts.tail_is) in
+      let spells = (prefixed_digits.format encoding).spells ((0, first), 0) in
+      let stands : (s : List ℕ) → (unsigned_number 1 encoding).spells first s → spells s =
+      λ s h. subst spells (sym (SpellsNumber-is_one_byte encoding.order first s h))
+      (prefixed-spelled encoding 0 first 0 first [] parts.first_is parts.tail_is) in
       code_read encoding varint_code {seen = λ (p : (ℕ × ℕ) × ℕ). p} {seen' = λ (n : ℕ). n} parts.value_is (λ strict. varint-chosen first parts (short_fewest first short)) (got_covered stands one)
 
   -- and are refused where one is demanded and they are not
   pub varint_not_written : {mid new : ReaderState} {first n : ℕ} {A : Type 0} {seen : A → List ℕ} {x : A} {e : E} → VarintParts first (seen x) n → IsTrue encoding.strict → (IsFewest (length (seen x)) n → ⊥) → gives (error_of kinds.NotWrittenForm) e → Reads gives eof (λ n. n) (unsigned_number 1 encoding) (Ok first) old mid → (size : ℕ) → Reads gives eof seen (raw_bytes size) (Ok x) mid new → Reads gives eof (λ n. n) (varint encoding) (Err e) old new
   unfolding varint
   varint_not_written {seen = seen} {x = x} parts strict not_fewest given one size r =
-      code_not_written encoding varint_code (prefixed_digits_laws encoding) (reads_wider parts not_fewest) strict
+      code_not_written encoding varint_code (prefixed_digits.laws encoding) (reads_wider parts not_fewest) strict
       (λ v h. not_fewest (subst (IsFewest (length (seen x))) ((varint_is_code encoding).chosen_means ((length (seen x), parts.low), parts.rest) v h ∙ sym parts.value_is) h.0)) given (prefixed_read parts one size r)
 
 -- room for what follows a first byte
@@ -218,7 +229,9 @@ module _ {E : Type 0} {gives : Error → E → Type 0} {eof : E → Bool} (encod
             no_fault = r.answer.no_fault ∙ one.answer.no_fault;
             kind = inr (kinds.NotWrittenForm, inl (inr (inr (strict, refl, reads_wider parts not_fewest))), given);
             because = λ told.
-                unaccepted encoding varint_code (prefixed_digits_laws encoding) _ (prefixed-spelled encoding (length tail) parts.low parts.rest first tail parts.first_is parts.tail_is) (whole_to_come count more one sized r told.tells)
+                unaccepted encoding varint_code (prefixed_digits.laws encoding) _
+                (prefixed-spelled encoding (length tail) parts.low parts.rest first tail parts.first_is parts.tail_is)
+                (whole_to_come count more one sized r told.tells)
                 (λ v h. not_fewest (subst (IsFewest (length tail)) ((varint_is_code encoding).chosen_means ((length tail, parts.low), parts.rest) v (Accepts-demanded encoding.strict varint_code ((length tail, parts.low), parts.rest) v strict h) ∙ sym parts.value_is) (Accepts-demanded encoding.strict varint_code ((length tail, parts.low), parts.rest) v strict h).0))
                 (kinds.NotWrittenForm, inr (strict, refl, reads_wider parts not_fewest), given);
           }));

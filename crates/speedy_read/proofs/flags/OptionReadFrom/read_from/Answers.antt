@@ -1,5 +1,5 @@
 use Rattle.std.proofs.Common.{refl}
-use Rattle.speedy_layout.specs.Flags.{flag_laws}
+use Rattle.speedy_layout.specs.Flags.{flag_codec}
 use Rattle.speedy_read.specs.Sequences.{refused_first, refused_second, got_both}
 use Rattle.speedy_read.specs.Flags.{option_composes, unit_read}
 use Rattle.speedy_read.proofs.flags.OptionReadFrom.read_from.Goals as goal
@@ -15,8 +15,8 @@ returns-then-not-is_some g c =
 pub returns-in_err-value : goal.returns-in_err-value
 returns-in_err-value g c =
     let flag = c.in_ok-is_some.ensures in
-    refused_second (option_composes _) (flag_laws _) (rw c.if-not-is_some.false at flag) c.from_residual-in_err-value.ensures.1
-    (rw flag.kept.encoding at c.in_err-value.ensures)
+    refused_second (option_composes _) (flag_codec.laws _) (rw c.if-not-is_some.false at flag)
+    c.from_residual-in_err-value.ensures.1 (rw flag.kept.encoding at c.in_err-value.ensures)
 
 pub returns : goal.returns
 returns g c =

@@ -1,5 +1,5 @@
 use Rattle.std.proofs.Common.{refl}
-use Rattle.speedy_layout.specs.Flags.{flag_laws}
+use Rattle.speedy_layout.specs.Flags.{flag_codec}
 use Rattle.speedy_read.specs.Sequences.{refused_first, refused_second, got_both}
 use Rattle.speedy_read.specs.Flags.{alternative_composes}
 use Rattle.speedy_read.proofs.flags.ResultReadFrom.read_from.Goals as goal
@@ -13,14 +13,14 @@ returns-in_err-is_ok g c =
 pub returns-in_err-value : goal.returns-in_err-value
 returns-in_err-value g c =
     let flag = c.in_ok-is_ok.ensures in
-    refused_second (alternative_composes _) (flag_laws _) (rw c.if-is_ok.true at flag) c.from_residual-in_err-value.ensures.1
-    (rw flag.kept.encoding at c.in_err-value.ensures)
+    refused_second (alternative_composes _) (flag_codec.laws _) (rw c.if-is_ok.true at flag)
+    c.from_residual-in_err-value.ensures.1 (rw flag.kept.encoding at c.in_err-value.ensures)
 
 pub returns-in_err-error : goal.returns-in_err-error
 returns-in_err-error g c =
     let flag = c.in_ok-is_ok.ensures in
-    refused_second (alternative_composes _) (flag_laws _) (rw c.if-is_ok.false at flag) c.from_residual-in_err-error.ensures.1
-    (rw flag.kept.encoding at c.in_err-error.ensures)
+    refused_second (alternative_composes _) (flag_codec.laws _) (rw c.if-is_ok.false at flag)
+    c.from_residual-in_err-error.ensures.1 (rw flag.kept.encoding at c.in_err-error.ensures)
 
 pub returns-in_ok-value : goal.returns-in_ok-value
 returns-in_ok-value g c =

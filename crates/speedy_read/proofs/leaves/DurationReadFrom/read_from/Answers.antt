@@ -1,6 +1,6 @@
 use Rattle.std.proofs.Common.{refl, arith}
 use Rattle.speedy_base.specs.declared.error.ErrorKind.TheVariants as kinds
-use Rattle.speedy_layout.specs.Leaves.{duration_code, duration_reads_wider, seconds_and_nanos_laws}
+use Rattle.speedy_layout.specs.Leaves.{duration_code, duration_reads_wider, seconds_and_nanos_codec}
 use Rattle.speedy_read.specs.Codes.{code_refused, code_read, code_means_nothing, code_not_written, demanded, not_demanded}
 use Rattle.speedy_read.proofs.leaves.DurationReadFrom.read_from.Goals as goal
 
@@ -15,12 +15,15 @@ returns-then-is_written g c =
 pub returns-then-demands_written_form : goal.returns-then-demands_written_form
 returns-then-demands_written_form g c =
     let parts = c.in_ok-seconds.ensures in
-    code_not_written _ duration_code (seconds_and_nanos_laws _) duration_reads_wider (demanded parts.kept.encoding c.demands_written_form.ensures c.if-demands_written_form.true)
+    code_not_written _ duration_code (seconds_and_nanos_codec.laws _) duration_reads_wider
+    (demanded parts.kept.encoding c.demands_written_form.ensures c.if-demands_written_form.true)
     (λ n h. let less = h.2 in let more = c.if-is_written.false in omega arith) c.error_not_written_form.ensures parts
 
 pub returns-then-seconds-carried : goal.returns-then-seconds-carried
 returns-then-seconds-carried g c =
-    code_means_nothing _ duration_code (seconds_and_nanos_laws _) (λ n h. (h.0, h.1)) (λ n h. let e = h.0 in let fits = h.1 in omega arith) (kinds.InvalidSystemTime, refl, c.error_invalid_system_time.ensures) c.in_ok-seconds.ensures
+    code_means_nothing _ duration_code (seconds_and_nanos_codec.laws _) (λ n h. (h.0, h.1))
+    (λ n h. let e = h.0 in let fits = h.1 in omega arith)
+    (kinds.InvalidSystemTime, refl, c.error_invalid_system_time.ensures) c.in_ok-seconds.ensures
 
 pub returns : goal.returns
 returns g c =
