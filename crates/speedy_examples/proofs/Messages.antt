@@ -17,12 +17,12 @@ use Rattle.speedy.specs.Error.{error_of, is_eof_error, IsNamed}
 use Rattle.speedy.specs.ErrorKind.{EndsInput}
 use Rattle.speedy.specs.Format.{Format}
 use Rattle.speedy.specs.Laws.{Laws}
-use Rattle.speedy.specs.Numbers.{unsigned_number, unsigned_number_laws}
+use Rattle.speedy.specs.Numbers.{unsigned_number, unsigned_codec}
 use Rattle.speedy.specs.Owned.{owned_content, borrowed_content}
 use Rattle.speedy.specs.Reading.{ReaderState, IsTold, IsEnd}
 use Rattle.speedy.specs.Sequences.{sequence}
-use Rattle.speedy.specs.Texts.{raw_bytes, text_of_length, text, text_laws}
-use Rattle.speedy.specs.Tuples.{pair, pair_laws}
+use Rattle.speedy.specs.Texts.{raw_bytes, text_of_length, text, text_codec}
+use Rattle.speedy.specs.Tuples.{pair, pair_codec}
 use Rattle.speedy.specs.WaysOfReading.{AnswersBuffer}
 use Rattle.speedy_examples.specs.Callers.{itself, IsFailure}
 
@@ -40,7 +40,7 @@ abbrev pub message : Format Message
 message = message_in (plain_encoding LittleEndian)
 
 pub message_laws : (encoding : Encoding) → Laws encoding.strict 6 (message_in encoding)
-message_laws encoding = pair_laws (unsigned_number_laws 2 encoding) (text_laws encoding)
+message_laws = (pair_codec (unsigned_codec 2) text_codec).laws
 
 pub message_lends_nothing : (encoding : Encoding) → (message_in encoding).asks.lending ≡ false
 unfolding sequence unsigned_number text

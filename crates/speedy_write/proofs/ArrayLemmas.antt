@@ -7,6 +7,7 @@ use Rattle.speedy_base.specs.Encoding.{Encoding}
 use Rattle.speedy_layout.specs.Format.{Format, Each}
 use Rattle.speedy_layout.specs.Lists.{repeat, vector}
 use Rattle.speedy_layout.specs.Owned.{owned_content}
+use Rattle.speedy_layout.specs.Sequences.{Parts-as}
 use Rattle.speedy_write.specs.Sequences.{Writes-as}
 use Rattle.speedy_write.specs.Writing.{WriterState, WritesEach}
 use Rattle.speedy_write.proofs.ListLemmas.{Each-append, Each-parts}
@@ -21,26 +22,17 @@ module _ {A V : Type 0} (R : V → List ℕ → Type 0) (seen : A → V) (n : �
       → Each R (map seen (flat_map (λ x. x) arrays)) b → Each OfItems (map (map seen) arrays) b
   arrays_of [] whole b h = h
   arrays_of (x ∷ xs) whole b h =
-      let p = Each-parts R (map seen x) (map seen (flat_map (λ y. y) xs)) b (subst (λ (vs : List V). Each R vs b) (map-append seen x (flat_map (λ y. y) xs)) h) in
-      record {
-        front = p.front;
-        back = p.back;
-        whole_is = p.whole_is;
-        first_is = (length-map x seen ∙ whole 0 [] (omega arith), p.first_is);
-        second_is = arrays_of xs (λ k d l. whole (suc k) d (omega (arith, l))) p.back p.second_is;
-      }
+      Parts-as (λ s k. (length-map x seen ∙ whole 0 [] (omega arith), k))
+      (arrays_of xs (λ k d l. whole (suc k) d (omega (arith, l))))
+      (Each-parts R (map seen x) (map seen (flat_map (λ y. y) xs)) b
+      (subst (λ (vs : List V). Each R vs b) (map-append seen x (flat_map (λ y. y) xs)) h))
 
   -- and the other way round
   items_of : (arrays : List (List A)) (b : List ℕ) → Each OfItems (map (map seen) arrays) b → Each R (map seen (flat_map (λ x. x) arrays)) b
   items_of [] b h = h
   items_of (x ∷ xs) b h =
-      subst (λ (vs : List V). Each R vs b) (sym (map-append seen x (flat_map (λ y. y) xs))) (Each-append R (map seen x) (map seen (flat_map (λ y. y) xs)) b (record {
-        front = h.front;
-        back = h.back;
-        whole_is = h.whole_is;
-        first_is = h.first_is.1;
-        second_is = items_of xs h.back h.second_is;
-      }))
+      subst (λ (vs : List V). Each R vs b) (sym (map-append seen x (flat_map (λ y. y) xs)))
+      (Each-append R (map seen x) (map seen (flat_map (λ y. y) xs)) b (Parts-as (λ s k. k.1) (items_of xs) h))
 
 module _ {E : Type 0} (gives : Error → E → Type 0) {A V : Type 0} (F : Encoding → Format V) (seen : A → V) {n : ℕ} (arrays : List (List A))
     (old new : WriterState) (appended : List ℕ → Type 0) where

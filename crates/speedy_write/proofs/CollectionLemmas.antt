@@ -13,11 +13,11 @@ use Rattle.speedy_layout.specs.Codes.{coding}
 use Rattle.speedy_layout.specs.Format.{Format}
 use Rattle.speedy_layout.specs.GatheredLemmas.{gathered_writes, gathered_form, gathered_form_length}
 use Rattle.speedy_layout.specs.Gathering.{IsGathering, hashed_items, items_of, gathered}
-use Rattle.speedy_layout.specs.Laws.{Laws}
+use Rattle.speedy_layout.specs.Laws.{Laws, Codec}
 use Rattle.speedy_layout.specs.Lists.{repeat, vector, list}
 use Rattle.speedy_layout.specs.Owned.{owned_content, borrowed_content}
 use Rattle.speedy_layout.specs.Sequences.{sequence}
-use Rattle.speedy_layout.specs.Tuples.{pair, pair_laws}
+use Rattle.speedy_layout.specs.Tuples.{pair, pair_codec}
 use Rattle.speedy_write.specs.Collections.{WritesItems}
 use Rattle.speedy_write.specs.Sequences.{Writes-as}
 use Rattle.speedy_base.specs.Error.{passed_on}
@@ -97,23 +97,33 @@ module _ {E : Type 0} {gives : Error → E → Type 0} {result : Result (Unit {0
 
 module _ {E S : Type 0} {gives : Error → E → Type 0} {hashed : Bool} {whole : S} {result : Result (Unit {0}) E} {old new : WriterState} {appended : List ℕ → Type 0} where
   -- a form of a collection is written as the collection
-  form_written_as : {X : Type 0} {stands : List X → S → Type 0} {are_written : List X → Type 0} {least : ℕ} {L : Encoding → Format X} {shown : List X} → ((encoding : Encoding) → Laws encoding.strict least (L encoding)) → IsGathering hashed stands are_written → stands shown whole × are_written shown
-      → Writes gives (λ encoding. list encoding (L encoding)) shown result old new appended → Writes gives (λ encoding. gathered hashed encoding stands are_written (L encoding)) whole result old new appended
+  form_written_as : {X : Type 0} {stands : List X → S → Type 0} {are_written : List X → Type 0} {shown : List X}
+      (item : Codec X) → IsGathering hashed stands are_written → stands shown whole × are_written shown
+      → Writes gives (λ f. list f (item.format f)) shown result old new appended
+      → Writes gives (λ f. gathered hashed f stands are_written (item.format f)) whole result old new appended
   unfolding coding
-  form_written_as {stands = stands} {are_written = are_written} {L = L} {shown = shown} laws is form w =
-      let encoding = old.encoding in
-      Writes-as (λ kind k. subst (λ (refuses : ErrorKind → Type 0). refuses kind) (sym (items_of_refuses hashed encoding (L encoding))) k)
-      (λ b h. gathered_writes hashed encoding stands are_written (L encoding) shown whole b h form.0 form.1)
-      (λ b h. gathered_form_length encoding (laws encoding) is whole b h shown form.0 form.1)
-      (λ b h. gathered_form encoding (laws encoding) is whole b h shown form.0 form.1) w
+  form_written_as {stands = stands} {are_written = are_written} {shown = shown} item is form w =
+      let f = old.encoding in
+      let refuses = items_of_refuses hashed f (item.format f) in
+      Writes-as (λ kind k. subst (λ (kinds : ErrorKind → Type 0). kinds kind) (sym refuses) k)
+      (λ b h. gathered_writes hashed f stands are_written (item.format f) shown whole b h form.0 form.1)
+      (λ b h. gathered_form_length f (item.laws f) is whole b h shown form.0 form.1)
+      (λ b h. gathered_form f (item.laws f) is whole b h shown form.0 form.1) w
 
   -- the lent items of a set, where they are a form of it
-  pub set_written : {X : Type 0} {stands : List X → S → Type 0} {are_written : List X → Type 0} {least : ℕ} {F : Encoding → Format X} {shown : List X} → ((encoding : Encoding) → Laws encoding.strict least (F encoding)) → IsGathering hashed stands are_written → stands shown whole × are_written shown
-      → Writes gives (λ encoding. list encoding (borrowed_content (F encoding))) shown result old new appended → Writes gives (λ encoding. gathered hashed encoding stands are_written (F encoding)) whole result old new appended
-  set_written {F = F} laws is form w = form_written_as laws is form (lent_items F w)
+  pub set_written : {X : Type 0} {stands : List X → S → Type 0} {are_written : List X → Type 0} {shown : List X}
+      (item : Codec X) → IsGathering hashed stands are_written → stands shown whole × are_written shown
+      → Writes gives (λ f. list f (borrowed_content (item.format f))) shown result old new appended
+      → Writes gives (λ f. gathered hashed f stands are_written (item.format f)) whole result old new appended
+  set_written item is form w = form_written_as item is form (lent_items item.format w)
 
   -- and the lent pairs of a map
-  pub map_written : {K V : Type 0} {stands : List (K × V) → S → Type 0} {are_written : List (K × V) → Type 0} {n m : ℕ} {F : Encoding → Format K} {G : Encoding → Format V} {shown : List (K × V)}
-      → ((encoding : Encoding) → Laws encoding.strict n (F encoding)) → ((encoding : Encoding) → Laws encoding.strict m (G encoding)) → IsGathering hashed stands are_written → stands shown whole × are_written shown
-      → Writes gives (λ encoding. list encoding (pair (borrowed_content (F encoding)) (borrowed_content (G encoding)))) shown result old new appended → Writes gives (λ encoding. gathered hashed encoding stands are_written (pair (F encoding) (G encoding))) whole result old new appended
-  map_written {F = F} {G = G} laws more is form w = form_written_as (λ encoding. pair_laws (laws encoding) (more encoding)) is form (lent_pairs F G w)
+  pub map_written : {K V : Type 0} {stands : List (K × V) → S → Type 0} {are_written : List (K × V) → Type 0}
+      {shown : List (K × V)} (key : Codec K) (value : Codec V) → IsGathering hashed stands are_written
+      → stands shown whole × are_written shown
+      → Writes gives (λ f. list f (pair (borrowed_content (key.format f)) (borrowed_content (value.format f)))) shown
+      result old new appended
+      → Writes gives (λ f. gathered hashed f stands are_written (pair (key.format f) (value.format f))) whole result old
+      new appended
+  map_written key value is form w =
+      form_written_as (pair_codec key value) is form (lent_pairs key.format value.format w)

@@ -13,7 +13,7 @@ use Rattle.speedy_layout.specs.Format.{Format, Parts, Each}
 use Rattle.speedy_layout.specs.Laws.{Laws}
 use Rattle.speedy_layout.specs.Lists.{each_append, repeat, repeat_laws}
 use Rattle.speedy_layout.specs.Numbers.{unsigned_number, unsigned_number_laws}
-use Rattle.speedy_layout.specs.Sequences.{sequence}
+use Rattle.speedy_layout.specs.Sequences.{sequence, Parts-as}
 use Rattle.speedy_layout.specs.Texts.{each_byte}
 use Rattle.speedy_layout.specs.Tuples.{pair}
 use Rattle.speedy_write.specs.Writing.{WriterState, Writes, WritesEach, WritesBytes}
@@ -44,26 +44,11 @@ module _ {V : Type 0} (R : V → List ℕ → Type 0) where
 
   Three-each : (n : ℕ) (vs : List V) (v : V) (rest : List V) (b : List ℕ) → Three n vs v rest b → Each R (vs ++ v ∷ rest) b
   Three-each n vs v rest b h =
-      let s = h.second_is in
-      Each-append vs (v ∷ rest) b (record {
-        front = h.front;
-        back = h.back;
-        whole_is = h.whole_is;
-        first_is = h.first_is.1;
-        second_is = record { front = s.front; back = s.back; whole_is = s.whole_is; first_is = s.first_is; second_is = s.second_is.1 };
-      })
+      Each-append vs (v ∷ rest) b (Parts-as (λ s k. k.1) (λ s k. Parts-as (λ t l. l) (λ t l. l.1) k) h)
 
   Each-three : (n : ℕ) (vs : List V) (v : V) (rest : List V) (b : List ℕ) → length vs ≡ n → Each R (vs ++ v ∷ rest) b → Three n vs v rest b
   Each-three n vs v rest b l h =
-      let p = Each-parts vs (v ∷ rest) b h in
-      let s = p.second_is in
-      record {
-        front = p.front;
-        back = p.back;
-        whole_is = p.whole_is;
-        first_is = (l, p.first_is);
-        second_is = record { front = s.front; back = s.back; whole_is = s.whole_is; first_is = s.first_is; second_is = (refl, s.second_is) };
-      }
+      Parts-as (λ s k. (l, k)) (λ s k. Parts-as (λ t m. m) (λ t m. (refl, m)) k) (Each-parts vs (v ∷ rest) b h)
 
 -- the items as far as the next one, and all of them
 pub first_items : {A : Type 0} (items : List A) (i : ℕ) {x : A} → i < length items → x ≡ get_or items i x → take (i + 1) items ≡ take i items ++ x ∷ []
@@ -141,10 +126,10 @@ module _ {V : Type 0} (R : V → List ℕ → Type 0) (n : ℕ) (vs more : List 
   Two = Parts (λ b. (length vs ≡ n) × Each R vs b) (λ b. (length more ≡ length more) × Each R more b) b
 
   Two-each : Two → Each R (vs ++ more) b
-  Two-each h = Each-append R vs more b (record { front = h.front; back = h.back; whole_is = h.whole_is; first_is = h.first_is.1; second_is = h.second_is.1 })
+  Two-each h = Each-append R vs more b (Parts-as (λ s k. k.1) (λ s k. k.1) h)
 
   Each-two : length vs ≡ n → Each R (vs ++ more) b → Two
-  Each-two l h = let p = Each-parts R vs more b h in record { front = p.front; back = p.back; whole_is = p.whole_is; first_is = (l, p.first_is); second_is = (refl, p.second_is) }
+  Each-two l h = Parts-as (λ s k. (l, k)) (λ s k. (refl, k)) (Each-parts R vs more b h)
 
 module _ {E V : Type 0} {gives : Error → E → Type 0} {e : E} {old new : WriterState} {appended : List ℕ → Type 0} (F : Encoding → Format V) (n : ℕ) (vs more : List V) where
   two_refused : Writes gives (λ encoding. repeat n (F encoding)) vs (Err e) old new appended → Writes gives (λ encoding. pair (repeat n (F encoding)) (repeat (length more) (F encoding))) (vs, more) (Err e) old new appended

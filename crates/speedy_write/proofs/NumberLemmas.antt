@@ -13,14 +13,15 @@ use Rattle.speedy_base.specs.declared.endianness.Endianness.TheVariants.{LittleE
 use Rattle.speedy_base.specs.DigitsLemmas.{SpellsNumber-below, SpellsNumber-digits}
 use Rattle.speedy_base.specs.Encoding.{Encoding}
 use Rattle.speedy_base.specs.Error.{error_of}
-use Rattle.speedy_layout.specs.Codes.{coding, subset_is_code, Accepts-exact_means}
+use Rattle.speedy_layout.specs.Codes.{coding, Accepts-exact_means}
 use Rattle.speedy_layout.specs.Flags.{written_flag}
 use Rattle.speedy_layout.specs.Format.{Format}
 use Rattle.speedy_layout.specs.Laws.{Laws}
 use Rattle.speedy_layout.specs.Leaves.{duration_code}
-use Rattle.speedy_layout.specs.Numbers.{unsigned_number, unsigned_number_laws, signed_number, length_number, length_number_laws}
+use Rattle.speedy_layout.specs.Numbers.{unsigned_number, unsigned_number_laws, signed_number}
+use Rattle.speedy_layout.specs.Numbers.{length_number, length_codec}
 use Rattle.speedy_layout.specs.Varint.{varint, prefixed_written}
-use Rattle.speedy_write.specs.Codes.{number_code_written}
+use Rattle.speedy_write.specs.Codes.{subset_written}
 use Rattle.speedy_write.specs.Writing.{WriterState, Writes, WritesBytes, WritesNumber, WritesSigned}
 use Rattle.speedy_write.specs.Sequences.{Kept-same, Writes-as, form_written}
 
@@ -58,14 +59,19 @@ unfolding unsigned_number
 too_long_refused width {n = n} {old = old} long given = unspelled_refused (unsigned_number_laws width old.encoding) (λ b h. let below = SpellsNumber-below width old.encoding.order n b h in omega arith) given
 
 -- a length of at most so many is written as the number is
-pub length_written : {E : Type 0} {gives : Error → E → Type 0} (width greatest : ℕ) {n : ℕ} {result : Result (Unit {0}) E} {old new : WriterState} {appended : List ℕ → Type 0} → n ≤ greatest → WritesNumber gives width n result old new appended → Writes gives (length_number width greatest) n result old new appended
-length_written width greatest within w = number_code_written width (λ encoding. subset_is_code (λ n. n ≤ greatest) kinds.OutOfRangeLength tt (unsigned_number_laws width encoding)) (refl, within) w
+pub length_written : {E : Type 0} {gives : Error → E → Type 0} (width greatest : ℕ) {n : ℕ}
+    {result : Result (Unit {0}) E} {old new : WriterState} {appended : List ℕ → Type 0} → n ≤ greatest
+    → WritesNumber gives width n result old new appended
+    → Writes gives (length_number width greatest) n result old new appended
+length_written width greatest within w = subset_written _ _ (refl, within) w
 
 -- and a longer one is refused
 pub past_greatest_refused : {E : Type 0} {gives : Error → E → Type 0} (width greatest : ℕ) {n : ℕ} {e : E} {old : WriterState} {appended : List ℕ → Type 0} → greatest < n → gives (error_of kinds.OutOfRangeLength) e → Writes gives (length_number width greatest) n (Err e) old old appended
 unfolding coding
 past_greatest_refused width greatest {old = old} past given =
-    unspelled_refused {F = length_number width greatest} (length_number_laws width greatest old.encoding) (λ b h. let means = Accepts-exact_means old.encoding.strict _ _ _ _ h.stands in let same = means.0 in let within = means.1 in omega arith) given
+    unspelled_refused {F = length_number width greatest} ((length_codec width greatest).laws old.encoding)
+    (λ b h. let means = Accepts-exact_means old.encoding.strict _ _ _ _ h.stands in
+    let same = means.0 in let within = means.1 in omega arith) given
 
 -- std's byte of a flag is what the flag is written as
 pub bool_byte_is : (b : Bool) → bool_byte b ≡ written_flag b

@@ -1,5 +1,5 @@
 use Rattle.std.proofs.Common.{refl, ap}
-use Rattle.speedy_layout.specs.Addresses.{address_tag_is_code, address_tag_laws, ip_octets, ip_parts}
+use Rattle.speedy_layout.specs.Addresses.{address_tag_is_code, address_tag, ip_octets, ip_parts}
 use Rattle.speedy_write.specs.Codes.{number_code_written}
 use Rattle.speedy_write.specs.Sequences.{is_sequence, first_refused, second_written}
 use Rattle.speedy_write.proofs.addresses.IpAddrWritable.write_to.Goals as goal
@@ -10,7 +10,8 @@ returns-in_err-write_u8-in-V4 g c =
 
 pub returns-in_ok-write_u8-in-V4 : goal.returns-in_ok-write_u8-in-V4
 returns-in_ok-write_u8-in-V4 g c =
-    second_written is_sequence (ap (λ a. ip_parts (ip_octets a)) c.in-V4.is) address_tag_laws (g.met.W.Writer.additive _ _ _)
+    second_written is_sequence (ap (λ a. ip_parts (ip_octets a)) c.in-V4.is) address_tag.laws
+    (g.met.W.Writer.additive _ _ _)
     (number_code_written 1 address_tag_is_code refl c.in_ok-write_u8-in-V4.ensures.writes) c.write_value.ensures
 
 pub returns-in_err-write_u8-in-V6 : goal.returns-in_err-write_u8-in-V6
@@ -19,5 +20,6 @@ returns-in_err-write_u8-in-V6 g c =
 
 pub returns-in_ok-write_u8-in-V6 : goal.returns-in_ok-write_u8-in-V6
 returns-in_ok-write_u8-in-V6 g c =
-    second_written is_sequence (ap (λ a. ip_parts (ip_octets a)) c.in-V6.is) address_tag_laws (g.met.W.Writer.additive _ _ _)
+    second_written is_sequence (ap (λ a. ip_parts (ip_octets a)) c.in-V6.is) address_tag.laws
+    (g.met.W.Writer.additive _ _ _)
     (number_code_written 1 address_tag_is_code refl c.in_ok-write_u8-in-V6.ensures.writes) c.write_value-in-V6.ensures

@@ -13,6 +13,6 @@ returns g c =
     let same = g.met.K.SameKey.same_key in
     let seen = seen_pair g.K.Layout.seen g.V.Layout.seen in
     map_written {new = g.W.Writer.state after} {appended = λ b. g.W.Writer.appends c.args.writer.now b after}
-    g.K.Layout.layout.laws g.V.Layout.layout.laws index_map_is
+    g.K.Layout.layout g.V.Layout.layout index_map_is
     (index_map_entries g.V.Layout.seen same m c.iter.ensures.unique)
     (c.write_counted_items.ensures (map seen m.entries) (c.len-count.ensures.len ∙ sym (length-map m.entries seen)) (shown_in_order deref_pair seen c.iter.ensures.rest))
