@@ -21,7 +21,7 @@ read_levels-returns-in_err-length g t c =
     let value = c.in_ok-value.ensures in
     level_read kinds.OutOfRangeLength (tree_step _) {new = g.R.LendingReader.state c.read_length.new.reader} (omega arith)
     (refused_second (tree_composes _ _) (unsigned_number_laws 1 _) {A = List Rose} {seen = λ rs. rs} value c.from_residual-in_err-length.ensures.1
-    (refused_first (list_composes (tree_laws _ _) _) refl (rw value.kept.encoding at c.in_err-length.ensures)))
+    (refused_first (list_composes _ _) refl (rw value.kept.encoding at c.in_err-length.ensures)))
 
 pub read_levels-returns-in_err-children : goal.read_levels-returns-in_err-children
 read_levels-returns-in_err-children g t c =
@@ -29,7 +29,7 @@ read_levels-returns-in_err-children g t c =
     let number = c.in_ok-length.ensures in
     level_read kinds.OutOfRangeLength (tree_step _) {new = g.R.LendingReader.state c.read_children.new.reader} (omega arith)
     (refused_second (tree_composes _ _) (unsigned_number_laws 1 _) {A = List Rose} {seen = λ rs. rs} value c.from_residual-in_err-children.ensures.1
-    (refused_second (list_composes (tree_laws _ _) _) (unsigned_number_laws 4 _) (rw value.kept.encoding at number) refl
+    (refused_second (list_composes _ _) (unsigned_number_laws 4 _) (rw value.kept.encoding at number) refl
     (rw (number.kept.encoding, value.kept.encoding) at c.in_err-children.ensures)))
 
 pub read_levels-returns : goal.read_levels-returns
@@ -38,8 +38,8 @@ read_levels-returns g t c =
     let number = c.in_ok-length.ensures in
     level_read kinds.OutOfRangeLength (tree_step _) {new = g.R.LendingReader.state c.read_children.new.reader} (omega arith)
     (got_both (tree_composes _ _) {A = List Rose} {seen = λ rs. rs} {y = map view c.in_ok-children.children.items} value
-    (got_both (list_composes (tree_laws _ _) _) (rw value.kept.encoding at number) (rw (number.kept.encoding, value.kept.encoding) at c.in_ok-children.ensures) refl)
-    (view_made _ _))
+    (got_both (list_composes _ _) (rw value.kept.encoding at number)
+    (rw (number.kept.encoding, value.kept.encoding) at c.in_ok-children.ensures) refl) (view_made _ _))
 
 pub read_children-loop-i-init : goal.read_children-loop-i-init
 read_children-loop-i-init g t c = rw c.new-children.ensures.items (refl, none_so_far refl)
