@@ -37,6 +37,11 @@ pub passed_on : {T E : Type 0} (result : Result T E) (e : E) → IsErrAnd result
 passed_on (Ok t) e h = absurd h
 passed_on (Err x) e h = ap (λ y. Err y) (sym h)
 
+-- What `C.Error.IsEof` tells of the errors of a context: which refusal becomes which of them, and which say that the
+-- bytes ended too soon.
+abbrev pub Errors : Type 0 → Type 1
+Errors E = record { from_gives : Error → E → Type 0; eof : E → Bool }
+
 -- an error that a refusal of a named kind became
 abbrev pub IsNamed : {E : Type 0} → (Error → E → Type 0) → (ErrorKind → Type 0) → E → Type 0
 IsNamed gives names e = (kind : ErrorKind) × names kind × gives (error_of kind) e

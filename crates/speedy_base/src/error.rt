@@ -75,8 +75,10 @@ pub struct Error {
     kind: ErrorKind,
 }
 
-/// Errors that may say that the bytes ended too soon.
-pub trait IsEof {
+/// Errors that an [`Error`] becomes, and that may say that the bytes ended too soon.
+///
+/// In a clause `E.IsEof` names both: which error becomes which (`from_gives`), and which say so (`eof`).
+pub trait IsEof: From<Error> {
     /// Whether the error says so.
     ghost eof: { Self → Bool };
 

@@ -16,7 +16,7 @@ use Rattle.speedy_layout.specs.Texts.{raw_bytes, any_bytes}
 use Rattle.speedy_read.specs.Reading.{Kept, refusing_kinds, Excused, Refused, Reads, Peeks, IsEnd, ends_alone}
 use Rattle.speedy_read.specs.ReadingLemmas.{Kept-same, KeptByPeek-same, ends_early, input_ended}
 use Rattle.speedy_read.specs.Buffers.{memory_state, copied_state}
-use Rattle.speedy_read.specs.WaysOfReading.{RefusesBufferIf, AnswersCopied}
+use Rattle.speedy_read.specs.WaysOfReading.{RefusesBufferIf, AnswersBufferIf}
 
 -- a front was taken
 pub Kept-rest : {lends : Bool} {targets : List GName} {bytes rest : List ℕ} {encoding : Encoding} (front : List ℕ) → bytes ≡ front ++ rest → Kept (memory_state lends targets bytes encoding) (memory_state lends targets rest encoding)
@@ -86,7 +86,7 @@ module _ {E : Type 0} {gives : Error → E → Type 0} {eof : E → Bool} {A V :
   -- what a form answers that reads a value from a new reader of bytes that it copies
   pub copied_answered : (result : Result A E) → least ≤ length bytes → AreBytes bytes → length bytes < 2 ^ 64 - 1
       → Reads gives eof seen L result (copied_state name bytes encoding) (copied_state after rest encoding')
-      → AnswersCopied gives eof seen least L result (length bytes - length rest) bytes
+      → AnswersBufferIf gives eof (L.asks.lending ≡ false) (refusing_kinds L false) seen least L result (length bytes - length rest) bytes
   copied_answered (Ok x) enough are fit r = record {
     too_small = λ few. absurd (omega arith);
     value = record {

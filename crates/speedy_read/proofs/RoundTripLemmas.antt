@@ -5,17 +5,18 @@ use Rattle.std.proofs.lemmas.Bool.{true≢false}
 use Rattle.std.proofs.lemmas.List.{length-append, append-nil}
 use Rattle.speedy_base.specs.declared.error.Error.{Error}
 use Rattle.speedy_base.specs.declared.error.ErrorKind.TheVariants as kinds
-use Rattle.speedy_base.specs.Error.{error_of, IsNamed}
+use Rattle.speedy_base.specs.Error.{error_of, Errors, IsNamed}
 use Rattle.speedy_base.specs.Device.{SourceState}
 use Rattle.speedy_base.specs.DigitsLemmas.{AreBytes-slice}
 use Rattle.speedy_base.specs.Encoding.{Encoding}
+use Rattle.speedy_layout.specs.Codecs.{Codec}
 use Rattle.speedy_layout.specs.Format.{Format}
 use Rattle.speedy_layout.specs.Laws.{Laws}
 use Rattle.speedy_layout.specs.Lists.{repeat, vector, vector_laws}
 use Rattle.speedy_layout.specs.Owned.{owned_content}
 use Rattle.speedy_read.specs.Buffers.{bytes_state}
 use Rattle.speedy_read.specs.Reading.{ReaderState, IsTold, refusing_kinds, Excused, Refused, Reads}
-use Rattle.speedy_read.specs.WaysOfReading.{RefusesBufferIf, AnswersBuffer, AnswersCopied, AnswersStream}
+use Rattle.speedy_read.specs.WaysOfReading.{RefusesBufferIf, AnswersBufferIf, AnswersStreamIn}
 use Rattle.speedy_read.specs.RoundTrip.{AnswersWritten, ReadsWritten, ReadsWrittenFirst, StreamsWritten, WrittenIsAnswered, WrittenIsRead, WrittenIsStreamed, WrittenItemsAreRead}
 use Rattle.speedy_read.specs.StreamModel.{most_held}
 
@@ -26,7 +27,7 @@ nothing_ahead (x ∷ ahead) few = absurd (omega arith)
 
 module _ {E A V : Type 0} (gives : Error → E → Type 0) (eof : E → Bool) (seen : A → V) (least : ℕ) where
   module _ (L : Format V) {strict : Bool} (laws : Laws strict least L) (v : V) (bytes rest : List ℕ) (written : L.writes v bytes) where
-    front_answered : (result : Result A E) (count : ℕ) (buffer : List ℕ) → buffer ≡ bytes ++ rest → AnswersBuffer gives eof seen least L result count buffer → AnswersWritten gives seen L v (length bytes) result count
+    front_answered : (result : Result A E) (count : ℕ) (buffer : List ℕ) → buffer ≡ bytes ++ rest → AnswersBufferIf gives eof (Unit {0}) L.names seen least L result count buffer → AnswersWritten gives seen L v (length bytes) result count
     front_answered (Ok x) count buffer e a =
         let k = a.value in
         let one : (seen x ≡ v) × (k.front ≡ bytes) × (k.rest ≡ rest) = laws.decodes (seen x) v k.front bytes k.rest rest k.front_is (laws.written_spells v bytes written) (sym k.whole_is ∙ e) in
@@ -66,7 +67,7 @@ module _ {E A V : Type 0} (gives : Error → E → Type 0) (eof : E → Bool) (s
           let none : old.faults.count ≡ 0 = ap (λ (s : ReaderState). s.faults.count) s in
           elim h.0 [ inl k ↦ absurd (omega (arith, none)) | inr k ↦ absurd (omega arith) ]
 
-    streamed : (buffers : Bool) (result : Result A E) (old new : SourceState) → IsTrue old.tells → old.to_come ≡ bytes ++ rest → AnswersStream gives eof seen L buffers result old new → StreamsWritten gives seen L v buffers rest result old new
+    streamed : (buffers : Bool) (result : Result A E) (old new : SourceState) → IsTrue old.tells → old.to_come ≡ bytes ++ rest → AnswersStreamIn gives eof seen L buffers result old new → StreamsWritten gives seen L v buffers rest result old new
     streamed buffers (Ok x) old new told e a =
         let k = a.value in
         let one : (seen x ≡ v) × (k.front ≡ bytes) × (k.ahead ++ new.to_come ≡ rest) = laws.decodes (seen x) v k.front bytes (k.ahead ++ new.to_come) rest k.front_is (laws.written_spells v bytes written) (sym (k.taken told) ∙ e) in
@@ -92,39 +93,62 @@ module _ {E A V : Type 0} (gives : Error → E → Type 0) (eof : E → Bool) (s
           ];
     }
 
-  module _ (format : Encoding → Format V) (laws : (encoding : Encoding) → Laws encoding.strict least (format encoding)) where
+module _ {E A V : Type 0} (errors : Errors E) (seen : A → V) where
+  module _ (codec : Codec V) where
     -- those of the functions over sources
-    pub written_is_streamed : WrittenIsStreamed gives eof seen format
-    written_is_streamed encoding v bytes rest buffers result old new h told e a = streamed (format encoding) (laws encoding) v bytes rest h buffers result old new told e a
+    pub written_is_streamed : WrittenIsStreamed errors seen codec
+    written_is_streamed encoding v bytes rest buffers result old new h told e a =
+        streamed errors.from_gives errors.eof seen codec.least (codec.format encoding) (codec.laws encoding) v bytes rest h
+        buffers result old new told e a
 
     -- the laws of the functions over buffers follow from those of the layout
-    pub written_is_answered : WrittenIsAnswered gives eof seen least format
+    pub written_is_answered : WrittenIsAnswered errors seen codec
     written_is_answered = record {
-      front = λ {encoding} {v} {bytes} rest {buffer} {result} {count} h e a. front_answered (format encoding) (laws encoding) v bytes rest h result count buffer e a;
-      whole = λ {encoding} {v} {bytes} {buffer} {result} {count} h e a. front_answered (format encoding) (laws encoding) v bytes [] h result count buffer (e ∙ sym (append-nil bytes)) a;
+      front = λ {encoding} {v} {bytes} rest {buffer} {result} {count} h e a.
+          front_answered errors.from_gives errors.eof seen codec.least (codec.format encoding) (codec.laws encoding)
+          v bytes rest h result count buffer e a;
+      whole = λ {encoding} {v} {bytes} {buffer} {result} {count} h e a.
+          front_answered errors.from_gives errors.eof seen codec.least (codec.format encoding) (codec.laws encoding)
+          v bytes [] h result count buffer (e ∙ sym (append-nil bytes)) a;
     }
 
+  module _ (least : ℕ) (format : Encoding → Format V)
+      (laws : (encoding : Encoding) → Laws encoding.strict least (format encoding)) where
     -- and so do those of reads
-    pub written_is_read : WrittenIsRead gives eof seen format
+    pub written_is_read : WrittenIsRead errors seen format
     written_is_read =
-        let reads : (encoding : Encoding) (v : V) (bytes rest : List ℕ) (result : Result A E) (old new : ReaderState) → (format encoding).writes v bytes → IsTrue old.fixed.tells → old.encoding ≡ encoding → old.to_come ≡ bytes ++ rest → Reads gives eof seen (format old.encoding) result old new → ReadsWritten gives eof seen (format encoding) v rest result old new =
-        λ encoding v bytes rest result old new h told f e a. read_back (format encoding) (laws encoding) v bytes rest h result old new told e (subst (λ (f : Encoding). Reads gives eof seen (format f) result old new) f a) in
+        let gives = errors.from_gives in
+        let eof = errors.eof in
+        let reads : (encoding : Encoding) (v : V) (bytes rest : List ℕ) (result : Result A E) (old new : ReaderState)
+        → (format encoding).writes v bytes → IsTrue old.fixed.tells → old.encoding ≡ encoding
+        → old.to_come ≡ bytes ++ rest → Reads gives eof seen (format old.encoding) result old new
+        → ReadsWritten gives eof seen (format encoding) v rest result old new =
+        λ encoding v bytes rest result old new h told f e a.
+        read_back gives eof seen least (format encoding) (laws encoding) v bytes rest h result old new told e
+        (subst (λ (f : Encoding). Reads gives eof seen (format f) result old new) f a) in
         record {
-          told = λ {encoding} {v} {bytes} {rest} {result} {old} {new} h t f e a. reads encoding v bytes rest result old new h t f e a;
+          told = λ {encoding} {v} {bytes} {rest} {result} {old} {new} h t f e a.
+              reads encoding v bytes rest result old new h t f e a;
           made = λ {encoding} {at} {after} {v} {bytes} {rest} {buffer} {left} {result} {old} h e s f a.
-              let read = reads encoding v bytes rest result old (bytes_state left after) h (ap (λ x. x.fixed.tells) s) (ap (λ x. x.encoding) s ∙ f) (ap (λ x. x.to_come) s ∙ e) a in
-              first_read (format encoding) (laws encoding) v bytes rest h result old buffer left at after s read;
+              let read = reads encoding v bytes rest result old (bytes_state left after) h (ap (λ x. x.fixed.tells) s)
+              (ap (λ x. x.encoding) s ∙ f) (ap (λ x. x.to_come) s ∙ e) a in
+              first_read gives eof seen least (format encoding) (laws encoding) v bytes rest h result old buffer left
+              at after s read;
         }
 
-module _ {E A V : Type 0} (gives : Error → E → Type 0) (eof : E → Bool) (seen : A → List V) (least : ℕ) (format : Encoding → Format V) (laws : (encoding : Encoding) → Laws encoding.strict least (format encoding)) where
+module _ {E A V : Type 0} (errors : Errors E) (seen : A → List V) (least : ℕ) (format : Encoding → Format V)
+    (laws : (encoding : Encoding) → Laws encoding.strict least (format encoding)) where
   -- items are read as a vector is
-  pub written_items_are_read : WrittenItemsAreRead gives eof seen format
+  pub written_items_are_read : WrittenItemsAreRead errors seen format
   unfolding vector owned_content repeat
   written_items_are_read =
-      let vectors : (n : ℕ) → WrittenIsRead gives eof seen (λ encoding. vector n (format encoding)) = λ n. written_is_read gives eof seen (n * least) (λ encoding. vector n (format encoding)) (λ encoding. vector_laws (laws encoding) n) in
+      let vectors : (n : ℕ) → WrittenIsRead errors seen (λ encoding. vector n (format encoding)) =
+      λ n. written_is_read errors seen (n * least) (λ encoding. vector n (format encoding))
+      (λ encoding. vector_laws (laws encoding) n) in
       record {
         told = λ {encoding} {vs} bytes {rest} {n} h l t f e a. (vectors n).told (sym l, h) t f e a;
-        made = λ {encoding} {at} {after} {vs} bytes {rest} {buffer} {left} {n} h l e s f a. (vectors n).made (sym l, h) e s f a;
+        made = λ {encoding} {at} {after} {vs} bytes {rest} {buffer} {left} {n} h l e s f a.
+            (vectors n).made (sym l, h) e s f a;
       }
 
 -- what borrows nothing is refused with a kind that it names
@@ -135,7 +159,7 @@ owned_kind gives L none (kind, inl named, given) = (kind, named, given)
 owned_kind gives L none (kind, inr unlent, given) = absurd (true≢false (sym unlent.0 ∙ none))
 
 -- what borrows nothing is answered alike from bytes that are lent and from bytes that are not
-pub copied_alike : {E A V : Type 0} {gives : Error → E → Type 0} {eof : E → Bool} {seen : A → V} {least : ℕ} {L : Format V} {result : Result A E} {count : ℕ} {bytes : List ℕ} → L.asks.lending ≡ false → AnswersCopied gives eof seen least L result count bytes → AnswersBuffer gives eof seen least L result count bytes
+pub copied_alike : {E A V : Type 0} {gives : Error → E → Type 0} {eof : E → Bool} {seen : A → V} {least : ℕ} {L : Format V} {result : Result A E} {count : ℕ} {bytes : List ℕ} → L.asks.lending ≡ false → AnswersBufferIf gives eof (L.asks.lending ≡ false) (refusing_kinds L false) seen least L result count bytes → AnswersBufferIf gives eof (Unit {0}) L.names seen least L result count bytes
 copied_alike {result = Ok x} none a = record { too_small = a.too_small; value = a.value; refused = λ _. tt }
 copied_alike {gives = gives} {L = L} {result = Err e} none a = record {
   too_small = a.too_small;

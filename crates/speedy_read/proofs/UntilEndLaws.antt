@@ -6,7 +6,7 @@ use Rattle.std.proofs.lemmas.List.{append_assoc, append-nil, length-append, leng
 use Rattle.speedy_base.specs.declared.error.ErrorKind.TheVariants as kinds
 use Rattle.speedy_base.specs.declared.error.Error.{Error}
 use Rattle.speedy_base.specs.Encoding.{Encoding}
-use Rattle.speedy_base.specs.Error.{error_of, IsNamed}
+use Rattle.speedy_base.specs.Error.{error_of, Errors, IsNamed}
 use Rattle.speedy_layout.specs.Format.{Format, Each}
 use Rattle.speedy_layout.specs.Laws.{Laws}
 use Rattle.speedy_layout.specs.Lists.{each_decodes}
@@ -142,9 +142,13 @@ module _ {V : Type 0} {strict : Bool} {least : ℕ} {L : Format V} (laws : Laws 
           ]
         ]
 
-pub until_end_is_decided : {E T F V : Type 0} (gives : Error → E → Type 0) (eof : E → Bool) (seen : T → V) (gathers : List T → F → Type 0) (least : ℕ) (format : Encoding → Format V) → ((encoding : Encoding) → Laws encoding.strict least (format encoding)) → UntilEndIsDecided gives eof seen gathers format
-until_end_is_decided gives eof seen gathers least format laws = record {
-  cut = λ {encoding} vs v bytes front more are spelled some within is c. cut_is_read (laws encoding) vs bytes front are is v more spelled some within c;
+pub until_end_is_decided : {E T F V : Type 0} (errors : Errors E) (seen : T → V) (gathers : List T → F → Type 0)
+    (least : ℕ) (format : Encoding → Format V) → ((encoding : Encoding) → Laws encoding.strict least (format encoding))
+    → UntilEndIsDecided errors seen gathers format
+until_end_is_decided errors seen gathers least format laws = record {
+  cut = λ {encoding} vs v bytes front more are spelled some within is c.
+      cut_is_read (laws encoding) vs bytes front are is v more spelled some within c;
   too_many = λ {encoding} vs bytes rest are past is c. too_many_refused (laws encoding) vs bytes rest are is past c;
-  at_fault = λ {encoding} vs bytes rest are bad within is c. fault_refused (laws encoding) vs bytes rest are is bad within c;
+  at_fault = λ {encoding} vs bytes rest are bad within is c.
+      fault_refused (laws encoding) vs bytes rest are is bad within c;
 }

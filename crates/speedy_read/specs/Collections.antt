@@ -2,7 +2,8 @@
 use Rattle.std.specs.Prelude.{◌≡◌, ℕ, ◌≤◌, List, length, map, Bool, true, IsTrue, ◌⊎◌, Result, MatchResult}
 use Rattle.speedy_base.specs.declared.error.ErrorKind.TheVariants as kinds
 use Rattle.speedy_base.specs.declared.error.Error.{Error}
-use Rattle.speedy_base.specs.Error.{error_of}
+use Rattle.speedy_base.specs.Error.{error_of, Errors}
+use Rattle.speedy_layout.specs.Codecs.{Codec}
 use Rattle.speedy_layout.specs.Format.{Format, Each}
 use Rattle.speedy_layout.specs.Lists.{vector}
 use Rattle.speedy_read.specs.Reading.{ReaderState, Kept, Got, Ahead, Excused, Refused}
@@ -42,3 +43,9 @@ module _ {T F V : Type 0} (g : Gatherer T F V) (L : Format V) (n : ℕ) where
     pub kept : Kept old new
     pub answer : MatchResult result (λ whole. GotItems whole old new)
         (λ e. Excused gives true e old new ⊎ (Refused gives eof (vector n L) e old new ⊎ (gives (error_of kinds.NotWrittenForm) e × NotWritten old new)))
+
+-- the word of contracts: a read of so many of a codec's values and what they gather to, from a reader that reads see so
+abbrev pub CollectsValues : {E S T F V : Type 0} → Errors E → (S → ReaderState) → Gatherer T F V → Codec V → ℕ → Result F E → S → S → Type 0
+CollectsValues errors state g codec n result old new =
+    let format = codec.format (state old).encoding in
+    Collects g format n errors.from_gives errors.eof result (state old) (state new)

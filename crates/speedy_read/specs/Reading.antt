@@ -5,16 +5,16 @@ use Rattle.std.specs.Int.{Width}
 use Rattle.speedy_base.specs.declared.error.ErrorKind.{ErrorKind}
 use Rattle.speedy_base.specs.declared.error.ErrorKind.TheVariants as kinds
 use Rattle.speedy_base.specs.declared.error.Error.{Error}
-use Rattle.speedy_base.specs.Error.{error_of, IsNamed}
+use Rattle.speedy_base.specs.Error.{error_of, Errors, IsNamed}
 use Rattle.speedy_base.specs.ErrorKind.{EndsInput}
 use Rattle.speedy_base.specs.declared.device.Faults.{Faults}
 use Rattle.speedy_base.specs.FailedCalls.{IsOfFault}
 use Rattle.speedy_base.specs.Device.{SourceState}
 use Rattle.speedy_base.specs.Digits.{AreBytes}
 use Rattle.speedy_base.specs.Encoding.{Encoding}
+use Rattle.speedy_layout.specs.Codecs.{Codec, unsigned_codec, signed_codec, raw_bytes_codec}
 use Rattle.speedy_layout.specs.Format.{Format}
-use Rattle.speedy_layout.specs.Numbers.{unsigned_number, signed_number}
-use Rattle.speedy_layout.specs.Texts.{raw_bytes}
+use Rattle.speedy_layout.specs.Texts.{raw_bytes, any_bytes}
 
 -- What the kind of a reader fixes.
 pub record ReaderKind : Type 0 where
@@ -135,47 +135,10 @@ module _ {E : Type 0} (gives : Error → E → Type 0) (eof : E → Bool) where
     pub kept : Kept old new
     pub answer : MatchResult result (λ x. Got (L.spells (seen x)) old new) (λ e. Excused gives L.asks.memory e old new ⊎ Refused L e old new)
 
-  -- a read of a number of so many digits, and of a signed one of a width, in the encoding of the reader
-  abbrev pub ReadsUnsigned : ℕ → Result ℕ E → ReaderState → ReaderState → Type 0
-  ReadsUnsigned width result old new = Reads (λ n. n) (unsigned_number width old.encoding) result old new
-
-  abbrev pub ReadsSigned : Width → Result ℤ E → ReaderState → ReaderState → Type 0
-  ReadsSigned w result old new = Reads (λ z. z) (signed_number w old.encoding) result old new
-
   -- A peek of a format's values: as the read, but nothing is taken, and it may want memory where the read does not.
   pub record Peeks {A V : Type 0} (seen : A → V) (L : Format V) (result : Result A E) (old new : ReaderState) : Type 0 where
     pub kept : KeptByPeek old new
     pub answer : MatchResult result (λ x. Ahead (L.spells (seen x)) old new) (λ e. PeekWants gives e old new ⊎ (Excused gives L.asks.memory e old new ⊎ Refused L e old new))
-
-  -- a peek of a number of so many digits, and of a signed one of a width
-  abbrev pub PeeksUnsigned : ℕ → Result ℕ E → ReaderState → ReaderState → Type 0
-  PeeksUnsigned width result old new = Peeks (λ n. n) (unsigned_number width old.encoding) result old new
-
-  abbrev pub PeeksSigned : Width → Result ℤ E → ReaderState → ReaderState → Type 0
-  PeeksSigned w result old new = Peeks (λ z. z) (signed_number w old.encoding) result old new
-
-  -- Where fewer bytes than so many are to come, whatever they are, a read is refused as an end of them.
-  abbrev pub RefusesFewer : {A : Type 0} → ℕ → Result A E → ReaderState → ReaderState → Type 0
-  RefusesFewer n result old new =
-      IsTrue old.fixed.tells → length old.to_come < n
-      → IsErrAnd result (λ e. Excused gives false e old new ⊎ IsEnd old.fixed.ends_by_device e)
-
-  -- What a read answers that lends its bytes. Where the reader lends, it answers, refuses and takes as a read of so
-  -- many bytes does, and what is lent shows the bytes that were taken. A reader that lends nothing answers nothing and
-  -- takes nothing; so does one whose loans show nothing.
-  abbrev pub LendsBytes : {A : Type 0} → (A → List ℕ) → ℕ → Option (Result A E) → ReaderState → ReaderState → Type 0
-  LendsBytes shows n lent old new =
-      MatchOption lent
-      ((IsTrue old.fixed.lends → ShowsNothing shows) × (new ≡ old))
-      (λ result. IsTrue old.fixed.lends × Reads shows (raw_bytes n) result old new)
-
-  -- A read of a value that is borrowed, from a reader that lends nothing: where the bytes are there that are read
-  -- before it, it is refused as `Unsized`.
-  abbrev pub RefusesUnsized : {A U : Type 0} → Format U → Result A E → ReaderState → ReaderState → Type 0
-  RefusesUnsized {U = U} before result old new =
-      old.fixed.lends ≡ false → IsTold before old
-      → (u : U) (front rest : List ℕ) → before.spells u front → old.to_come ≡ front ++ rest
-      → IsErrAnd result (λ e. Excused gives before.asks.memory e old new ⊎ gives (error_of kinds.Unsized) e)
 
 -- what a reader says of the number of bytes to come is right
 abbrev pub IsRight : Option Bool → ReaderState → ℕ → Type 0
@@ -200,3 +163,71 @@ ends_alone error _ = error ≡ error_of kinds.UnexpectedEndOfInput
 -- error that says that they ended; or nothing is lent, and none is taken.
 abbrev pub LendsUntilUsed : {A E : Type 0} → (A → List ℕ) → ℕ → Option (Result A E) → ReaderState → ReaderState → Type 0
 LendsUntilUsed shows n lent old new = MatchOption lent (new ≡ old) (λ result. Reads ends_alone (λ _. true) shows (raw_bytes n) result old new)
+
+-- ---- the words of contracts
+
+-- They take what is known of the errors, `C.Error.IsEof`, how reads see a reader, `R.state`, and last the reader before
+-- and behind. Values are of the format under the encoding that the reader has.
+module _ {E S : Type 0} (errors : Errors E) (state : S → ReaderState) where
+  -- a read of a format's values
+  abbrev pub ReadsAs : {A V : Type 0} → (A → V) → (Encoding → Format V) → Result A E → S → S → Type 0
+  ReadsAs seen format result old new =
+      Reads errors.from_gives errors.eof seen (format (state old).encoding) result (state old) (state new)
+
+  -- a read, and a peek, of a codec's values
+  abbrev pub ReadsValue : {A V : Type 0} → (A → V) → Codec V → Result A E → S → S → Type 0
+  ReadsValue seen codec = ReadsAs seen codec.format
+
+  abbrev pub PeeksValue : {A V : Type 0} → (A → V) → Codec V → Result A E → S → S → Type 0
+  PeeksValue seen codec result old new =
+      Peeks errors.from_gives errors.eof seen (codec.format (state old).encoding) result (state old) (state new)
+
+  -- a read, and a peek, of a number of so many bytes, and of a signed one of a width
+  abbrev pub ReadsUnsigned : ℕ → Result ℕ E → S → S → Type 0
+  ReadsUnsigned width = ReadsValue (λ n. n) (unsigned_codec width)
+
+  abbrev pub ReadsSigned : Width → Result ℤ E → S → S → Type 0
+  ReadsSigned w = ReadsValue (λ z. z) (signed_codec w)
+
+  abbrev pub PeeksUnsigned : ℕ → Result ℕ E → S → S → Type 0
+  PeeksUnsigned width = PeeksValue (λ n. n) (unsigned_codec width)
+
+  abbrev pub PeeksSigned : Width → Result ℤ E → S → S → Type 0
+  PeeksSigned w = PeeksValue (λ z. z) (signed_codec w)
+
+  -- a read, and a peek, of as many bytes as an output has, which they fill: the output before, and filled
+  abbrev pub ReadsInto : {A : Type 0} → List ℕ → List ℕ → Result A E → S → S → Type 0
+  ReadsInto output filled = ReadsValue (λ _. filled) (raw_bytes_codec (length output))
+
+  abbrev pub PeeksInto : {A : Type 0} → List ℕ → List ℕ → Result A E → S → S → Type 0
+  PeeksInto output filled = PeeksValue (λ _. filled) (raw_bytes_codec (length output))
+
+  -- a read of so many bytes, whatever they are
+  abbrev pub Skips : ℕ → Result (Unit {0}) E → S → S → Type 0
+  Skips n = ReadsAs (λ x. x) (λ _. any_bytes n)
+
+  -- Where fewer bytes than so many are to come, whatever they are, a read is refused as an end of them.
+  abbrev pub RefusesFewer : {A : Type 0} → ℕ → Result A E → S → S → Type 0
+  RefusesFewer n result old new =
+      IsTrue (state old).fixed.tells → length (state old).to_come < n
+      → IsErrAnd result (λ e. Excused errors.from_gives false e (state old) (state new)
+      ⊎ IsEnd errors.from_gives errors.eof (state old).fixed.ends_by_device e)
+
+  -- What a read answers that lends its bytes. Where the reader lends, it answers, refuses and takes as a read of so
+  -- many bytes does, and what is lent shows the bytes that were taken. A reader that lends nothing answers nothing and
+  -- takes nothing; so does one whose loans show nothing.
+  abbrev pub LendsBytes : {A : Type 0} → (A → List ℕ) → ℕ → Option (Result A E) → S → S → Type 0
+  LendsBytes shows n lent old new =
+      MatchOption lent
+      ((IsTrue (state old).fixed.lends → ShowsNothing shows) × (state new ≡ state old))
+      (λ result. IsTrue (state old).fixed.lends × ReadsValue shows (raw_bytes_codec n) result old new)
+
+  -- A read of a value that is borrowed, from a reader that lends nothing: where the bytes are there that are read
+  -- before it, it is refused as `Unsized`.
+  abbrev pub RefusesUnsized : {A U : Type 0} → Codec U → Result A E → S → S → Type 0
+  RefusesUnsized {U = U} codec result old new =
+      let before = codec.format (state old).encoding in
+      (state old).fixed.lends ≡ false → IsTold before (state old)
+      → (u : U) (front rest : List ℕ) → before.spells u front → (state old).to_come ≡ front ++ rest
+      → IsErrAnd result (λ e. Excused errors.from_gives before.asks.memory e (state old) (state new)
+      ⊎ errors.from_gives (error_of kinds.Unsized) e)

@@ -3,16 +3,17 @@ use Rattle.std.specs.Prelude.{◌≡◌, ℕ, ◌-◌, ◌^◌, ◌<◌, ◌≤�
 use Rattle.std.proofs.Common.{Fits, w8, get_or}
 use Rattle.speedy_base.specs.declared.error.Error.{Error}
 use Rattle.speedy_base.specs.declared.error.ErrorKind.TheVariants as kinds
-use Rattle.speedy_base.specs.Error.{error_of}
+use Rattle.speedy_base.specs.Error.{error_of, Errors}
 use Rattle.speedy_base.specs.Device.{SourceState}
 use Rattle.speedy_base.specs.Digits.{AreBytes}
 use Rattle.speedy_base.specs.Encoding.{Encoding}
 use Rattle.speedy_base.specs.FailedCalls.{IsOfFailedCall}
+use Rattle.speedy_layout.specs.Codecs.{Codec}
 use Rattle.speedy_layout.specs.Format.{Format, Each}
 use Rattle.speedy_layout.specs.Lists.{vector}
 use Rattle.speedy_read.specs.Buffers.{bytes_state}
 use Rattle.speedy_read.specs.Reading.{ReaderState, IsTold, Excused, Reads}
-use Rattle.speedy_read.specs.WaysOfReading.{AnswersBuffer, AnswersCopied, WantsMemory, AnswersStream}
+use Rattle.speedy_read.specs.WaysOfReading.{AnswersBuffer, AnswersCopied, WantsMemory, AnswersStreamIn}
 use Rattle.speedy_read.specs.StreamModel.{most_held}
 
 -- What a function that reads from a buffer answers where a written form of so many bytes stands at the front: the value
@@ -52,54 +53,54 @@ pub record StreamsWritten {E A V : Type 0} (gives : Error → E → Type 0) (see
   pub refused : AreBytes old.to_come → length old.to_come < 2 ^ 64 - 1 → L.asks.lending ≡ false
       → IfErr result (λ e. WantsMemory gives L.asks.memory buffers e old new ⊎ IsOfFailedCall gives e old.faults new.faults)
 
-module _ {E A : Type 0} (gives : Error → E → Type 0) (eof : E → Bool) where
+module _ {E A : Type 0} (errors : Errors E) where
   -- the law of the functions that read from a buffer
-  pub record WrittenIsAnswered {V : Type 0} (seen : A → V) (least : ℕ) (format : Encoding → Format V) : Type 0 where
+  pub record WrittenIsAnswered {V : Type 0} (seen : A → V) (codec : Codec V) : Type 0 where
     -- what was written to the front of a buffer
     pub front : {encoding : Encoding} {v : V} {bytes : List ℕ} (rest : List ℕ) {buffer : List ℕ} {result : Result A E} {count : ℕ}
-        → (format encoding).writes v bytes → buffer ≡ bytes ++ rest
-        → AnswersBuffer gives eof seen least (format encoding) result count buffer
-        → AnswersWritten gives seen (format encoding) v (length bytes) result count
+        → (codec.format encoding).writes v bytes → buffer ≡ bytes ++ rest
+        → AnswersBuffer errors seen codec encoding result count buffer
+        → AnswersWritten errors.from_gives seen (codec.format encoding) v (length bytes) result count
     -- what was written is the whole buffer
-    pub whole : {encoding : Encoding} {v : V} {bytes buffer : List ℕ} {result : Result A E} {count : ℕ} → (format encoding).writes v bytes
-        → buffer ≡ bytes → AnswersBuffer gives eof seen least (format encoding) result count buffer
-        → AnswersWritten gives seen (format encoding) v (length bytes) result count
+    pub whole : {encoding : Encoding} {v : V} {bytes buffer : List ℕ} {result : Result A E} {count : ℕ} → (codec.format encoding).writes v bytes
+        → buffer ≡ bytes → AnswersBuffer errors seen codec encoding result count buffer
+        → AnswersWritten errors.from_gives seen (codec.format encoding) v (length bytes) result count
 
   -- the law of reads
   pub record WrittenIsRead {V : Type 0} (seen : A → V) (format : Encoding → Format V) : Type 0 where
     -- from any reader that tells its bytes
     pub told : {encoding : Encoding} {v : V} {bytes rest : List ℕ} {result : Result A E} {old new : ReaderState}
         → (format encoding).writes v bytes → IsTrue old.fixed.tells → old.encoding ≡ encoding → old.to_come ≡ bytes ++ rest
-        → Reads gives eof seen (format old.encoding) result old new → ReadsWritten gives eof seen (format encoding) v rest result old new
+        → Reads errors.from_gives errors.eof seen (format old.encoding) result old new → ReadsWritten errors.from_gives errors.eof seen (format encoding) v rest result old new
     -- from a reader of bytes in memory that has just been made
     pub made : {encoding at after : Encoding} {v : V} {bytes rest buffer left : List ℕ} {result : Result A E} {old : ReaderState}
         → (format encoding).writes v bytes → buffer ≡ bytes ++ rest → old ≡ bytes_state buffer at → at ≡ encoding
-        → Reads gives eof seen (format old.encoding) result old (bytes_state left after)
-        → ReadsWrittenFirst gives seen v rest buffer result left
+        → Reads errors.from_gives errors.eof seen (format old.encoding) result old (bytes_state left after)
+        → ReadsWrittenFirst errors.from_gives seen v rest buffer result left
 
   -- the law of the functions that read from a source that tells its bytes
-  abbrev pub WrittenIsStreamed : {V : Type 0} → (A → V) → (Encoding → Format V) → Type 0
-  WrittenIsStreamed {V = V} seen format = (encoding : Encoding) (v : V) (bytes rest : List ℕ) (buffers : Bool) (result : Result A E) (old new : SourceState)
-      → (format encoding).writes v bytes → IsTrue old.tells → old.to_come ≡ bytes ++ rest
-      → AnswersStream gives eof seen (format encoding) buffers result old new
-      → StreamsWritten gives seen (format encoding) v buffers rest result old new
+  abbrev pub WrittenIsStreamed : {V : Type 0} → (A → V) → Codec V → Type 0
+  WrittenIsStreamed {V = V} seen codec = (encoding : Encoding) (v : V) (bytes rest : List ℕ) (buffers : Bool) (result : Result A E) (old new : SourceState)
+      → (codec.format encoding).writes v bytes → IsTrue old.tells → old.to_come ≡ bytes ++ rest
+      → AnswersStreamIn errors.from_gives errors.eof seen (codec.format encoding) buffers result old new
+      → StreamsWritten errors.from_gives seen (codec.format encoding) v buffers rest result old new
 
   -- the law of reads of items by their number
   pub record WrittenItemsAreRead {V : Type 0} (seen : A → List V) (format : Encoding → Format V) : Type 0 where
     -- from any reader that tells its bytes
     pub told : {encoding : Encoding} {vs : List V} (bytes : List ℕ) {rest : List ℕ} {n : ℕ} {result : Result A E} {old new : ReaderState}
         → Each (format encoding).writes vs bytes → n ≡ length vs → IsTrue old.fixed.tells → old.encoding ≡ encoding
-        → old.to_come ≡ bytes ++ rest → Reads gives eof seen (vector n (format old.encoding)) result old new
-        → ReadsWritten gives eof seen (vector n (format encoding)) vs rest result old new
+        → old.to_come ≡ bytes ++ rest → Reads errors.from_gives errors.eof seen (vector n (format old.encoding)) result old new
+        → ReadsWritten errors.from_gives errors.eof seen (vector n (format encoding)) vs rest result old new
     -- from a reader of bytes in memory that has just been made
     pub made : {encoding at after : Encoding} {vs : List V} (bytes : List ℕ) {rest buffer left : List ℕ} {n : ℕ} {result : Result A E} {old : ReaderState}
         → Each (format encoding).writes vs bytes → n ≡ length vs → buffer ≡ bytes ++ rest → old ≡ bytes_state buffer at → at ≡ encoding
-        → Reads gives eof seen (vector n (format old.encoding)) result old (bytes_state left after)
-        → ReadsWrittenFirst gives seen vs rest buffer result left
+        → Reads errors.from_gives errors.eof seen (vector n (format old.encoding)) result old (bytes_state left after)
+        → ReadsWrittenFirst errors.from_gives seen vs rest buffer result left
 
   -- The law of the functions that copy from a buffer: where the type borrows nothing, they answer as those do that lend it.
-  abbrev pub CopiedIsAnswered : {V : Type 0} → (A → V) → ℕ → (Encoding → Format V) → Type 0
-  CopiedIsAnswered {V = V} seen least format = (encoding : Encoding) → (format encoding).asks.lending ≡ false
+  abbrev pub CopiedIsAnswered : {V : Type 0} → (A → V) → Codec V → Type 0
+  CopiedIsAnswered seen codec = (encoding : Encoding) → (codec.format encoding).asks.lending ≡ false
       → (result : Result A E) (count : ℕ) (bytes : List ℕ)
-      → AnswersCopied gives eof seen least (format encoding) result count bytes
-      → AnswersBuffer gives eof seen least (format encoding) result count bytes
+      → AnswersCopied errors seen codec encoding result count bytes
+      → AnswersBuffer errors seen codec encoding result count bytes

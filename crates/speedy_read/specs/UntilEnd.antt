@@ -3,11 +3,12 @@ use Rattle.std.specs.Prelude.{◌≡◌, ◌≢◌, ℕ, ◌+◌, ◌≤◌, ◌
 use Rattle.std.proofs.Common.{sym, ◌∙◌, subst}
 use Rattle.speedy_base.specs.declared.error.ErrorKind.TheVariants as kinds
 use Rattle.speedy_base.specs.declared.error.Error.{Error}
-use Rattle.speedy_base.specs.Error.{error_of, IsNamed}
+use Rattle.speedy_base.specs.Error.{error_of, Errors, IsNamed}
 use Rattle.speedy_base.specs.Encoding.{Encoding}
 use Rattle.speedy_base.specs.FailedCalls.{HasGrown, IsOfFault}
+use Rattle.speedy_layout.specs.Codecs.{Codec}
 use Rattle.speedy_layout.specs.Format.{Format, Each}
-use Rattle.speedy_read.specs.Reading.{ReaderState, Kept, refusing_kinds, Excused, IsTold, Unspelled, Reads}
+use Rattle.speedy_read.specs.Reading.{ReaderState, Kept, refusing_kinds, Excused, IsTold, Unspelled, ReadsValue}
 
 -- the bytes begin with these values, one after another
 pub record Begin {V : Type 0} (L : Format V) (vs : List V) (old : ReaderState) : Type 0 where
@@ -69,15 +70,6 @@ module _ {E : Type 0} (gives : Error → E → Type 0) (eof : E → Bool) where
       pub kept : Kept old new
       pub answer : MatchResult result (λ whole. GotUntilEnd whole old new) (λ e. RefusesUntilEnd seen L greatest e old new)
 
-  -- A read of a value, or nothing where the bytes end before it.
-  abbrev pub ReadsUnlessEnd : {A V : Type 0} → (A → V) → Format V → Result (Option A) E → ReaderState → ReaderState → Type 0
-  ReadsUnlessEnd {A = A} seen L result old new =
-      MatchResult result
-      (λ next. MatchOption next
-      ((e : E) × IsTrue (eof e) × (let refused : Result A E = Err e in Reads gives eof seen L refused old new))
-      (λ x. let read : Result A E = Ok x in Reads gives eof seen L read old new))
-      (λ e. (eof e ≡ false) × (let refused : Result A E = Err e in Reads gives eof seen L refused old new))
-
   module _ {T F V : Type 0} (seen : T → V) (gathers : List T → F → Type 0) (L : Format V) where
     -- a read until the end, in which no call of the device failed, from a reader that tells its bytes
     pub record CleanUntilEnd (greatest : ℕ) (result : Result F E) (old new : ReaderState) : Type 0 where
@@ -85,23 +77,44 @@ module _ {E : Type 0} (gives : Error → E → Type 0) (eof : E → Bool) where
       pub told : IsTold L old
       pub clean : HasGrown old.faults new.faults → ⊥
 
+-- ---- the words of contracts
+
+module _ {E : Type 0} (errors : Errors E) where
+  module _ {S : Type 0} (state : S → ReaderState) where
+    -- a read of a codec's values until the bytes end, of at most so many, from a reader that reads see so
+    abbrev pub ReadsValuesUntilEnd : {T F V : Type 0} → (T → V) → (List T → F → Type 0) → Codec V → ℕ → Result F E → S → S → Type 0
+    ReadsValuesUntilEnd seen gathers codec greatest result old new =
+        let format = codec.format (state old).encoding in
+        ReadsUntilEnd errors.from_gives errors.eof seen gathers format greatest result (state old) (state new)
+
+    -- a read of a value, or nothing where the bytes end before it
+    abbrev pub ReadsUnlessEnd : {A V : Type 0} → (A → V) → Codec V → Result (Option A) E → S → S → Type 0
+    ReadsUnlessEnd {A = A} seen codec result old new =
+        let refused : E → Result A E = λ e. Err e in
+        let read : A → Result A E = λ x. Ok x in
+        MatchResult result
+        (λ next. MatchOption next
+        ((e : E) × IsTrue (errors.eof e) × ReadsValue errors state seen codec (refused e) old new)
+        (λ x. ReadsValue errors state seen codec (read x) old new))
+        (λ e. (errors.eof e ≡ false) × ReadsValue errors state seen codec (refused e) old new)
+
   -- What a clean read until the end answers is decided by the bytes. It may want memory in place of any other answer.
   pub record UntilEndIsDecided {T F V : Type 0} (seen : T → V) (gathers : List T → F → Type 0) (format : Encoding → Format V) : Type 0 where
     -- at most so many values and then some first bytes of one, or none: the values
     pub cut : {encoding : Encoding} (vs : List V) (v : V) (bytes front more : List ℕ) {greatest : ℕ} {result : Result F E} {old new : ReaderState}
         → Each (format encoding).spells vs bytes → (format encoding).spells v (front ++ more) → more ≢ [] → length vs ≤ greatest
-        → old.to_come ≡ bytes ++ front → CleanUntilEnd seen gathers (format encoding) greatest result old new
-        → MatchResult result (λ whole. (items : List T) × (map seen items ≡ vs) × gathers items whole) (gives (error_of kinds.OutOfMemory))
+        → old.to_come ≡ bytes ++ front → CleanUntilEnd errors.from_gives errors.eof seen gathers (format encoding) greatest result old new
+        → MatchResult result (λ whole. (items : List T) × (map seen items ≡ vs) × gathers items whole) (errors.from_gives (error_of kinds.OutOfMemory))
     -- more values than so many: a refusal
     pub too_many : {encoding : Encoding} (vs : List V) (bytes rest : List ℕ) {greatest : ℕ} {result : Result F E} {old new : ReaderState}
         → Each (format encoding).spells vs bytes → greatest < length vs
-        → old.to_come ≡ bytes ++ rest → CleanUntilEnd seen gathers (format encoding) greatest result old new
-        → MatchResult result (λ _. ⊥) (λ e. gives (error_of kinds.OutOfRangeLength) e ⊎ gives (error_of kinds.OutOfMemory) e)
+        → old.to_come ≡ bytes ++ rest → CleanUntilEnd errors.from_gives errors.eof seen gathers (format encoding) greatest result old new
+        → MatchResult result (λ _. ⊥) (λ e. errors.from_gives (error_of kinds.OutOfRangeLength) e ⊎ errors.from_gives (error_of kinds.OutOfMemory) e)
     -- at most so many values and then what the type refuses: a refusal that it names
     pub at_fault : {encoding : Encoding} (vs : List V) (bytes rest : List ℕ) {greatest : ℕ} {result : Result F E} {old new : ReaderState}
         → Each (format encoding).spells vs bytes → (format encoding).malformed rest → length vs ≤ greatest
-        → old.to_come ≡ bytes ++ rest → CleanUntilEnd seen gathers (format encoding) greatest result old new
-        → MatchResult result (λ _. ⊥) (λ e. IsNamed gives (format encoding).names e ⊎ gives (error_of kinds.OutOfMemory) e)
+        → old.to_come ≡ bytes ++ rest → CleanUntilEnd errors.from_gives errors.eof seen gathers (format encoding) greatest result old new
+        → MatchResult result (λ _. ⊥) (λ e. IsNamed errors.from_gives (format encoding).names e ⊎ errors.from_gives (error_of kinds.OutOfMemory) e)
 
 -- what is answered stands at the front of bytes in memory
 pub front_until_end : {E T F V : Type 0} {gives : Error → E → Type 0} {eof : E → Bool} {seen : T → V} (shown : F → List T) {L : Format V} {greatest : ℕ} {result : Result F E} {old new : ReaderState} {bytes : List ℕ}

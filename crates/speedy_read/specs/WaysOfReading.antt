@@ -6,8 +6,10 @@ use Rattle.speedy_base.specs.Digits.{AreBytes}
 use Rattle.speedy_base.specs.declared.error.ErrorKind.{ErrorKind}
 use Rattle.speedy_base.specs.declared.error.ErrorKind.TheVariants as kinds
 use Rattle.speedy_base.specs.declared.error.Error.{Error}
-use Rattle.speedy_base.specs.Error.{error_of, IsNamed}
+use Rattle.speedy_base.specs.Encoding.{Encoding}
+use Rattle.speedy_base.specs.Error.{error_of, Errors, IsNamed}
 use Rattle.speedy_base.specs.FailedCalls.{IsErrorOf, IsOfFailedCall}
+use Rattle.speedy_layout.specs.Codecs.{Codec}
 use Rattle.speedy_layout.specs.Format.{Format}
 use Rattle.speedy_read.specs.Reading.{refusing_kinds, IsEnd, Unspelled}
 use Rattle.speedy_read.specs.StreamModel.{most_held}
@@ -59,15 +61,6 @@ module _ {E : Type 0} (gives : Error → E → Type 0) (eof : E → Bool) where
         → IfErr result (λ e. (gives (error_of kinds.OutOfMemory) e × IsTrue L.asks.memory)
         ⊎ RefusesBufferIf holds names L e bytes)
 
-  -- from a buffer that is lent: refused with the kinds that the type names
-  abbrev pub AnswersBuffer : {A V : Type 0} → (A → V) → ℕ → Format V → Result A E → ℕ → List ℕ → Type 0
-  AnswersBuffer seen least L result count bytes = AnswersBufferIf (Unit {0}) L.names seen least L result count bytes
-
-  -- from one that is copied: what borrows may be refused as `Unsized`, though the bytes spell a value
-  abbrev pub AnswersCopied : {A V : Type 0} → (A → V) → ℕ → Format V → Result A E → ℕ → List ℕ → Type 0
-  AnswersCopied seen least L result count bytes =
-      AnswersBufferIf (L.asks.lending ≡ false) (refusing_kinds L false) seen least L result count bytes
-
   -- a clean refusal of what a source gives: where its bytes are told, fewer than `usize::MAX` of them, and the type
   -- borrows nothing, no front of them spells a value
   pub record RefusesStream {V : Type 0} (L : Format V) (e : E) (old new : SourceState) : Type 0 where
@@ -79,7 +72,7 @@ module _ {E : Type 0} (gives : Error → E → Type 0) (eof : E → Bool) where
   -- What a function that reads from a source answers. A value that is answered is spelled by a front of what the source
   -- had, and the source lost that front, and as many bytes more as may be read ahead. A refusal is what a failed call
   -- answered, which was the only one; or no call failed, and it is want of memory, or what the bytes are refused with.
-  pub record AnswersStream {A V : Type 0} (seen : A → V) (L : Format V) (buffers : Bool) (result : Result A E) (old new : SourceState) : Type 0 where
+  pub record AnswersStreamIn {A V : Type 0} (seen : A → V) (L : Format V) (buffers : Bool) (result : Result A E) (old new : SourceState) : Type 0 where
     pub kept : SourceKept old new
     pub tail : LeavesTail old new
     pub value : IfOk result (λ x. TookFront (L.spells (seen x)) (most_held buffers) old new)
@@ -88,8 +81,37 @@ module _ {E : Type 0} (gives : Error → E → Type 0) (eof : E → Bool) where
   -- What a function that reads from a file answers: a value that is answered is spelled by some bytes, and a refusal is
   -- what some failed call answered, want of memory, an end, or of a kind that the type names. No contract sees the
   -- bytes of a file, or which of its calls failed.
-  abbrev pub AnswersFile : {A V : Type 0} → (A → V) → Format V → Result A E → Type 0
-  AnswersFile seen L result = MatchResult result (λ x. (bytes : List ℕ) × L.spells (seen x) bytes)
+  abbrev pub AnswersFileIn : {A V : Type 0} → (A → V) → Format V → Result A E → Type 0
+  AnswersFileIn seen L result = MatchResult result (λ x. (bytes : List ℕ) × L.spells (seen x) bytes)
       (λ e. ((error : StdIoError) × IsErrorOf gives error e)
       ⊎ (gives (error_of kinds.OutOfMemory) e
       ⊎ (IsEnd gives eof true e ⊎ IsNamed gives (refusing_kinds L false) e)))
+
+-- ---- the words of contracts
+
+-- They take what is known of the errors, `C.Error.IsEof`, and the encoding that the context asks.
+module _ {E : Type 0} (errors : Errors E) where
+  -- from a buffer that is lent: refused with the kinds that the type names
+  abbrev pub AnswersBuffer : {A V : Type 0} → (A → V) → Codec V → Encoding → Result A E → ℕ → List ℕ → Type 0
+  AnswersBuffer seen codec encoding result count bytes =
+      let format = codec.format encoding in
+      let names = format.names in
+      AnswersBufferIf errors.from_gives errors.eof (Unit {0}) names seen codec.least format result count bytes
+
+  -- from one that is copied: what borrows may be refused as `Unsized`, though the bytes spell a value
+  abbrev pub AnswersCopied : {A V : Type 0} → (A → V) → Codec V → Encoding → Result A E → ℕ → List ℕ → Type 0
+  AnswersCopied seen codec encoding result count bytes =
+      let format = codec.format encoding in
+      let names = refusing_kinds format false in
+      let holds = format.asks.lending ≡ false in
+      AnswersBufferIf errors.from_gives errors.eof holds names seen codec.least format result count bytes
+
+  -- from a source, which is seen so, read ahead or not
+  abbrev pub AnswersStream : {S A V : Type 0} → (S → SourceState) → (A → V) → Codec V → Encoding → Bool → Result A E → S → S → Type 0
+  AnswersStream source seen codec encoding buffers result old new =
+      let format = codec.format encoding in
+      AnswersStreamIn errors.from_gives errors.eof seen format buffers result (source old) (source new)
+
+  -- from a file
+  abbrev pub AnswersFile : {A V : Type 0} → (A → V) → Codec V → Encoding → Result A E → Type 0
+  AnswersFile seen codec encoding = AnswersFileIn errors.from_gives errors.eof seen (codec.format encoding)

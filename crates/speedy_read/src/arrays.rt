@@ -1,10 +1,11 @@
 //! Arrays of numbers in bulk: all at once from bytes that the reader lends.
-ghost use Rattle.std.specs.Prelude.{◌≡◌, ◌*◌, ℕ, List, length as count_of, map, IfOk, MatchOption};
+ghost use Rattle.std.specs.Prelude.{◌≡◌, ◌*◌, List, length as count_of, map, IfOk, MatchOption};
+ghost use Rattle.speedy_layout.specs.Codecs.{vector_codec};
 ghost use Rattle.speedy_layout.specs.FixedNumbers.{spelled_in};
 ghost use Rattle.speedy_layout.specs.Format.{Each};
 ghost use Rattle.speedy_layout.specs.Lists.{vector};
 ghost use Rattle.speedy_read.specs.Lending.{many_items};
-ghost use Rattle.speedy_read.specs.Reading.{Reads};
+ghost use Rattle.speedy_read.specs.Reading.{ReadsValue};
 
 use crate::chunks::Numbers;
 use crate::many::{FromLent, Many, Places, Strategy, Takes, read_each};
@@ -32,10 +33,9 @@ pub trait ReadArrays<L: AsSlice<u8> + Drop, C: Context>: ReadFrom<L, C> {
         reader: &mut R,
         length: usize,
     ) -> Result<Many<W, Self>, C::Error>
-        ensures { (shown : W → List Self) → Reads C.Error.from_gives C.Error.eof
-            (λ many. map Self.seen (many_items shown many))
-            (vector length (Self.layout.format (R.state reader.old).encoding)) result
-            (R.state reader.old) (R.state reader.new) };
+        ensures { (shown : W → List Self) → ReadsValue C.Error.IsEof R.state
+            (λ many. map Self.seen (many_items shown many)) (vector_codec length Self.layout)
+            result reader.old reader.new };
 }
 
 impl<L: AsSlice<u8> + Drop, C: Context, T: ReadMany<L, C>, const N: usize> ReadArrays<L, C>
@@ -96,9 +96,8 @@ pub(crate) fn read_number_places<
     R: LendingReader<L, C>,
 >(reader: &mut R, length: usize) -> Option<Result<Vec<P>, C::Error>>
     ensures { MatchOption result (R.state reader.new ≡ R.state reader.old) (λ read.
-        Reads C.Error.from_gives C.Error.eof (λ v. map (λ p. map T.seen (P.shown p)) v.items)
-        (vector length (vector P.count (T.layout.format (R.state reader.old).encoding))) read
-        (R.state reader.old) (R.state reader.new)) }
+        ReadsValue C.Error.IsEof R.state (λ v. map (λ p. map T.seen (P.shown p)) v.items)
+        (vector_codec length (vector_codec P.count T.layout)) read reader.old reader.new) }
 {
     let width = P::count().checked_mul(T::SIZE)?;
     let size = length.checked_mul(width)?;

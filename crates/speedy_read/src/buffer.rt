@@ -22,9 +22,8 @@ pub trait Buffer<C: Context>: AsSlice<u8> + Drop + Sized {
         alloc: Global,
         context: C,
     ) -> (Result<T, C::Error>, usize)
-        ensures { let format = T.layout.format (C.encoding context) in
-            AnswersBuffer C.Error.from_gives C.Error.eof T.seen T.layout.least format result.0 result.1
-            (Self.items self) };
+        ensures { AnswersBuffer C.Error.IsEof T.seen T.layout (C.encoding context)
+            result.0 result.1 (Self.items self) };
 
     /// Decodes a value from a prefix of the bytes, under the context.
     ///
@@ -34,9 +33,8 @@ pub trait Buffer<C: Context>: AsSlice<u8> + Drop + Sized {
         alloc: Global,
         context: C,
     ) -> Result<T, C::Error>
-        ensures { let format = T.layout.format (C.encoding context) in
-            (count : ℕ) × AnswersBuffer C.Error.from_gives C.Error.eof T.seen T.layout.least format result count
-            (Self.items self) }
+        ensures { (count : ℕ) × AnswersBuffer C.Error.IsEof T.seen T.layout (C.encoding context)
+            result count (Self.items self) }
     {
         self.read_with_length::<T>(alloc, context).0
     }

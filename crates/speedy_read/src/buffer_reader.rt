@@ -2,9 +2,8 @@
 ghost use Rattle.std.specs.Prelude.{IsOk, ◌≡◌, ◌↔◌, [], IsTrue, length, nat_le, Some, OnErr, IfSome, IsSome, refl};
 ghost use Rattle.std.specs.Borrow.{sem, Lends};
 ghost use Rattle.std.specs.Io.BufRead.{Rests};
-ghost use Rattle.speedy_layout.specs.Texts.{raw_bytes, any_bytes};
 ghost use Rattle.speedy_read.specs.Lending.{readers_lifetime};
-ghost use Rattle.speedy_read.specs.Reading.{Reads, Peeks, LendsBytes, LendsAll, LendsUntilUsed};
+ghost use Rattle.speedy_read.specs.Reading.{LendsBytes, LendsAll, LendsUntilUsed, ReadsInto, PeeksInto, Skips};
 ghost use Rattle.speedy_read.specs.contracts.buffer_reader.BufferReader.{the_row as reader_row};
 ghost use Rattle.speedy_read.specs.Buffers.{bytes_state};
 
@@ -71,10 +70,8 @@ impl<'a, C: Context> LendingReader<&'a [u8], C> for BufferReader<'a, C> {
 
     #[inline(always)]
     fn read_bytes(&mut self, output: &mut [u8]) -> Result<(), C::Error>
-        ensures reads { Reads C.Error.from_gives C.Error.eof (λ _. output.new)
-            (raw_bytes (length output.old)) result
-            (⟦<BufferReader<'a, C> as LendingReader<&'a [u8], C>>⟧.state self.old)
-            (⟦<BufferReader<'a, C> as LendingReader<&'a [u8], C>>⟧.state self.new) }
+        ensures reads { let reader = ⟦<BufferReader<'a, C> as LendingReader<&'a [u8], C>>⟧ in
+            ReadsInto C.Error.IsEof reader.state output.old output.new result self.old self.new }
         ensures unchanged { OnErr result (self.new ≡ self.old) }
     {
         let length = output.len();
@@ -89,10 +86,8 @@ impl<'a, C: Context> LendingReader<&'a [u8], C> for BufferReader<'a, C> {
 
     #[inline(always)]
     fn peek_bytes(&mut self, output: &mut [u8]) -> Result<(), C::Error>
-        ensures peeks { Peeks C.Error.from_gives C.Error.eof (λ _. output.new)
-            (raw_bytes (length output.old)) result
-            (⟦<BufferReader<'a, C> as LendingReader<&'a [u8], C>>⟧.state self.old)
-            (⟦<BufferReader<'a, C> as LendingReader<&'a [u8], C>>⟧.state self.new) }
+        ensures peeks { let reader = ⟦<BufferReader<'a, C> as LendingReader<&'a [u8], C>>⟧ in
+            PeeksInto C.Error.IsEof reader.state output.old output.new result self.old self.new }
         ensures unchanged { OnErr result (self.new ≡ self.old) }
     {
         let length = output.len();
@@ -105,9 +100,8 @@ impl<'a, C: Context> LendingReader<&'a [u8], C> for BufferReader<'a, C> {
 
     #[inline(always)]
     fn skip_bytes(&mut self, length: usize) -> Result<(), C::Error>
-        ensures skips { Reads C.Error.from_gives C.Error.eof (λ x. x) (any_bytes length) result
-            (⟦<BufferReader<'a, C> as LendingReader<&'a [u8], C>>⟧.state self.old)
-            (⟦<BufferReader<'a, C> as LendingReader<&'a [u8], C>>⟧.state self.new) }
+        ensures skips { let reader = ⟦<BufferReader<'a, C> as LendingReader<&'a [u8], C>>⟧ in
+            Skips C.Error.IsEof reader.state length result self.old self.new }
         ensures nothing { let reader = ⟦<BufferReader<'a, C> as LendingReader<&'a [u8], C>>⟧ in
             length ≡ 0 → IsOk result × (reader.state self.new ≡ reader.state self.old) }
         ensures unchanged { OnErr result (self.new ≡ self.old) }
@@ -127,8 +121,7 @@ impl<'a, C: Context> LendingReader<&'a [u8], C> for BufferReader<'a, C> {
     #[inline(always)]
     fn read_bytes_borrowed(&mut self, length: usize) -> Option<Result<&'a [u8], C::Error>>
         ensures lends { let reader = ⟦<BufferReader<'a, C> as LendingReader<&'a [u8], C>>⟧ in
-            LendsBytes C.Error.from_gives C.Error.eof (λ b. b.now) length result
-            (reader.state self.old) (reader.state self.new) }
+            LendsBytes C.Error.IsEof reader.state (λ b. b.now) length result self.old self.new }
         ensures unchanged { IfSome result (λ lent. OnErr lent (self.new ≡ self.old)) }
     {
         match self.rest.split_at_checked(length) {

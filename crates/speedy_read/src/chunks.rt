@@ -2,13 +2,11 @@
 ghost use Rattle.std.specs.Prelude.{◌≡◌, ◌+◌, ◌-◌, ◌*◌, ◌<◌, ◌≤◌, List, length, map, false, not, nat_eq, IfOk, IsSome, MatchOption, MatchResult};
 ghost use Rattle.speedy_base.specs.Digits.{AreBytes};
 ghost use Rattle.speedy_base.specs.Error.{error_of};
+ghost use Rattle.speedy_layout.specs.Codecs.{unsigned_codec, flag_codec, vector_codec};
 ghost use Rattle.speedy_layout.specs.FixedNumbers.{spelled_in};
-ghost use Rattle.speedy_layout.specs.Flags.{flag};
 ghost use Rattle.speedy_layout.specs.Format.{Each};
-ghost use Rattle.speedy_layout.specs.Lists.{vector};
-ghost use Rattle.speedy_layout.specs.Numbers.{unsigned_number};
 ghost use Rattle.speedy_read.specs.Lending.{many_items};
-ghost use Rattle.speedy_read.specs.Reading.{Reads};
+ghost use Rattle.speedy_read.specs.Reading.{ReadsValue};
 
 use crate::arrays::read_number_places;
 use crate::lent::lent_in_range;
@@ -42,9 +40,8 @@ impl<L: AsSlice<u8> + Drop, C: Context, T: FixedNumber + ReadFrom<L, C>> Strateg
         reader: &mut R,
     ) -> Option<Result<P, C::Error>>
         ensures reads { MatchOption result (R.state reader.new ≡ R.state reader.old) (λ read.
-            Reads C.Error.from_gives C.Error.eof (λ p. map T.seen (P.shown p))
-            (vector P.count (T.layout.format (R.state reader.old).encoding)) read
-            (R.state reader.old) (R.state reader.new)) }
+            ReadsValue C.Error.IsEof R.state (λ p. map T.seen (P.shown p))
+            (vector_codec P.count T.layout) read reader.old reader.new) }
         ensures in_place { IsSome result }
     {
         let mut places = P::begun::<Numbers>();
@@ -100,9 +97,8 @@ impl<L: AsSlice<u8> + Drop, C: Context> Strategy<L, C, u8> for Bytes {
         reader: &mut R,
     ) -> Option<Result<P, C::Error>>
         ensures reads { MatchOption result (R.state reader.new ≡ R.state reader.old) (λ read.
-            Reads C.Error.from_gives C.Error.eof (λ p. map ⟦<u8 as Layout>⟧.seen (P.shown p))
-            (vector P.count (⟦<u8 as Layout>⟧.layout.format (R.state reader.old).encoding)) read
-            (R.state reader.old) (R.state reader.new)) }
+            ReadsValue C.Error.IsEof R.state (λ p. map ⟦<u8 as Layout>⟧.seen (P.shown p))
+            (vector_codec P.count ⟦<u8 as Layout>⟧.layout) read reader.old reader.new) }
         ensures in_place { IsSome result }
     {
         let mut places = P::begun::<Bytes>();
@@ -171,9 +167,8 @@ fn read_flags<L: AsSlice<u8> + Drop, C: Context, R: LendingReader<L, C>>(
     length: usize,
 ) -> Result<Vec<bool>, C::Error>
     requires { (R.state reader.old).encoding.strict ≡ false }
-    ensures { Reads C.Error.from_gives C.Error.eof (λ v. v.items)
-        (vector length (flag (R.state reader.old).encoding)) result
-        (R.state reader.old) (R.state reader.new) }
+    ensures { ReadsValue C.Error.IsEof R.state (λ v. v.items) (vector_codec length flag_codec)
+        result reader.old reader.new }
 {
     let alloc = reader.alloc();
     match reader.read_bytes_borrowed_from_reader(length) {
@@ -213,10 +208,9 @@ pub(crate) fn read_numbers<
     C: Context,
     R: LendingReader<L, C>,
 >(reader: &mut R, count: usize) -> Result<Many<W, T>, C::Error>
-    ensures { (shown : W → List T) → Reads C.Error.from_gives C.Error.eof
-        (λ many. map T.seen (many_items shown many))
-        (vector count (T.layout.format (R.state reader.old).encoding)) result
-        (R.state reader.old) (R.state reader.new) }
+    ensures { (shown : W → List T) → ReadsValue C.Error.IsEof R.state
+        (λ many. map T.seen (many_items shown many)) (vector_codec count T.layout)
+        result reader.old reader.new }
 {
     // Numbers of more bytes than a `usize` counts are in no input.
     let Some(size) = count.checked_mul(T::SIZE) else {
@@ -250,9 +244,8 @@ pub(crate) fn fill_numbers<
     C: Context,
     R: LendingReader<L, C>,
 >(reader: &mut R, places: &mut [T]) -> Result<(), C::Error>
-    ensures { Reads C.Error.from_gives C.Error.eof (λ _. map T.seen places.new)
-        (vector (length places.old) (T.layout.format (R.state reader.old).encoding)) result
-        (R.state reader.old) (R.state reader.new) }
+    ensures { ReadsValue C.Error.IsEof R.state (λ _. map T.seen places.new)
+        (vector_codec (length places.old) T.layout) result reader.old reader.new }
 {
     let Some(size) = places.len().checked_mul(T::SIZE) else {
         return Err(error_end_of_input());
@@ -285,9 +278,8 @@ fn fill_chunks<T: FixedNumber, L: AsSlice<u8> + Drop, C: Context, R: LendingRead
     chunk: &mut [u8],
 ) -> Result<(), C::Error>
     requires { T.SIZE ≤ length chunk.old }
-    ensures { Reads C.Error.from_gives C.Error.eof (λ _. map T.seen places.new)
-        (vector (length places.old) (T.layout.format (R.state reader.old).encoding)) result
-        (R.state reader.old) (R.state reader.new) }
+    ensures { ReadsValue C.Error.IsEof R.state (λ _. map T.seen places.new)
+        (vector_codec (length places.old) T.layout) result reader.old reader.new }
 {
     let most = chunk.len() / T::SIZE;
     let mut at = 0;
@@ -324,9 +316,8 @@ fn read_number_chunks<T: FixedNumber, L: AsSlice<u8> + Drop, C: Context, R: Lend
     chunk: &mut [u8],
 ) -> Result<Vec<T>, C::Error>
     requires { T.SIZE ≤ length chunk.old }
-    ensures { Reads C.Error.from_gives C.Error.eof (λ v. map T.seen v.items)
-        (vector count (T.layout.format (R.state reader.old).encoding)) result
-        (R.state reader.old) (R.state reader.new) }
+    ensures { ReadsValue C.Error.IsEof R.state (λ v. map T.seen v.items)
+        (vector_codec count T.layout) result reader.old reader.new }
 {
     let mut numbers = vec_for::<T, L, C, R>(reader, T::SIZE, count)?;
     let most = chunk.len() / T::SIZE;
@@ -349,9 +340,8 @@ pub(crate) fn read_byte_chunks<L: AsSlice<u8> + Drop, C: Context, R: LendingRead
     reader: &mut R,
     length: usize,
 ) -> Result<Vec<u8>, C::Error>
-    ensures { Reads C.Error.from_gives C.Error.eof (λ v. v.items)
-        (vector length (unsigned_number 1 (R.state reader.old).encoding)) result
-        (R.state reader.old) (R.state reader.new) }
+    ensures { ReadsValue C.Error.IsEof R.state (λ v. v.items)
+        (vector_codec length (unsigned_codec 1)) result reader.old reader.new }
 {
     let mut bytes = vec_for::<u8, L, C, R>(reader, 1, length)?;
     let mut left = length;

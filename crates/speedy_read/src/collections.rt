@@ -8,7 +8,7 @@ ghost use Rattle.speedy_layout.specs.StdMaps.{seen_pairs};
 ghost use Rattle.speedy_layout.specs.Collections.{IsTreeMapOf, IsHashMapOf, IsIndexMapOf};
 ghost use Rattle.speedy_layout.specs.Collections.{IsTreeSetOf, IsHashSetOf, IsIndexSetOf};
 ghost use Rattle.speedy_layout.specs.Adding.{ascending_first, distinct_first, distinct_keys_first};
-ghost use Rattle.speedy_read.specs.Collections.{gatherer, Collects};
+ghost use Rattle.speedy_read.specs.Collections.{gatherer, CollectsValues};
 
 use crate::readable::{ReadFrom, ReadMany};
 use crate::reader::LendingReader;
@@ -312,8 +312,7 @@ pub(crate) fn collect_items<
     R: LendingReader<L, C>,
 >(reader: &mut R, length: usize) -> Result<F, C::Error>
     ensures { let items = gatherer T.seen F.gathers F.are_written in
-        Collects items (T.layout.format (R.state reader.old).encoding) length
-        C.Error.from_gives C.Error.eof result (R.state reader.old) (R.state reader.new) }
+        CollectsValues C.Error.IsEof R.state items T.layout length result reader.old reader.new }
 {
     if reader.demands_written_form() {
         return collect_written::<F, T, L, C, R>(reader, length);
@@ -335,8 +334,7 @@ fn collect_written<
 >(reader: &mut R, length: usize) -> Result<F, C::Error>
     requires { IsTrue (R.state reader.now).encoding.strict }
     ensures { let items = gatherer T.seen F.gathers F.are_written in
-        Collects items (T.layout.format (R.state reader.old).encoding) length
-        C.Error.from_gives C.Error.eof result (R.state reader.old) (R.state reader.new) }
+        CollectsValues C.Error.IsEof R.state items T.layout length result reader.old reader.new }
 {
     let mut items = F::empty(reader.alloc());
     for _i in 0..length {

@@ -2,9 +2,8 @@
 ghost use Rattle.std.specs.Prelude.{IsOk, ◌≡◌, [], length, nat_le, Some, None, OnErr, IsSome, refl};
 ghost use Rattle.std.specs.Borrow.{sem, Lends};
 ghost use Rattle.std.specs.Io.BufRead.{Rests};
-ghost use Rattle.speedy_layout.specs.Texts.{raw_bytes, any_bytes};
 ghost use Rattle.speedy_read.specs.Lending.{readers_lifetime};
-ghost use Rattle.speedy_read.specs.Reading.{Reads, Peeks, IsRight, LendsBytes, LendsUntilUsed};
+ghost use Rattle.speedy_read.specs.Reading.{IsRight, LendsBytes, LendsUntilUsed, ReadsInto, PeeksInto, Skips};
 ghost use Rattle.speedy_read.specs.Buffers.{copied_state};
 ghost use Rattle.speedy_read.specs.contracts.copying_reader.CopyingBufferReader.{the_row as reader_row};
 
@@ -62,9 +61,7 @@ impl<'a, 'b, C: Context> LendingReader<&'b [u8], C> for CopyingBufferReader<'a, 
     #[inline(always)]
     fn read_bytes(&mut self, output: &mut [u8]) -> Result<(), C::Error>
         ensures reads { let reader = ⟦<CopyingBufferReader<'a, C> as LendingReader<&'b [u8], C>>⟧ in
-            Reads C.Error.from_gives C.Error.eof (λ _. output.new)
-            (raw_bytes (length output.old)) result
-            (reader.state self.old) (reader.state self.new) }
+            ReadsInto C.Error.IsEof reader.state output.old output.new result self.old self.new }
         ensures unchanged { OnErr result (self.new ≡ self.old) }
     {
         match self.rest.split_at_checked(output.len()) {
@@ -80,9 +77,7 @@ impl<'a, 'b, C: Context> LendingReader<&'b [u8], C> for CopyingBufferReader<'a, 
     #[inline(always)]
     fn peek_bytes(&mut self, output: &mut [u8]) -> Result<(), C::Error>
         ensures peeks { let reader = ⟦<CopyingBufferReader<'a, C> as LendingReader<&'b [u8], C>>⟧ in
-            Peeks C.Error.from_gives C.Error.eof (λ _. output.new)
-            (raw_bytes (length output.old)) result
-            (reader.state self.old) (reader.state self.new) }
+            PeeksInto C.Error.IsEof reader.state output.old output.new result self.old self.new }
         ensures unchanged { OnErr result (self.new ≡ self.old) }
     {
         match self.rest.split_at_checked(output.len()) {
@@ -97,8 +92,7 @@ impl<'a, 'b, C: Context> LendingReader<&'b [u8], C> for CopyingBufferReader<'a, 
     #[inline(always)]
     fn skip_bytes(&mut self, length: usize) -> Result<(), C::Error>
         ensures skips { let reader = ⟦<CopyingBufferReader<'a, C> as LendingReader<&'b [u8], C>>⟧ in
-            Reads C.Error.from_gives C.Error.eof (λ x. x) (any_bytes length) result
-            (reader.state self.old) (reader.state self.new) }
+            Skips C.Error.IsEof reader.state length result self.old self.new }
         ensures nothing { let reader = ⟦<CopyingBufferReader<'a, C> as LendingReader<&'b [u8], C>>⟧ in
             length ≡ 0 → IsOk result × (reader.state self.new ≡ reader.state self.old) }
         ensures unchanged { OnErr result (self.new ≡ self.old) }
@@ -125,8 +119,7 @@ impl<'a, 'b, C: Context> LendingReader<&'b [u8], C> for CopyingBufferReader<'a, 
     #[inline(always)]
     fn read_bytes_borrowed(&mut self, _length: usize) -> Option<Result<&'b [u8], C::Error>>
         ensures lends { let reader = ⟦<CopyingBufferReader<'a, C> as LendingReader<&'b [u8], C>>⟧ in
-            LendsBytes C.Error.from_gives C.Error.eof (λ b. b.now) _length result
-            (reader.state self.old) (reader.state self.new) }
+            LendsBytes C.Error.IsEof reader.state (λ b. b.now) _length result self.old self.new }
         ensures none { result ≡ None }
     {
         None

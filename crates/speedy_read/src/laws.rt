@@ -15,46 +15,46 @@ use std::convert::AsSlice;
 /// A function that reads from a buffer answers the value that was written to it, to its beginning or as the whole of
 /// it. Its only error is out of memory.
 pub fn written_is_answered<T: Layout, C: Context>()
-    ensures { WrittenIsAnswered C.Error.from_gives C.Error.eof T.seen T.layout.least T.layout.format }
+    ensures { WrittenIsAnswered C.Error.IsEof T.seen T.layout }
 {}
 
 /// A read answers the value whose canonical encoding comes next, and takes just that. Its only errors are out of memory
 /// and a failed call of the device.
 pub fn written_is_read<T: Layout, C: Context>()
-    ensures { WrittenIsRead C.Error.from_gives C.Error.eof T.seen T.layout.format }
+    ensures { WrittenIsRead C.Error.IsEof T.seen T.layout.format }
 {}
 
 /// A read of items answers those whose canonical encodings come next, one after the other, and takes just these. Its
 /// only errors are out of memory and a failed call of the device.
 pub fn written_items_are_read<T: Layout, C: Context>()
     ensures { let seen : Vec T → List T.Seen = λ v. map T.seen v.items in
-        WrittenItemsAreRead C.Error.from_gives C.Error.eof seen T.layout.format }
+        WrittenItemsAreRead C.Error.IsEof seen T.layout.format }
 {}
 
 /// A function that reads from a source answers the value whose canonical encoding comes next. The source has lost just
 /// that, and what a buffered function read ahead. Its only errors are out of memory and that of a failed call.
 pub fn written_is_streamed<T: Layout, C: Context>()
-    ensures { WrittenIsStreamed C.Error.from_gives C.Error.eof T.seen T.layout.format }
+    ensures { WrittenIsStreamed C.Error.IsEof T.seen T.layout }
 {}
 
 /// A function that copies from a buffer answers as those do that lend it, where the type borrows nothing.
 pub fn copied_is_answered<T: Layout, C: Context>()
-    ensures { CopiedIsAnswered C.Error.from_gives C.Error.eof T.seen T.layout.least T.layout.format }
+    ensures { CopiedIsAnswered C.Error.IsEof T.seen T.layout }
 {}
 
 /// A length that was written as a number of a width is what the read of that width answers.
 pub fn written_length_is_read<C: Context>()
-    ensures u7 { WrittenIsRead C.Error.from_gives C.Error.eof (λ (n : ℕ). n) (length_number 1 127) }
-    ensures digits { (width : ℕ) →
-        WrittenIsRead C.Error.from_gives C.Error.eof (λ (n : ℕ). n) (unsigned_number width) }
-    ensures varint { WrittenIsRead C.Error.from_gives C.Error.eof (λ (n : ℕ). n) varint }
+    ensures u7 { WrittenIsRead C.Error.IsEof (λ (n : ℕ). n) (length_number 1 127) }
+    ensures digits { (width : ℕ) → WrittenIsRead C.Error.IsEof (λ (n : ℕ). n)
+        (unsigned_number width) }
+    ensures varint { WrittenIsRead C.Error.IsEof (λ (n : ℕ). n) varint }
 {}
 
 /// The bytes decide what `read_vec_until_eof` or `read_collection_until_eof` answers, if no call failed: at most so many
 /// values and then some first bytes of one are these values, more values are `OutOfRangeLength`, and a fault that the
 /// type finds behind at most so many is of a kind that it names. Out of memory may come in place of any answer.
 pub fn until_end_is_decided<F: FromItems<T>, T: Layout, C: Context>()
-    ensures { UntilEndIsDecided C.Error.from_gives C.Error.eof T.seen F.gathers T.layout.format }
+    ensures { UntilEndIsDecided C.Error.IsEof T.seen F.gathers T.layout.format }
 {}
 
 /// The bytes decide what `read_cow_until_eof` answers, too.
@@ -65,5 +65,5 @@ pub fn until_end_of_cow_is_decided<
     C: Context,
 >()
     ensures { let gathers : List T → W → Type 0 = λ items w. W.shown w ≡ items in
-        UntilEndIsDecided C.Error.from_gives C.Error.eof T.seen gathers T.layout.format }
+        UntilEndIsDecided C.Error.IsEof T.seen gathers T.layout.format }
 {}

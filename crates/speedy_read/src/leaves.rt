@@ -1,6 +1,6 @@
 //! How characters, byte orders, durations and UUIDs are read.
 ghost use Rattle.speedy_layout.specs.Leaves.{seconds_and_nanos};
-ghost use Rattle.speedy_read.specs.Reading.{Reads};
+ghost use Rattle.speedy_read.specs.Reading.{ReadsAs};
 
 use crate::many::ItemByItem;
 use crate::readable::ReadFrom;
@@ -85,9 +85,8 @@ impl<L: AsSlice<u8> + Drop, C: Context> ReadFrom<L, C> for Duration {
 fn read_seconds_and_nanos<L: AsSlice<u8> + Drop, C: Context, R: LendingReader<L, C>>(
     reader: &mut R,
 ) -> Result<(u64, u32), C::Error>
-    ensures { Reads C.Error.from_gives C.Error.eof (λ p. p)
-        (seconds_and_nanos (R.state reader.old).encoding) result
-        (R.state reader.old) (R.state reader.new) }
+    ensures { ReadsAs C.Error.IsEof R.state (λ p. p) seconds_and_nanos
+        result reader.old reader.new }
 {
     let mut bytes = [0u8; 12];
     reader.read_bytes(&mut bytes)?;

@@ -2,9 +2,8 @@
 ghost use Rattle.std.specs.Prelude.{◌≡◌, false, [], IfOk, IsErrAnd};
 ghost use Rattle.speedy_base.specs.Digits.{AreBytes};
 ghost use Rattle.speedy_base.specs.Error.{error_of};
-ghost use Rattle.speedy_layout.specs.Owned.{borrowed_content};
-ghost use Rattle.speedy_layout.specs.Texts.{raw_bytes};
-ghost use Rattle.speedy_read.specs.Reading.{Reads};
+ghost use Rattle.speedy_layout.specs.Codecs.{raw_bytes_codec, borrowed_codec};
+ghost use Rattle.speedy_read.specs.Reading.{ReadsValue};
 
 use crate::reader::LendingReader;
 use speedy_base::context::Context;
@@ -29,8 +28,8 @@ pub(crate) fn read_lent<'a, C: Context, R: LendingReader<&'a [u8], C>>(
     reader: &mut R,
     length: usize,
 ) -> Result<&'a [u8], C::Error>
-    ensures reads { Reads C.Error.from_gives C.Error.eof (λ b. b.now)
-        (borrowed_content (raw_bytes length)) result (R.state reader.old) (R.state reader.new) }
+    ensures reads { ReadsValue C.Error.IsEof R.state (λ b. b.now)
+        (borrowed_codec (raw_bytes_codec length)) result reader.old reader.new }
     ensures range { IfOk result (λ b. AreBytes b.now) }
     ensures not_lent { (R.state reader.old).fixed.lends ≡ false
         → IsErrAnd result (λ e. C.Error.from_gives (error_of ErrorKind.Unsized) e)

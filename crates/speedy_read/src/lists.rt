@@ -1,8 +1,8 @@
 //! How lists are read.
 ghost use Rattle.std.specs.Prelude.{◌≡◌, false, IsErrAnd};
 ghost use Rattle.speedy_base.specs.Error.{error_of};
-ghost use Rattle.speedy_layout.specs.Numbers.{unsigned_number};
-ghost use Rattle.speedy_read.specs.Reading.{Reads, RefusesUnsized};
+ghost use Rattle.speedy_layout.specs.Codecs.{unsigned_codec};
+ghost use Rattle.speedy_read.specs.Reading.{RefusesUnsized, ReadsValue};
 
 use crate::arrays::Arrays;
 use crate::lent::read_lent;
@@ -132,12 +132,9 @@ impl<'a, C: Context> ReadFrom<&'a [u8], C> for &'a [u8] {
     #[inline]
     fn read_from<R: LendingReader<&'a [u8], C>>(reader: &mut R) -> Result<&'a [u8], C::Error>
         ensures reads { let bytes = ⟦<&'a [u8] as Layout>⟧ in
-            Reads C.Error.from_gives C.Error.eof bytes.seen
-            (bytes.layout.format (R.state reader.old).encoding) result
-            (R.state reader.old) (R.state reader.new) }
-        ensures not_lent { let number = unsigned_number 4 (R.state reader.old).encoding in
-            RefusesUnsized C.Error.from_gives C.Error.eof number result
-            (R.state reader.old) (R.state reader.new) }
+            ReadsValue C.Error.IsEof R.state bytes.seen bytes.layout result reader.old reader.new }
+        ensures not_lent { RefusesUnsized C.Error.IsEof R.state (unsigned_codec 4)
+            result reader.old reader.new }
     {
         let length = reader.read_u32()?;
         read_lent(reader, length as usize)
@@ -158,9 +155,7 @@ impl<'a, C: Context, const N: usize> ReadFrom<&'a [u8], C> for &'a [u8; N] {
     #[inline]
     fn read_from<R: LendingReader<&'a [u8], C>>(reader: &mut R) -> Result<&'a [u8; N], C::Error>
         ensures reads { let bytes = ⟦<&'a [u8; N] as Layout>⟧ in
-            Reads C.Error.from_gives C.Error.eof bytes.seen
-            (bytes.layout.format (R.state reader.old).encoding) result
-            (R.state reader.old) (R.state reader.new) }
+            ReadsValue C.Error.IsEof R.state bytes.seen bytes.layout result reader.old reader.new }
         ensures not_lent { (R.state reader.old).fixed.lends ≡ false
             → IsErrAnd result (λ e. C.Error.from_gives (error_of ErrorKind.Unsized) e)
             × (R.state reader.new ≡ R.state reader.old) }

@@ -2,12 +2,13 @@
 ghost use Rattle.std.specs.Prelude.{◌≡◌, ◌*◌, ℕ, ⊤, List, Some, IsSome, length as count_of, map};
 ghost use Rattle.std.specs.Cow.{cow_slice_items};
 ghost use Rattle.std.specs.Option.{MatchOption};
+ghost use Rattle.speedy_layout.specs.Codecs.{vector_codec};
 ghost use Rattle.speedy_layout.specs.FixedNumbers.{spelled_in};
 ghost use Rattle.speedy_layout.specs.Format.{Each};
 ghost use Rattle.speedy_layout.specs.Lists.{vector};
-ghost use Rattle.speedy_read.specs.Collections.{gatherer, Collects};
+ghost use Rattle.speedy_read.specs.Collections.{gatherer, CollectsValues};
 ghost use Rattle.speedy_read.specs.Lending.{many_items};
-ghost use Rattle.speedy_read.specs.Reading.{Reads};
+ghost use Rattle.speedy_read.specs.Reading.{ReadsValue};
 
 use crate::collections::{FromItems, collect_items};
 use crate::readable::ReadFrom;
@@ -29,10 +30,8 @@ pub trait Strategy<L: AsSlice<u8> + Drop, C: Context, T: ReadFrom<L, C>> {
         reader: &mut R,
         length: usize,
     ) -> Result<Many<W, T>, C::Error>
-        ensures { Reads C.Error.from_gives C.Error.eof
-            (λ many. map T.seen (many_items W.shown many))
-            (vector length (T.layout.format (R.state reader.old).encoding)) result
-            (R.state reader.old) (R.state reader.new) };
+        ensures { ReadsValue C.Error.IsEof R.state (λ many. map T.seen (many_items W.shown many))
+            (vector_codec length T.layout) result reader.old reader.new };
 
     /// Reads as many values as there are places, into these, without a vector. `None` where that cannot be: then nothing
     /// is read.
@@ -40,9 +39,8 @@ pub trait Strategy<L: AsSlice<u8> + Drop, C: Context, T: ReadFrom<L, C>> {
         reader: &mut R,
     ) -> Option<Result<P, C::Error>>
         ensures { MatchOption result (R.state reader.new ≡ R.state reader.old) (λ read.
-            Reads C.Error.from_gives C.Error.eof (λ p. map T.seen (P.shown p))
-            (vector P.count (T.layout.format (R.state reader.old).encoding)) read
-            (R.state reader.old) (R.state reader.new)) };
+            ReadsValue C.Error.IsEof R.state (λ p. map T.seen (P.shown p))
+            (vector_codec P.count T.layout) read reader.old reader.new) };
 
     /// Reads as many values as there are places, `length` times, all at once from bytes that the reader lends. `None`
     /// where that cannot be: then nothing is read.
@@ -51,9 +49,8 @@ pub trait Strategy<L: AsSlice<u8> + Drop, C: Context, T: ReadFrom<L, C>> {
         length: usize,
     ) -> Option<Result<Vec<P>, C::Error>>
         ensures { MatchOption result (R.state reader.new ≡ R.state reader.old) (λ read.
-            Reads C.Error.from_gives C.Error.eof (λ v. map (λ p. map T.seen (P.shown p)) v.items)
-            (vector length (vector P.count (T.layout.format (R.state reader.old).encoding))) read
-            (R.state reader.old) (R.state reader.new)) };
+            ReadsValue C.Error.IsEof R.state (λ v. map (λ p. map T.seen (P.shown p)) v.items)
+            (vector_codec length (vector_codec P.count T.layout)) read reader.old reader.new) };
 }
 
 /// Reads each value by itself, which serves any type.
@@ -109,9 +106,8 @@ pub trait Places<L: AsSlice<u8> + Drop, C: Context, T: ReadFrom<L, C>>: Sized + 
         reader: &mut R,
     ) -> Result<(), C::Error>
         requires { count_of (shown self.old) ≡ count }
-        ensures { Reads C.Error.from_gives C.Error.eof (λ _. map T.seen (shown self.new))
-            (vector count (T.layout.format (R.state reader.old).encoding)) result
-            (R.state reader.old) (R.state reader.new) };
+        ensures { ReadsValue C.Error.IsEof R.state (λ _. map T.seen (shown self.new))
+            (vector_codec count T.layout) result reader.old reader.new };
 
     /// Takes a value for each place from these bytes.
     fn take<D: Takes<T>>(&mut self, order: Endianness, bytes: &[u8])
@@ -126,9 +122,8 @@ pub trait Fills<L: AsSlice<u8> + Drop, C: Context, T: ReadFrom<L, C>> {
 
     /// Reads a value into each place. After an error nothing is said of them.
     fn fill<R: LendingReader<L, C>>(reader: &mut R, places: &mut [T]) -> Result<(), C::Error>
-        ensures { Reads C.Error.from_gives C.Error.eof (λ _. map T.seen places.new)
-            (vector (count_of places.old) (T.layout.format (R.state reader.old).encoding)) result
-            (R.state reader.old) (R.state reader.new) };
+        ensures { ReadsValue C.Error.IsEof R.state (λ _. map T.seen places.new)
+            (vector_codec (count_of places.old) T.layout) result reader.old reader.new };
 }
 
 /// How places take values from bytes.
@@ -153,9 +148,8 @@ pub trait ReadMany<L: AsSlice<u8> + Drop, C: Context>: ReadFrom<L, C> {
         reader: &mut R,
         length: usize,
     ) -> Result<Vec<Self>, C::Error>
-        ensures { Reads C.Error.from_gives C.Error.eof (λ v. map Self.seen v.items)
-            (vector length (Self.layout.format (R.state reader.old).encoding)) result
-            (R.state reader.old) (R.state reader.new) }
+        ensures { ReadsValue C.Error.IsEof R.state (λ v. map Self.seen v.items)
+            (vector_codec length Self.layout) result reader.old reader.new }
     {
         Self::read_many_cow::<Vec<Self>, R>(reader, length)
     }
@@ -166,9 +160,8 @@ pub trait ReadMany<L: AsSlice<u8> + Drop, C: Context>: ReadFrom<L, C> {
         reader: &mut R,
         length: usize,
     ) -> Result<W, C::Error>
-        ensures { Reads C.Error.from_gives C.Error.eof (λ w. map Self.seen (W.shown w))
-            (vector length (Self.layout.format (R.state reader.old).encoding)) result
-            (R.state reader.old) (R.state reader.new) }
+        ensures { ReadsValue C.Error.IsEof R.state (λ w. map Self.seen (W.shown w))
+            (vector_codec length Self.layout) result reader.old reader.new }
     {
         match <Self::Way as Strategy<L, C, Self>>::read_many_lent::<W, R>(reader, length) {
             Ok(Many::Made(made)) => Ok(made),
@@ -186,8 +179,8 @@ pub trait ReadMany<L: AsSlice<u8> + Drop, C: Context>: ReadFrom<L, C> {
         length: usize,
     ) -> Result<F, C::Error>
         ensures { let items = gatherer Self.seen F.gathers F.are_written in
-            Collects items (Self.layout.format (R.state reader.old).encoding) length
-            C.Error.from_gives C.Error.eof result (R.state reader.old) (R.state reader.new) }
+            CollectsValues C.Error.IsEof R.state items Self.layout length
+            result reader.old reader.new }
     {
         collect_items::<F, Self, L, C, R>(reader, length)
     }
@@ -303,10 +296,9 @@ pub(crate) fn read_each<
     C: Context,
     R: LendingReader<L, C>,
 >(reader: &mut R, length: usize) -> Result<Many<W, T>, C::Error>
-    ensures { (shown : W → List T) → Reads C.Error.from_gives C.Error.eof
-        (λ many. map T.seen (many_items shown many))
-        (vector length (T.layout.format (R.state reader.old).encoding)) result
-        (R.state reader.old) (R.state reader.new) }
+    ensures { (shown : W → List T) → ReadsValue C.Error.IsEof R.state
+        (λ many. map T.seen (many_items shown many)) (vector_codec length T.layout)
+        result reader.old reader.new }
 {
     let mut items = vec_for::<T, L, C, R>(reader, T::minimum_bytes_needed(), length)?;
     for i in 0..length {

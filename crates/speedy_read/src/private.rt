@@ -4,10 +4,9 @@ ghost use Rattle.std.specs.String.{string_bytes};
 ghost use Rattle.std.specs.Cow.{cow_slice_items, cow_str_bytes};
 ghost use Rattle.std.specs.Str.{IsUtf8};
 ghost use Rattle.speedy_base.specs.Error.{error_of};
+ghost use Rattle.speedy_layout.specs.Codecs.{varint_codec, constant_codec};
 ghost use Rattle.speedy_layout.specs.Numbers.{length_number};
-ghost use Rattle.speedy_layout.specs.Texts.{constant_bytes};
-ghost use Rattle.speedy_layout.specs.Varint.{varint};
-ghost use Rattle.speedy_read.specs.Reading.{Reads, ReadsUnsigned, RefusesFewer};
+ghost use Rattle.speedy_read.specs.Reading.{ReadsUnsigned, RefusesFewer, ReadsAs, ReadsValue};
 
 use crate::reader::LendingReader;
 use crate::room::CONSTANT_CHUNK;
@@ -76,8 +75,7 @@ fn is_utf8(bytes: &[u8]) -> bool
 pub fn read_length<L: AsSlice<u8> + Drop, C: Context, R: LendingReader<L, C>>(
     reader: &mut R,
 ) -> Result<usize, C::Error>
-    ensures { ReadsUnsigned C.Error.from_gives C.Error.eof 4 result
-        (R.state reader.old) (R.state reader.new) }
+    ensures { ReadsUnsigned C.Error.IsEof R.state 4 result reader.old reader.new }
 {
     read_length_u32(reader)
 }
@@ -90,9 +88,8 @@ const U7_MAX: u8 = 127;
 pub fn read_length_u7<L: AsSlice<u8> + Drop, C: Context, R: LendingReader<L, C>>(
     reader: &mut R,
 ) -> Result<usize, C::Error>
-    ensures { let length = length_number 1 127 (R.state reader.old).encoding in
-        Reads C.Error.from_gives C.Error.eof (λ n. n) length result
-        (R.state reader.old) (R.state reader.new) }
+    ensures { ReadsAs C.Error.IsEof R.state (λ n. n) (length_number 1 127)
+        result reader.old reader.new }
 {
     let length = reader.read_u8()?;
     if length > U7_MAX {
@@ -106,8 +103,7 @@ pub fn read_length_u7<L: AsSlice<u8> + Drop, C: Context, R: LendingReader<L, C>>
 pub fn read_length_u8<L: AsSlice<u8> + Drop, C: Context, R: LendingReader<L, C>>(
     reader: &mut R,
 ) -> Result<usize, C::Error>
-    ensures { ReadsUnsigned C.Error.from_gives C.Error.eof 1 result
-        (R.state reader.old) (R.state reader.new) }
+    ensures { ReadsUnsigned C.Error.IsEof R.state 1 result reader.old reader.new }
 {
     Ok(usize::from(reader.read_u8()?))
 }
@@ -117,8 +113,7 @@ pub fn read_length_u8<L: AsSlice<u8> + Drop, C: Context, R: LendingReader<L, C>>
 pub fn read_length_u16<L: AsSlice<u8> + Drop, C: Context, R: LendingReader<L, C>>(
     reader: &mut R,
 ) -> Result<usize, C::Error>
-    ensures { ReadsUnsigned C.Error.from_gives C.Error.eof 2 result
-        (R.state reader.old) (R.state reader.new) }
+    ensures { ReadsUnsigned C.Error.IsEof R.state 2 result reader.old reader.new }
 {
     Ok(usize::from(reader.read_u16()?))
 }
@@ -128,8 +123,7 @@ pub fn read_length_u16<L: AsSlice<u8> + Drop, C: Context, R: LendingReader<L, C>
 pub fn read_length_u32<L: AsSlice<u8> + Drop, C: Context, R: LendingReader<L, C>>(
     reader: &mut R,
 ) -> Result<usize, C::Error>
-    ensures { ReadsUnsigned C.Error.from_gives C.Error.eof 4 result
-        (R.state reader.old) (R.state reader.new) }
+    ensures { ReadsUnsigned C.Error.IsEof R.state 4 result reader.old reader.new }
 {
     Ok(reader.read_u32()? as usize)
 }
@@ -139,8 +133,7 @@ pub fn read_length_u32<L: AsSlice<u8> + Drop, C: Context, R: LendingReader<L, C>
 pub fn read_length_u64<L: AsSlice<u8> + Drop, C: Context, R: LendingReader<L, C>>(
     reader: &mut R,
 ) -> Result<usize, C::Error>
-    ensures { ReadsUnsigned C.Error.from_gives C.Error.eof 8 result
-        (R.state reader.old) (R.state reader.new) }
+    ensures { ReadsUnsigned C.Error.IsEof R.state 8 result reader.old reader.new }
 {
     Ok(reader.read_u64()? as usize)
 }
@@ -150,8 +143,7 @@ pub fn read_length_u64<L: AsSlice<u8> + Drop, C: Context, R: LendingReader<L, C>
 pub fn read_length_u64_varint<L: AsSlice<u8> + Drop, C: Context, R: LendingReader<L, C>>(
     reader: &mut R,
 ) -> Result<usize, C::Error>
-    ensures { Reads C.Error.from_gives C.Error.eof (λ n. n) (varint (R.state reader.old).encoding) result
-        (R.state reader.old) (R.state reader.new) }
+    ensures { ReadsValue C.Error.IsEof R.state (λ n. n) varint_codec result reader.old reader.new }
 {
     Ok(reader.read_u64_varint()? as usize)
 }
@@ -164,13 +156,12 @@ pub fn read_constant<L: AsSlice<u8> + Drop, C: Context, R: LendingReader<L, C>>(
     reader: &mut R,
     constant: &'static [u8],
 ) -> Result<(), C::Error>
-    ensures reads { let format = constant_bytes (R.state reader.old).encoding constant.now in
-        Reads C.Error.from_gives C.Error.eof (λ _. constant.now) format result
-        (R.state reader.old) (R.state reader.new) }
+    ensures reads { ReadsValue C.Error.IsEof R.state (λ _. constant.now)
+        (constant_codec constant.now) result reader.old reader.new }
     ensures nothing { constant.now ≡ [] →
         IsOk result × (R.state reader.new ≡ R.state reader.old) }
-    ensures fewer { RefusesFewer C.Error.from_gives C.Error.eof (length constant.now) result
-        (R.state reader.old) (R.state reader.new) }
+    ensures fewer { RefusesFewer C.Error.IsEof R.state (length constant.now)
+        result reader.old reader.new }
 {
     let mut chunk = [0; CONSTANT_CHUNK];
     let mut at = 0;

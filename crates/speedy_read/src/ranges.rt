@@ -1,7 +1,7 @@
 //! How ranges are read.
 ghost use Rattle.std.specs.Prelude.{◌≡◌, ◌+◌, false, IfOk};
 ghost use Rattle.std.specs.Range.{range_inclusive_exhausted};
-ghost use Rattle.speedy_read.specs.Reading.{Reads};
+ghost use Rattle.speedy_read.specs.Reading.{ReadsValue};
 
 use crate::many::ItemByItem;
 use crate::readable::ReadFrom;
@@ -31,9 +31,8 @@ impl<L: AsSlice<u8> + Drop, C: Context, T: ReadFrom<L, C>> ReadFrom<L, C> for Ra
 
     #[inline]
     fn read_from<R: LendingReader<L, C>>(reader: &mut R) -> Result<RangeInclusive<T>, C::Error>
-        ensures reads { Reads C.Error.from_gives C.Error.eof ⟦<RangeInclusive<T> as Layout>⟧.seen
-            (⟦<RangeInclusive<T> as Layout>⟧.layout.format (R.state reader.old).encoding) result
-            (R.state reader.old) (R.state reader.new) }
+        ensures reads { ReadsValue C.Error.IsEof R.state ⟦<RangeInclusive<T> as Layout>⟧.seen
+            ⟦<RangeInclusive<T> as Layout>⟧.layout result reader.old reader.new }
         ensures not_walked { IfOk result (λ range. range_inclusive_exhausted range ≡ false) }
     {
         let (start, end) = reader.read_value::<(T, T)>()?;

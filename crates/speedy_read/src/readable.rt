@@ -1,7 +1,7 @@
 //! Types that can be read, and the ways of reading them.
 ghost use Rattle.std.specs.Prelude.{◌≡◌, ℕ, true, false};
 ghost use Rattle.speedy_base.specs.Encoding.{plain_encoding};
-ghost use Rattle.speedy_read.specs.Reading.{Reads};
+ghost use Rattle.speedy_read.specs.Reading.{ReadsValue};
 ghost use Rattle.speedy_read.specs.WaysOfReading.{AnswersBuffer, AnswersCopied, AnswersStream, AnswersFile};
 
 pub use crate::buffer_reader::BufferReader;
@@ -35,9 +35,8 @@ pub trait ReadFrom<L: AsSlice<u8> + Drop, C: Context>: Layout + Sized + Drop {
     /// A value that is answered is encoded by a prefix of the bytes to come, and just that prefix is taken. An error that
     /// is neither out of memory nor of a failed call means that no prefix encodes any value.
     fn read_from<R: LendingReader<L, C>>(reader: &mut R) -> Result<Self, C::Error>
-        ensures { Reads C.Error.from_gives C.Error.eof Self.seen
-            (Self.layout.format (R.state reader.old).encoding) result
-            (R.state reader.old) (R.state reader.new) };
+        ensures { ReadsValue C.Error.IsEof R.state Self.seen Self.layout
+            result reader.old reader.new };
 
     /// The least size: no value is encoded in fewer bytes.
     fn minimum_bytes_needed() -> usize
@@ -52,8 +51,8 @@ pub trait Readable<'a, C: Context>: ReadMany<&'a [u8], C> {
     final fn read_from_buffer(alloc: Global, buffer: &'a [u8]) -> Result<Self, C::Error>
     where
         C: PlainContext,
-        ensures { (count : ℕ) × AnswersBuffer C.Error.from_gives C.Error.eof Self.seen Self.layout.least
-            (Self.layout.format (plain_encoding Endianness.LittleEndian)) result count buffer.now }
+        ensures { (count : ℕ) × AnswersBuffer C.Error.IsEof Self.seen Self.layout
+            (plain_encoding Endianness.LittleEndian) result count buffer.now }
     {
         Self::read_from_buffer_with_ctx(alloc, C::plain(), buffer)
     }
@@ -67,8 +66,8 @@ pub trait Readable<'a, C: Context>: ReadMany<&'a [u8], C> {
     ) -> (Result<Self, C::Error>, usize)
     where
         C: PlainContext,
-        ensures { AnswersBuffer C.Error.from_gives C.Error.eof Self.seen Self.layout.least
-            (Self.layout.format (plain_encoding Endianness.LittleEndian)) result.0 result.1 buffer.now }
+        ensures { AnswersBuffer C.Error.IsEof Self.seen Self.layout
+            (plain_encoding Endianness.LittleEndian) result.0 result.1 buffer.now }
     {
         Self::read_with_length_from_buffer_with_ctx(alloc, C::plain(), buffer)
     }
@@ -81,8 +80,8 @@ pub trait Readable<'a, C: Context>: ReadMany<&'a [u8], C> {
         context: C,
         buffer: &'a [u8],
     ) -> Result<Self, C::Error>
-        ensures { (count : ℕ) × AnswersBuffer C.Error.from_gives C.Error.eof Self.seen Self.layout.least
-            (Self.layout.format (C.encoding context)) result count buffer.now }
+        ensures { (count : ℕ) × AnswersBuffer C.Error.IsEof Self.seen Self.layout
+            (C.encoding context) result count buffer.now }
     {
         Self::read_with_length_from_buffer_with_ctx(alloc, context, buffer).0
     }
@@ -95,8 +94,8 @@ pub trait Readable<'a, C: Context>: ReadMany<&'a [u8], C> {
         context: C,
         buffer: &'a [u8],
     ) -> (Result<Self, C::Error>, usize)
-        ensures { AnswersBuffer C.Error.from_gives C.Error.eof Self.seen Self.layout.least
-            (Self.layout.format (C.encoding context)) result.0 result.1 buffer.now }
+        ensures { AnswersBuffer C.Error.IsEof Self.seen Self.layout (C.encoding context)
+            result.0 result.1 buffer.now }
     {
         let least = Self::minimum_bytes_needed();
         if buffer.len() < least {
@@ -112,8 +111,8 @@ pub trait Readable<'a, C: Context>: ReadMany<&'a [u8], C> {
     final fn read_from_buffer_copying_data(alloc: Global, buffer: &[u8]) -> Result<Self, C::Error>
     where
         C: PlainContext,
-        ensures { (count : ℕ) × AnswersCopied C.Error.from_gives C.Error.eof Self.seen Self.layout.least
-            (Self.layout.format (plain_encoding Endianness.LittleEndian)) result count buffer.now }
+        ensures { (count : ℕ) × AnswersCopied C.Error.IsEof Self.seen Self.layout
+            (plain_encoding Endianness.LittleEndian) result count buffer.now }
     {
         Self::read_from_buffer_copying_data_with_ctx(alloc, C::plain(), buffer)
     }
@@ -126,8 +125,8 @@ pub trait Readable<'a, C: Context>: ReadMany<&'a [u8], C> {
     ) -> (Result<Self, C::Error>, usize)
     where
         C: PlainContext,
-        ensures { AnswersCopied C.Error.from_gives C.Error.eof Self.seen Self.layout.least
-            (Self.layout.format (plain_encoding Endianness.LittleEndian)) result.0 result.1 buffer.now }
+        ensures { AnswersCopied C.Error.IsEof Self.seen Self.layout
+            (plain_encoding Endianness.LittleEndian) result.0 result.1 buffer.now }
     {
         Self::read_with_length_from_buffer_copying_data_with_ctx(alloc, C::plain(), buffer)
     }
@@ -139,8 +138,8 @@ pub trait Readable<'a, C: Context>: ReadMany<&'a [u8], C> {
         context: C,
         buffer: &[u8],
     ) -> Result<Self, C::Error>
-        ensures { (count : ℕ) × AnswersCopied C.Error.from_gives C.Error.eof Self.seen Self.layout.least
-            (Self.layout.format (C.encoding context)) result count buffer.now }
+        ensures { (count : ℕ) × AnswersCopied C.Error.IsEof Self.seen Self.layout
+            (C.encoding context) result count buffer.now }
     {
         Self::read_with_length_from_buffer_copying_data_with_ctx(alloc, context, buffer).0
     }
@@ -152,8 +151,8 @@ pub trait Readable<'a, C: Context>: ReadMany<&'a [u8], C> {
         context: C,
         buffer: &[u8],
     ) -> (Result<Self, C::Error>, usize)
-        ensures { AnswersCopied C.Error.from_gives C.Error.eof Self.seen Self.layout.least
-            (Self.layout.format (C.encoding context)) result.0 result.1 buffer.now }
+        ensures { AnswersCopied C.Error.IsEof Self.seen Self.layout (C.encoding context)
+            result.0 result.1 buffer.now }
     {
         let mut context = context;
         Self::read_with_length_from_buffer_copying_data_with_ctx_mut(alloc, &mut context, buffer)
@@ -169,8 +168,8 @@ pub trait Readable<'a, C: Context>: ReadMany<&'a [u8], C> {
         buffer: &[u8],
     ) -> (Result<Self, C::Error>, usize)
         ensures encoding { C.encoding context.new ≡ C.encoding context.old }
-        ensures answers { AnswersCopied C.Error.from_gives C.Error.eof Self.seen Self.layout.least
-            (Self.layout.format (C.encoding context.old)) result.0 result.1 buffer.now }
+        ensures answers { AnswersCopied C.Error.IsEof Self.seen Self.layout (C.encoding context.old)
+            result.0 result.1 buffer.now }
     {
         let least = Self::minimum_bytes_needed();
         let length = buffer.len();
@@ -193,9 +192,8 @@ pub trait Readable<'a, C: Context>: ReadMany<&'a [u8], C> {
     ) -> Result<Self, C::Error>
     where
         C: PlainContext,
-        ensures { AnswersStream C.Error.from_gives C.Error.eof Self.seen
-            (Self.layout.format (plain_encoding Endianness.LittleEndian)) false result
-            (S.source source.old) (S.source source.new) }
+        ensures { AnswersStream C.Error.IsEof S.source Self.seen Self.layout
+            (plain_encoding Endianness.LittleEndian) false result source.old source.new }
     {
         Self::read_from_stream_unbuffered_with_ctx(alloc, C::plain(), source)
     }
@@ -206,9 +204,8 @@ pub trait Readable<'a, C: Context>: ReadMany<&'a [u8], C> {
         context: C,
         source: &mut S,
     ) -> Result<Self, C::Error>
-        ensures { AnswersStream C.Error.from_gives C.Error.eof Self.seen
-            (Self.layout.format (C.encoding context)) false result
-            (S.source source.old) (S.source source.new) }
+        ensures { AnswersStream C.Error.IsEof S.source Self.seen Self.layout
+            (C.encoding context) false result source.old source.new }
     {
         read_stream(alloc, context, source, false)
     }
@@ -224,9 +221,8 @@ pub trait Readable<'a, C: Context>: ReadMany<&'a [u8], C> {
     ) -> Result<Self, C::Error>
     where
         C: PlainContext,
-        ensures { AnswersStream C.Error.from_gives C.Error.eof Self.seen
-            (Self.layout.format (plain_encoding Endianness.LittleEndian)) true result
-            (S.source source.old) (S.source source.new) }
+        ensures { AnswersStream C.Error.IsEof S.source Self.seen Self.layout
+            (plain_encoding Endianness.LittleEndian) true result source.old source.new }
     {
         Self::read_from_stream_buffered_with_ctx(alloc, C::plain(), source)
     }
@@ -237,9 +233,8 @@ pub trait Readable<'a, C: Context>: ReadMany<&'a [u8], C> {
         context: C,
         source: &mut S,
     ) -> Result<Self, C::Error>
-        ensures { AnswersStream C.Error.from_gives C.Error.eof Self.seen
-            (Self.layout.format (C.encoding context)) true result
-            (S.source source.old) (S.source source.new) }
+        ensures { AnswersStream C.Error.IsEof S.source Self.seen Self.layout
+            (C.encoding context) true result source.old source.new }
     {
         read_stream(alloc, context, source, true)
     }
@@ -254,8 +249,8 @@ pub trait Readable<'a, C: Context>: ReadMany<&'a [u8], C> {
     ) -> Result<Self, C::Error>
     where
         C: PlainContext,
-        ensures { AnswersFile C.Error.from_gives C.Error.eof Self.seen
-            (Self.layout.format (plain_encoding Endianness.LittleEndian)) result }
+        ensures { AnswersFile C.Error.IsEof Self.seen Self.layout
+            (plain_encoding Endianness.LittleEndian) result }
     {
         Self::read_from_file_with_ctx(rt, alloc, C::plain(), path)
     }
@@ -267,8 +262,7 @@ pub trait Readable<'a, C: Context>: ReadMany<&'a [u8], C> {
         context: C,
         path: P,
     ) -> Result<Self, C::Error>
-        ensures { AnswersFile C.Error.from_gives C.Error.eof Self.seen
-            (Self.layout.format (C.encoding context)) result }
+        ensures { AnswersFile C.Error.IsEof Self.seen Self.layout (C.encoding context) result }
     {
         match File::open(rt, path) {
             Ok(file) => {
@@ -293,8 +287,8 @@ pub trait ReadableOwned<C: Context>: ReadMany<NothingLent, C> {
     final fn read_owned(alloc: Global, buffer: &[u8]) -> Result<Self, C::Error>
     where
         C: PlainContext,
-        ensures { (count : ℕ) × AnswersBuffer C.Error.from_gives C.Error.eof Self.seen Self.layout.least
-            (Self.layout.format (plain_encoding Endianness.LittleEndian)) result count buffer.now }
+        ensures { (count : ℕ) × AnswersBuffer C.Error.IsEof Self.seen Self.layout
+            (plain_encoding Endianness.LittleEndian) result count buffer.now }
     {
         Self::read_owned_with_ctx(alloc, C::plain(), buffer)
     }
@@ -303,8 +297,8 @@ pub trait ReadableOwned<C: Context>: ReadMany<NothingLent, C> {
     ///
     /// A buffer that is shorter than the type's least size is the error `InputBufferIsTooSmall`.
     final fn read_owned_with_ctx(alloc: Global, context: C, buffer: &[u8]) -> Result<Self, C::Error>
-        ensures { (count : ℕ) × AnswersBuffer C.Error.from_gives C.Error.eof Self.seen Self.layout.least
-            (Self.layout.format (C.encoding context)) result count buffer.now }
+        ensures { (count : ℕ) × AnswersBuffer C.Error.IsEof Self.seen Self.layout
+            (C.encoding context) result count buffer.now }
     {
         Self::read_owned_with_length_with_ctx(alloc, context, buffer).0
     }
@@ -317,8 +311,8 @@ pub trait ReadableOwned<C: Context>: ReadMany<NothingLent, C> {
         context: C,
         buffer: &[u8],
     ) -> (Result<Self, C::Error>, usize)
-        ensures { AnswersBuffer C.Error.from_gives C.Error.eof Self.seen Self.layout.least
-            (Self.layout.format (C.encoding context)) result.0 result.1 buffer.now }
+        ensures { AnswersBuffer C.Error.IsEof Self.seen Self.layout (C.encoding context)
+            result.0 result.1 buffer.now }
     {
         let least = Self::minimum_bytes_needed();
         let length = buffer.len();

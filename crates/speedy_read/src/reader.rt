@@ -6,13 +6,11 @@ ghost use Rattle.std.specs.Io.BufRead.{Rests};
 ghost use Rattle.std.specs.Int.{w8, w16, w32, w64, w128};
 ghost use Rattle.std.specs.String.{string_bytes};
 ghost use Rattle.speedy_base.specs.Error.{error_of};
-ghost use Rattle.speedy_layout.specs.Texts.{raw_bytes, any_bytes, text_of_length};
-ghost use Rattle.speedy_layout.specs.Numbers.{unsigned_number};
-ghost use Rattle.speedy_layout.specs.Lists.{vector};
-ghost use Rattle.speedy_layout.specs.Varint.{varint};
-ghost use Rattle.speedy_read.specs.Collections.{gatherer, Collects};
-ghost use Rattle.speedy_read.specs.UntilEnd.{ReadsUntilEnd};
-ghost use Rattle.speedy_read.specs.Reading.{ReaderState, Reads, ReadsUnsigned, ReadsSigned, Peeks, PeeksUnsigned, PeeksSigned, IsRight, Expects, LendsBytes, LendsAll, LendsUntilUsed};
+ghost use Rattle.speedy_layout.specs.Codecs.{unsigned_codec, varint_codec, vector_codec};
+ghost use Rattle.speedy_layout.specs.Texts.{text_of_length};
+ghost use Rattle.speedy_read.specs.Collections.{gatherer, CollectsValues};
+ghost use Rattle.speedy_read.specs.UntilEnd.{ReadsValuesUntilEnd};
+ghost use Rattle.speedy_read.specs.Reading.{ReaderState, ReadsUnsigned, ReadsSigned, PeeksUnsigned, PeeksSigned, IsRight, Expects, LendsBytes, LendsAll, LendsUntilUsed, ReadsAs, ReadsValue, PeeksValue, ReadsInto, PeeksInto, Skips};
 
 use crate::collections::FromItems;
 use crate::lent::NothingLent;
@@ -48,18 +46,15 @@ pub trait LendingReader<L: AsSlice<u8> + Drop, C: Context> {
 
     /// Fills the output with the next bytes. What an error leaves in the output is not said.
     fn read_bytes(&mut self, output: &mut [u8]) -> Result<(), C::Error>
-        ensures { Reads C.Error.from_gives C.Error.eof (λ _. output.new)
-            (raw_bytes (length output.old)) result (state self.old) (state self.new) };
+        ensures { ReadsInto C.Error.IsEof state output.old output.new result self.old self.new };
 
     /// Fills the output with the next bytes, and takes none of them.
     fn peek_bytes(&mut self, output: &mut [u8]) -> Result<(), C::Error>
-        ensures { Peeks C.Error.from_gives C.Error.eof (λ _. output.new)
-            (raw_bytes (length output.old)) result (state self.old) (state self.new) };
+        ensures { PeeksInto C.Error.IsEof state output.old output.new result self.old self.new };
 
     /// Skips `length` bytes. This body reads them, a chunk at a time. To skip none is to do nothing.
     fn skip_bytes(&mut self, length: usize) -> Result<(), C::Error>
-        ensures reads { Reads C.Error.from_gives C.Error.eof (λ x. x) (any_bytes length) result
-            (state self.old) (state self.new) }
+        ensures reads { Skips C.Error.IsEof state length result self.old self.new }
         ensures nothing { length ≡ 0 → IsOk result × (state self.new ≡ state self.old) }
     {
         let mut chunk = [0; SKIPPED_CHUNK];
@@ -88,8 +83,7 @@ pub trait LendingReader<L: AsSlice<u8> + Drop, C: Context> {
 
     /// Takes the next `length` bytes and lends them; `None` where the reader lends nothing.
     fn read_bytes_borrowed(&mut self, length: usize) -> Option<Result<L, C::Error>>
-        ensures { LendsBytes C.Error.from_gives C.Error.eof L.items length result
-            (state self.old) (state self.new) };
+        ensures { LendsBytes C.Error.IsEof state L.items length result self.old self.new };
 
     /// Takes the next bytes and lends them until the reader is used again; `None` where it cannot.
     fn read_bytes_borrowed_from_reader(
@@ -140,8 +134,7 @@ pub trait LendingReader<L: AsSlice<u8> + Drop, C: Context> {
     /// The next byte as a number in the context's order.
     #[inline(always)]
     final fn read_u8(&mut self) -> Result<u8, C::Error>
-        ensures { ReadsUnsigned C.Error.from_gives C.Error.eof 1 result
-            (state self.old) (state self.new) }
+        ensures { ReadsUnsigned C.Error.IsEof state 1 result self.old self.new }
     {
         let mut bytes = [0u8; 1];
         self.read_bytes(&mut bytes)?;
@@ -151,8 +144,7 @@ pub trait LendingReader<L: AsSlice<u8> + Drop, C: Context> {
     /// The next 2 bytes as a number in the context's order.
     #[inline(always)]
     final fn read_u16(&mut self) -> Result<u16, C::Error>
-        ensures { ReadsUnsigned C.Error.from_gives C.Error.eof 2 result
-            (state self.old) (state self.new) }
+        ensures { ReadsUnsigned C.Error.IsEof state 2 result self.old self.new }
     {
         let mut bytes = [0u8; 2];
         self.read_bytes(&mut bytes)?;
@@ -162,8 +154,7 @@ pub trait LendingReader<L: AsSlice<u8> + Drop, C: Context> {
     /// The next 4 bytes as a number in the context's order.
     #[inline(always)]
     final fn read_u32(&mut self) -> Result<u32, C::Error>
-        ensures { ReadsUnsigned C.Error.from_gives C.Error.eof 4 result
-            (state self.old) (state self.new) }
+        ensures { ReadsUnsigned C.Error.IsEof state 4 result self.old self.new }
     {
         let mut bytes = [0u8; 4];
         self.read_bytes(&mut bytes)?;
@@ -173,8 +164,7 @@ pub trait LendingReader<L: AsSlice<u8> + Drop, C: Context> {
     /// The next 8 bytes as a number in the context's order.
     #[inline(always)]
     final fn read_u64(&mut self) -> Result<u64, C::Error>
-        ensures { ReadsUnsigned C.Error.from_gives C.Error.eof 8 result
-            (state self.old) (state self.new) }
+        ensures { ReadsUnsigned C.Error.IsEof state 8 result self.old self.new }
     {
         let mut bytes = [0u8; 8];
         self.read_bytes(&mut bytes)?;
@@ -184,8 +174,7 @@ pub trait LendingReader<L: AsSlice<u8> + Drop, C: Context> {
     /// The next 16 bytes as a number in the context's order.
     #[inline(always)]
     final fn read_u128(&mut self) -> Result<u128, C::Error>
-        ensures { ReadsUnsigned C.Error.from_gives C.Error.eof 16 result
-            (state self.old) (state self.new) }
+        ensures { ReadsUnsigned C.Error.IsEof state 16 result self.old self.new }
     {
         let mut bytes = [0u8; 16];
         self.read_bytes(&mut bytes)?;
@@ -195,8 +184,7 @@ pub trait LendingReader<L: AsSlice<u8> + Drop, C: Context> {
     /// The next byte as a signed number.
     #[inline(always)]
     final fn read_i8(&mut self) -> Result<i8, C::Error>
-        ensures { ReadsSigned C.Error.from_gives C.Error.eof w8 result
-            (state self.old) (state self.new) }
+        ensures { ReadsSigned C.Error.IsEof state w8 result self.old self.new }
     {
         Ok(self.read_u8()?.cast_signed())
     }
@@ -204,8 +192,7 @@ pub trait LendingReader<L: AsSlice<u8> + Drop, C: Context> {
     /// The next 2 bytes as a signed number in the context's order.
     #[inline(always)]
     final fn read_i16(&mut self) -> Result<i16, C::Error>
-        ensures { ReadsSigned C.Error.from_gives C.Error.eof w16 result
-            (state self.old) (state self.new) }
+        ensures { ReadsSigned C.Error.IsEof state w16 result self.old self.new }
     {
         Ok(self.read_u16()?.cast_signed())
     }
@@ -213,8 +200,7 @@ pub trait LendingReader<L: AsSlice<u8> + Drop, C: Context> {
     /// The next 4 bytes as a signed number in the context's order.
     #[inline(always)]
     final fn read_i32(&mut self) -> Result<i32, C::Error>
-        ensures { ReadsSigned C.Error.from_gives C.Error.eof w32 result
-            (state self.old) (state self.new) }
+        ensures { ReadsSigned C.Error.IsEof state w32 result self.old self.new }
     {
         Ok(self.read_u32()?.cast_signed())
     }
@@ -222,8 +208,7 @@ pub trait LendingReader<L: AsSlice<u8> + Drop, C: Context> {
     /// The next 8 bytes as a signed number in the context's order.
     #[inline(always)]
     final fn read_i64(&mut self) -> Result<i64, C::Error>
-        ensures { ReadsSigned C.Error.from_gives C.Error.eof w64 result
-            (state self.old) (state self.new) }
+        ensures { ReadsSigned C.Error.IsEof state w64 result self.old self.new }
     {
         Ok(self.read_u64()?.cast_signed())
     }
@@ -231,8 +216,7 @@ pub trait LendingReader<L: AsSlice<u8> + Drop, C: Context> {
     /// The next 16 bytes as a signed number in the context's order.
     #[inline(always)]
     final fn read_i128(&mut self) -> Result<i128, C::Error>
-        ensures { ReadsSigned C.Error.from_gives C.Error.eof w128 result
-            (state self.old) (state self.new) }
+        ensures { ReadsSigned C.Error.IsEof state w128 result self.old self.new }
     {
         Ok(self.read_u128()?.cast_signed())
     }
@@ -240,8 +224,8 @@ pub trait LendingReader<L: AsSlice<u8> + Drop, C: Context> {
     /// The next byte, which is not taken.
     #[inline]
     final fn peek_u8(&mut self) -> Result<u8, C::Error>
-        ensures { Peeks C.Error.from_gives C.Error.eof (λ x. x)
-            (unsigned_number 1 (state self.old).encoding) result (state self.old) (state self.new) }
+        ensures { PeeksValue C.Error.IsEof state (λ x. x) (unsigned_codec 1)
+            result self.old self.new }
     {
         let mut bytes = [0u8; 1];
         self.peek_bytes(&mut bytes)?;
@@ -251,8 +235,7 @@ pub trait LendingReader<L: AsSlice<u8> + Drop, C: Context> {
     /// The next 2 bytes as a number in the context's order, which are not taken.
     #[inline]
     final fn peek_u16(&mut self) -> Result<u16, C::Error>
-        ensures { PeeksUnsigned C.Error.from_gives C.Error.eof 2 result
-            (state self.old) (state self.new) }
+        ensures { PeeksUnsigned C.Error.IsEof state 2 result self.old self.new }
     {
         let mut ahead = [0u8; 2];
         self.peek_bytes(&mut ahead)?;
@@ -262,8 +245,7 @@ pub trait LendingReader<L: AsSlice<u8> + Drop, C: Context> {
     /// The next 4 bytes as a number in the context's order, which are not taken.
     #[inline]
     final fn peek_u32(&mut self) -> Result<u32, C::Error>
-        ensures { PeeksUnsigned C.Error.from_gives C.Error.eof 4 result
-            (state self.old) (state self.new) }
+        ensures { PeeksUnsigned C.Error.IsEof state 4 result self.old self.new }
     {
         let mut ahead = [0u8; 4];
         self.peek_bytes(&mut ahead)?;
@@ -273,8 +255,7 @@ pub trait LendingReader<L: AsSlice<u8> + Drop, C: Context> {
     /// The next 8 bytes as a number in the context's order, which are not taken.
     #[inline]
     final fn peek_u64(&mut self) -> Result<u64, C::Error>
-        ensures { PeeksUnsigned C.Error.from_gives C.Error.eof 8 result
-            (state self.old) (state self.new) }
+        ensures { PeeksUnsigned C.Error.IsEof state 8 result self.old self.new }
     {
         let mut ahead = [0u8; 8];
         self.peek_bytes(&mut ahead)?;
@@ -284,8 +265,7 @@ pub trait LendingReader<L: AsSlice<u8> + Drop, C: Context> {
     /// The next 16 bytes as a number in the context's order, which are not taken.
     #[inline]
     final fn peek_u128(&mut self) -> Result<u128, C::Error>
-        ensures { PeeksUnsigned C.Error.from_gives C.Error.eof 16 result
-            (state self.old) (state self.new) }
+        ensures { PeeksUnsigned C.Error.IsEof state 16 result self.old self.new }
     {
         let mut ahead = [0u8; 16];
         self.peek_bytes(&mut ahead)?;
@@ -295,8 +275,7 @@ pub trait LendingReader<L: AsSlice<u8> + Drop, C: Context> {
     /// The next byte as a signed number, which is not taken.
     #[inline]
     final fn peek_i8(&mut self) -> Result<i8, C::Error>
-        ensures { PeeksSigned C.Error.from_gives C.Error.eof w8 result
-            (state self.old) (state self.new) }
+        ensures { PeeksSigned C.Error.IsEof state w8 result self.old self.new }
     {
         Ok(self.peek_u8()?.cast_signed())
     }
@@ -304,8 +283,7 @@ pub trait LendingReader<L: AsSlice<u8> + Drop, C: Context> {
     /// The next 2 bytes as a signed number in the context's order, which are not taken.
     #[inline]
     final fn peek_i16(&mut self) -> Result<i16, C::Error>
-        ensures { PeeksSigned C.Error.from_gives C.Error.eof w16 result
-            (state self.old) (state self.new) }
+        ensures { PeeksSigned C.Error.IsEof state w16 result self.old self.new }
     {
         Ok(self.peek_u16()?.cast_signed())
     }
@@ -313,8 +291,7 @@ pub trait LendingReader<L: AsSlice<u8> + Drop, C: Context> {
     /// The next 4 bytes as a signed number in the context's order, which are not taken.
     #[inline]
     final fn peek_i32(&mut self) -> Result<i32, C::Error>
-        ensures { PeeksSigned C.Error.from_gives C.Error.eof w32 result
-            (state self.old) (state self.new) }
+        ensures { PeeksSigned C.Error.IsEof state w32 result self.old self.new }
     {
         Ok(self.peek_u32()?.cast_signed())
     }
@@ -322,8 +299,7 @@ pub trait LendingReader<L: AsSlice<u8> + Drop, C: Context> {
     /// The next 8 bytes as a signed number in the context's order, which are not taken.
     #[inline]
     final fn peek_i64(&mut self) -> Result<i64, C::Error>
-        ensures { PeeksSigned C.Error.from_gives C.Error.eof w64 result
-            (state self.old) (state self.new) }
+        ensures { PeeksSigned C.Error.IsEof state w64 result self.old self.new }
     {
         Ok(self.peek_u64()?.cast_signed())
     }
@@ -331,8 +307,7 @@ pub trait LendingReader<L: AsSlice<u8> + Drop, C: Context> {
     /// The next 16 bytes as a signed number in the context's order, which are not taken.
     #[inline]
     final fn peek_i128(&mut self) -> Result<i128, C::Error>
-        ensures { PeeksSigned C.Error.from_gives C.Error.eof w128 result
-            (state self.old) (state self.new) }
+        ensures { PeeksSigned C.Error.IsEof state w128 result self.old self.new }
     {
         Ok(self.peek_u128()?.cast_signed())
     }
@@ -341,8 +316,7 @@ pub trait LendingReader<L: AsSlice<u8> + Drop, C: Context> {
     /// read too, unless the context reads only canonical encodings.
     #[inline]
     final fn read_u64_varint(&mut self) -> Result<u64, C::Error>
-        ensures { Reads C.Error.from_gives C.Error.eof (λ x. x) (varint (state self.old).encoding)
-            result (state self.old) (state self.new) }
+        ensures { ReadsValue C.Error.IsEof state (λ x. x) varint_codec result self.old self.new }
     {
         let first = self.read_u8()?;
         // Most numbers are short: no byte follows, and there is no shorter spelling.
@@ -362,8 +336,7 @@ pub trait LendingReader<L: AsSlice<u8> + Drop, C: Context> {
     /// As [`read_u64_varint`](Self::read_u64_varint), but nothing is taken.
     #[inline]
     final fn peek_u64_varint(&mut self) -> Result<u64, C::Error>
-        ensures { Peeks C.Error.from_gives C.Error.eof (λ x. x) (varint (state self.old).encoding)
-            result (state self.old) (state self.new) }
+        ensures { PeeksValue C.Error.IsEof state (λ x. x) varint_codec result self.old self.new }
     {
         let first = self.peek_u8()?;
         let mut bytes = [0u8; 9];
@@ -382,8 +355,7 @@ pub trait LendingReader<L: AsSlice<u8> + Drop, C: Context> {
     final fn read_value<T: ReadFrom<L, C>>(&mut self) -> Result<T, C::Error>
     where
         Self: Sized,
-        ensures { Reads C.Error.from_gives C.Error.eof T.seen (T.layout.format (state self.old).encoding)
-            result (state self.old) (state self.new) }
+        ensures { ReadsValue C.Error.IsEof state T.seen T.layout result self.old self.new }
     {
         T::read_from(self)
     }
@@ -393,8 +365,7 @@ pub trait LendingReader<L: AsSlice<u8> + Drop, C: Context> {
     final fn read_owned_value<T: ReadFrom<NothingLent, C>>(&mut self) -> Result<T, C::Error>
     where
         Self: Sized,
-        ensures { Reads C.Error.from_gives C.Error.eof T.seen (T.layout.format (state self.old).encoding)
-            result (state self.old) (state self.new) }
+        ensures { ReadsValue C.Error.IsEof state T.seen T.layout result self.old self.new }
     {
         let mut reader: OwnedReader<L, Self> = OwnedReader::new(self);
         let value = T::read_from(&mut reader);
@@ -410,9 +381,8 @@ pub trait LendingReader<L: AsSlice<u8> + Drop, C: Context> {
     final fn read_vec<T: ReadMany<L, C>>(&mut self, length: usize) -> Result<Vec<T>, C::Error>
     where
         Self: Sized,
-        ensures reads { Reads C.Error.from_gives C.Error.eof (λ v. map T.seen v.items)
-            (vector length (T.layout.format (state self.old).encoding)) result
-            (state self.old) (state self.new) }
+        ensures reads { ReadsValue C.Error.IsEof state (λ v. map T.seen v.items)
+            (vector_codec length T.layout) result self.old self.new }
         ensures early { ((2 ^ 64 ≤ T.layout.least * length) ⊎ (can_read self.old (T.layout.least * length) ≡ Some false))
             → IsErrAnd result (λ e. C.Error.from_gives (error_of ErrorKind.UnexpectedEndOfInput) e)
             × (self.new ≡ self.old) }
@@ -434,9 +404,8 @@ pub trait LendingReader<L: AsSlice<u8> + Drop, C: Context> {
     ) -> Result<W, C::Error>
     where
         Self: Sized,
-        ensures reads { Reads C.Error.from_gives C.Error.eof (λ w. map T.seen (W.shown w))
-            (vector length (T.layout.format (state self.old).encoding)) result
-            (state self.old) (state self.new) }
+        ensures reads { ReadsValue C.Error.IsEof state (λ w. map T.seen (W.shown w))
+            (vector_codec length T.layout) result self.old self.new }
         ensures early { ((2 ^ 64 ≤ T.layout.least * length) ⊎ (can_read self.old (T.layout.least * length) ≡ Some false))
             → IsErrAnd result (λ e. C.Error.from_gives (error_of ErrorKind.UnexpectedEndOfInput) e)
             × (self.new ≡ self.old) }
@@ -457,8 +426,7 @@ pub trait LendingReader<L: AsSlice<u8> + Drop, C: Context> {
     where
         Self: Sized,
         ensures { let items = gatherer T.seen F.gathers F.are_written in
-            Collects items (T.layout.format (state self.old).encoding) length
-            C.Error.from_gives C.Error.eof result (state self.old) (state self.new) }
+            CollectsValues C.Error.IsEof state items T.layout length result self.old self.new }
     {
         T::collect_many(self, length)
     }
@@ -473,8 +441,7 @@ pub trait LendingReader<L: AsSlice<u8> + Drop, C: Context> {
         Self: Sized,
         ensures { let pairs = ⟦<(K, V) as Layout>⟧ in
             let items = gatherer pairs.seen F.gathers F.are_written in
-            Collects items (pairs.layout.format (state self.old).encoding) length
-            C.Error.from_gives C.Error.eof result (state self.old) (state self.new) }
+            CollectsValues C.Error.IsEof state items pairs.layout length result self.old self.new }
     {
         <(K, V) as ReadMany<L, C>>::collect_many(self, length)
     }
@@ -492,8 +459,8 @@ pub trait LendingReader<L: AsSlice<u8> + Drop, C: Context> {
     where
         Self: Sized,
         ensures { let gathers : List T → Vec T → Type 0 = λ items v. v.items ≡ items in
-            ReadsUntilEnd C.Error.from_gives C.Error.eof T.seen gathers
-            (T.layout.format (state self.old).encoding) greatest result (state self.old) (state self.new) }
+            ReadsValuesUntilEnd C.Error.IsEof state T.seen gathers T.layout greatest
+            result self.old self.new }
     {
         gather_until_end::<Vec<T>, T, L, C, Self>(self, greatest)
     }
@@ -507,8 +474,8 @@ pub trait LendingReader<L: AsSlice<u8> + Drop, C: Context> {
     where
         Self: Sized,
         ensures { let gathers : List T → W → Type 0 = λ items w. W.shown w ≡ items in
-            ReadsUntilEnd C.Error.from_gives C.Error.eof T.seen gathers
-            (T.layout.format (state self.old).encoding) greatest result (state self.old) (state self.new) }
+            ReadsValuesUntilEnd C.Error.IsEof state T.seen gathers T.layout greatest
+            result self.old self.new }
     {
         Ok(W::from_values(self.read_vec_until_eof(greatest)?))
     }
@@ -522,8 +489,8 @@ pub trait LendingReader<L: AsSlice<u8> + Drop, C: Context> {
     ) -> Result<F, C::Error>
     where
         Self: Sized,
-        ensures { ReadsUntilEnd C.Error.from_gives C.Error.eof T.seen F.gathers
-            (T.layout.format (state self.old).encoding) greatest result (state self.old) (state self.new) }
+        ensures { ReadsValuesUntilEnd C.Error.IsEof state T.seen F.gathers T.layout greatest
+            result self.old self.new }
     {
         gather_until_end::<F, T, L, C, Self>(self, greatest)
     }
@@ -533,9 +500,8 @@ pub trait LendingReader<L: AsSlice<u8> + Drop, C: Context> {
     final fn read_string(&mut self, length: usize) -> Result<String, C::Error>
     where
         Self: Sized,
-        ensures { let format = text_of_length (state self.old).encoding length in
-            Reads C.Error.from_gives C.Error.eof string_bytes format result
-            (state self.old) (state self.new) }
+        ensures { ReadsAs C.Error.IsEof state string_bytes (λ f. text_of_length f length)
+            result self.old self.new }
     {
         vec_to_string(self.read_vec(length)?)
     }

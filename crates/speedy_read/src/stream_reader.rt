@@ -5,9 +5,8 @@ ghost use Rattle.std.specs.Io.BufRead.{Rests};
 ghost use Rattle.speedy_base.specs.Error.{IsNamed};
 ghost use Rattle.speedy_base.specs.ErrorKind.{EndsInput};
 ghost use Rattle.speedy_base.specs.FailedCalls.{IsErrorOf};
-ghost use Rattle.speedy_layout.specs.Texts.{raw_bytes};
 ghost use Rattle.speedy_read.specs.Lending.{readers_lifetime};
-ghost use Rattle.speedy_read.specs.Reading.{Reads, Peeks, IsRight, Expects, LendsUntilUsed};
+ghost use Rattle.speedy_read.specs.Reading.{IsRight, Expects, LendsUntilUsed, ReadsInto, PeeksInto};
 ghost use Rattle.speedy_read.specs.contracts.stream_reader.StreamReader.{the_row as reader_row};
 ghost use Rattle.speedy_read.specs.StreamModel.{stream_model, stream_state, first_capacity};
 ghost use Rattle.speedy_read.specs.Streams.{FillsList, FillsRing, Fills};
@@ -189,9 +188,8 @@ impl<'s, S: Source, C: Context> StreamReader<'s, S, C> {
     fn read_ahead(&mut self, output: &mut [u8]) -> Result<(), C::Error>
         requires more { length self.old.ring.bytes < length output.old }
         requires fits { length output.old < self.old.ring.capacity }
-        ensures { Reads C.Error.from_gives C.Error.eof (λ _. output.new)
-            (raw_bytes (length output.old)) result
-            (stream_state S.source C.encoding self.old) (stream_state S.source C.encoding self.new) }
+        ensures { ReadsInto C.Error.IsEof (stream_state S.source C.encoding) output.old output.new
+            result self.old self.new }
     {
         self.fill(output.len())?;
         self.ring.consume_into(output);
@@ -201,9 +199,8 @@ impl<'s, S: Source, C: Context> StreamReader<'s, S, C> {
     // Reads all that the ring holds, and the rest straight from the source.
     fn read_past_ring(&mut self, output: &mut [u8]) -> Result<(), C::Error>
         requires { length self.old.ring.bytes < length output.old }
-        ensures { Reads C.Error.from_gives C.Error.eof (λ _. output.new)
-            (raw_bytes (length output.old)) result
-            (stream_state S.source C.encoding self.old) (stream_state S.source C.encoding self.new) }
+        ensures { ReadsInto C.Error.IsEof (stream_state S.source C.encoding) output.old output.new
+            result self.old self.new }
     {
         let held = self.ring.len();
         self.ring.consume_into(&mut output[..held]);
@@ -220,9 +217,8 @@ impl<'s, S: Source, C: Context> StreamReader<'s, S, C> {
     fn read_straight(&mut self, output: &mut [u8]) -> Result<(), C::Error>
         requires nothing_held { self.old.ring.bytes ≡ [] }
         requires some { 0 < length output.old }
-        ensures { Reads C.Error.from_gives C.Error.eof (λ _. output.new)
-            (raw_bytes (length output.old)) result
-            (stream_state S.source C.encoding self.old) (stream_state S.source C.encoding self.new) }
+        ensures { ReadsInto C.Error.IsEof (stream_state S.source C.encoding) output.old output.new
+            result self.old self.new }
     {
         match self.source.pull(output) {
             Ok(first) => {
@@ -244,9 +240,8 @@ impl<'s, S: Source, C: Context> StreamReader<'s, S, C> {
     fn read_on(&mut self, output: &mut [u8]) -> Result<(), C::Error>
         requires nothing_held { self.old.ring.bytes ≡ [] }
         requires some { 0 < length output.old }
-        ensures { Reads C.Error.from_gives C.Error.eof (λ _. output.new)
-            (raw_bytes (length output.old)) result
-            (stream_state S.source C.encoding self.old) (stream_state S.source C.encoding self.new) }
+        ensures { ReadsInto C.Error.IsEof (stream_state S.source C.encoding) output.old output.new
+            result self.old self.new }
     {
         self.read_rest(output)?;
         Ok(())
@@ -256,9 +251,8 @@ impl<'s, S: Source, C: Context> StreamReader<'s, S, C> {
     fn read_rest(&mut self, output: &mut [u8]) -> Result<(), C::Error>
         requires nothing_held { self.old.ring.bytes ≡ [] }
         requires some { 0 < length output.old }
-        ensures { Reads C.Error.from_gives C.Error.eof (λ _. output.new)
-            (raw_bytes (length output.old)) result
-            (stream_state S.source C.encoding self.old) (stream_state S.source C.encoding self.new) }
+        ensures { ReadsInto C.Error.IsEof (stream_state S.source C.encoding) output.old output.new
+            result self.old self.new }
     {
         match fill_list(self.source, output) {
             Ok(true) => Ok(()),
@@ -271,9 +265,8 @@ impl<'s, S: Source, C: Context> StreamReader<'s, S, C> {
     #[inline(always)]
     fn read_more(&mut self, output: &mut [u8]) -> Result<(), C::Error>
         requires { length self.old.ring.bytes < length output.old }
-        ensures { Reads C.Error.from_gives C.Error.eof (λ _. output.new)
-            (raw_bytes (length output.old)) result
-            (stream_state S.source C.encoding self.old) (stream_state S.source C.encoding self.new) }
+        ensures { ReadsInto C.Error.IsEof (stream_state S.source C.encoding) output.old output.new
+            result self.old self.new }
     {
         self.read_elsewhere(output)?;
         Ok(())
@@ -282,9 +275,8 @@ impl<'s, S: Source, C: Context> StreamReader<'s, S, C> {
     #[inline(never)]
     fn read_elsewhere(&mut self, output: &mut [u8]) -> Result<(), C::Error>
         requires { length self.old.ring.bytes < length output.old }
-        ensures { Reads C.Error.from_gives C.Error.eof (λ _. output.new)
-            (raw_bytes (length output.old)) result
-            (stream_state S.source C.encoding self.old) (stream_state S.source C.encoding self.new) }
+        ensures { ReadsInto C.Error.IsEof (stream_state S.source C.encoding) output.old output.new
+            result self.old self.new }
     {
         if self.is_buffering && output.len() < self.ring.capacity() {
             self.read_ahead(output)
@@ -307,9 +299,7 @@ impl<'s, 'b, C: Context, S: Source> LendingReader<&'b [u8], C> for StreamReader<
     #[inline(always)]
     fn read_bytes(&mut self, output: &mut [u8]) -> Result<(), C::Error>
         ensures reads { let reader = ⟦<StreamReader<'s, S, C> as LendingReader<&'b [u8], C>>⟧ in
-            Reads C.Error.from_gives C.Error.eof (λ _. output.new)
-            (raw_bytes (length output.old)) result
-            (reader.state self.old) (reader.state self.new) }
+            ReadsInto C.Error.IsEof reader.state output.old output.new result self.old self.new }
         ensures untouched { length output.old ≤ length (stream_model self.old).ring.bytes
             → IsOk result × ((stream_model self.new).source ≡ (stream_model self.old).source) }
     {
@@ -326,9 +316,7 @@ impl<'s, 'b, C: Context, S: Source> LendingReader<&'b [u8], C> for StreamReader<
     /// Fills the output with the next bytes, and takes none. What is not held yet is pulled into the ring, which may grow.
     fn peek_bytes(&mut self, output: &mut [u8]) -> Result<(), C::Error>
         ensures peeks { let reader = ⟦<StreamReader<'s, S, C> as LendingReader<&'b [u8], C>>⟧ in
-            Peeks C.Error.from_gives C.Error.eof (λ _. output.new)
-            (raw_bytes (length output.old)) result
-            (reader.state self.old) (reader.state self.new) }
+            PeeksInto C.Error.IsEof reader.state output.old output.new result self.old self.new }
         ensures held { let reader = ⟦<StreamReader<'s, S, C> as LendingReader<&'b [u8], C>>⟧ in
             length output.old ≤ length (stream_model self.old).ring.bytes
             → IsOk result × (reader.state self.new ≡ reader.state self.old) }
@@ -422,8 +410,8 @@ pub(crate) fn read_stream<'a, T: ReadFrom<&'a [u8], C>, C: Context, S: Source>(
     source: &mut S,
     is_buffering: bool,
 ) -> Result<T, C::Error>
-    ensures { AnswersStream C.Error.from_gives C.Error.eof T.seen (T.layout.format (C.encoding context))
-        is_buffering result (S.source source.old) (S.source source.new) }
+    ensures { AnswersStream C.Error.IsEof S.source T.seen T.layout (C.encoding context)
+        is_buffering result source.old source.new }
 {
     let Ok(ring) = first_ring(alloc, is_buffering) else {
         return Err(error_out_of_memory());

@@ -1,7 +1,7 @@
 //! How texts are read.
 ghost use Rattle.std.specs.Prelude.{◌≡◌};
-ghost use Rattle.speedy_layout.specs.Numbers.{unsigned_number};
-ghost use Rattle.speedy_read.specs.Reading.{Reads, RefusesUnsized};
+ghost use Rattle.speedy_layout.specs.Codecs.{unsigned_codec};
+ghost use Rattle.speedy_read.specs.Reading.{RefusesUnsized, ReadsValue};
 
 use crate::lent::read_lent;
 use crate::many::ItemByItem;
@@ -50,12 +50,9 @@ impl<'a, C: Context> ReadFrom<&'a [u8], C> for &'a str {
     #[inline]
     fn read_from<R: LendingReader<&'a [u8], C>>(reader: &mut R) -> Result<&'a str, C::Error>
         ensures reads { let text = ⟦<&'a str as Layout>⟧ in
-            Reads C.Error.from_gives C.Error.eof text.seen
-            (text.layout.format (R.state reader.old).encoding) result
-            (R.state reader.old) (R.state reader.new) }
-        ensures not_lent { let number = unsigned_number 4 (R.state reader.old).encoding in
-            RefusesUnsized C.Error.from_gives C.Error.eof number result
-            (R.state reader.old) (R.state reader.new) }
+            ReadsValue C.Error.IsEof R.state text.seen text.layout result reader.old reader.new }
+        ensures not_lent { RefusesUnsized C.Error.IsEof R.state (unsigned_codec 4)
+            result reader.old reader.new }
     {
         let length = reader.read_u32()?;
         let bytes = read_lent(reader, length as usize)?;

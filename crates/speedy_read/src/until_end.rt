@@ -1,6 +1,5 @@
 //! Items that are read until the bytes end.
-ghost use Rattle.std.specs.Prelude.{◌≡◌, false};
-ghost use Rattle.speedy_read.specs.UntilEnd.{ReadsUntilEnd, ReadsUnlessEnd};
+ghost use Rattle.speedy_read.specs.UntilEnd.{ReadsUnlessEnd, ReadsValuesUntilEnd};
 
 use crate::collections::FromItems;
 use crate::readable::ReadFrom;
@@ -14,8 +13,7 @@ use std::convert::AsSlice;
 fn read_unless_end<T: ReadFrom<L, C>, L: AsSlice<u8> + Drop, C: Context, R: LendingReader<L, C>>(
     reader: &mut R,
 ) -> Result<Option<T>, C::Error>
-    ensures { ReadsUnlessEnd C.Error.from_gives C.Error.eof T.seen (T.layout.format (R.state reader.old).encoding)
-        result (R.state reader.old) (R.state reader.new) }
+    ensures { ReadsUnlessEnd C.Error.IsEof R.state T.seen T.layout result reader.old reader.new }
 {
     match T::read_from(reader) {
         Ok(item) => Ok(Some(item)),
@@ -36,9 +34,8 @@ pub(crate) fn gather_until_end<
     C: Context,
     R: LendingReader<L, C>,
 >(reader: &mut R, greatest: usize) -> Result<F, C::Error>
-    ensures { ReadsUntilEnd C.Error.from_gives C.Error.eof T.seen F.gathers
-        (T.layout.format (R.state reader.old).encoding) greatest result
-        (R.state reader.old) (R.state reader.new) }
+    ensures { ReadsValuesUntilEnd C.Error.IsEof R.state T.seen F.gathers T.layout greatest
+        result reader.old reader.new }
 {
     let mut whole = F::empty(reader.alloc());
     let mut left = greatest;

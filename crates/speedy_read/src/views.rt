@@ -3,8 +3,8 @@ ghost use Rattle.std.specs.Prelude.{◌≡◌, ◌≤◌, ◌*◌, ◌^◌, ℕ,
 ghost use Rattle.speedy_base.specs.Encoding.{plain_encoding};
 ghost use Rattle.speedy_base.specs.Error.{error_of};
 ghost use Rattle.speedy_base.specs.declared.endianness.Endianness.TheVariants.{LittleEndian as LittleOrder};
-ghost use Rattle.speedy_layout.specs.Numbers.{unsigned_number};
-ghost use Rattle.speedy_read.specs.Reading.{Reads, RefusesUnsized};
+ghost use Rattle.speedy_layout.specs.Codecs.{unsigned_codec};
+ghost use Rattle.speedy_read.specs.Reading.{RefusesUnsized, ReadsValue};
 
 use crate::lent::read_lent;
 use crate::many::ItemByItem;
@@ -25,12 +25,9 @@ impl<'a, C: Context, T: ZeroCopyable<C>> ReadFrom<&'a [u8], C> for SliceView<'a,
         reader: &mut R,
     ) -> Result<SliceView<'a, T>, C::Error>
         ensures reads { let view = ⟦<SliceView<'a, T> as Layout>⟧ in
-            Reads C.Error.from_gives C.Error.eof view.seen
-            (view.layout.format (R.state reader.old).encoding) result
-            (R.state reader.old) (R.state reader.new) }
-        ensures not_lent { let number = unsigned_number 4 (R.state reader.old).encoding in
-            RefusesUnsized C.Error.from_gives C.Error.eof number result
-            (R.state reader.old) (R.state reader.new) }
+            ReadsValue C.Error.IsEof R.state view.seen view.layout result reader.old reader.new }
+        ensures not_lent { RefusesUnsized C.Error.IsEof R.state (unsigned_codec 4)
+            result reader.old reader.new }
     {
         spelled_as_little::<T, &'a [u8], C, R>(reader);
         let length = reader.read_u32()?;
@@ -55,9 +52,7 @@ impl<'a, C: Context, T: ZeroCopyable<C>, const N: usize> ReadFrom<&'a [u8], C>
         reader: &mut R,
     ) -> Result<ArrayView<'a, T, N>, C::Error>
         ensures reads { let view = ⟦<ArrayView<'a, T, N> as Layout>⟧ in
-            Reads C.Error.from_gives C.Error.eof view.seen
-            (view.layout.format (R.state reader.old).encoding) result
-            (R.state reader.old) (R.state reader.new) }
+            ReadsValue C.Error.IsEof R.state view.seen view.layout result reader.old reader.new }
         ensures not_lent { (R.state reader.old).fixed.lends ≡ false
             → IsErrAnd result (λ e. C.Error.from_gives (error_of ErrorKind.Unsized) e)
             × (R.state reader.new ≡ R.state reader.old) }
