@@ -86,7 +86,8 @@ module _ {E : Type 0} {gives : Error → E → Type 0} {eof : E → Bool} {A V :
   -- what a form answers that reads a value from a new reader of bytes that it copies
   pub copied_answered : (result : Result A E) → least ≤ length bytes → AreBytes bytes → length bytes < 2 ^ 64 - 1
       → Reads gives eof seen L result (copied_state name bytes encoding) (copied_state after rest encoding')
-      → AnswersBufferIf gives eof (L.asks.lending ≡ false) (refusing_kinds L false) seen least L result (length bytes - length rest) bytes
+      → AnswersBufferIf gives eof (L.asks.lending ≡ false)
+      (refusing_kinds L false) seen least L result (length bytes - length rest) bytes
   copied_answered (Ok x) enough are fit r = record {
     too_small = λ few. absurd (omega arith);
     value = record {

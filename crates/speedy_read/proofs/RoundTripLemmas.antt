@@ -27,7 +27,9 @@ nothing_ahead (x ∷ ahead) few = absurd (omega arith)
 
 module _ {E A V : Type 0} (gives : Error → E → Type 0) (eof : E → Bool) (seen : A → V) (least : ℕ) where
   module _ (L : Format V) {strict : Bool} (laws : Laws strict least L) (v : V) (bytes rest : List ℕ) (written : L.writes v bytes) where
-    front_answered : (result : Result A E) (count : ℕ) (buffer : List ℕ) → buffer ≡ bytes ++ rest → AnswersBufferIf gives eof (Unit {0}) L.names seen least L result count buffer → AnswersWritten gives seen L v (length bytes) result count
+    front_answered : (result : Result A E) (count : ℕ) (buffer : List ℕ) → buffer ≡ bytes ++ rest
+        → AnswersBufferIf gives eof (Unit {0}) L.names seen least L result count buffer
+        → AnswersWritten gives seen L v (length bytes) result count
     front_answered (Ok x) count buffer e a =
         let k = a.value in
         let one : (seen x ≡ v) × (k.front ≡ bytes) × (k.rest ≡ rest) = laws.decodes (seen x) v k.front bytes k.rest rest k.front_is (laws.written_spells v bytes written) (sym k.whole_is ∙ e) in
@@ -43,7 +45,8 @@ module _ {E A V : Type 0} (gives : Error → E → Type 0) (eof : E → Bool) (s
           refusal (inl m) = m
           refusal (inr r) = absurd ((r.because tt).no_front v bytes rest e (laws.written_spells v bytes written))
 
-    read_back : (result : Result A E) (old new : ReaderState) → IsTrue old.fixed.tells → old.to_come ≡ bytes ++ rest → Reads gives eof seen L result old new → ReadsWritten gives eof seen L v rest result old new
+    read_back : (result : Result A E) (old new : ReaderState) → IsTrue old.fixed.tells → old.to_come ≡ bytes ++ rest
+        → Reads gives eof seen L result old new → ReadsWritten gives seen L v rest result old new
     read_back (Ok x) old new told e a =
         let k = a.answer in
         let one : (seen x ≡ v) × (k.front ≡ bytes) × (new.to_come ≡ rest) = laws.decodes (seen x) v k.front bytes new.to_come rest k.front_is (laws.written_spells v bytes written) (sym (k.taken told) ∙ e) in
@@ -54,7 +57,9 @@ module _ {E A V : Type 0} (gives : Error → E → Type 0) (eof : E → Bool) (s
       refusal known (inr r) = absurd ((r.because known).no_front v bytes rest e (laws.written_spells v bytes written))
 
     -- a reader of bytes in memory has no failed calls
-    first_read : (result : Result A E) (old : ReaderState) (buffer left : List ℕ) (at after : Encoding) → old ≡ bytes_state buffer at → ReadsWritten gives eof seen L v rest result old (bytes_state left after) → ReadsWrittenFirst gives seen v rest buffer result left
+    first_read : (result : Result A E) (old : ReaderState) (buffer left : List ℕ) (at after : Encoding)
+        → old ≡ bytes_state buffer at → ReadsWritten gives seen L v rest result old (bytes_state left after)
+        → ReadsWrittenFirst gives seen v rest buffer result left
     first_read (Ok x) old buffer left at after s r = record { same = r.same; rest_is = r.rest_is; refused = λ _ _. tt }
     first_read (Err x) old buffer left at after s r = record {
       same = tt;
@@ -67,7 +72,9 @@ module _ {E A V : Type 0} (gives : Error → E → Type 0) (eof : E → Bool) (s
           let none : old.faults.count ≡ 0 = ap (λ (s : ReaderState). s.faults.count) s in
           elim h.0 [ inl k ↦ absurd (omega (arith, none)) | inr k ↦ absurd (omega arith) ]
 
-    streamed : (buffers : Bool) (result : Result A E) (old new : SourceState) → IsTrue old.tells → old.to_come ≡ bytes ++ rest → AnswersStreamIn gives eof seen L buffers result old new → StreamsWritten gives seen L v buffers rest result old new
+    streamed : (buffers : Bool) (result : Result A E) (old new : SourceState) → IsTrue old.tells
+        → old.to_come ≡ bytes ++ rest → AnswersStreamIn gives eof seen L buffers result old new
+        → StreamsWritten gives seen L v buffers rest result old new
     streamed buffers (Ok x) old new told e a =
         let k = a.value in
         let one : (seen x ≡ v) × (k.front ≡ bytes) × (k.ahead ++ new.to_come ≡ rest) = laws.decodes (seen x) v k.front bytes (k.ahead ++ new.to_come) rest k.front_is (laws.written_spells v bytes written) (sym (k.taken told) ∙ e) in
@@ -98,7 +105,8 @@ module _ {E A V : Type 0} (errors : Errors E) (seen : A → V) where
     -- those of the functions over sources
     pub written_is_streamed : WrittenIsStreamed errors seen codec
     written_is_streamed encoding v bytes rest buffers result old new h told e a =
-        streamed errors.from_gives errors.eof seen codec.least (codec.format encoding) (codec.laws encoding) v bytes rest h
+        streamed errors.from_gives errors.eof seen codec.least (codec.format encoding)
+        (codec.laws encoding) v bytes rest h
         buffers result old new told e a
 
     -- the laws of the functions over buffers follow from those of the layout
@@ -122,7 +130,7 @@ module _ {E A V : Type 0} (errors : Errors E) (seen : A → V) where
         let reads : (encoding : Encoding) (v : V) (bytes rest : List ℕ) (result : Result A E) (old new : ReaderState)
         → (format encoding).writes v bytes → IsTrue old.fixed.tells → old.encoding ≡ encoding
         → old.to_come ≡ bytes ++ rest → Reads gives eof seen (format old.encoding) result old new
-        → ReadsWritten gives eof seen (format encoding) v rest result old new =
+        → ReadsWritten gives seen (format encoding) v rest result old new =
         λ encoding v bytes rest result old new h told f e a.
         read_back gives eof seen least (format encoding) (laws encoding) v bytes rest h result old new told e
         (subst (λ (f : Encoding). Reads gives eof seen (format f) result old new) f a) in
@@ -159,7 +167,10 @@ owned_kind gives L none (kind, inl named, given) = (kind, named, given)
 owned_kind gives L none (kind, inr unlent, given) = absurd (true≢false (sym unlent.0 ∙ none))
 
 -- what borrows nothing is answered alike from bytes that are lent and from bytes that are not
-pub copied_alike : {E A V : Type 0} {gives : Error → E → Type 0} {eof : E → Bool} {seen : A → V} {least : ℕ} {L : Format V} {result : Result A E} {count : ℕ} {bytes : List ℕ} → L.asks.lending ≡ false → AnswersBufferIf gives eof (L.asks.lending ≡ false) (refusing_kinds L false) seen least L result count bytes → AnswersBufferIf gives eof (Unit {0}) L.names seen least L result count bytes
+pub copied_alike : {E A V : Type 0} {gives : Error → E → Type 0} {eof : E → Bool} {seen : A → V} {least : ℕ}
+    {L : Format V} {result : Result A E} {count : ℕ} {bytes : List ℕ} → L.asks.lending ≡ false
+    → AnswersBufferIf gives eof (L.asks.lending ≡ false) (refusing_kinds L false) seen least L result count bytes
+    → AnswersBufferIf gives eof (Unit {0}) L.names seen least L result count bytes
 copied_alike {result = Ok x} none a = record { too_small = a.too_small; value = a.value; refused = λ _. tt }
 copied_alike {gives = gives} {L = L} {result = Err e} none a = record {
   too_small = a.too_small;

@@ -267,7 +267,9 @@ module _ {E : Type 0} (gives : Error → E → Type 0) (eof : E → Bool) {A V :
       ]
 
   -- what a new reader of a source answers, and leaves of it
-  reader_answered : (result : Result A E) → Reads gives eof seen L result (ring_state name old ring b encoding) (ring_state after new left c encoding') → AnswersStreamIn gives eof seen L b result old new
+  reader_answered : (result : Result A E)
+      → Reads gives eof seen L result (ring_state name old ring b encoding) (ring_state after new left c encoding')
+      → AnswersStreamIn gives eof seen L b result old new
   reader_answered result r = record {
     kept = record { tells = ap (λ (kind : ReaderKind). kind.tells) r.kept.fixed; faults = r.kept.faults };
     tail = λ told.
@@ -284,19 +286,26 @@ view_name {S = S} {C = C} r shown = ap (λ (v : StreamModel S C). v.source_name)
 module _ {E : Type 0} {gives : Error → E → Type 0} {eof : E → Bool} {A V : Type 0} {seen : A → V} where
   -- and a function that made it
   pub stream_answered : {S C : Type 0} (source : S → SourceState) (asks : C → Encoding) (format : Encoding → Format V) (first last : StreamReader S C) {context : C} {name : GName} {origin final : S} {ring : Ring} {buffers : Bool} {result : Result A E} → stream_model first ≡ record { context = context; source_name = name; source = origin; ring = ring; is_buffering = buffers } → ring ≡ record { bytes = []; capacity = first_capacity buffers; room = [] } → final ≡ last.source.now
-      → Reads gives eof seen (format (asks first.context)) result (stream_state source asks first) (stream_state source asks last) → AnswersStreamIn gives eof seen (format (asks context)) buffers result (source origin) (source final)
+      → Reads gives eof seen (format (asks first.context)) result (stream_state source asks first)
+      (stream_state source asks last)
+      → AnswersStreamIn gives eof seen (format (asks context)) buffers result (source origin) (source final)
   stream_answered {S = S} {C = C} source asks format first last {context = context} {origin = origin} {final = final} {buffers = buffers} {result = result} shown made is_last r =
       let new : SourceState = source last.source.now in
       let ring : first.ring ≡ record { bytes = []; capacity = first_capacity buffers; room = [] } = ap (λ (v : StreamModel S C). v.ring) shown ∙ made in
       let same_way : first.is_buffering ≡ buffers = ap (λ (v : StreamModel S C). v.is_buffering) shown in
-      subst (λ (s : SourceState). AnswersStreamIn gives eof seen (format (asks context)) buffers result (source origin) s) (sym (ap source is_last))
-      (subst (λ (s : S). AnswersStreamIn gives eof seen (format (asks context)) buffers result (source s) new) (ap (λ (v : StreamModel S C). v.source) shown)
-      (subst (λ (way : Bool). AnswersStreamIn gives eof seen (format (asks context)) way result (source first.source.now) new) same_way
-      (subst (λ (c : C). AnswersStreamIn gives eof seen (format (asks c)) first.is_buffering result (source first.source.now) new) (ap (λ (v : StreamModel S C). v.context) shown)
+      subst (λ (s : SourceState). AnswersStreamIn gives eof seen (format (asks context)) buffers result
+      (source origin) s) (sym (ap source is_last))
+      (subst (λ (s : S). AnswersStreamIn gives eof seen (format (asks context)) buffers result (source s) new)
+      (ap (λ (v : StreamModel S C). v.source) shown)
+      (subst (λ (way : Bool). AnswersStreamIn gives eof seen (format (asks context)) way result
+      (source first.source.now) new) same_way
+      (subst (λ (c : C). AnswersStreamIn gives eof seen (format (asks c)) first.is_buffering result
+      (source first.source.now) new) (ap (λ (v : StreamModel S C). v.context) shown)
       (reader_answered gives eof seen (format (asks first.context)) first.is_buffering last.is_buffering first.ring last.ring first.source.ghost_name last.source.ghost_name (asks first.context) (asks last.context) (source first.source.now) new (ap (λ (r : Ring). r.bytes) ring) (ap (λ (r : Ring). r.capacity) ring ∙ ap (λ (b : Bool). first_capacity b) (sym same_way)) result r))))
 
   -- and of a file
-  pub file_answered : {L : Format V} {b : Bool} {old new : SourceState} (result : Result A E) → AnswersStreamIn gives eof seen L b result old new → AnswersFileIn gives eof seen L result
+  pub file_answered : {L : Format V} {b : Bool} {old new : SourceState} (result : Result A E)
+      → AnswersStreamIn gives eof seen L b result old new → AnswersFileIn gives eof seen L result
   file_answered (Ok x) a = (a.value.front, a.value.front_is)
   file_answered (Err e) a =
       elim a.refused [

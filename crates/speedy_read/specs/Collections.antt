@@ -45,7 +45,8 @@ module _ {T F V : Type 0} (g : Gatherer T F V) (L : Format V) (n : ℕ) where
         (λ e. Excused gives true e old new ⊎ (Refused gives eof (vector n L) e old new ⊎ (gives (error_of kinds.NotWrittenForm) e × NotWritten old new)))
 
 -- the word of contracts: a read of so many of a codec's values and what they gather to, from a reader that reads see so
-abbrev pub CollectsValues : {E S T F V : Type 0} → Errors E → (S → ReaderState) → Gatherer T F V → Codec V → ℕ → Result F E → S → S → Type 0
+abbrev pub CollectsValues : {E S T F V : Type 0} → Errors E → (S → ReaderState) → Gatherer T F V → Codec V → ℕ
+    → Result F E → S → S → Type 0
 CollectsValues errors state g codec n result old new =
     let format = codec.format (state old).encoding in
     Collects g format n errors.from_gives errors.eof result (state old) (state new)

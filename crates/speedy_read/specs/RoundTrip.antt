@@ -27,7 +27,7 @@ pub record AnswersWritten {E A V : Type 0} (gives : Error → E → Type 0) (see
 
 -- What a read answers where a written form and then the rest are to come: the value that was written, and the rest is
 -- still to come. Where all is told, it is refused only for want of memory or by a failed call of the device.
-pub record ReadsWritten {E A V : Type 0} (gives : Error → E → Type 0) (eof : E → Bool) (seen : A → V) (L : Format V)
+pub record ReadsWritten {E A V : Type 0} (gives : Error → E → Type 0) (seen : A → V) (L : Format V)
     (v : V) (rest : List ℕ) (result : Result A E) (old new : ReaderState) : Type 0 where
   pub same : IfOk result (λ x. seen x ≡ v)
   pub rest_is : OnOk result (new.to_come ≡ rest)
@@ -62,7 +62,8 @@ module _ {E A : Type 0} (errors : Errors E) where
         → AnswersBuffer errors seen codec encoding result count buffer
         → AnswersWritten errors.from_gives seen (codec.format encoding) v (length bytes) result count
     -- what was written is the whole buffer
-    pub whole : {encoding : Encoding} {v : V} {bytes buffer : List ℕ} {result : Result A E} {count : ℕ} → (codec.format encoding).writes v bytes
+    pub whole : {encoding : Encoding} {v : V} {bytes buffer : List ℕ} {result : Result A E} {count : ℕ}
+        → (codec.format encoding).writes v bytes
         → buffer ≡ bytes → AnswersBuffer errors seen codec encoding result count buffer
         → AnswersWritten errors.from_gives seen (codec.format encoding) v (length bytes) result count
 
@@ -71,7 +72,8 @@ module _ {E A : Type 0} (errors : Errors E) where
     -- from any reader that tells its bytes
     pub told : {encoding : Encoding} {v : V} {bytes rest : List ℕ} {result : Result A E} {old new : ReaderState}
         → (format encoding).writes v bytes → IsTrue old.fixed.tells → old.encoding ≡ encoding → old.to_come ≡ bytes ++ rest
-        → Reads errors.from_gives errors.eof seen (format old.encoding) result old new → ReadsWritten errors.from_gives errors.eof seen (format encoding) v rest result old new
+        → Reads errors.from_gives errors.eof seen (format old.encoding) result old new
+        → ReadsWritten errors.from_gives seen (format encoding) v rest result old new
     -- from a reader of bytes in memory that has just been made
     pub made : {encoding at after : Encoding} {v : V} {bytes rest buffer left : List ℕ} {result : Result A E} {old : ReaderState}
         → (format encoding).writes v bytes → buffer ≡ bytes ++ rest → old ≡ bytes_state buffer at → at ≡ encoding
@@ -80,7 +82,8 @@ module _ {E A : Type 0} (errors : Errors E) where
 
   -- the law of the functions that read from a source that tells its bytes
   abbrev pub WrittenIsStreamed : {V : Type 0} → (A → V) → Codec V → Type 0
-  WrittenIsStreamed {V = V} seen codec = (encoding : Encoding) (v : V) (bytes rest : List ℕ) (buffers : Bool) (result : Result A E) (old new : SourceState)
+  WrittenIsStreamed {V = V} seen codec =
+      (encoding : Encoding) (v : V) (bytes rest : List ℕ) (buffers : Bool) (result : Result A E) (old new : SourceState)
       → (codec.format encoding).writes v bytes → IsTrue old.tells → old.to_come ≡ bytes ++ rest
       → AnswersStreamIn errors.from_gives errors.eof seen (codec.format encoding) buffers result old new
       → StreamsWritten errors.from_gives seen (codec.format encoding) v buffers rest result old new
@@ -90,8 +93,9 @@ module _ {E A : Type 0} (errors : Errors E) where
     -- from any reader that tells its bytes
     pub told : {encoding : Encoding} {vs : List V} (bytes : List ℕ) {rest : List ℕ} {n : ℕ} {result : Result A E} {old new : ReaderState}
         → Each (format encoding).writes vs bytes → n ≡ length vs → IsTrue old.fixed.tells → old.encoding ≡ encoding
-        → old.to_come ≡ bytes ++ rest → Reads errors.from_gives errors.eof seen (vector n (format old.encoding)) result old new
-        → ReadsWritten errors.from_gives errors.eof seen (vector n (format encoding)) vs rest result old new
+        → old.to_come ≡ bytes ++ rest
+        → Reads errors.from_gives errors.eof seen (vector n (format old.encoding)) result old new
+        → ReadsWritten errors.from_gives seen (vector n (format encoding)) vs rest result old new
     -- from a reader of bytes in memory that has just been made
     pub made : {encoding at after : Encoding} {vs : List V} (bytes : List ℕ) {rest buffer left : List ℕ} {n : ℕ} {result : Result A E} {old : ReaderState}
         → Each (format encoding).writes vs bytes → n ≡ length vs → buffer ≡ bytes ++ rest → old ≡ bytes_state buffer at → at ≡ encoding

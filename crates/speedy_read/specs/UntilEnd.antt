@@ -82,7 +82,8 @@ module _ {E : Type 0} (gives : Error → E → Type 0) (eof : E → Bool) where
 module _ {E : Type 0} (errors : Errors E) where
   module _ {S : Type 0} (state : S → ReaderState) where
     -- a read of a codec's values until the bytes end, of at most so many, from a reader that reads see so
-    abbrev pub ReadsValuesUntilEnd : {T F V : Type 0} → (T → V) → (List T → F → Type 0) → Codec V → ℕ → Result F E → S → S → Type 0
+    abbrev pub ReadsValuesUntilEnd : {T F V : Type 0} → (T → V) → (List T → F → Type 0) → Codec V → ℕ
+        → Result F E → S → S → Type 0
     ReadsValuesUntilEnd seen gathers codec greatest result old new =
         let format = codec.format (state old).encoding in
         ReadsUntilEnd errors.from_gives errors.eof seen gathers format greatest result (state old) (state new)
@@ -103,18 +104,24 @@ module _ {E : Type 0} (errors : Errors E) where
     -- at most so many values and then some first bytes of one, or none: the values
     pub cut : {encoding : Encoding} (vs : List V) (v : V) (bytes front more : List ℕ) {greatest : ℕ} {result : Result F E} {old new : ReaderState}
         → Each (format encoding).spells vs bytes → (format encoding).spells v (front ++ more) → more ≢ [] → length vs ≤ greatest
-        → old.to_come ≡ bytes ++ front → CleanUntilEnd errors.from_gives errors.eof seen gathers (format encoding) greatest result old new
-        → MatchResult result (λ whole. (items : List T) × (map seen items ≡ vs) × gathers items whole) (errors.from_gives (error_of kinds.OutOfMemory))
+        → old.to_come ≡ bytes ++ front
+        → CleanUntilEnd errors.from_gives errors.eof seen gathers (format encoding) greatest result old new
+        → MatchResult result (λ whole. (items : List T) × (map seen items ≡ vs) × gathers items whole)
+        (errors.from_gives (error_of kinds.OutOfMemory))
     -- more values than so many: a refusal
     pub too_many : {encoding : Encoding} (vs : List V) (bytes rest : List ℕ) {greatest : ℕ} {result : Result F E} {old new : ReaderState}
         → Each (format encoding).spells vs bytes → greatest < length vs
-        → old.to_come ≡ bytes ++ rest → CleanUntilEnd errors.from_gives errors.eof seen gathers (format encoding) greatest result old new
-        → MatchResult result (λ _. ⊥) (λ e. errors.from_gives (error_of kinds.OutOfRangeLength) e ⊎ errors.from_gives (error_of kinds.OutOfMemory) e)
+        → old.to_come ≡ bytes ++ rest
+        → CleanUntilEnd errors.from_gives errors.eof seen gathers (format encoding) greatest result old new
+        → MatchResult result (λ _. ⊥)
+        (λ e. errors.from_gives (error_of kinds.OutOfRangeLength) e ⊎ errors.from_gives (error_of kinds.OutOfMemory) e)
     -- at most so many values and then what the type refuses: a refusal that it names
     pub at_fault : {encoding : Encoding} (vs : List V) (bytes rest : List ℕ) {greatest : ℕ} {result : Result F E} {old new : ReaderState}
         → Each (format encoding).spells vs bytes → (format encoding).malformed rest → length vs ≤ greatest
-        → old.to_come ≡ bytes ++ rest → CleanUntilEnd errors.from_gives errors.eof seen gathers (format encoding) greatest result old new
-        → MatchResult result (λ _. ⊥) (λ e. IsNamed errors.from_gives (format encoding).names e ⊎ errors.from_gives (error_of kinds.OutOfMemory) e)
+        → old.to_come ≡ bytes ++ rest
+        → CleanUntilEnd errors.from_gives errors.eof seen gathers (format encoding) greatest result old new
+        → MatchResult result (λ _. ⊥)
+        (λ e. IsNamed errors.from_gives (format encoding).names e ⊎ errors.from_gives (error_of kinds.OutOfMemory) e)
 
 -- what is answered stands at the front of bytes in memory
 pub front_until_end : {E T F V : Type 0} {gives : Error → E → Type 0} {eof : E → Bool} {seen : T → V} (shown : F → List T) {L : Format V} {greatest : ℕ} {result : Result F E} {old new : ReaderState} {bytes : List ℕ}

@@ -72,7 +72,8 @@ module _ {E : Type 0} (gives : Error → E → Type 0) (eof : E → Bool) where
   -- What a function that reads from a source answers. A value that is answered is spelled by a front of what the source
   -- had, and the source lost that front, and as many bytes more as may be read ahead. A refusal is what a failed call
   -- answered, which was the only one; or no call failed, and it is want of memory, or what the bytes are refused with.
-  pub record AnswersStreamIn {A V : Type 0} (seen : A → V) (L : Format V) (buffers : Bool) (result : Result A E) (old new : SourceState) : Type 0 where
+  pub record AnswersStreamIn {A V : Type 0} (seen : A → V) (L : Format V) (buffers : Bool) (result : Result A E)
+      (old new : SourceState) : Type 0 where
     pub kept : SourceKept old new
     pub tail : LeavesTail old new
     pub value : IfOk result (λ x. TookFront (L.spells (seen x)) (most_held buffers) old new)
@@ -107,7 +108,8 @@ module _ {E : Type 0} (errors : Errors E) where
       AnswersBufferIf errors.from_gives errors.eof holds names seen codec.least format result count bytes
 
   -- from a source, which is seen so, read ahead or not
-  abbrev pub AnswersStream : {S A V : Type 0} → (S → SourceState) → (A → V) → Codec V → Encoding → Bool → Result A E → S → S → Type 0
+  abbrev pub AnswersStream : {S A V : Type 0} → (S → SourceState) → (A → V) → Codec V → Encoding → Bool → Result A E
+      → S → S → Type 0
   AnswersStream source seen codec encoding buffers result old new =
       let format = codec.format encoding in
       AnswersStreamIn errors.from_gives errors.eof seen format buffers result (source old) (source new)

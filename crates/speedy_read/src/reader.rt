@@ -10,7 +10,9 @@ ghost use Rattle.speedy_layout.specs.Codecs.{unsigned_codec, varint_codec, vecto
 ghost use Rattle.speedy_layout.specs.Texts.{text_of_length};
 ghost use Rattle.speedy_read.specs.Collections.{gatherer, CollectsValues};
 ghost use Rattle.speedy_read.specs.UntilEnd.{ReadsValuesUntilEnd};
-ghost use Rattle.speedy_read.specs.Reading.{ReaderState, ReadsUnsigned, ReadsSigned, PeeksUnsigned, PeeksSigned, IsRight, Expects, LendsBytes, LendsAll, LendsUntilUsed, ReadsAs, ReadsValue, PeeksValue, ReadsInto, PeeksInto, Skips};
+ghost use Rattle.speedy_read.specs.Reading.{ReaderState, ReadsAs, ReadsValue, ReadsUnsigned, ReadsSigned, ReadsInto};
+ghost use Rattle.speedy_read.specs.Reading.{Skips, PeeksValue, PeeksUnsigned, PeeksSigned, PeeksInto};
+ghost use Rattle.speedy_read.specs.Reading.{IsRight, Expects, LendsBytes, LendsAll, LendsUntilUsed};
 
 use crate::collections::FromItems;
 use crate::lent::NothingLent;

@@ -12,7 +12,7 @@ use Rattle.speedy_layout.specs.Lists.{each_more, repeat, repeat_laws}
 use Rattle.speedy_write.specs.Writing.{WriterState, Writes, WritesEach, WritesBytes}
 use Rattle.speedy_write.specs.Sequences.{form_written}
 use Rattle.speedy_write.specs.Counting.{counting_state, CountAppends, CountsEach}
-use Rattle.speedy_write.specs.WaysOfWriting.{Needs}
+use Rattle.speedy_write.specs.WaysOfWriting.{NeedsIn}
 use Rattle.speedy_write.proofs.ListLemmas.{first_items}
 
 -- all written forms of a value have one length
@@ -25,7 +25,8 @@ one_length laws v b c h k =
 -- a sum below its greatest value is the length of what was written
 pub counted : {E : Type 0} {gives : Error → E → Type 0} {V : Type 0} {F : Encoding → Format V} {v : V} {encoding at : Encoding} {least sum size answered : ℕ} {targets : List GName} {after : WriterState} {u : Unit {0}}
     → Laws encoding.strict least (F encoding) → at ≡ encoding → sum ≡ 0 → answered ≡ size → answered < 2 ^ 64 - 1
-    → Writes gives F v (Ok u) (counting_state at targets) after (λ b. CountAppends sum b size) → Needs gives (F encoding) v (Ok answered)
+    → Writes gives F v (Ok u) (counting_state at targets) after (λ b. CountAppends sum b size)
+    → NeedsIn gives (F encoding) v (Ok answered)
 counted {gives = gives} {F = F} {v = v} {sum = sum} {size = size} {answered = answered} {targets = targets} {after = after} {u = u} laws same_encoding starts is less w =
     let put = (subst (λ (f : Encoding). Writes gives F v (Ok u) (counting_state f targets) after (λ b. CountAppends sum b size)) same_encoding w).answer in
     let long : answered ≡ length put.bytes = let e = put.is_appended in omega (arith, starts, is, less) in

@@ -22,17 +22,22 @@ use Rattle.speedy_layout.specs.Numbers.{unsigned_number, unsigned_number_laws, s
 use Rattle.speedy_layout.specs.Numbers.{length_number, length_codec}
 use Rattle.speedy_layout.specs.Varint.{varint, prefixed_written}
 use Rattle.speedy_write.specs.Codes.{subset_written}
-use Rattle.speedy_write.specs.Writing.{WriterState, Writes, WritesBytes, WritesNumber, WritesSigned}
+use Rattle.speedy_write.specs.Writing.{WriterState, Writes, WritesBytes}
 use Rattle.speedy_write.specs.Sequences.{Kept-same, Writes-as, form_written}
 
 module _ {E : Type 0} {gives : Error → E → Type 0} {result : Result (Unit {0}) E} {old new : WriterState} {appended : List ℕ → Type 0} where
   -- bytes that spell the number in the writer's order are written as the number is
-  pub number_written : {width n : ℕ} {bytes : List ℕ} {order : Endianness} → order ≡ old.encoding.order → SpellsNumber width order n bytes → WritesBytes gives bytes result old new appended → WritesNumber gives width n result old new appended
+  pub number_written : {width n : ℕ} {bytes : List ℕ} {order : Endianness} → order ≡ old.encoding.order
+      → SpellsNumber width order n bytes → WritesBytes gives bytes result old new appended
+      → Writes gives (unsigned_number width) n result old new appended
   unfolding unsigned_number
   number_written {width = width} {n = n} {bytes = bytes} same spelled w = form_written (unsigned_number_laws width) (subst (λ (o : Endianness). SpellsNumber width o n bytes) same spelled) w
 
   -- the unsigned number of the same bits is written as the signed one is
-  pub signed_written : {n : ℕ} {z : ℤ} (w : Width) → FitsSigned w z → n ≡ cast_unsigned w (cast_signed w (cast_unsigned w z)) → WritesNumber gives (byte_len w) n result old new appended → WritesSigned gives w z result old new appended
+  pub signed_written : {n : ℕ} {z : ℤ} (w : Width) → FitsSigned w z
+      → n ≡ cast_unsigned w (cast_signed w (cast_unsigned w z))
+      → Writes gives (unsigned_number (byte_len w)) n result old new appended
+      → Writes gives (signed_number w) z result old new appended
   unfolding unsigned_number signed_number
   signed_written {n = n} {z = z} w range e h =
       let same : n ≡ cast_unsigned w z = e ∙ ap (cast_unsigned w) (to_z-of_z w z range) in
@@ -40,8 +45,11 @@ module _ {E : Type 0} {gives : Error → E → Type 0} {result : Result (Unit {0
       Writes-as (λ _ k. k) (λ b k. record { range = range; digits = subst (λ (m : ℕ). spells m b) same k }) (λ b k. (b, subst (λ (m : ℕ). spells m b) (sym same) k.digits, refl)) (λ b k. (b, subst (λ (m : ℕ). spells m b) (sym same) k.digits)) h
 
   -- a signed number is what its bits stand for
-  pub signed_value_written : {z : ℤ} (w : Width) → FitsSigned w z → WritesSigned gives w (cast_signed w (cast_unsigned w z)) result old new appended → WritesSigned gives w z result old new appended
-  signed_value_written {z = z} w range h = subst (λ (y : ℤ). WritesSigned gives w y result old new appended) (to_z-of_z w z range) h
+  pub signed_value_written : {z : ℤ} (w : Width) → FitsSigned w z
+      → Writes gives (signed_number w) (cast_signed w (cast_unsigned w z)) result old new appended
+      → Writes gives (signed_number w) z result old new appended
+  signed_value_written {z = z} w range h =
+      subst (λ (y : ℤ). Writes gives (signed_number w) y result old new appended) (to_z-of_z w z range) h
 
 -- a value that no bytes spell is refused before anything is written
 pub unspelled_refused : {E V : Type 0} {gives : Error → E → Type 0} {F : Encoding → Format V} {v : V} {e : E} {old : WriterState} {appended : List ℕ → Type 0} {strict : Bool} {least : ℕ} → Laws strict least (F old.encoding) → ((b : List ℕ) → (F old.encoding).spells v b → ⊥) → gives (error_of kinds.OutOfRangeLength) e → Writes gives F v (Err e) old old appended
@@ -54,14 +62,16 @@ unspelled_refused {v = v} {old = old} laws unspelled given = record {
 }
 
 -- a number past its width is
-pub too_long_refused : {E : Type 0} {gives : Error → E → Type 0} (width : ℕ) {n : ℕ} {e : E} {old : WriterState} {appended : List ℕ → Type 0} → 256 ^ width ≤ n → gives (error_of kinds.OutOfRangeLength) e → WritesNumber gives width n (Err e) old old appended
+pub too_long_refused : {E : Type 0} {gives : Error → E → Type 0} (width : ℕ) {n : ℕ} {e : E} {old : WriterState}
+    {appended : List ℕ → Type 0} → 256 ^ width ≤ n → gives (error_of kinds.OutOfRangeLength) e
+    → Writes gives (unsigned_number width) n (Err e) old old appended
 unfolding unsigned_number
 too_long_refused width {n = n} {old = old} long given = unspelled_refused (unsigned_number_laws width old.encoding) (λ b h. let below = SpellsNumber-below width old.encoding.order n b h in omega arith) given
 
 -- a length of at most so many is written as the number is
 pub length_written : {E : Type 0} {gives : Error → E → Type 0} (width greatest : ℕ) {n : ℕ}
     {result : Result (Unit {0}) E} {old new : WriterState} {appended : List ℕ → Type 0} → n ≤ greatest
-    → WritesNumber gives width n result old new appended
+    → Writes gives (unsigned_number width) n result old new appended
     → Writes gives (length_number width greatest) n result old new appended
 length_written width greatest within w = subset_written _ _ (refl, within) w
 

@@ -11,12 +11,12 @@ use Rattle.speedy_layout.specs.Format.{Format}
 use Rattle.speedy_layout.specs.Laws.{Laws}
 use Rattle.speedy_write.specs.Writing.{WriterKind, WriterState, Unwritten, Writes}
 use Rattle.speedy_write.specs.Collectors.{sink_state, Takes}
-use Rattle.speedy_write.specs.WaysOfWriting.{RefusesUnspelled, WritesToStream, WritesAndFlushes, WritesToFile}
+use Rattle.speedy_write.specs.WaysOfWriting.{RefusesUnspelled, WritesToStreamIn, WritesAndFlushesIn, WritesToFileIn}
 
 module _ {E : Type 0} {gives : Error → E → Type 0} {V : Type 0} {v : V} where
   -- what is written to a sink of a file and flushed
   pub file_written : {L : Format V} (old new : SinkState) (result : Result (Unit {0}) E)
-      → WritesAndFlushes gives L v result old new → WritesToFile gives L v result
+      → WritesAndFlushesIn gives L v result old new → WritesToFileIn gives L v result
   file_written old new (Ok _) w = record { written = (w.0.written.0, w.0.written.1); refused = tt }
   file_written old new (Err e) w =
       record { written = tt; refused = elim w.0.refused [ inl h ↦ inl (h.0, h.2) | inr h ↦ inr h.1 ] }
@@ -26,7 +26,9 @@ module _ {E : Type 0} {gives : Error → E → Type 0} {V : Type 0} {v : V} wher
   no_spelling none h = record { no_spelling = h.no_spelling none; kind = elim h.kind [ inl k ↦ absurd (k.0 none) | inr k ↦ k ] }
 
   module _ {F : Encoding → Format V} {encoding : Encoding} {least : ℕ} (laws : Laws encoding.strict least (F encoding)) where
-    to_stream : {other : Encoding} {name other_name : GName} (s t : SinkState) (result : Result (Unit {0}) E) → Writes gives F v result (sink_state encoding name s) (sink_state other other_name t) (λ b. Takes s b t) → WritesToStream gives (F encoding) v result s t
+    to_stream : {other : Encoding} {name other_name : GName} (s t : SinkState) (result : Result (Unit {0}) E)
+        → Writes gives F v result (sink_state encoding name s) (sink_state other other_name t) (λ b. Takes s b t)
+        → WritesToStreamIn gives (F encoding) v result s t
     to_stream s t (Ok _) w =
         let put = w.answer in
         record {
@@ -51,7 +53,11 @@ module _ {E : Type 0} {gives : Error → E → Type 0} {V : Type 0} {v : V} wher
         }
 
     -- a write into a collector, whatever the states of its sink were called
-    pub stream_written : {at other : Encoding} {name other_name : GName} {old new : SinkState} (s t : SinkState) → at ≡ encoding → s ≡ old → t ≡ new → (result : Result (Unit {0}) E) → Writes gives F v result (sink_state at name s) (sink_state other other_name t) (λ b. Takes s b t) → WritesToStream gives (F encoding) v result old new
+    pub stream_written : {at other : Encoding} {name other_name : GName} {old new : SinkState} (s t : SinkState)
+        → at ≡ encoding → s ≡ old → t ≡ new → (result : Result (Unit {0}) E)
+        → Writes gives F v result (sink_state at name s) (sink_state other other_name t) (λ b. Takes s b t)
+        → WritesToStreamIn gives (F encoding) v result old new
     stream_written {other = other} {name = name} {other_name = other_name} {old = old} s t same_encoding starts ends result w =
         let x = to_stream s t result (subst (λ (f : Encoding). Writes gives F v result (sink_state f name s) (sink_state other other_name t) (λ b. Takes s b t)) same_encoding w) in
-        subst (λ (b : SinkState). WritesToStream gives (F encoding) v result old b) ends (subst (λ (a : SinkState). WritesToStream gives (F encoding) v result a t) starts x)
+        subst (λ (b : SinkState). WritesToStreamIn gives (F encoding) v result old b) ends
+        (subst (λ (a : SinkState). WritesToStreamIn gives (F encoding) v result a t) starts x)

@@ -7,7 +7,7 @@ use Rattle.speedy_base.specs.Encoding.{Encoding}
 use Rattle.speedy_layout.specs.Format.{Format}
 use Rattle.speedy_layout.specs.Codes.{Accepts-means, Accepts-exact_means, Code, IsCode, coding, subset}
 use Rattle.speedy_layout.specs.Numbers.{unsigned_number}
-use Rattle.speedy_write.specs.Writing.{WriterState, Writes, WritesNumber}
+use Rattle.speedy_write.specs.Writing.{WriterState, Writes}
 use Rattle.speedy_write.specs.Sequences.{Writes-as}
 
 module _ {E : Type 0} {gives : Error → E → Type 0} {U V : Type 0} {c : Code U V} {u : U} {v : V} {result : Result (Unit {0}) E} {old new : WriterState} {appended : List ℕ → Type 0} where
@@ -41,7 +41,7 @@ subset_written {F = F} {u = u} {v = v} {old = old} pass refusal passed w =
 pub number_code_written : {E : Type 0} {gives : Error → E → Type 0} {V : Type 0} {c : Code ℕ V} {n : ℕ} {v : V}
     {result : Result (Unit {0}) E} {old new : WriterState} {appended : List ℕ → Type 0} (width : ℕ)
     → ((encoding : Encoding) → IsCode c (unsigned_number width encoding)) → c.chosen n v
-    → WritesNumber gives width n result old new appended
+    → Writes gives (unsigned_number width) n result old new appended
     → Writes gives (λ encoding. coding encoding c (unsigned_number width encoding)) v result old new appended
 unfolding unsigned_number
 number_code_written width is_code chosen w = code_written is_code (λ _. refl) chosen w

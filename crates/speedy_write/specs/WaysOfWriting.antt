@@ -3,9 +3,11 @@ use Rattle.std.specs.Prelude.{◌≡◌, ℕ, ◌-◌, ◌^◌, ◌<◌, ◌≤�
 use Rattle.std.specs.declared.io.Error.{Error as StdIoError}
 use Rattle.speedy_base.specs.declared.error.ErrorKind.TheVariants as kinds
 use Rattle.speedy_base.specs.declared.error.Error.{Error}
+use Rattle.speedy_base.specs.Encoding.{Encoding}
 use Rattle.speedy_base.specs.Error.{error_of}
 use Rattle.speedy_base.specs.Device.{SinkState, SinkKept}
 use Rattle.speedy_base.specs.FailedCalls.{HasGrown, IsErrorOf, IsOfFailedCall}
+use Rattle.speedy_layout.specs.Codecs.{Codec}
 use Rattle.speedy_layout.specs.Format.{Format}
 use Rattle.speedy_write.specs.Collectors.{Takes}
 use Rattle.speedy_write.specs.Writing.{IsOutOfRange, Begun}
@@ -29,7 +31,7 @@ module _ {E : Type 0} (gives : Error → E → Type 0) where
       → IsErrAnd result (gives (error_of kinds.OutOfRangeLength))
 
   -- what `bytes_needed` answers
-  pub record Needs {V : Type 0} (L : Format V) (v : V) (result : Result ℕ E) : Type 0 where
+  pub record NeedsIn {V : Type 0} (L : Format V) (v : V) (result : Result ℕ E) : Type 0 where
     -- a number that is answered is the length of a written form
     pub written : IfOk result (λ n. (bytes : List ℕ) × L.writes v bytes × (n ≡ length bytes))
     -- the length of a written form is answered, if it is below `usize::MAX`
@@ -44,7 +46,8 @@ module _ {E : Type 0} (gives : Error → E → Type 0) where
   IsTooSmall actual expected e = gives (error_of (kinds.OutputBufferIsTooSmall actual expected)) e
 
   -- what the ways of writing to a buffer do
-  pub record WritesToBuffer {V : Type 0} (L : Format V) (v : V) (result : Result (Unit {0}) E) (old new : List ℕ) : Type 0 where
+  pub record WritesToBufferIn {V : Type 0} (L : Format V) (v : V) (result : Result (Unit {0}) E)
+      (old new : List ℕ) : Type 0 where
     pub written : OnOk result (Stands L v old new)
     -- a value whose written form fits is never refused
     pub fits : (bytes : List ℕ) → L.writes v bytes → length bytes < 2 ^ 64 - 1 → length bytes ≤ length old → IsOk result
@@ -58,7 +61,8 @@ module _ {E : Type 0} (gives : Error → E → Type 0) where
     pub unchanged : OnErr result (new ≡ old)
 
   -- what the ways of writing to a vector answer
-  pub record WritesToVec {V A : Type 0} (L : Format V) (v : V) (items : A → List ℕ) (result : Result A E) : Type 0 where
+  pub record WritesToVecIn {V A : Type 0} (L : Format V) (v : V) (items : A → List ℕ)
+      (result : Result A E) : Type 0 where
     pub written : IfOk result (λ vec. IsShortest L v (items vec))
     pub too_long : RefusesTooLong L v result
     -- a refusal means want of memory, or that the value has no spelling that can be counted
@@ -71,7 +75,8 @@ module _ {E : Type 0} (gives : Error → E → Type 0) where
     pub kind : IsOutOfRange gives L.refuses_writing e
 
   -- what the ways of writing to a sink do
-  pub record WritesToStream {V : Type 0} (L : Format V) (v : V) (result : Result (Unit {0}) E) (old new : SinkState) : Type 0 where
+  pub record WritesToStreamIn {V : Type 0} (L : Format V) (v : V) (result : Result (Unit {0}) E)
+      (old new : SinkState) : Type 0 where
     pub kept : SinkKept old new
     -- what waited in the sink goes on waiting: no flush is made
     pub no_flush : IsTrue new.settled → IsTrue old.settled
@@ -87,14 +92,46 @@ module _ {E : Type 0} (gives : Error → E → Type 0) where
     pub begun : OnErr result ((bytes : List ℕ) → L.writes v bytes → Begun (L.writes v) (λ front. Takes old front new))
 
   -- what a write to a sink and a flush behind it do: the write with what waits left out of sight, and where both succeed nothing waits
-  abbrev pub WritesAndFlushes : {V : Type 0} → Format V → V → Result (Unit {0}) E → SinkState → SinkState → Type 0
-  WritesAndFlushes L v result old new = WritesToStream L v result old (record new { settled = old.settled }) × OnOk result (IsTrue new.settled)
+  abbrev pub WritesAndFlushesIn : {V : Type 0} → Format V → V → Result (Unit {0}) E → SinkState → SinkState → Type 0
+  WritesAndFlushesIn L v result old new =
+      WritesToStreamIn L v result old (record new { settled = old.settled }) × OnOk result (IsTrue new.settled)
 
   -- What the ways of writing to a file answer. No contract sees a file: which bytes it took, whether it was flushed,
   -- which of its calls failed. So this speaks of the value and the error alone; what the same code does to a caller's
   -- sink, `WritesAndFlushes` says.
-  pub record WritesToFile {V : Type 0} (L : Format V) (v : V) (result : Result (Unit {0}) E) : Type 0 where
+  pub record WritesToFileIn {V : Type 0} (L : Format V) (v : V) (result : Result (Unit {0}) E) : Type 0 where
     -- what succeeds has a shortest written form
     pub written : OnOk result ((bytes : List ℕ) × IsShortest L v bytes)
     -- a refusal is what the error of some call became, or the value has no spelling
     pub refused : IfErr result (λ e. ((error : StdIoError) × IsErrorOf gives error e) ⊎ RefusesUnspelled L v e)
+
+-- ---- the words of contracts
+
+-- They take which errors become those of the context, `C.Error.from_gives`, and the encoding that the context asks.
+module _ {E A V : Type 0} (gives : Error → E → Type 0) where
+  -- the number of bytes
+  abbrev pub Needs : (A → V) → Codec V → Encoding → A → Result ℕ E → Type 0
+  Needs seen codec encoding value = NeedsIn gives (codec.format encoding) (seen value)
+
+  -- to a buffer, before and behind
+  abbrev pub WritesToBuffer : (A → V) → Codec V → Encoding → A → Result (Unit {0}) E → List ℕ → List ℕ → Type 0
+  WritesToBuffer seen codec encoding value = WritesToBufferIn gives (codec.format encoding) (seen value)
+
+  -- to a vector, whose items are these
+  abbrev pub WritesToVec : {R : Type 0} → (A → V) → Codec V → Encoding → A → (R → List ℕ) → Result R E → Type 0
+  WritesToVec seen codec encoding value = WritesToVecIn gives (codec.format encoding) (seen value)
+
+  -- to a file
+  abbrev pub WritesToFile : (A → V) → Codec V → Encoding → A → Result (Unit {0}) E → Type 0
+  WritesToFile seen codec encoding value = WritesToFileIn gives (codec.format encoding) (seen value)
+
+  module _ {S : Type 0} (sink : S → SinkState) where
+    -- to a sink, which is seen so
+    abbrev pub WritesToStream : (A → V) → Codec V → Encoding → A → Result (Unit {0}) E → S → S → Type 0
+    WritesToStream seen codec encoding value result old new =
+        WritesToStreamIn gives (codec.format encoding) (seen value) result (sink old) (sink new)
+
+    -- and a flush behind it
+    abbrev pub WritesAndFlushes : (A → V) → Codec V → Encoding → A → Result (Unit {0}) E → S → S → Type 0
+    WritesAndFlushes seen codec encoding value result old new =
+        WritesAndFlushesIn gives (codec.format encoding) (seen value) result (sink old) (sink new)

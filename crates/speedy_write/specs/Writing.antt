@@ -9,9 +9,9 @@ use Rattle.speedy_base.specs.declared.error.Error.{Error}
 use Rattle.speedy_base.specs.Error.{error_of, IsNamed}
 use Rattle.speedy_base.specs.FailedCalls.{IsOfFault}
 use Rattle.speedy_base.specs.Encoding.{Encoding}
+use Rattle.speedy_layout.specs.Codecs.{Codec, unsigned_codec, signed_codec}
 use Rattle.speedy_layout.specs.Format.{Format, plain_format}
 use Rattle.speedy_layout.specs.Lists.{repeat}
-use Rattle.speedy_layout.specs.Numbers.{unsigned_number, signed_number}
 
 -- What the kind of a writer fixes.
 pub record WriterKind : Type 0 where
@@ -109,26 +109,50 @@ module _ {E : Type 0} (gives : Error → E → Type 0) where
   abbrev pub WritesBytes : List ℕ → Result (Unit {0}) E → WriterState → WriterState → (List ℕ → Type 0) → Type 0
   WritesBytes = Writes (λ _. plain_format Just)
 
-  -- the write of a number of so many bytes
-  abbrev pub WritesNumber : ℕ → ℕ → Result (Unit {0}) E → WriterState → WriterState → (List ℕ → Type 0) → Type 0
-  WritesNumber width = Writes (unsigned_number width)
-
-  -- the write of a signed number of a width
-  abbrev pub WritesSigned : Width → ℤ → Result (Unit {0}) E → WriterState → WriterState → (List ℕ → Type 0) → Type 0
-  WritesSigned w = Writes (signed_number w)
-
-  -- a write of bytes that is refused though no call of the device failed has passed the space
-  abbrev pub RefusesFull : Result (Unit {0}) E → WriterState → WriterState → Type 0
-  RefusesFull result old new =
-      IfErr result (λ e. IsOfFault gives old.fixed.tells_faults e old.faults new.faults
-      ⊎ ((new.faults ≡ old.faults) × gives (error_of old.fixed.full) e))
-
-  -- What a writer answers that counts bytes and keeps none: as it would the write of any so many of them. Or it answers
-  -- nothing, and stays as it was.
-  abbrev pub CountsBytes : ℕ → Option (Result (Unit {0}) E) → Type 0 → WriterState → WriterState → (List ℕ → Type 0) → Type 0
-  CountsBytes size counted unchanged old new appended =
-      MatchOption counted unchanged (λ result. (bytes : List ℕ) → length bytes ≡ size → WritesBytes bytes result old new appended)
-
 -- what a writer says of its space is right
 abbrev pub IsRight : Option Bool → ℕ → Option ℕ → Type 0
 IsRight answer n space = (b : Bool) → answer ≡ Some b → IsTrue b ↔ Fits n space
+
+-- ---- the words of contracts
+
+-- They take which errors become those of the context, `C.Error.from_gives`, how writes see a writer, `W.state`, which
+-- bytes lie between two states, `W.appends`, and last the writer before and behind.
+module _ {E S : Type 0} (gives : Error → E → Type 0) (state : S → WriterState) where
+  -- a write of bytes that is refused though no call of the device failed has passed the space
+  abbrev pub RefusesFull : Result (Unit {0}) E → S → S → Type 0
+  RefusesFull result old new =
+      IfErr result (λ e. IsOfFault gives (state old).fixed.tells_faults e (state old).faults (state new).faults
+      ⊎ (((state new).faults ≡ (state old).faults) × gives (error_of (state old).fixed.full) e))
+
+  module _ (appends : S → List ℕ → S → Type 0) where
+    -- the write of a value of a format, and of a codec
+    abbrev pub WritesAs : {A V : Type 0} → (A → V) → (Encoding → Format V) → A → Result (Unit {0}) E → S → S → Type 0
+    WritesAs seen format value result old new =
+        Writes gives format (seen value) result (state old) (state new) (λ b. appends old b new)
+
+    abbrev pub WritesValue : {A V : Type 0} → (A → V) → Codec V → A → Result (Unit {0}) E → S → S → Type 0
+    WritesValue seen codec = WritesAs seen codec.format
+
+    -- the write of values, one after the other
+    abbrev pub WritesValues : {A V : Type 0} → (A → V) → Codec V → List A → Result (Unit {0}) E → S → S → Type 0
+    WritesValues seen codec values result old new =
+        WritesEach gives codec.format seen values result (state old) (state new) (λ b. appends old b new)
+
+    -- the write of these bytes
+    abbrev pub WritesSlice : List ℕ → Result (Unit {0}) E → S → S → Type 0
+    WritesSlice bytes result old new =
+        WritesBytes gives bytes result (state old) (state new) (λ b. appends old b new)
+
+    -- the write of a number of so many bytes, and of a signed one of a width
+    abbrev pub WritesNumber : ℕ → ℕ → Result (Unit {0}) E → S → S → Type 0
+    WritesNumber width = WritesValue (λ n. n) (unsigned_codec width)
+
+    abbrev pub WritesSigned : Width → ℤ → Result (Unit {0}) E → S → S → Type 0
+    WritesSigned w = WritesValue (λ z. z) (signed_codec w)
+
+    -- What a writer answers that counts bytes and keeps none: as it would the write of any so many of them. Or it
+    -- answers nothing, and stays as it was.
+    abbrev pub CountsBytes : ℕ → Option (Result (Unit {0}) E) → S → S → Type 0
+    CountsBytes size counted old new =
+        MatchOption counted (new ≡ old)
+        (λ result. (bytes : List ℕ) → length bytes ≡ size → WritesSlice bytes result old new)

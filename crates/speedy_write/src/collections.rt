@@ -1,8 +1,8 @@
 //! How the items of maps and sets are written.
 ghost use Rattle.std.specs.Prelude.{◌≡◌, List, length};
 ghost use Rattle.std.specs.Iterator.{IsFinite, AlwaysYields};
-ghost use Rattle.speedy_layout.specs.Lists.{list};
-ghost use Rattle.speedy_write.specs.Writing.{Writes};
+ghost use Rattle.speedy_layout.specs.Codecs.{list_codec};
+ghost use Rattle.speedy_write.specs.Writing.{WritesValue};
 
 use crate::private::write_length;
 use crate::writable::Writable;
@@ -21,8 +21,8 @@ pub(crate) fn write_counted_items<
     requires ends { IsFinite (I.remaining items) }
     ensures { (shown : List T.Seen) → count ≡ length shown
         → AlwaysYields I.next_gives T.seen items shown
-        → Writes C.Error.from_gives (λ e. list e (T.layout.format e)) shown result
-        (W.state writer.old) (W.state writer.new) (λ b. W.appends writer.old b writer.new) }
+        → WritesValue C.Error.from_gives W.state W.appends (λ v. v) (list_codec T.layout) shown
+        result writer.old writer.new }
 {
     write_length(count, writer)?;
     writer.write_collection(items)

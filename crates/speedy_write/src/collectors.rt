@@ -1,7 +1,7 @@
 //! The writers of the ways of writing: into a buffer, into a vector, into a sink, and one that only counts.
 ghost use Rattle.std.specs.Prelude.{◌≡◌, ◌+◌, ◌-◌, ◌*◌, ◌^◌, ◌≤◌, ℕ, [], ◌∷◌, ◌++◌, length, vec_len, vec_capacity, Some, None, Ok, IsOk, IfErr, OnErr, IsSome, IsTrue, false, take, nat_le, refl};
 ghost use Rattle.speedy_base.specs.FailedCalls.{IsErrorOf, IsOfFailedCall};
-ghost use Rattle.speedy_write.specs.Writing.{WritesBytes, WritesEach, RefusesFull, CountsBytes, Fits};
+ghost use Rattle.speedy_write.specs.Writing.{RefusesFull, CountsBytes, Fits, WritesValues, WritesSlice};
 ghost use Rattle.speedy_write.specs.Pushing.{PushesAll};
 ghost use Rattle.speedy_write.specs.Collectors.{buffer_state, BufferAppends, size_state, SizeAppends, sink_state, Takes};
 ghost use Rattle.speedy_write.specs.CollectorLemmas.{buffer_nothing, buffer_additive, vec_nothing, vec_additive, size_nothing, size_additive, sink_nothing, sink_additive};
@@ -80,10 +80,10 @@ impl<'a, C: Context> Writer<C> for BufferCollector<'a, C> {
     #[inline]
     fn write_bytes(&mut self, slice: &[u8]) -> Result<(), C::Error>
         ensures writes { let writer = ⟦<BufferCollector<'a, C> as Writer<C>>⟧ in
-            WritesBytes C.Error.from_gives slice.now result (writer.state self.old)
-            (writer.state self.new) (λ b. writer.appends self.old b self.new) }
+            WritesSlice C.Error.from_gives writer.state writer.appends slice.now
+            result self.old self.new }
         ensures full { let writer = ⟦<BufferCollector<'a, C> as Writer<C>>⟧ in
-            RefusesFull C.Error.from_gives result (writer.state self.old) (writer.state self.new) }
+            RefusesFull C.Error.from_gives writer.state result self.old self.new }
         ensures unchanged { OnErr result (self.new ≡ self.old) }
     {
         let room = self.buffer.len() - self.position;
@@ -100,8 +100,8 @@ impl<'a, C: Context> Writer<C> for BufferCollector<'a, C> {
     #[inline]
     fn put_fixed<T: Layout, P: FixedBytes<T>>(&mut self, values: &[T]) -> bool
         ensures puts { let writer = ⟦<BufferCollector<'a, C> as Writer<C>>⟧ in
-            IsTrue result → WritesEach C.Error.from_gives T.layout.format T.seen values.now (Ok tt)
-            (writer.state self.old) (writer.state self.new) (λ b. writer.appends self.old b self.new) }
+            IsTrue result → WritesValues C.Error.from_gives writer.state writer.appends T.seen
+            T.layout values.now (Ok tt) self.old self.new }
         ensures unchanged { result ≡ false → self.new ≡ self.old }
         ensures fits { let writer = ⟦<BufferCollector<'a, C> as Writer<C>>⟧ in
             Fits (length values.now * P.BYTES) (writer.state self.old).space → IsTrue result }
@@ -224,8 +224,8 @@ impl<'a, C: Context> Writer<C> for VecCollector<'a, C> {
     #[inline]
     fn put_fixed<T: Layout, P: FixedBytes<T>>(&mut self, values: &[T]) -> bool
         ensures puts { let writer = ⟦<VecCollector<'a, C> as Writer<C>>⟧ in
-            IsTrue result → WritesEach C.Error.from_gives T.layout.format T.seen values.now (Ok tt)
-            (writer.state self.old) (writer.state self.new) (λ b. writer.appends self.old b self.new) }
+            IsTrue result → WritesValues C.Error.from_gives writer.state writer.appends T.seen
+            T.layout values.now (Ok tt) self.old self.new }
         ensures unchanged { result ≡ false → self.new ≡ self.old }
         ensures fits { let writer = ⟦<VecCollector<'a, C> as Writer<C>>⟧ in
             length values.now * P.BYTES ≤ 16384 → Fits (length values.now * P.BYTES) (writer.state self.old).space
@@ -394,10 +394,10 @@ impl<'s, S: Sink, C: Context> Writer<C> for WritingCollector<'s, S, C> {
     #[inline]
     fn write_bytes(&mut self, slice: &[u8]) -> Result<(), C::Error>
         ensures writes { let writer = ⟦<WritingCollector<'s, S, C> as Writer<C>>⟧ in
-            WritesBytes C.Error.from_gives slice.now result (writer.state self.old)
-            (writer.state self.new) (λ b. writer.appends self.old b self.new) }
+            WritesSlice C.Error.from_gives writer.state writer.appends slice.now
+            result self.old self.new }
         ensures full { let writer = ⟦<WritingCollector<'s, S, C> as Writer<C>>⟧ in
-            RefusesFull C.Error.from_gives result (writer.state self.old) (writer.state self.new) }
+            RefusesFull C.Error.from_gives writer.state result self.old self.new }
         ensures nothing { slice.now ≡ [] → IsOk result × (self.new ≡ self.old) }
         ensures error { let writer = ⟦<WritingCollector<'s, S, C> as Writer<C>>⟧ in
             IfErr result (λ e. IsOfFailedCall C.Error.from_gives e
@@ -521,8 +521,8 @@ impl<'a, C: Context> Writer<C> for SizeCalculatorCollector<'a, C> {
     #[inline]
     fn count_bytes(&mut self, size: usize) -> Option<Result<(), C::Error>>
         ensures counts { let writer = ⟦<SizeCalculatorCollector<'a, C> as Writer<C>>⟧ in
-            CountsBytes C.Error.from_gives size result (self.new ≡ self.old)
-            (writer.state self.old) (writer.state self.new) (λ b. writer.appends self.old b self.new) }
+            CountsBytes C.Error.from_gives writer.state writer.appends size
+            result self.old self.new }
         ensures answers { IsSome result }
     {
         if size > usize::MAX - self.size {

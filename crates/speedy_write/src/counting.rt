@@ -73,8 +73,8 @@ impl<'a, C: Context> Writer<C> for CountingCollector<'a, C> {
     #[inline(always)]
     fn count_bytes(&mut self, size: usize) -> Option<Result<(), C::Error>>
         ensures counts { let writer = ⟦<CountingCollector<'a, C> as Writer<C>>⟧ in
-            CountsBytes C.Error.from_gives size result (self.new ≡ self.old)
-            (writer.state self.old) (writer.state self.new) (λ b. writer.appends self.old b self.new) }
+            CountsBytes C.Error.from_gives writer.state writer.appends size
+            result self.old self.new }
         ensures answers { IsSome result }
     {
         self.size = self.size.saturating_add(size);

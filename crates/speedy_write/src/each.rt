@@ -1,7 +1,7 @@
 //! Items that are written one after another.
 ghost use Rattle.std.specs.Prelude.{◌≡◌, map, IfSome};
 ghost use Rattle.speedy_write.specs.Counting.{CountsEach};
-ghost use Rattle.speedy_write.specs.Writing.{Writes, WritesEach};
+ghost use Rattle.speedy_write.specs.Writing.{WritesValue, WritesValues};
 
 use crate::writable::Writable;
 use crate::writer::Writer;
@@ -12,8 +12,8 @@ pub(crate) fn write_items<C: Context, T: Writable<C>, W: Writer<C>>(
     items: &[T],
     writer: &mut W,
 ) -> Result<(), C::Error>
-    ensures { WritesEach C.Error.from_gives T.layout.format T.seen items.now result
-        (W.state writer.old) (W.state writer.new) (λ b. W.appends writer.old b writer.new) }
+    ensures { WritesValues C.Error.from_gives W.state W.appends T.seen T.layout items.now
+        result writer.old writer.new }
 {
     if W::COUNTS {
         if let Some(size) = count_each(items, writer.context_mut()) {
@@ -31,8 +31,8 @@ pub(crate) fn write_item<C: Context, T: Writable<C>, W: Writer<C>>(
     item: &T,
     writer: &mut W,
 ) -> Result<(), C::Error>
-    ensures { Writes C.Error.from_gives T.layout.format (T.seen item.now) result
-        (W.state writer.old) (W.state writer.new) (λ b. W.appends writer.old b writer.new) }
+    ensures { WritesValue C.Error.from_gives W.state W.appends T.seen T.layout item.now
+        result writer.old writer.new }
 {
     if W::COUNTS {
         if let Ok(bytes) = item.bytes_needed(writer.context_mut()) {

@@ -3,7 +3,7 @@ ghost use Rattle.std.specs.Prelude.{◌≡◌, ◌<◌, ◌≤◌, ◌+◌, ◌*
 ghost use Rattle.speedy_base.specs.Encoding.{Encoding};
 ghost use Rattle.speedy_layout.specs.Format.{Each};
 ghost use Rattle.speedy_write.specs.FixedBytes.{PutsAt};
-ghost use Rattle.speedy_write.specs.Writing.{WritesEach};
+ghost use Rattle.speedy_write.specs.Writing.{WritesValues};
 
 use crate::writer::Writer;
 use speedy_base::context::Context;
@@ -171,8 +171,8 @@ pub(crate) fn write_values<C: Context, T: Layout, P: FixedBytes<T>, W: Writer<C>
     values: &[T],
     writer: &mut W,
 ) -> Result<(), C::Error>
-    ensures { WritesEach C.Error.from_gives T.layout.format T.seen values.now result
-        (W.state writer.old) (W.state writer.new) (λ b. W.appends writer.old b writer.new) }
+    ensures { WritesValues C.Error.from_gives W.state W.appends T.seen T.layout values.now
+        result writer.old writer.new }
 {
     if writer.put_fixed::<T, P>(values) {
         return Ok(());
@@ -196,8 +196,8 @@ fn write_by_chunks<C: Context, T: Layout, P: FixedBytes<T>, W: Writer<C>>(
     values: &[T],
     writer: &mut W,
 ) -> Result<(), C::Error>
-    ensures { WritesEach C.Error.from_gives T.layout.format T.seen values.now result
-        (W.state writer.old) (W.state writer.new) (λ b. W.appends writer.old b writer.new) }
+    ensures { WritesValues C.Error.from_gives W.state W.appends T.seen T.layout values.now
+        result writer.old writer.new }
 {
     P::has_few_bytes();
     match values.len() {
@@ -215,8 +215,8 @@ fn write_many_chunks<C: Context, T: Layout, P: FixedBytes<T>, W: Writer<C>>(
     writer: &mut W,
 ) -> Result<(), C::Error>
     requires { P.BYTES ≤ length chunk.old }
-    ensures { WritesEach C.Error.from_gives T.layout.format T.seen values.now result
-        (W.state writer.old) (W.state writer.new) (λ b. W.appends writer.old b writer.new) }
+    ensures { WritesValues C.Error.from_gives W.state W.appends T.seen T.layout values.now
+        result writer.old writer.new }
 {
     writer.reserve(values.len().saturating_mul(P::BYTES));
     write_chunks::<C, T, P, W>(values, chunk, writer)
@@ -230,8 +230,8 @@ fn write_chunks<C: Context, T: Layout, P: FixedBytes<T>, W: Writer<C>>(
     writer: &mut W,
 ) -> Result<(), C::Error>
     requires { P.BYTES ≤ length chunk.old }
-    ensures { WritesEach C.Error.from_gives T.layout.format T.seen values.now result
-        (W.state writer.old) (W.state writer.new) (λ b. W.appends writer.old b writer.new) }
+    ensures { WritesValues C.Error.from_gives W.state W.appends T.seen T.layout values.now
+        result writer.old writer.new }
 {
     P::has_few_bytes();
     let most = chunk.len() / P::BYTES;

@@ -4,7 +4,7 @@ ghost use Rattle.std.specs.Prelude.{◌≡◌, ◌+◌, ◌-◌, ◌*◌, ◌≤
 ghost use Rattle.speedy_base.specs.Encoding.{Encoding};
 ghost use Rattle.speedy_write.specs.Collectors.{sink_state};
 ghost use Rattle.speedy_write.specs.FixedBytes.{PutsBehind};
-ghost use Rattle.speedy_write.specs.Writing.{WritesBytes, WritesEach, RefusesFull};
+ghost use Rattle.speedy_write.specs.Writing.{WritesBytes, RefusesFull, WritesValues, WritesSlice};
 ghost use Rattle.speedy_write.specs.Gathering.{Gathers, PushesWaiting, gathers_nothing, gathers_additive};
 
 use crate::collectors::{error_of_failed_call, push_all};
@@ -259,8 +259,8 @@ impl<'s, S: Sink, C: Context> GatheringCollector<'s, S, C> {
     #[inline(always)]
     fn write_past(&mut self, slice: &[u8]) -> Result<(), C::Error>
         ensures { let writer = ⟦<GatheringCollector<'s, S, C> as Writer<C>>⟧ in
-            WritesBytes C.Error.from_gives slice.now result (writer.state self.old)
-            (writer.state self.new) (λ b. writer.appends self.old b self.new) }
+            WritesSlice C.Error.from_gives writer.state writer.appends slice.now
+            result self.old self.new }
     {
         self.waiting.write_past(self.alloc, slice, &mut *self.sink)
     }
@@ -293,10 +293,10 @@ impl<'s, S: Sink, C: Context> Writer<C> for GatheringCollector<'s, S, C> {
     #[inline(always)]
     fn write_bytes(&mut self, slice: &[u8]) -> Result<(), C::Error>
         ensures writes { let writer = ⟦<GatheringCollector<'s, S, C> as Writer<C>>⟧ in
-            WritesBytes C.Error.from_gives slice.now result (writer.state self.old)
-            (writer.state self.new) (λ b. writer.appends self.old b self.new) }
+            WritesSlice C.Error.from_gives writer.state writer.appends slice.now
+            result self.old self.new }
         ensures full { let writer = ⟦<GatheringCollector<'s, S, C> as Writer<C>>⟧ in
-            RefusesFull C.Error.from_gives result (writer.state self.old) (writer.state self.new) }
+            RefusesFull C.Error.from_gives writer.state result self.old self.new }
     {
         if self.waiting.has_room(slice.len()) {
             self.waiting.add(slice);
@@ -309,8 +309,8 @@ impl<'s, S: Sink, C: Context> Writer<C> for GatheringCollector<'s, S, C> {
     #[inline]
     fn put_fixed<T: Layout, P: FixedBytes<T>>(&mut self, values: &[T]) -> bool
         ensures puts { let writer = ⟦<GatheringCollector<'s, S, C> as Writer<C>>⟧ in
-            IsTrue result → WritesEach C.Error.from_gives T.layout.format T.seen values.now (Ok tt)
-            (writer.state self.old) (writer.state self.new) (λ b. writer.appends self.old b self.new) }
+            IsTrue result → WritesValues C.Error.from_gives writer.state writer.appends T.seen
+            T.layout values.now (Ok tt) self.old self.new }
         ensures unchanged { result ≡ false → self.new ≡ self.old }
         ensures fits { let held = self.old.waiting in
             length values.now * P.BYTES ≤ length held.room.now - held.end → IsTrue result }

@@ -1,7 +1,7 @@
 //! How lists are written.
 ghost use Rattle.std.specs.Prelude.{◌≡◌, ◌<◌, length, map, All};
-ghost use Rattle.speedy_layout.specs.Lists.{list};
-ghost use Rattle.speedy_write.specs.Writing.{Writes};
+ghost use Rattle.speedy_layout.specs.Codecs.{list_codec};
+ghost use Rattle.speedy_write.specs.Writing.{WritesValue};
 
 use crate::each::write_items;
 use crate::private::write_length;
@@ -82,8 +82,8 @@ pub(crate) fn write_counted<C: Context, T: Writable<C>, W: Writer<C>>(
     items: &[T],
     writer: &mut W,
 ) -> Result<(), C::Error>
-    ensures { Writes C.Error.from_gives (λ e. list e (T.layout.format e)) (map T.seen items.now) result
-        (W.state writer.old) (W.state writer.new) (λ b. W.appends writer.old b writer.new) }
+    ensures { WritesValue C.Error.from_gives W.state W.appends (map T.seen) (list_codec T.layout)
+        items.now result writer.old writer.new }
 {
     write_length(items.len(), writer)?;
     write_items(items, writer)

@@ -5,7 +5,7 @@ ghost use Rattle.speedy_layout.specs.Numbers.{unsigned_number, length_number};
 ghost use Rattle.speedy_layout.specs.Varint.{varint};
 ghost use Rattle.speedy_write.specs.Lengths.{WritesLength};
 ghost use Rattle.speedy_write.specs.WaysOfWriting.{WritesAndFlushes};
-ghost use Rattle.speedy_write.specs.Writing.{Writes, WritesNumber, RefusesFull};
+ghost use Rattle.speedy_write.specs.Writing.{WritesNumber, RefusesFull};
 
 use crate::writable::{SINK_ROOM, Writable, write_and_flush};
 use crate::writer::Writer;
@@ -24,9 +24,8 @@ pub fn write_to_stream_and_flush_with_ctx<C: Context, T: Writable<C>, S: Sink>(
     context: C,
     sink: &mut S,
 ) -> Result<(), C::Error>
-    ensures { let format = T.layout.format (C.encoding context) in
-        WritesAndFlushes C.Error.from_gives format (T.seen value.now) result
-        (S.sink sink.old) (S.sink sink.new) }
+    ensures { WritesAndFlushes C.Error.from_gives S.sink T.seen T.layout (C.encoding context)
+        value.now result sink.old sink.new }
 {
     write_and_flush(value, alloc, context, sink, &mut [0; SINK_ROOM])
 }
@@ -34,10 +33,10 @@ pub fn write_to_stream_and_flush_with_ctx<C: Context, T: Writable<C>, S: Sink>(
 /// Writes a length as a `u32`. A longer one is the error `OutOfRangeLength`, before anything is written.
 #[inline]
 pub fn write_length<C: Context, W: Writer<C>>(length: usize, writer: &mut W) -> Result<(), C::Error>
-    ensures writes { WritesNumber C.Error.from_gives 4 length result
-        (W.state writer.old) (W.state writer.new) (λ b. W.appends writer.old b writer.new) }
-    ensures full { length < 2 ^ 32 →
-        RefusesFull C.Error.from_gives result (W.state writer.old) (W.state writer.new) }
+    ensures writes { WritesNumber C.Error.from_gives W.state W.appends 4 length
+        result writer.old writer.new }
+    ensures full { length < 2 ^ 32 → RefusesFull C.Error.from_gives W.state
+        result writer.old writer.new }
     ensures too_long { 2 ^ 32 ≤ length → (writer.new ≡ writer.old)
         × IsErrAnd result (λ e. C.Error.from_gives (error_of ErrorKind.OutOfRangeLength) e) }
 {
@@ -60,8 +59,8 @@ pub fn write_length_u7<C: Context, W: Writer<C>>(
     length: usize,
     writer: &mut W,
 ) -> Result<(), C::Error>
-    ensures { WritesLength C.Error.from_gives (length_number 1 127) (2 ^ 7) length result (writer.new ≡ writer.old)
-        (W.state writer.old) (W.state writer.new) (λ b. W.appends writer.old b writer.new) }
+    ensures { WritesLength C.Error.from_gives W.state W.appends (length_number 1 127) (2 ^ 7) length
+        result writer.old writer.new }
 {
     if length > U7_MAX {
         return Err(error_out_of_range_length());
@@ -75,8 +74,8 @@ pub fn write_length_u8<C: Context, W: Writer<C>>(
     length: usize,
     writer: &mut W,
 ) -> Result<(), C::Error>
-    ensures { WritesLength C.Error.from_gives (unsigned_number 1) (2 ^ 8) length result (writer.new ≡ writer.old)
-        (W.state writer.old) (W.state writer.new) (λ b. W.appends writer.old b writer.new) }
+    ensures { WritesLength C.Error.from_gives W.state W.appends (unsigned_number 1) (2 ^ 8) length
+        result writer.old writer.new }
 {
     if length > U8_MAX {
         return Err(error_out_of_range_length());
@@ -90,8 +89,8 @@ pub fn write_length_u16<C: Context, W: Writer<C>>(
     length: usize,
     writer: &mut W,
 ) -> Result<(), C::Error>
-    ensures { WritesLength C.Error.from_gives (unsigned_number 2) (2 ^ 16) length result (writer.new ≡ writer.old)
-        (W.state writer.old) (W.state writer.new) (λ b. W.appends writer.old b writer.new) }
+    ensures { WritesLength C.Error.from_gives W.state W.appends (unsigned_number 2) (2 ^ 16) length
+        result writer.old writer.new }
 {
     if length > U16_MAX {
         return Err(error_out_of_range_length());
@@ -105,8 +104,8 @@ pub fn write_length_u32<C: Context, W: Writer<C>>(
     length: usize,
     writer: &mut W,
 ) -> Result<(), C::Error>
-    ensures { WritesLength C.Error.from_gives (unsigned_number 4) (2 ^ 32) length result (writer.new ≡ writer.old)
-        (W.state writer.old) (W.state writer.new) (λ b. W.appends writer.old b writer.new) }
+    ensures { WritesLength C.Error.from_gives W.state W.appends (unsigned_number 4) (2 ^ 32) length
+        result writer.old writer.new }
 {
     write_length(length, writer)
 }
@@ -117,8 +116,8 @@ pub fn write_length_u64<C: Context, W: Writer<C>>(
     length: usize,
     writer: &mut W,
 ) -> Result<(), C::Error>
-    ensures { WritesLength C.Error.from_gives (unsigned_number 8) (2 ^ 64) length result (writer.new ≡ writer.old)
-        (W.state writer.old) (W.state writer.new) (λ b. W.appends writer.old b writer.new) }
+    ensures { WritesLength C.Error.from_gives W.state W.appends (unsigned_number 8) (2 ^ 64) length
+        result writer.old writer.new }
 {
     writer.write_u64(length as u64)
 }
@@ -129,8 +128,8 @@ pub fn write_length_u64_varint<C: Context, W: Writer<C>>(
     length: usize,
     writer: &mut W,
 ) -> Result<(), C::Error>
-    ensures { WritesLength C.Error.from_gives varint (2 ^ 64) length result (writer.new ≡ writer.old)
-        (W.state writer.old) (W.state writer.new) (λ b. W.appends writer.old b writer.new) }
+    ensures { WritesLength C.Error.from_gives W.state W.appends varint (2 ^ 64) length
+        result writer.old writer.new }
 {
     writer.write_u64_varint(length as u64)
 }

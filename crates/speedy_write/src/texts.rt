@@ -1,7 +1,7 @@
 //! How texts are written.
 ghost use Rattle.std.specs.Prelude.{◌<◌};
-ghost use Rattle.speedy_layout.specs.Texts.{text as text_format};
-ghost use Rattle.speedy_write.specs.Writing.{Writes};
+ghost use Rattle.speedy_layout.specs.Codecs.{text_codec};
+ghost use Rattle.speedy_write.specs.Writing.{WritesValue};
 
 use crate::private::write_length;
 use crate::writable::Writable;
@@ -37,8 +37,8 @@ pub(crate) fn write_text<C: Context, W: Writer<C>>(
     text: &str,
     writer: &mut W,
 ) -> Result<(), C::Error>
-    ensures { Writes C.Error.from_gives text_format text.now result
-        (W.state writer.old) (W.state writer.new) (λ b. W.appends writer.old b writer.new) }
+    ensures { WritesValue C.Error.from_gives W.state W.appends (λ v. v) text_codec text.now
+        result writer.old writer.new }
 {
     let bytes = text.as_bytes();
     write_length(bytes.len(), writer)?;

@@ -1,8 +1,8 @@
 //! Types that can be written, and the ways of writing them.
-ghost use Rattle.std.specs.Prelude.{◌≡◌, ◌≤◌, ◌⊎◌, ℕ, List, length, IsTrue, MatchOption, MatchResult, IsOk, IfErr, OnOk};
+ghost use Rattle.std.specs.Prelude.{◌≡◌, ◌≤◌, ℕ, List, length, MatchOption, MatchResult, IsOk};
 ghost use Rattle.speedy_base.specs.Error.{error_of};
 ghost use Rattle.speedy_base.specs.Encoding.{plain_encoding};
-ghost use Rattle.speedy_write.specs.Writing.{Writes, WritesEach};
+ghost use Rattle.speedy_write.specs.Writing.{WritesValue, WritesValues};
 ghost use Rattle.speedy_write.specs.WaysOfWriting.{Needs, IsShortest, Stands, WritesToBuffer, WritesToVec, WritesToStream, WritesAndFlushes, WritesToFile};
 
 use crate::collectors::{VecCollector, error_of_failed_call};
@@ -31,15 +31,15 @@ pub trait Writable<C: Context>: Layout {
     ///
     /// After an error some first bytes of an encoding may have been written.
     fn write_to<W: Writer<C>>(&self, writer: &mut W) -> Result<(), C::Error>
-        ensures { Writes C.Error.from_gives Self.layout.format (Self.seen self.now) result
-            (W.state writer.old) (W.state writer.new) (λ b. W.appends writer.old b writer.new) };
+        ensures { WritesValue C.Error.from_gives W.state W.appends Self.seen Self.layout self.now
+            result writer.old writer.new };
 
     /// Writes the values, one after the other and with no count.
     final fn write_many<W: Writer<C>>(items: &[Self], writer: &mut W) -> Result<(), C::Error>
     where
         Self: Sized,
-        ensures { WritesEach C.Error.from_gives Self.layout.format Self.seen items.now result
-            (W.state writer.old) (W.state writer.new) (λ b. W.appends writer.old b writer.new) }
+        ensures { WritesValues C.Error.from_gives W.state W.appends Self.seen Self.layout items.now
+            result writer.old writer.new }
     {
         if let Some(written) = Self::write_in_bulk(items, writer) {
             return written;
@@ -56,8 +56,8 @@ pub trait Writable<C: Context>: Layout {
     where
         Self: Sized,
         ensures { MatchOption result (_writer.new ≡ _writer.old) (λ written.
-            WritesEach C.Error.from_gives Self.layout.format Self.seen _items.now written
-            (W.state _writer.old) (W.state _writer.new) (λ b. W.appends _writer.old b _writer.new)) }
+            WritesValues C.Error.from_gives W.state W.appends Self.seen Self.layout _items.now
+            written _writer.old _writer.new) }
     {
         None
     }
@@ -65,8 +65,8 @@ pub trait Writable<C: Context>: Layout {
     /// The number of bytes that the value is written in. `usize::MAX` bytes and more are the error `OutOfRangeLength`.
     final fn bytes_needed(&self, context: &mut C) -> Result<usize, C::Error>
         ensures encoding { C.encoding context.new ≡ C.encoding context.old }
-        ensures needs { let format = Self.layout.format (C.encoding context.old) in
-            Needs C.Error.from_gives format (Self.seen self.now) result }
+        ensures needs { Needs C.Error.from_gives Self.seen Self.layout (C.encoding context.old)
+            self.now result }
     {
         let mut counter = CountingCollector::new(context);
         let outcome = self.write_to(&mut counter);
@@ -85,9 +85,8 @@ pub trait Writable<C: Context>: Layout {
     final fn write_to_buffer(&self, buffer: &mut [u8]) -> Result<(), C::Error>
     where
         C: PlainContext,
-        ensures { let format = Self.layout.format (plain_encoding Endianness.LittleEndian) in
-            WritesToBuffer C.Error.from_gives format (Self.seen self.now) result
-            buffer.old buffer.new }
+        ensures { WritesToBuffer C.Error.from_gives Self.seen Self.layout
+            (plain_encoding Endianness.LittleEndian) self.now result buffer.old buffer.new }
     {
         self.write_to_buffer_with_ctx(C::plain(), buffer)
     }
@@ -97,9 +96,8 @@ pub trait Writable<C: Context>: Layout {
     /// A buffer that is too short is the error `OutputBufferIsTooSmall`, with both sizes in bytes.
     #[inline]
     final fn write_to_buffer_with_ctx(&self, context: C, buffer: &mut [u8]) -> Result<(), C::Error>
-        ensures { let format = Self.layout.format (C.encoding context) in
-            WritesToBuffer C.Error.from_gives format (Self.seen self.now) result
-            buffer.old buffer.new }
+        ensures { WritesToBuffer C.Error.from_gives Self.seen Self.layout (C.encoding context)
+            self.now result buffer.old buffer.new }
     {
         let mut context = context;
         self.write_to_buffer_with_ctx_mut(&mut context, buffer)
@@ -114,9 +112,8 @@ pub trait Writable<C: Context>: Layout {
         buffer: &mut [u8],
     ) -> Result<(), C::Error>
         ensures encoding { C.encoding context.new ≡ C.encoding context.old }
-        ensures writes { let format = Self.layout.format (C.encoding context.old) in
-            WritesToBuffer C.Error.from_gives format (Self.seen self.now) result
-            buffer.old buffer.new }
+        ensures writes { WritesToBuffer C.Error.from_gives Self.seen Self.layout
+            (C.encoding context.old) self.now result buffer.old buffer.new }
     {
         let needed = self.bytes_needed(context)?;
         let length = buffer.len();
@@ -131,8 +128,8 @@ pub trait Writable<C: Context>: Layout {
     final fn write_to_vec(&self, alloc: Global) -> Result<Vec<u8>, C::Error>
     where
         C: PlainContext,
-        ensures { let format = Self.layout.format (plain_encoding Endianness.LittleEndian) in
-            WritesToVec C.Error.from_gives format (Self.seen self.now) (λ vec. vec.items) result }
+        ensures { WritesToVec C.Error.from_gives Self.seen Self.layout
+            (plain_encoding Endianness.LittleEndian) self.now (λ vec. vec.items) result }
     {
         self.write_to_vec_with_ctx(alloc, C::plain())
     }
@@ -140,8 +137,8 @@ pub trait Writable<C: Context>: Layout {
     /// Encodes the value into a vector, under the context.
     #[inline]
     final fn write_to_vec_with_ctx(&self, alloc: Global, context: C) -> Result<Vec<u8>, C::Error>
-        ensures { let format = Self.layout.format (C.encoding context) in
-            WritesToVec C.Error.from_gives format (Self.seen self.now) (λ vec. vec.items) result }
+        ensures { WritesToVec C.Error.from_gives Self.seen Self.layout (C.encoding context) self.now
+            (λ vec. vec.items) result }
     {
         let mut context = context;
         self.write_to_vec_with_ctx_mut(alloc, &mut context)
@@ -154,8 +151,8 @@ pub trait Writable<C: Context>: Layout {
         context: &mut C,
     ) -> Result<Vec<u8>, C::Error>
         ensures encoding { C.encoding context.new ≡ C.encoding context.old }
-        ensures writes { let format = Self.layout.format (C.encoding context.old) in
-            WritesToVec C.Error.from_gives format (Self.seen self.now) (λ vec. vec.items) result }
+        ensures writes { WritesToVec C.Error.from_gives Self.seen Self.layout
+            (C.encoding context.old) self.now (λ vec. vec.items) result }
     {
         let needed = self.bytes_needed(context)?;
         fill_vec(self, alloc, context, needed)
@@ -166,9 +163,8 @@ pub trait Writable<C: Context>: Layout {
     final fn write_to_stream<S: Sink>(&self, alloc: Global, sink: &mut S) -> Result<(), C::Error>
     where
         C: PlainContext,
-        ensures { let format = Self.layout.format (plain_encoding Endianness.LittleEndian) in
-            WritesToStream C.Error.from_gives format (Self.seen self.now) result
-            (S.sink sink.old) (S.sink sink.new) }
+        ensures { WritesToStream C.Error.from_gives S.sink Self.seen Self.layout
+            (plain_encoding Endianness.LittleEndian) self.now result sink.old sink.new }
     {
         self.write_to_stream_with_ctx(alloc, C::plain(), sink)
     }
@@ -183,9 +179,8 @@ pub trait Writable<C: Context>: Layout {
         context: C,
         sink: &mut S,
     ) -> Result<(), C::Error>
-        ensures { let format = Self.layout.format (C.encoding context) in
-            WritesToStream C.Error.from_gives format (Self.seen self.now) result
-            (S.sink sink.old) (S.sink sink.new) }
+        ensures { WritesToStream C.Error.from_gives S.sink Self.seen Self.layout
+            (C.encoding context) self.now result sink.old sink.new }
     {
         write_gathered(self, alloc, context, sink, &mut [0; SINK_ROOM])
     }
@@ -200,8 +195,8 @@ pub trait Writable<C: Context>: Layout {
     ) -> Result<(), C::Error>
     where
         C: PlainContext,
-        ensures { let format = Self.layout.format (plain_encoding Endianness.LittleEndian) in
-            WritesToFile C.Error.from_gives format (Self.seen self.now) result }
+        ensures { WritesToFile C.Error.from_gives Self.seen Self.layout
+            (plain_encoding Endianness.LittleEndian) self.now result }
     {
         self.write_to_file_with_ctx(rt, alloc, C::plain(), path)
     }
@@ -218,8 +213,8 @@ pub trait Writable<C: Context>: Layout {
         context: C,
         path: P,
     ) -> Result<(), C::Error>
-        ensures { let format = Self.layout.format (C.encoding context) in
-            WritesToFile C.Error.from_gives format (Self.seen self.now) result }
+        ensures { WritesToFile C.Error.from_gives Self.seen Self.layout (C.encoding context)
+            self.now result }
     {
         let file = match fs::create(rt, path) {
             Ok(file) => file,
@@ -243,9 +238,8 @@ fn write_gathered<C: Context, T: Writable<C>, S: Sink>(
     sink: &mut S,
     room: &mut [u8],
 ) -> Result<(), C::Error>
-    ensures { let format = T.layout.format (C.encoding context) in
-        WritesToStream C.Error.from_gives format (T.seen value.now) result
-        (S.sink sink.old) (S.sink sink.new) }
+    ensures { WritesToStream C.Error.from_gives S.sink T.seen T.layout (C.encoding context)
+        value.now result sink.old sink.new }
 {
     let mut collector = GatheringCollector::new(alloc, context, sink, room);
     match value.write_to(&mut collector) {
@@ -269,9 +263,8 @@ pub(crate) fn write_and_flush<C: Context, T: Writable<C>, S: Sink>(
     sink: &mut S,
     room: &mut [u8],
 ) -> Result<(), C::Error>
-    ensures { let format = T.layout.format (C.encoding context) in
-        WritesAndFlushes C.Error.from_gives format (T.seen value.now) result
-        (S.sink sink.old) (S.sink sink.new) }
+    ensures { WritesAndFlushes C.Error.from_gives S.sink T.seen T.layout (C.encoding context)
+        value.now result sink.old sink.new }
 {
     write_gathered(value, alloc, context, sink, room)?;
     match sink.flush() {

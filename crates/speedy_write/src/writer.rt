@@ -2,10 +2,11 @@
 ghost use Rattle.std.specs.Prelude.{◌≡◌, ℕ, [], ◌++◌, List, Option, Bool, false, IsTrue, Ok};
 ghost use Rattle.std.specs.Borrow.{sem, Lends};
 ghost use Rattle.std.specs.Iterator.{IsFiniteIterable};
-ghost use Rattle.speedy_layout.specs.Varint.{varint};
 ghost use Rattle.std.specs.Int.{w8, w16, w32, w64, w128};
+ghost use Rattle.speedy_layout.specs.Codecs.{varint_codec};
 ghost use Rattle.speedy_write.specs.Collections.{WritesItems};
-ghost use Rattle.speedy_write.specs.Writing.{WriterState, Writes, WritesEach, WritesBytes, WritesNumber, WritesSigned, RefusesFull, CountsBytes, IsRight};
+ghost use Rattle.speedy_write.specs.Writing.{WriterState, WritesValue, WritesValues, WritesSlice, WritesNumber};
+ghost use Rattle.speedy_write.specs.Writing.{WritesSigned, RefusesFull, CountsBytes, IsRight};
 
 use crate::each::{write_item, write_items};
 use crate::fixed::FixedBytes;
@@ -36,15 +37,14 @@ pub trait Writer<C: Context> {
 
     /// Writes all the bytes. After an error some of the first ones may have been written.
     fn write_bytes(&mut self, slice: &[u8]) -> Result<(), C::Error>
-        ensures writes { WritesBytes C.Error.from_gives slice.now result
-            (state self.old) (state self.new) (λ b. appends self.old b self.new) }
-        ensures full { RefusesFull C.Error.from_gives result (state self.old) (state self.new) };
+        ensures writes { WritesSlice C.Error.from_gives state appends slice.now
+            result self.old self.new }
+        ensures full { RefusesFull C.Error.from_gives state result self.old self.new };
 
     /// Counts `size` bytes, where the writer only counts. This body says `None`, and does nothing.
     #[inline(always)]
     fn count_bytes(&mut self, _size: usize) -> Option<Result<(), C::Error>>
-        ensures { CountsBytes C.Error.from_gives _size result (self.new ≡ self.old)
-            (state self.old) (state self.new) (λ b. appends self.old b self.new) }
+        ensures { CountsBytes C.Error.from_gives state appends _size result self.old self.new }
     {
         None
     }
@@ -55,8 +55,8 @@ pub trait Writer<C: Context> {
     fn put_fixed<T: Layout, P: FixedBytes<T>>(&mut self, _values: &[T]) -> bool
     where
         Self: Sized,
-        ensures puts { IsTrue result → WritesEach C.Error.from_gives T.layout.format T.seen _values.now (Ok tt)
-            (state self.old) (state self.new) (λ b. appends self.old b self.new) }
+        ensures puts { IsTrue result → WritesValues C.Error.from_gives state appends T.seen T.layout
+            _values.now (Ok tt) self.old self.new }
         ensures unchanged { result ≡ false → self.new ≡ self.old }
     {
         false
@@ -114,9 +114,9 @@ pub trait Writer<C: Context> {
     /// Writes a byte.
     #[inline]
     final fn write_u8(&mut self, value: u8) -> Result<(), C::Error>
-        ensures writes { WritesNumber C.Error.from_gives 1 value result
-            (state self.old) (state self.new) (λ b. appends self.old b self.new) }
-        ensures full { RefusesFull C.Error.from_gives result (state self.old) (state self.new) }
+        ensures writes { WritesNumber C.Error.from_gives state appends 1 value
+            result self.old self.new }
+        ensures full { RefusesFull C.Error.from_gives state result self.old self.new }
     {
         self.write_bytes(&[value])
     }
@@ -124,9 +124,9 @@ pub trait Writer<C: Context> {
     /// Writes two bytes, in the context's order.
     #[inline]
     final fn write_u16(&mut self, value: u16) -> Result<(), C::Error>
-        ensures writes { WritesNumber C.Error.from_gives 2 value result
-            (state self.old) (state self.new) (λ b. appends self.old b self.new) }
-        ensures full { RefusesFull C.Error.from_gives result (state self.old) (state self.new) }
+        ensures writes { WritesNumber C.Error.from_gives state appends 2 value
+            result self.old self.new }
+        ensures full { RefusesFull C.Error.from_gives state result self.old self.new }
     {
         let bytes = self.endianness().bytes_of_u16(value);
         self.write_bytes(&bytes)
@@ -135,9 +135,9 @@ pub trait Writer<C: Context> {
     /// Writes four bytes, in the context's order.
     #[inline]
     final fn write_u32(&mut self, value: u32) -> Result<(), C::Error>
-        ensures writes { WritesNumber C.Error.from_gives 4 value result
-            (state self.old) (state self.new) (λ b. appends self.old b self.new) }
-        ensures full { RefusesFull C.Error.from_gives result (state self.old) (state self.new) }
+        ensures writes { WritesNumber C.Error.from_gives state appends 4 value
+            result self.old self.new }
+        ensures full { RefusesFull C.Error.from_gives state result self.old self.new }
     {
         let bytes = self.endianness().bytes_of_u32(value);
         self.write_bytes(&bytes)
@@ -146,9 +146,9 @@ pub trait Writer<C: Context> {
     /// Writes an integer of variable length, in one to nine bytes: as few as hold it.
     #[inline]
     final fn write_u64_varint(&mut self, value: u64) -> Result<(), C::Error>
-        ensures writes { Writes C.Error.from_gives varint value result
-            (state self.old) (state self.new) (λ b. appends self.old b self.new) }
-        ensures full { RefusesFull C.Error.from_gives result (state self.old) (state self.new) }
+        ensures writes { WritesValue C.Error.from_gives state appends (λ n. n) varint_codec value
+            result self.old self.new }
+        ensures full { RefusesFull C.Error.from_gives state result self.old self.new }
     {
         // To count is faster without a branch.
         if !Self::COUNTS && value < 128 {
@@ -161,9 +161,9 @@ pub trait Writer<C: Context> {
     /// Writes eight bytes, in the context's order.
     #[inline]
     final fn write_u64(&mut self, value: u64) -> Result<(), C::Error>
-        ensures writes { WritesNumber C.Error.from_gives 8 value result
-            (state self.old) (state self.new) (λ b. appends self.old b self.new) }
-        ensures full { RefusesFull C.Error.from_gives result (state self.old) (state self.new) }
+        ensures writes { WritesNumber C.Error.from_gives state appends 8 value
+            result self.old self.new }
+        ensures full { RefusesFull C.Error.from_gives state result self.old self.new }
     {
         let bytes = self.endianness().bytes_of_u64(value);
         self.write_bytes(&bytes)
@@ -172,9 +172,9 @@ pub trait Writer<C: Context> {
     /// Writes sixteen bytes, in the context's order.
     #[inline]
     final fn write_u128(&mut self, value: u128) -> Result<(), C::Error>
-        ensures writes { WritesNumber C.Error.from_gives 16 value result
-            (state self.old) (state self.new) (λ b. appends self.old b self.new) }
-        ensures full { RefusesFull C.Error.from_gives result (state self.old) (state self.new) }
+        ensures writes { WritesNumber C.Error.from_gives state appends 16 value
+            result self.old self.new }
+        ensures full { RefusesFull C.Error.from_gives state result self.old self.new }
     {
         let bytes = self.endianness().bytes_of_u128(value);
         self.write_bytes(&bytes)
@@ -183,9 +183,9 @@ pub trait Writer<C: Context> {
     /// Writes a signed number as a byte.
     #[inline]
     final fn write_i8(&mut self, value: i8) -> Result<(), C::Error>
-        ensures writes { WritesSigned C.Error.from_gives w8 value result
-            (state self.old) (state self.new) (λ b. appends self.old b self.new) }
-        ensures full { RefusesFull C.Error.from_gives result (state self.old) (state self.new) }
+        ensures writes { WritesSigned C.Error.from_gives state appends w8 value
+            result self.old self.new }
+        ensures full { RefusesFull C.Error.from_gives state result self.old self.new }
     {
         self.write_u8(value.cast_unsigned())
     }
@@ -193,9 +193,9 @@ pub trait Writer<C: Context> {
     /// Writes a signed number as two bytes, in the context's order.
     #[inline]
     final fn write_i16(&mut self, value: i16) -> Result<(), C::Error>
-        ensures writes { WritesSigned C.Error.from_gives w16 value result
-            (state self.old) (state self.new) (λ b. appends self.old b self.new) }
-        ensures full { RefusesFull C.Error.from_gives result (state self.old) (state self.new) }
+        ensures writes { WritesSigned C.Error.from_gives state appends w16 value
+            result self.old self.new }
+        ensures full { RefusesFull C.Error.from_gives state result self.old self.new }
     {
         self.write_u16(value.cast_unsigned())
     }
@@ -203,9 +203,9 @@ pub trait Writer<C: Context> {
     /// Writes a signed number as four bytes, in the context's order.
     #[inline]
     final fn write_i32(&mut self, value: i32) -> Result<(), C::Error>
-        ensures writes { WritesSigned C.Error.from_gives w32 value result
-            (state self.old) (state self.new) (λ b. appends self.old b self.new) }
-        ensures full { RefusesFull C.Error.from_gives result (state self.old) (state self.new) }
+        ensures writes { WritesSigned C.Error.from_gives state appends w32 value
+            result self.old self.new }
+        ensures full { RefusesFull C.Error.from_gives state result self.old self.new }
     {
         self.write_u32(value.cast_unsigned())
     }
@@ -213,9 +213,9 @@ pub trait Writer<C: Context> {
     /// Writes a signed number as eight bytes, in the context's order.
     #[inline]
     final fn write_i64(&mut self, value: i64) -> Result<(), C::Error>
-        ensures writes { WritesSigned C.Error.from_gives w64 value result
-            (state self.old) (state self.new) (λ b. appends self.old b self.new) }
-        ensures full { RefusesFull C.Error.from_gives result (state self.old) (state self.new) }
+        ensures writes { WritesSigned C.Error.from_gives state appends w64 value
+            result self.old self.new }
+        ensures full { RefusesFull C.Error.from_gives state result self.old self.new }
     {
         self.write_u64(value.cast_unsigned())
     }
@@ -223,9 +223,9 @@ pub trait Writer<C: Context> {
     /// Writes a signed number as sixteen bytes, in the context's order.
     #[inline]
     final fn write_i128(&mut self, value: i128) -> Result<(), C::Error>
-        ensures writes { WritesSigned C.Error.from_gives w128 value result
-            (state self.old) (state self.new) (λ b. appends self.old b self.new) }
-        ensures full { RefusesFull C.Error.from_gives result (state self.old) (state self.new) }
+        ensures writes { WritesSigned C.Error.from_gives state appends w128 value
+            result self.old self.new }
+        ensures full { RefusesFull C.Error.from_gives state result self.old self.new }
     {
         self.write_u128(value.cast_unsigned())
     }
@@ -235,8 +235,8 @@ pub trait Writer<C: Context> {
     final fn write_value<T: Writable<C>>(&mut self, item: &T) -> Result<(), C::Error>
     where
         Self: Sized,
-        ensures { Writes C.Error.from_gives T.layout.format (T.seen item.now) result
-            (state self.old) (state self.new) (λ b. appends self.old b self.new) }
+        ensures { WritesValue C.Error.from_gives state appends T.seen T.layout item.now
+            result self.old self.new }
     {
         item.write_to(self)
     }
@@ -246,8 +246,8 @@ pub trait Writer<C: Context> {
     final fn write_slice<T: Writable<C>>(&mut self, slice: &[T]) -> Result<(), C::Error>
     where
         Self: Sized,
-        ensures { WritesEach C.Error.from_gives T.layout.format T.seen slice.now result
-            (state self.old) (state self.new) (λ b. appends self.old b self.new) }
+        ensures { WritesValues C.Error.from_gives state appends T.seen T.layout slice.now
+            result self.old self.new }
     {
         write_items(slice, self)
     }
