@@ -23,7 +23,7 @@ use Rattle.speedy.specs.Reading.{ReaderState, IsTold, IsEnd}
 use Rattle.speedy.specs.Sequences.{sequence}
 use Rattle.speedy.specs.Texts.{raw_bytes, text_of_length, text, text_codec}
 use Rattle.speedy.specs.Tuples.{pair, pair_codec}
-use Rattle.speedy.specs.WaysOfReading.{AnswersBuffer}
+use Rattle.speedy.specs.WaysOfReading.{AnswersBufferIf}
 use Rattle.speedy_examples.specs.Callers.{itself, IsFailure}
 
 -- a message, as its layout sees it, and its format
@@ -72,8 +72,8 @@ lent_message_names kind (inr (n, inr (count, inr (inr demand)))) = absurd (let n
 -- which kinds a message is refused with whose text is borrowed from the bytes
 pub message_kind : {A : Type 0} {seen : A → Message} {count : ℕ} {bytes : List ℕ} (result : Result A Error)
     → (let encoding = plain_encoding LittleEndian in
-    AnswersBuffer itself is_eof_error seen 6 (pair (unsigned_number 2 encoding) (borrowed_content (text encoding)))
-    result count bytes)
+    let format = pair (unsigned_number 2 encoding) (borrowed_content (text encoding)) in
+    AnswersBufferIf itself is_eof_error (Unit {0}) format.names seen 6 format result count bytes)
     → IfErr result (λ e. (e ≡ error_of kinds.InvalidUtf8)
     ⊎ ((e ≡ error_of kinds.UnexpectedEndOfInput) ⊎ (e ≡ error_of (kinds.InputBufferIsTooSmall (length bytes) 6))))
 unfolding sequence unsigned_number text text_of_length raw_bytes coding owned_content borrowed_content

@@ -18,7 +18,7 @@ use Rattle.speedy.specs.Laws.{Laws}
 use Rattle.speedy.specs.Lists.{each_append, each_size}
 use Rattle.speedy.specs.Reading.{ReaderKind, ReaderState, IsTold}
 use Rattle.speedy.specs.Tuples.{unit}
-use Rattle.speedy.specs.WaysOfReading.{WantsMemory, AnswersStream}
+use Rattle.speedy.specs.WaysOfReading.{WantsMemory, AnswersStreamIn}
 use Rattle.speedy_examples.proofs.Messages.{Message, message, message_in, message_laws, told_message}
 use Rattle.speedy_examples.proofs.NextLemmas.{NextRefused}
 use Rattle.speedy_examples.specs.Callers.{itself, IsFailure}
@@ -26,7 +26,7 @@ use Rattle.speedy_examples.specs.Callers.{itself, IsFailure}
 -- a value of no bytes leaves the source as it was
 pub nothing_taken : {E A : Type 0} {gives : Error → E → Type 0} {eof : E → Bool}
     {seen : A → Unit {0}} {buffers : Bool} (result : Result A E)
-    {old new : SourceState} → AnswersStream gives eof seen unit buffers result old new → OnOk result (new ≡ old)
+    {old new : SourceState} → AnswersStreamIn gives eof seen unit buffers result old new → OnOk result (new ≡ old)
 unfolding unit
 nothing_taken (Ok x) a = a.value.untouched a.value.front_is
 nothing_taken (Err e) a = tt

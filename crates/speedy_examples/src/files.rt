@@ -15,9 +15,8 @@ use std::fs::{File, Files, OpenOptions};
 /// Puts a record behind all that the sink has taken, and sees that none of it waits.
 pub fn put_record<S: Sink>(alloc: Global, sink: &mut S, entry: &(u16, String)) -> Result<(), Error>
     ensures { let it = ⟦<(u16, String) as Layout>⟧ in
-        let format = it.layout.format (plain_encoding Endianness.LittleEndian) in
-        WritesAndFlushes ⟦<Error as From<Error>>⟧.from_gives format (it.seen entry.now) result
-        (S.sink sink.old) (S.sink sink.new) }
+        WritesAndFlushes ⟦<Error as From<Error>>⟧.from_gives S.sink it.seen it.layout
+        (plain_encoding Endianness.LittleEndian) entry.now result sink.old sink.new }
 {
     write_to_stream_and_flush_with_ctx(entry, alloc, LittleEndian {}, sink)
 }
@@ -30,8 +29,8 @@ pub fn append_record<R: Files>(
     entry: &(u16, String),
 ) -> Result<(), Error>
     ensures { let it = ⟦<(u16, String) as Layout>⟧ in
-        let format = it.layout.format (plain_encoding Endianness.LittleEndian) in
-        WritesToFile ⟦<Error as From<Error>>⟧.from_gives format (it.seen entry.now) result }
+        WritesToFile ⟦<Error as From<Error>>⟧.from_gives it.seen it.layout
+        (plain_encoding Endianness.LittleEndian) entry.now result }
 {
     match OpenOptions::new().append(true).create(true).open(rt, path) {
         Ok(file) => put_record(alloc, &mut Counted::new(file), entry),

@@ -5,12 +5,12 @@ ghost use Rattle.speedy.specs.Codecs.{constant_codec, pair_codec, unsigned_codec
 ghost use Rattle.speedy.specs.Encoding.{plain_encoding};
 ghost use Rattle.speedy.specs.Error.{is_eof_error};
 ghost use Rattle.speedy.specs.Format.{Each};
-ghost use Rattle.speedy.specs.UntilEnd.{ReadsUntilEnd};
+ghost use Rattle.speedy.specs.UntilEnd.{ReadsValuesUntilEnd};
 
 use speedy::private::{read_constant, read_length_u64_varint, write_length_u64_varint};
 use speedy::readable::BufferReader;
 use speedy::{
-    Context, Endianness, Error, ItemByItem, Layout, LendingReader, LittleEndian, ReadFrom,
+    Context, Endianness, Error, IsEof, ItemByItem, Layout, LendingReader, LittleEndian, ReadFrom,
     Writable, Writer,
 };
 use std::alloc::Global;
@@ -76,9 +76,8 @@ pub fn read_log(alloc: Global, bytes: &[u8], greatest: usize) -> Result<Vec<(u16
     // No record begins the rest, and an error says why there are no records.
     ensures until_end { let it = ⟦<(u16, String) as Layout>⟧ in
         let encoding = plain_encoding Endianness.LittleEndian in
-        (left : List ℕ) × ReadsUntilEnd ⟦<Error as From<Error>>⟧.from_gives is_eof_error it.seen
-        (λ items records. records.items ≡ items) (it.layout.format encoding) greatest result
-        (bytes_state bytes.now encoding) (bytes_state left encoding) }
+        (left : List ℕ) × ReadsValuesUntilEnd ⟦<Error as IsEof>⟧ (λ b. bytes_state b encoding) it.seen
+        (λ items records. records.items ≡ items) it.layout greatest result bytes.now left }
 {
     let mut reader = BufferReader::new(alloc, LittleEndian {}, bytes);
     reader.read_vec_until_eof(greatest)

@@ -1,10 +1,11 @@
 //! Values in memory.
 ghost use Rattle.std.specs.Prelude.{◌≡◌, ◌<◌, ◌≤◌, ◌-◌, ◌^◌, ◌++◌, ℕ, List, length as count, map, IsTrue, IfOk, IfErr, IsOkUnless};
+ghost use Rattle.speedy.specs.Codecs.{vector_codec};
 ghost use Rattle.speedy.specs.Encoding.{plain_encoding, strict_encoding};
-ghost use Rattle.speedy.specs.Error.{error_of, is_eof_error};
+ghost use Rattle.speedy.specs.Error.{error_of};
 ghost use Rattle.speedy.specs.Format.{Each};
 ghost use Rattle.speedy.specs.Lists.{vector};
-ghost use Rattle.speedy.specs.Reading.{Reads};
+ghost use Rattle.speedy.specs.Reading.{ReadsValue};
 ghost use Rattle.speedy.specs.RoundTrip.{ReadsWritten};
 ghost use Rattle.speedy.specs.WaysOfReading.{AnswersBuffer};
 ghost use Rattle.speedy_examples.specs.Callers.{HasEncoding, HasFront};
@@ -14,7 +15,7 @@ use speedy::laws::{
 };
 use speedy::private::ErrorKind;
 use speedy::{
-    Buffer, Context, Endianness, Error, Layout, LendingReader, ReadFrom, ReadMany, Readable,
+    Buffer, Context, Endianness, Error, IsEof, Layout, LendingReader, ReadFrom, ReadMany, Readable,
     ReadableOwned, StrictLittleEndian, Writable,
 };
 use std::alloc::Global;
@@ -78,8 +79,8 @@ pub fn load<L: Buffer<Endianness>, T: ReadFrom<L, Endianness>>(
     order: Endianness,
     bytes: L,
 ) -> Result<T, Error>
-    ensures { (size : ℕ) × AnswersBuffer ⟦<Error as From<Error>>⟧.from_gives is_eof_error T.seen T.layout.least
-        (T.layout.format (plain_encoding order)) result size (L.items bytes) }
+    ensures { (size : ℕ) × AnswersBuffer ⟦<Error as IsEof>⟧ T.seen T.layout (plain_encoding order)
+        result size (L.items bytes) }
 {
     bytes.read_front(alloc, order)
 }
@@ -90,14 +91,13 @@ pub fn read_slice<L: AsSlice<u8> + Drop, C: Context, R: LendingReader<L, C>, T: 
     reader: &mut R,
     length: usize,
 ) -> Result<Vec<T>, C::Error>
-    ensures reads { let format = vector length (T.layout.format (R.state reader.old).encoding) in
-        Reads C.Error.from_gives C.Error.eof (λ v. map T.seen v.items) format result
-        (R.state reader.old) (R.state reader.new) }
+    ensures reads { ReadsValue C.Error.IsEof R.state (λ v. map T.seen v.items)
+        (vector_codec length T.layout) result reader.old reader.new }
     ensures written { let before = R.state reader.old in
         (items : List T.Seen) (bytes rest : List ℕ) →
         Each (T.layout.format before.encoding).writes items bytes → length ≡ count items
         → IsTrue before.fixed.tells → before.to_come ≡ bytes ++ rest
-        → ReadsWritten C.Error.from_gives C.Error.eof (λ v. map T.seen v.items)
+        → ReadsWritten C.Error.from_gives (λ v. map T.seen v.items)
         (vector length (T.layout.format before.encoding)) items rest result before (R.state reader.new) }
 {
     written_items_are_read::<T, C>();

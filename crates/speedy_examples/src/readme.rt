@@ -1,6 +1,6 @@
 //! The example of the README.
 ghost use Rattle.std.specs.Prelude.{◌≡◌, ◌<◌, ◌^◌, ℕ, length, false, IfOk, IsOkUnless};
-ghost use Rattle.speedy.specs.Error.{error_of, is_eof_error};
+ghost use Rattle.speedy.specs.Error.{error_of};
 ghost use Rattle.speedy.specs.declared.error.ErrorKind.TheVariants.{OutOfMemory};
 ghost use Rattle.std.specs.Prelude.{◌⊎◌, IfErr};
 ghost use Rattle.speedy.specs.declared.error.ErrorKind.TheVariants as kinds;
@@ -9,7 +9,7 @@ ghost use Rattle.speedy.specs.WaysOfReading.{AnswersBuffer, AnswersStream};
 
 use speedy::device::Source;
 use speedy::laws::written_is_answered;
-use speedy::{Endianness, Error, Layout, LittleEndian, Readable, Writable};
+use speedy::{Endianness, Error, IsEof, Layout, LittleEndian, Readable, Writable};
 use std::alloc::Global;
 
 /// Writes numbers in the big byte order, and reads them again.
@@ -27,9 +27,8 @@ pub fn round_trip(alloc: Global, numbers: &Vec<u16>) -> Result<Vec<u16>, Error>
 /// that of the bytes, where it lies.
 pub fn parse_message<'a>(alloc: Global, bytes: &'a [u8]) -> Result<(u16, &'a str), Error>
     ensures answers { let it = ⟦<(u16, &'a str) as Layout>⟧ in
-        let format = it.layout.format (plain_encoding Endianness.LittleEndian) in
-        (size : ℕ) × AnswersBuffer ⟦<Error as From<Error>>⟧.from_gives is_eof_error it.seen it.layout.least
-        format result size bytes.now }
+        (size : ℕ) × AnswersBuffer ⟦<Error as IsEof>⟧ it.seen it.layout
+        (plain_encoding Endianness.LittleEndian) result size bytes.now }
     // The text is no UTF-8, or the bytes are too few.
     ensures kind { IfErr result (λ e. (e ≡ error_of kinds.InvalidUtf8)
         ⊎ ((e ≡ error_of kinds.UnexpectedEndOfInput)
@@ -42,9 +41,8 @@ pub fn parse_message<'a>(alloc: Global, bytes: &'a [u8]) -> Result<(u16, &'a str
 /// that of a failed call of the source, or means that no prefix of its bytes encodes a message.
 pub fn next_message<S: Source>(alloc: Global, source: &mut S) -> Result<(u16, String), Error>
     ensures { let it = ⟦<(u16, String) as Layout>⟧ in
-        let format = it.layout.format (plain_encoding Endianness.LittleEndian) in
-        AnswersStream ⟦<Error as From<Error>>⟧.from_gives is_eof_error it.seen format false
-        result (S.source source.old) (S.source source.new) }
+        AnswersStream ⟦<Error as IsEof>⟧ S.source it.seen it.layout
+        (plain_encoding Endianness.LittleEndian) false result source.old source.new }
 {
     <(u16, String) as Readable<LittleEndian>>::read_from_stream_unbuffered(alloc, source)
 }

@@ -13,7 +13,7 @@ use speedy::device::{Source, VecSink};
 use speedy::laws::{written_is_answered, written_is_streamed};
 use speedy::private::{ErrorKind, error_out_of_range_length, get_error_kind};
 use speedy::readable::StreamReader;
-use speedy::{Endianness, Error, Layout, LendingReader, LittleEndian, Readable, Writable};
+use speedy::{Endianness, Error, IsEof, Layout, LendingReader, LittleEndian, Readable, Writable};
 use std::alloc::Global;
 use std::convert::AsSlice;
 
@@ -41,9 +41,8 @@ pub fn again_through_a_sink(
 /// that of a failed call of the source, or means that no prefix of its bytes encodes a message.
 pub fn next_message<S: Source>(alloc: Global, source: &mut S) -> Result<(u16, String), Error>
     ensures { let it = ⟦<(u16, String) as Layout>⟧ in
-        let format = it.layout.format (plain_encoding Endianness.LittleEndian) in
-        AnswersStream ⟦<Error as From<Error>>⟧.from_gives is_eof_error it.seen format false
-        result (S.source source.old) (S.source source.new) }
+        AnswersStream ⟦<Error as IsEof>⟧ S.source it.seen it.layout
+        (plain_encoding Endianness.LittleEndian) false result source.old source.new }
 {
     <(u16, String) as Readable<LittleEndian>>::read_from_stream_unbuffered(alloc, source)
 }

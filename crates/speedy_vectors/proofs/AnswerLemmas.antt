@@ -9,7 +9,7 @@ use Rattle.speedy.specs.Error.{IsNamed, kind_of, error_of, is_eof_error}
 use Rattle.speedy.specs.ErrorKind.{EndsInput}
 use Rattle.speedy.specs.Format.{Format}
 use Rattle.speedy.specs.Reading.{IsEnd}
-use Rattle.speedy.specs.WaysOfReading.{AnswersBuffer, RefusesBufferIf}
+use Rattle.speedy.specs.WaysOfReading.{AnswersBufferIf, RefusesBufferIf}
 use Rattle.speedy_vectors.specs.Answer.{refused_text, AnswersBytes, AnswersRefusal}
 
 module _ {A V : Type 0} (seen : A → V) (least : ℕ) (L : Format V) (e : Error) (count : ℕ) (bytes answer : List ℕ) where
@@ -36,7 +36,10 @@ module _ {A V : Type 0} (seen : A → V) (least : ℕ) (L : Format V) (e : Error
   }
 
   -- bytes that are refused, but for want of memory, are answered so
-  pub refusal_answers : AnswersBuffer (λ (x : Error) (y : Error). y ≡ x) is_eof_error seen least L (Err e) count bytes → (kind_of e ≡ kinds.OutOfMemory → ⊥) → answer ≡ refused_text (kind_of e) → AnswersBytes least L bytes answer
+  pub refusal_answers :
+      AnswersBufferIf (λ (x : Error) (y : Error). y ≡ x) is_eof_error (Unit {0}) L.names seen least L
+      (Err e) count bytes
+      → (kind_of e ≡ kinds.OutOfMemory → ⊥) → answer ≡ refused_text (kind_of e) → AnswersBytes least L bytes answer
   refusal_answers h memory is =
       elim (cases_lt (length bytes) least) [
         | inl few ↦ inl (record { fewer = few; answer_is = is ∙ ap refused_text (ap kind_of (h.too_small few).0) })

@@ -13,7 +13,7 @@ use Rattle.speedy.specs.Lists.{list, vector, repeat}
 use Rattle.speedy.specs.Numbers.{unsigned_number}
 use Rattle.speedy.specs.Owned.{owned_content}
 use Rattle.speedy.specs.Sequences.{sequence}
-use Rattle.speedy.specs.WaysOfWriting.{Needs}
+use Rattle.speedy.specs.WaysOfWriting.{NeedsIn}
 use Rattle.speedy.specs.Levels.{no_value, levels}
 use Rattle.speedy_vectors.specs.Trees.{Rose, node, Forest, no_trees, with_tree, depth, depths, FitsDigits, EachFitsDigits, trees_of, tree_levels, tree_laws}
 
@@ -50,7 +50,7 @@ names_one (suc n) encoding kind (inr (value, inr (count, h))) = names_one n enco
 
 -- one of more levels needs no bytes, and is refused
 pub deep_refused : {E : Type 0} {gives : Error → E → Type 0} (n : ℕ) (encoding : Encoding) (r : Rose) {result : Result ℕ E} → n < depth r
-    → Needs gives (tree_levels n encoding) r result → IsErrAnd result (λ e. gives (error_of kinds.OutOfRangeLength) e)
+    → NeedsIn gives (tree_levels n encoding) r result → IsErrAnd result (λ e. gives (error_of kinds.OutOfRangeLength) e)
 deep_refused n encoding r {result = Ok size} deep needs =
     let w = needs.written in
     let least = spelled_within n encoding r w.0 ((tree_laws n encoding).written_spells r w.0 w.1) in

@@ -2,12 +2,8 @@
 ghost use Rattle.std.specs.Prelude.{◌≡◌, ℕ, List, codes, map};
 ghost use Rattle.speedy.specs.Codecs.{constant_codec, counted_list_codec, counted_text_codec, pair_codec};
 ghost use Rattle.speedy.specs.Codecs.{unsigned_codec, varint_codec};
-ghost use Rattle.speedy.specs.Lists.{counted_list};
-ghost use Rattle.speedy.specs.Numbers.{unsigned_number};
-ghost use Rattle.speedy.specs.Reading.{Reads};
-ghost use Rattle.speedy.specs.Texts.{counted_text};
-ghost use Rattle.speedy.specs.Varint.{varint};
-ghost use Rattle.speedy.specs.Writing.{Writes};
+ghost use Rattle.speedy.specs.Reading.{ReadsValue};
+ghost use Rattle.speedy.specs.Writing.{WritesValue};
 
 use speedy::private::{
     read_constant, read_length_u8, read_length_u64_varint, write_length_u8, write_length_u64_varint,
@@ -40,9 +36,8 @@ impl Layout for Frame {
 fn read_parts<L: AsSlice<u8> + Drop, C: Context, R: LendingReader<L, C>>(
     reader: &mut R,
 ) -> Result<Vec<VarInt64>, C::Error>
-    ensures { let number = varint (R.state reader.old).encoding in
-        Reads C.Error.from_gives C.Error.eof ⟦<Vec<VarInt64> as Layout>⟧.seen (counted_list number number) result
-        (R.state reader.old) (R.state reader.new) }
+    ensures { ReadsValue C.Error.IsEof R.state ⟦<Vec<VarInt64> as Layout>⟧.seen
+        (counted_list_codec varint_codec varint_codec) result reader.old reader.new }
 {
     let count = read_length_u64_varint(reader)?;
     reader.read_vec(count)
@@ -52,9 +47,8 @@ fn read_parts<L: AsSlice<u8> + Drop, C: Context, R: LendingReader<L, C>>(
 fn read_note<L: AsSlice<u8> + Drop, C: Context, R: LendingReader<L, C>>(
     reader: &mut R,
 ) -> Result<String, C::Error>
-    ensures { let encoding = (R.state reader.old).encoding in
-        Reads C.Error.from_gives C.Error.eof ⟦<String as Layout>⟧.seen (counted_text encoding (unsigned_number 1 encoding)) result
-        (R.state reader.old) (R.state reader.new) }
+    ensures { ReadsValue C.Error.IsEof R.state ⟦<String as Layout>⟧.seen
+        (counted_text_codec (unsigned_codec 1)) result reader.old reader.new }
 {
     let length = read_length_u8(reader)?;
     reader.read_string(length)
@@ -77,8 +71,8 @@ impl<L: AsSlice<u8> + Drop, C: Context> ReadFrom<L, C> for Frame {
 
 // The parts, behind their number.
 fn write_parts<C: Context, W: Writer<C>>(parts: &[VarInt64], writer: &mut W) -> Result<(), C::Error>
-    ensures { Writes C.Error.from_gives (λ f. counted_list (varint f) (varint f)) (map ⟦<VarInt64 as Layout>⟧.seen parts.now) result
-        (W.state writer.old) (W.state writer.new) (λ b. W.appends writer.old b writer.new) }
+    ensures { WritesValue C.Error.from_gives W.state W.appends (map ⟦<VarInt64 as Layout>⟧.seen)
+        (counted_list_codec varint_codec varint_codec) parts.now result writer.old writer.new }
 {
     write_length_u64_varint(parts.len(), writer)?;
     writer.write_slice(parts)
@@ -86,8 +80,8 @@ fn write_parts<C: Context, W: Writer<C>>(parts: &[VarInt64], writer: &mut W) -> 
 
 // The note, behind its number of bytes.
 fn write_note<C: Context, W: Writer<C>>(note: &str, writer: &mut W) -> Result<(), C::Error>
-    ensures { Writes C.Error.from_gives (λ f. counted_text f (unsigned_number 1 f)) note.now result
-        (W.state writer.old) (W.state writer.new) (λ b. W.appends writer.old b writer.new) }
+    ensures { WritesValue C.Error.from_gives W.state W.appends (λ t. t)
+        (counted_text_codec (unsigned_codec 1)) note.now result writer.old writer.new }
 {
     let bytes = note.as_bytes();
     write_length_u8(bytes.len(), writer)?;

@@ -1,8 +1,8 @@
 //! A tree of a value and children, with a bound on its depth: a recursive type of one's own.
 ghost use Rattle.std.specs.Prelude.{map};
 ghost use Rattle.speedy.specs.Lists.{vector};
-ghost use Rattle.speedy.specs.Reading.{Reads};
-ghost use Rattle.speedy.specs.Writing.{Writes, WritesEach};
+ghost use Rattle.speedy.specs.Reading.{ReadsAs};
+ghost use Rattle.speedy.specs.Writing.{WritesAs, WritesEach};
 ghost use Rattle.speedy_vectors.specs.Trees.{Rose, view, tree_format, tree_levels, tree_laws};
 
 pub mod bounds;
@@ -57,9 +57,7 @@ fn read_levels<L: AsSlice<u8> + Drop, C: Context, R: LendingReader<L, C>>(
     reader: &mut R,
     levels: usize,
 ) -> Result<Tree, C::Error>
-    ensures { Reads C.Error.from_gives C.Error.eof view
-        (tree_levels levels (R.state reader.old).encoding) result
-        (R.state reader.old) (R.state reader.new) }
+    ensures { ReadsAs C.Error.IsEof R.state view (tree_levels levels) result reader.old reader.new }
 {
     if levels == 0 {
         return Err(error_out_of_range_length());
@@ -78,9 +76,8 @@ fn read_children<L: AsSlice<u8> + Drop, C: Context, R: LendingReader<L, C>>(
     length: usize,
     levels: usize,
 ) -> Result<Vec<Tree>, C::Error>
-    ensures { Reads C.Error.from_gives C.Error.eof (λ children. map view children.items)
-        (vector length (tree_levels levels (R.state reader.old).encoding)) result
-        (R.state reader.old) (R.state reader.new) }
+    ensures { ReadsAs C.Error.IsEof R.state (λ children. map view children.items)
+        (λ f. vector length (tree_levels levels f)) result reader.old reader.new }
 {
     let mut children = Vec::new(reader.alloc());
     for i in 0..length {
@@ -100,8 +97,8 @@ fn write_levels<C: Context, W: Writer<C>>(
     writer: &mut W,
     levels: usize,
 ) -> Result<(), C::Error>
-    ensures { Writes C.Error.from_gives (tree_levels levels) (view tree.now) result
-        (W.state writer.old) (W.state writer.new) (λ b. W.appends writer.old b writer.new) }
+    ensures { WritesAs C.Error.from_gives W.state W.appends view (tree_levels levels) tree.now
+        result writer.old writer.new }
 {
     if levels == 0 {
         return Err(error_out_of_range_length());

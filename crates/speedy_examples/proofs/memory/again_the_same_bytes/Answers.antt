@@ -10,14 +10,16 @@ use Rattle.speedy.specs.Numbers.{unsigned_number}
 use Rattle.speedy.specs.Sequences.{sequence}
 use Rattle.speedy.specs.Texts.{text}
 use Rattle.speedy.specs.Tuples.{unit}
-use Rattle.speedy.specs.WaysOfReading.{AnswersBuffer}
+use Rattle.speedy.specs.WaysOfReading.{AnswersBufferIf}
 use Rattle.speedy_examples.specs.Callers.{HasFront, itself}
 use Rattle.speedy_examples.proofs.memory.again_the_same_bytes.Goals as goal
 
 -- bytes that begin with an encoding are refused only for want of memory
 only_memory : {A V : Type 0} {seen : A → V} {least : ℕ} {L : Format V} {e : Error} {count : ℕ} {bytes : List ℕ}
     → ((v : V) (front : List ℕ) → L.spells v front → least ≤ length front) → HasFront L bytes
-    → (let refused : Result A Error = Err e in AnswersBuffer itself is_eof_error seen least L refused count bytes) → e ≡ error_of kinds.OutOfMemory
+    → (let refused : Result A Error = Err e in
+    AnswersBufferIf itself is_eof_error (Unit {0}) L.names seen least L refused count bytes)
+    → e ≡ error_of kinds.OutOfMemory
 only_memory above (v, front, rest, spelled, whole) answers =
     let size = ap length whole ∙ length-append front rest in
     let enough = above v front spelled in
