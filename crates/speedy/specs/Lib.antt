@@ -13,7 +13,7 @@ pub use Rattle.speedy_base.specs.Signed
 pub use Rattle.speedy_base.specs.SignedLemmas
 pub use Rattle.speedy_layout.specs.Adding
 pub use Rattle.speedy_layout.specs.Addresses
-pub use Rattle.speedy_layout.specs.Cases
+pub use Rattle.speedy_layout.specs.Choices
 pub use Rattle.speedy_layout.specs.Codecs
 pub use Rattle.speedy_layout.specs.Codes
 pub use Rattle.speedy_layout.specs.Collecting
@@ -35,14 +35,13 @@ pub use Rattle.speedy_layout.specs.Maps
 pub use Rattle.speedy_layout.specs.Members
 pub use Rattle.speedy_layout.specs.NonZero
 pub use Rattle.speedy_layout.specs.Numbers
-pub use Rattle.speedy_layout.specs.OneOf
 pub use Rattle.speedy_layout.specs.Orders
 pub use Rattle.speedy_layout.specs.Owned
 pub use Rattle.speedy_layout.specs.EqualityOfMaps
 pub use Rattle.speedy_layout.specs.SeenItems
+pub use Rattle.speedy_layout.specs.Prefixed
 pub use Rattle.speedy_layout.specs.Sequences
 pub use Rattle.speedy_layout.specs.Sets
-pub use Rattle.speedy_layout.specs.Tags
 pub use Rattle.speedy_layout.specs.Texts
 pub use Rattle.speedy_layout.specs.Tuples
 pub use Rattle.speedy_layout.specs.Utf8
@@ -51,7 +50,6 @@ pub use Rattle.speedy_layout.specs.ViewIters
 pub use Rattle.speedy_layout.specs.Views
 pub use Rattle.speedy_layout.specs.Zigzag
 pub use Rattle.speedy_read.specs.Buffers
-pub use Rattle.speedy_read.specs.Cases as ReadCases
 pub use Rattle.speedy_read.specs.Codes as ReadCodes
 pub use Rattle.speedy_read.specs.Collections as ReadCollections
 pub use Rattle.speedy_read.specs.Counted as ReadCounted
@@ -59,6 +57,7 @@ pub use Rattle.speedy_read.specs.CopyingModel
 pub use Rattle.speedy_read.specs.Flags as ReadFlags
 pub use Rattle.speedy_read.specs.Lending
 pub use Rattle.speedy_read.specs.OwnedModel
+pub use Rattle.speedy_read.specs.Prefixed as ReadPrefixed
 pub use Rattle.speedy_read.specs.Reading
 pub use Rattle.speedy_read.specs.ReadingLemmas
 pub use Rattle.speedy_read.specs.RoundTrip
@@ -68,7 +67,6 @@ pub use Rattle.speedy_read.specs.Streams
 pub use Rattle.speedy_read.specs.UntilEnd
 pub use Rattle.speedy_read.specs.WaysOfReading
 pub use Rattle.speedy_read.proofs.ListLemmas as ReadItems
-pub use Rattle.speedy_write.specs.Cases as WriteCases
 pub use Rattle.speedy_write.specs.Codes as WriteCodes
 pub use Rattle.speedy_write.specs.Collections as WriteCollections
 pub use Rattle.speedy_write.specs.CollectorLemmas
@@ -79,6 +77,7 @@ pub use Rattle.speedy_write.specs.Counting
 pub use Rattle.speedy_write.specs.FixedBytes
 pub use Rattle.speedy_write.specs.Gathering as WriteGathering
 pub use Rattle.speedy_write.specs.Lengths
+pub use Rattle.speedy_write.specs.Prefixed as WritePrefixed
 pub use Rattle.speedy_write.specs.Pushing
 pub use Rattle.speedy_write.specs.Sequences as WriteSequences
 pub use Rattle.speedy_write.specs.WaysOfWriting

@@ -8,9 +8,11 @@
 
 #[cfg(test)]
 mod asserting;
+pub mod cases;
 pub mod ext;
 pub mod laws;
 pub mod layout;
+pub mod prefixed;
 pub mod private;
 pub mod readable_impl;
 pub mod readable_unsized_impl;
@@ -37,6 +39,8 @@ mod tests_maps;
 mod tests_numbers;
 #[cfg(test)]
 mod tests_owned;
+#[cfg(test)]
+mod tests_prefixed;
 #[cfg(test)]
 mod tests_ranges;
 #[cfg(test)]
@@ -65,7 +69,7 @@ pub use readable::{ReadFrom, ReadMany, Readable, ReadableOwned};
 pub use reader::{LendingReader, Reader};
 pub use same_key::SameKey;
 pub use speedy_base::{circular_buffer, context, device, endianness, error};
-pub use speedy_layout::{one_of, same_key, tag, varint, view_items, views};
+pub use speedy_layout::{magic, same_key, varint, view_items, views};
 pub use speedy_read::{buffer, collections, lent, many, readable};
 pub use speedy_write::{part, writable, writer};
 pub use writable::Writable;

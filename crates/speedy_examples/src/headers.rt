@@ -1,23 +1,21 @@
 //! A fixed header: a magic number, a version, and a length.
 ghost use Rattle.std.specs.Prelude.{◌≡◌, ◌<◌, ◌++◌, ℕ, List, codes, length, map, IfOk, OnOk, IsErrAnd, IsTrue};
 ghost use Rattle.speedy.specs.Buffers.{bytes_state};
-ghost use Rattle.speedy.specs.Codecs.{constant_codec, pair_codec, unsigned_codec, varint_codec};
 ghost use Rattle.speedy.specs.Encoding.{plain_encoding};
 ghost use Rattle.speedy.specs.Error.{is_eof_error};
 ghost use Rattle.speedy.specs.Format.{Each};
 ghost use Rattle.speedy.specs.UntilEnd.{ReadsValuesUntilEnd};
 
-use speedy::private::{read_constant, read_length_u64_varint, write_length_u64_varint};
+use speedy::magic::{Constant, Magic};
+use speedy::private::read_constant;
 use speedy::readable::BufferReader;
+use speedy::varint::VarInt64;
 use speedy::{
     Context, Endianness, Error, IsEof, ItemByItem, Layout, LendingReader, LittleEndian, ReadFrom,
     Writable, Writer,
 };
 use std::alloc::Global;
 use std::convert::AsSlice;
-
-/// What a header begins with.
-const MAGIC: &'static [u8] = b"REC1";
 
 /// What stands in front of a body: a magic number, the version of its layout, and the number of its bytes.
 #[derive(Debug, PartialEq, Drop)]
@@ -26,34 +24,48 @@ pub struct Header {
     pub length: usize,
 }
 
+/// What a header begins with.
+#[derive(Drop)]
+pub struct Start {}
+
+impl Constant for Start {
+    ghost bytes = { codes "REC1" };
+
+    fn bytes() -> &'static [u8] {
+        b"REC1"
+    }
+}
+
+type Parts = (Magic<Start>, u16, VarInt64);
+
 impl Layout for Header {
-    ghost Seen = { List ℕ × (ℕ × ℕ) };
+    ghost Seen = { ⟦<Parts as Layout>⟧.Seen };
 
-    ghost seen = { λ header. (codes "REC1", (header.version, header.length)) };
+    ghost seen = { λ it. (codes "REC1", (it.version, it.length)) };
 
-    ghost layout = { pair_codec (constant_codec (codes "REC1")) (pair_codec (unsigned_codec 2) varint_codec) };
+    ghost layout = { ⟦<Parts as Layout>⟧.layout };
 }
 
 impl<L: AsSlice<u8> + Drop, C: Context> ReadFrom<L, C> for Header {
     type Strategy = ItemByItem<C>;
 
     fn read_from<R: LendingReader<L, C>>(reader: &mut R) -> Result<Header, C::Error> {
-        read_constant(reader, MAGIC)?;
-        let version = reader.read_u16()?;
-        let length = read_length_u64_varint(reader)?;
-        Ok(Header { version, length })
+        let (_, version, length): Parts = reader.read_value()?;
+        Ok(Header {
+            version,
+            length: length.get() as usize,
+        })
     }
 
     fn minimum_bytes_needed() -> usize {
-        7
+        <Parts as ReadFrom<L, C>>::minimum_bytes_needed()
     }
 }
 
 impl<C: Context> Writable<C> for Header {
     fn write_to<W: Writer<C>>(&self, writer: &mut W) -> Result<(), C::Error> {
-        writer.write_bytes(MAGIC)?;
-        writer.write_u16(self.version)?;
-        write_length_u64_varint(self.length, writer)
+        let length = VarInt64::from(self.length as u64);
+        writer.write_value(&(Magic::<Start>::new(), self.version, length))
     }
 }
 
@@ -64,7 +76,7 @@ pub fn begins_header(alloc: Global, bytes: &[u8]) -> Result<(), Error>
     ensures fewer { length bytes.now < 4 → IsErrAnd result (λ e. IsTrue (is_eof_error e)) }
 {
     let mut reader = BufferReader::new(alloc, LittleEndian {}, bytes);
-    read_constant(&mut reader, MAGIC)
+    read_constant(&mut reader, b"REC1")
 }
 
 /// The records of a log, at most so many, without a last one that was cut short.

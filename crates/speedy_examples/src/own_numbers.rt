@@ -1,11 +1,9 @@
-//! Enums whose tags are numbers of their own, in one byte: one without parts, and one with.
-ghost use Rattle.std.specs.Prelude.{◌≡◌, ◌⊎◌, ℕ};
-ghost use Rattle.speedy.specs.Codecs.{subset_codec, tagged_codec, unsigned_codec};
-ghost use Rattle.speedy.specs.declared.error.ErrorKind.TheVariants.{InvalidEnumVariant};
-ghost use Rattle.speedy.specs.declared.one_of.OneOf3.{OneOf3};
-ghost use Rattle.speedy_examples.specs.Packets.{Packets, chosen};
+//! Enums whose tags are numbers of their own, in one byte: one without parts, and one with. Both are proved with no answer.
+ghost use Rattle.std.proofs.Common.{inl, inr};
 
-use speedy::private::error_invalid_enum_variant;
+use speedy::cases::Either::{Left, Right};
+use speedy::cases::{Case, Either};
+use speedy::prefixed::{Prefixed, WriteTold};
 use speedy::{Context, ItemByItem, Layout, LendingReader, Part, ReadFrom, Writable, Writer};
 use std::convert::AsSlice;
 
@@ -17,25 +15,27 @@ pub enum Colour {
     Blue,
 }
 
+type Colours = Either<Case<1, ()>, Either<Case<5, ()>, Case<9, ()>>>;
+
 impl Layout for Colour {
     ghost use Rattle.speedy_examples.specs.declared.own_numbers.Colour.{Colour};
 
-    ghost Seen = { ℕ };
+    ghost Seen = { ⟦<Prefixed<u8, Colours> as Layout>⟧.Seen };
 
-    ghost seen = { λ e. elim e [ Colour.Red ↦ 1 | Colour.Green ↦ 5 | Colour.Blue ↦ 9 ] };
+    ghost seen = { λ e. elim e [ Colour.Red ↦ inl tt | Colour.Green ↦ inr (inl tt) | Colour.Blue ↦ inr (inr tt) ] };
 
-    ghost layout = { subset_codec (λ n. (n ≡ 1) ⊎ (n ≡ 5) ⊎ (n ≡ 9)) InvalidEnumVariant tt (unsigned_codec 1) };
+    ghost layout = { ⟦<Prefixed<u8, Colours> as Layout>⟧.layout };
 }
 
 impl<L: AsSlice<u8> + Drop, C: Context> ReadFrom<L, C> for Colour {
     type Strategy = ItemByItem<C>;
 
     fn read_from<R: LendingReader<L, C>>(reader: &mut R) -> Result<Colour, C::Error> {
-        match reader.read_u8()? {
-            1 => Ok(Colour::Red),
-            5 => Ok(Colour::Green),
-            9 => Ok(Colour::Blue),
-            _ => Err(error_invalid_enum_variant()),
+        let colour: Prefixed<u8, Colours> = reader.read_value()?;
+        match colour.value {
+            Left(Case(())) => Ok(Colour::Red),
+            Right(Left(Case(()))) => Ok(Colour::Green),
+            Right(Right(Case(()))) => Ok(Colour::Blue),
         }
     }
 
@@ -47,9 +47,9 @@ impl<L: AsSlice<u8> + Drop, C: Context> ReadFrom<L, C> for Colour {
 impl<C: Context> Writable<C> for Colour {
     fn write_to<W: Writer<C>>(&self, writer: &mut W) -> Result<(), C::Error> {
         match self {
-            Colour::Red => writer.write_u8(1),
-            Colour::Green => writer.write_u8(5),
-            Colour::Blue => writer.write_u8(9),
+            Colour::Red => Colours::Left(Case(())).write_behind::<u8, W>(writer),
+            Colour::Green => Colours::Right(Left(Case(()))).write_behind::<u8, W>(writer),
+            Colour::Blue => Colours::Right(Right(Case(()))).write_behind::<u8, W>(writer),
         }
     }
 }
@@ -62,35 +62,31 @@ pub enum Packet {
     Named(String, u32),
 }
 
+type Packets = Either<Case<1, ()>, Either<Case<5, Vec<u8>>, Case<9, (String, u32)>>>;
+
 impl Layout for Packet {
     ghost use Rattle.speedy_examples.specs.declared.own_numbers.Packet.{Packet};
 
-    ghost Seen = { Packets };
+    ghost Seen = { ⟦<Prefixed<u8, Packets> as Layout>⟧.Seen };
 
     ghost seen = { λ p. elim p [
-      | Packet.Ping ↦ OneOf3.First tt
-      | Packet.Data bytes ↦ OneOf3.Second (⟦<Vec<u8> as Layout>⟧.seen bytes)
-      | Packet.Named name count ↦ OneOf3.Third (⟦<(String, u32) as Layout>⟧.seen (name, count))
+      | Packet.Ping ↦ inl tt
+      | Packet.Data bytes ↦ inr (inl (⟦<Vec<u8> as Layout>⟧.seen bytes))
+      | Packet.Named name count ↦ inr (inr (⟦<(String, u32) as Layout>⟧.seen (name, count)))
     ] };
 
-    ghost layout = { tagged_codec chosen };
+    ghost layout = { ⟦<Prefixed<u8, Packets> as Layout>⟧.layout };
 }
 
 impl<L: AsSlice<u8> + Drop, C: Context> ReadFrom<L, C> for Packet {
     type Strategy = ItemByItem<C>;
 
     fn read_from<R: LendingReader<L, C>>(reader: &mut R) -> Result<Packet, C::Error> {
-        match reader.read_u8()? {
-            1 => {
-                reader.read_value::<()>()?;
-                Ok(Packet::Ping)
-            }
-            5 => Ok(Packet::Data(reader.read_value()?)),
-            9 => {
-                let (name, count) = reader.read_value()?;
-                Ok(Packet::Named(name, count))
-            }
-            _ => Err(error_invalid_enum_variant()),
+        let packet: Prefixed<u8, Packets> = reader.read_value()?;
+        match packet.value {
+            Left(Case(())) => Ok(Packet::Ping),
+            Right(Left(Case(bytes))) => Ok(Packet::Data(bytes)),
+            Right(Right(Case((name, count)))) => Ok(Packet::Named(name, count)),
         }
     }
 
@@ -99,12 +95,23 @@ impl<L: AsSlice<u8> + Drop, C: Context> ReadFrom<L, C> for Packet {
     }
 }
 
+/// A packet as it is written, its parts where they lie.
+type Parts<'t> = Either<
+    Case<1, ()>,
+    Either<Case<5, Part<'t, Vec<u8>>>, Case<9, (Part<'t, String>, u32)>>,
+>;
+
 impl<C: Context> Writable<C> for Packet {
     fn write_to<W: Writer<C>>(&self, writer: &mut W) -> Result<(), C::Error> {
         match self {
-            Packet::Ping => writer.write_value(&(1_u8, ())),
-            Packet::Data(bytes) => writer.write_value(&(5_u8, Part(bytes))),
-            Packet::Named(name, count) => writer.write_value(&(9_u8, Part(name), Part(count))),
+            Packet::Ping => Parts::Left(Case(())).write_behind::<u8, W>(writer),
+            Packet::Data(bytes) => Parts::Right(Left(Case(Part(bytes)))).write_behind::<u8, W>(
+                writer,
+            ),
+            Packet::Named(name, count) => Parts::Right(Right(Case((
+                Part(name),
+                *count,
+            )))).write_behind::<u8, W>(writer),
         }
     }
 }

@@ -1,9 +1,9 @@
 //! Types of one's own: bytes that come from outside.
 use crate::own_maps::Directory;
+use crate::own_messages::Message;
 use crate::own_numbers::{Colour, Packet};
 use crate::own_struct::Contact;
 use crate::tests::assert_refused;
-use speedy::one_of::OneOf8;
 use speedy::readable::BufferReader;
 use speedy::{LendingReader, LittleEndian, Writable};
 use std::alloc::Global;
@@ -65,30 +65,18 @@ fn parts_may_stand_behind_tags_of_ones_own(rt: HostRuntime) {
     assert!(rt; again.as_slice() == bytes.as_slice());
 }
 
-/// Which of the eight it is.
-fn place_of(value: &OneOf8<(), (), (), (), (), (), (), ()>) -> u8 {
-    match value {
-        OneOf8::First(()) => 0,
-        OneOf8::Second(()) => 1,
-        OneOf8::Third(()) => 2,
-        OneOf8::Fourth(()) => 3,
-        OneOf8::Fifth(()) => 4,
-        OneOf8::Sixth(()) => 5,
-        OneOf8::Seventh(()) => 6,
-        OneOf8::Eighth(()) => 7,
-    }
-}
-
 #[test]
-fn the_number_of_one_of_eight_is_its_place(rt: HostRuntime) {
+fn an_enum_borrows_behind_tags_of_ones_own(rt: HostRuntime) {
     let alloc = rt.alloc();
-    for place in 0..8_u8 {
-        let bytes = [place, 0, 0, 0];
-        let value = make_reader(alloc, &bytes)
-            .read_value()
-            .expect(&rt, "a value");
-        assert!(rt; place_of(&value) == place);
-        let written = value.write_to_vec_with_ctx(alloc, LittleEndian {});
-        assert!(rt; written.expect(&rt, "bytes").as_slice() == bytes.as_slice());
-    }
+    let bytes = b"\x02\x02\0\0\0Hi\xff\x10\x01\0\0\0a\x07\0\0\0\x04";
+    let mut reader = make_reader(alloc, bytes);
+    let topic: Message<'_> = reader.read_value().expect(&rt, "a message");
+    assert!(rt; topic == Message::Topic("Hi"));
+    let bye: Message<'_> = reader.read_value().expect(&rt, "a message");
+    assert!(rt; bye == Message::Bye);
+    let entry: Message<'_> = reader.read_value().expect(&rt, "a message");
+    let written = Writable::<LittleEndian>::write_to_vec(&entry, alloc).expect(&rt, "bytes");
+    assert!(rt; written.as_slice() == &bytes[8..18]);
+    let outcome = reader.read_value::<Message<'_>>();
+    assert_refused(&rt, alloc, outcome, "InvalidEnumVariant");
 }

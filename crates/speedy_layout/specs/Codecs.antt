@@ -13,7 +13,3 @@ pub use Rattle.speedy_layout.specs.Flags.{flag_codec, option_codec, alternative_
 pub use Rattle.speedy_layout.specs.Lists.{vector_codec, list_codec, counted_list_codec}
 pub use Rattle.speedy_layout.specs.Maps.{tree_map_codec, hash_map_codec, index_map_codec}
 pub use Rattle.speedy_layout.specs.Sets.{tree_set_codec, hash_set_codec, index_set_codec}
-pub use Rattle.speedy_layout.specs.Tags.{tag_codec}
-pub use Rattle.speedy_layout.specs.Cases.{tagged_codec}
-pub use Rattle.speedy_layout.specs.OneOf.{one_of2_codec, one_of3_codec, one_of4_codec, one_of5_codec, one_of6_codec}
-pub use Rattle.speedy_layout.specs.OneOf.{one_of7_codec, one_of8_codec}

@@ -9,9 +9,6 @@ pub mod NonZero
 pub mod Owned
 pub mod Tuples
 pub mod Flags
-pub mod Cases
-pub mod OneOf
-pub mod Tags
 pub mod Lists
 pub mod Members
 pub mod Orders
@@ -35,5 +32,7 @@ pub mod Equality
 pub mod Varint
 pub mod Zigzag
 pub mod Codecs
+pub mod Prefixed
+pub mod Choices
 pub mod Views
 pub mod ViewIters

@@ -1,11 +1,11 @@
 //! The layout of what owns its content or borrows it, and adds no byte to it.
 ghost use Rattle.std.specs.Prelude.{ℕ, List, map};
 ghost use Rattle.std.specs.Cow.{cow_value, cow_slice_items, cow_str_bytes};
-ghost use Rattle.speedy_layout.specs.Lists.{list};
-ghost use Rattle.speedy_layout.specs.Texts.{text};
 ghost use Rattle.speedy_layout.specs.Codecs.{list_codec, text_codec};
+ghost use Rattle.speedy_layout.specs.Prefixed.{list_behind, text_behind};
 
 use crate::layout::Layout;
+use crate::prefixed::Told;
 use std::borrow::{Cow, CowSlice, CowStr};
 
 // It is read as owned, so it needs no reader that lends but for its content.
@@ -17,6 +17,14 @@ impl<'a, T: Layout> Layout for Cow<'a, T> {
     ghost layout = { T.layout };
 }
 
+impl<'a, T: Told> Told for Cow<'a, T> {
+    ghost Seen = { T.Seen };
+
+    ghost seen = { λ c. T.seen (cow_value c) };
+
+    ghost behind = { T.behind };
+}
+
 // It may be read as an owned list, so it too needs a reader that lends only where its items do.
 impl<'a, T: Layout> Layout for CowSlice<'a, T> {
     ghost Seen = { List T.Seen };
@@ -26,6 +34,14 @@ impl<'a, T: Layout> Layout for CowSlice<'a, T> {
     ghost layout = { list_codec T.layout };
 }
 
+impl<'a, T: Layout> Told for CowSlice<'a, T> {
+    ghost Seen = { ⟦<CowSlice<'a, T> as Layout>⟧.Seen };
+
+    ghost seen = { ⟦<CowSlice<'a, T> as Layout>⟧.seen };
+
+    ghost behind = { list_behind T.layout };
+}
+
 // It may be read as an owned text.
 impl<'a> Layout for CowStr<'a> {
     ghost Seen = { List ℕ };
@@ -33,4 +49,12 @@ impl<'a> Layout for CowStr<'a> {
     ghost seen = { cow_str_bytes };
 
     ghost layout = { text_codec };
+}
+
+impl<'a> Told for CowStr<'a> {
+    ghost Seen = { ⟦<CowStr<'a> as Layout>⟧.Seen };
+
+    ghost seen = { ⟦<CowStr<'a> as Layout>⟧.seen };
+
+    ghost behind = { text_behind };
 }

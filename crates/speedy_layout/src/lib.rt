@@ -2,6 +2,7 @@
 #![tactic(auto)]
 
 pub mod addresses;
+pub mod cases;
 pub mod cows;
 pub mod fixed_numbers;
 pub mod flags;
@@ -9,15 +10,15 @@ pub mod laws;
 pub mod layout;
 pub mod leaves;
 pub mod lists;
+pub mod magic;
 pub mod maps;
 pub mod non_zero;
 pub mod numbers;
-pub mod one_of;
 pub mod owned;
+pub mod prefixed;
 pub mod ranges;
 pub mod same_key;
 pub mod sets;
-pub mod tag;
 pub mod texts;
 pub mod tuples;
 pub mod varint;

@@ -12,6 +12,14 @@ use crate::layout::Layout;
 pub struct VarInt64(u64);
 
 impl VarInt64 {
+    /// The number. `u64::from` answers it too, in crates that name `speedy_layout` among theirs.
+    #[inline]
+    pub fn get(self) -> u64
+        ensures { result ≡ varint_number self }
+    {
+        self.0
+    }
+
     /// The canonical encoding: so many bytes from the front of the array.
     #[inline]
     pub fn encode(self) -> ([u8; 9], usize)

@@ -9,21 +9,22 @@ use Rattle.speedy_base.specs.declared.error.Error.{Error}
 use Rattle.speedy_base.specs.Error.{error_of}
 use Rattle.speedy_base.specs.Digits.{AreBytes, SpellsNumber}
 use Rattle.speedy_base.specs.Encoding.{Encoding}
-use Rattle.speedy_layout.specs.Format.{Format, Each}
-use Rattle.speedy_layout.specs.Lists.{repeat, vector, list}
+use Rattle.speedy_layout.specs.Format.{Asks, Format, Each}
+use Rattle.speedy_layout.specs.Lists.{repeat, vector, list, counted_list}
 use Rattle.speedy_layout.specs.Numbers.{unsigned_number}
 use Rattle.speedy_layout.specs.Owned.{owned_content, borrowed_content}
+use Rattle.speedy_layout.specs.Prefixed.{Numbers}
 use Rattle.speedy_layout.specs.Codes.{coding, subset, subset_code}
-use Rattle.speedy_layout.specs.Texts.{raw_bytes, raw_bytes_laws, text_of_length, text, each_byte}
+use Rattle.speedy_layout.specs.Texts.{raw_bytes, raw_bytes_laws, text_of_length, counted_text, each_byte}
 use Rattle.speedy_layout.specs.Views.{each_one_size}
 use Rattle.speedy_layout.specs.Sequences.{asks_nothing_more}
 use Rattle.speedy_read.specs.Reading.{ReaderState, Kept, Reads, ShowsNothing}
 use Rattle.speedy_read.specs.ReadingLemmas.{Kept-same}
+use Rattle.speedy_read.specs.Counted.{counted_text_composes, counted_list_composes}
 use Rattle.speedy_read.specs.Sequences.{Composes}
 use Rattle.speedy_read.specs.Codes.{Covers, refused_covered, got_covered, codes_cover, exact_code_read, code_means_nothing}
 use Rattle.speedy_read.proofs.OwnedLemmas.{owned_read}
 use Rattle.speedy_read.proofs.ListLemmas.{list_composes}
-use Rattle.speedy_read.proofs.TextLemmas.{text_composes}
 
 -- what is not so is told by a test
 lends_nothing : (lends : Bool) → (IsTrue lends → ⊥) → lends ≡ false
@@ -138,9 +139,17 @@ module _ {E : Type 0} {gives : Error → E → Type 0} {eof : E → Bool} {old n
 
 -- ---- sequences of a count and what is borrowed
 
-pub str_composes : (encoding : Encoding) → Composes (unsigned_number 4 encoding) (λ n. borrowed_content (text_of_length encoding n)) (borrowed_content (text encoding)) (λ n t. t)
-unfolding unsigned_number
-str_composes encoding = borrowed_composes refl (text_composes encoding)
+pub str_composes : (numbers : Numbers) (f : Encoding)
+    → Composes (numbers.codec.format f) (λ n. borrowed_content (text_of_length f n))
+    (borrowed_content (counted_text f (numbers.codec.format f))) (λ n t. t)
+str_composes numbers f =
+    borrowed_composes (ap (λ (a : Asks). a.memory) (numbers.none_asked f)) (counted_text_composes f (numbers.codec.format f))
+
+pub borrowed_items_compose : {V : Type 0} (numbers : Numbers) (F : Format V) (f : Encoding)
+    → Composes (numbers.codec.format f) (λ n. borrowed_content (vector n F))
+    (borrowed_content (counted_list (numbers.codec.format f) F)) (λ n vs. vs)
+borrowed_items_compose numbers F f =
+    borrowed_composes (ap (λ (a : Asks). a.memory) (numbers.none_asked f)) (counted_list_composes (numbers.codec.format f) F)
 
 pub borrowed_list_composes : {V : Type 0} (F : Format V) (encoding : Encoding)
     → Composes (unsigned_number 4 encoding) (λ n. borrowed_content (vector n F)) (borrowed_content (list encoding F))

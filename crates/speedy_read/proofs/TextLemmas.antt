@@ -12,19 +12,12 @@ use Rattle.speedy_layout.specs.Numbers.{unsigned_number}
 use Rattle.speedy_layout.specs.Lists.{repeat, vector}
 use Rattle.speedy_layout.specs.Owned.{owned_content}
 use Rattle.speedy_layout.specs.Codes.{coding, subset, Accepts-exact_means}
-use Rattle.speedy_layout.specs.Texts.{raw_bytes, raw_bytes_laws, text_of_length, text, each_byte, each_byte_is}
+use Rattle.speedy_layout.specs.Texts.{raw_bytes, raw_bytes_laws, text_of_length, each_byte, each_byte_is}
 use Rattle.speedy_layout.specs.Utf8.{AreBytes-utf8}
 use Rattle.speedy_layout.specs.Sequences.{asks_same}
 use Rattle.speedy_read.specs.Reading.{ReaderState, Reads}
-use Rattle.speedy_read.specs.Sequences.{Composes}
-use Rattle.speedy_read.specs.Counted.{counted_text_composes}
 use Rattle.speedy_read.specs.Codes.{Covers, got_covered, exact_code_read, code_means_nothing}
 use Rattle.speedy_read.proofs.OwnedLemmas.{owned_read}
-
--- a text is read as its length, and then a text of so many bytes
-pub text_composes : (encoding : Encoding) → Composes (unsigned_number 4 encoding) (text_of_length encoding) (text encoding) (λ n t. t)
-unfolding text
-text_composes encoding = counted_text_composes encoding (unsigned_number 4 encoding)
 
 -- a text is read as its bytes
 pub bytes_cover_text : (n : ℕ) (encoding : Encoding) → Covers (vector n (unsigned_number 1 encoding)) (text_of_length encoding n)

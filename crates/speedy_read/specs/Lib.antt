@@ -4,7 +4,7 @@ pub mod Sequences
 pub mod Counted
 pub mod Codes
 pub mod Flags
-pub mod Cases
+pub mod Prefixed
 pub mod Buffers
 pub mod CopyingModel
 pub mod OwnedModel

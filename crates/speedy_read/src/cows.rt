@@ -2,6 +2,7 @@
 ghost use Rattle.std.specs.Prelude.{◌≡◌};
 
 use crate::many::ItemByItem;
+use crate::prefixed::{ReadPrefix, ReadTold};
 use crate::private::cow_bytes_to_cow_str;
 use crate::readable::{ReadFrom, ReadMany};
 use crate::reader::LendingReader;
@@ -25,6 +26,16 @@ impl<'a, L: AsSlice<u8> + Drop, C: Context, T: ReadFrom<L, C>> ReadFrom<L, C> fo
     }
 }
 
+impl<'a, L: AsSlice<u8> + Drop, C: Context, T: ReadTold<L, C>> ReadTold<L, C> for Cow<'a, T> {
+    #[inline]
+    fn read_behind<N: ReadPrefix, R: LendingReader<L, C>>(
+        reader: &mut R,
+    ) -> Result<Cow<'a, T>, C::Error> {
+        let value = T::read_behind::<N, R>(reader)?;
+        Ok(Cow::Owned(value))
+    }
+}
+
 // Bytes point into those that the reader lends; other items are owned.
 impl<'a, C: Context, T: ReadMany<&'a [u8], C> + 'a> ReadFrom<&'a [u8], C> for CowSlice<'a, T> {
     type Strategy = ItemByItem<C>;
@@ -33,8 +44,7 @@ impl<'a, C: Context, T: ReadMany<&'a [u8], C> + 'a> ReadFrom<&'a [u8], C> for Co
     fn read_from<R: LendingReader<&'a [u8], C>>(
         reader: &mut R,
     ) -> Result<CowSlice<'a, T>, C::Error> {
-        let length = reader.read_u32()?;
-        reader.read_cow(length as usize)
+        <CowSlice<'a, T> as ReadTold<&'a [u8], C>>::read_behind::<u32, R>(reader)
     }
 
     #[inline]
@@ -45,15 +55,23 @@ impl<'a, C: Context, T: ReadMany<&'a [u8], C> + 'a> ReadFrom<&'a [u8], C> for Co
     }
 }
 
+impl<'a, C: Context, T: ReadMany<&'a [u8], C> + 'a> ReadTold<&'a [u8], C> for CowSlice<'a, T> {
+    #[inline]
+    fn read_behind<N: ReadPrefix, R: LendingReader<&'a [u8], C>>(
+        reader: &mut R,
+    ) -> Result<CowSlice<'a, T>, C::Error> {
+        let length = N::read_number(reader)?;
+        reader.read_cow(length)
+    }
+}
+
 // It points into the bytes that the reader lends, and is owned where it lends nothing.
 impl<'a, C: Context> ReadFrom<&'a [u8], C> for CowStr<'a> {
     type Strategy = ItemByItem<C>;
 
     #[inline]
     fn read_from<R: LendingReader<&'a [u8], C>>(reader: &mut R) -> Result<CowStr<'a>, C::Error> {
-        let length = reader.read_u32()?;
-        let bytes: CowSlice<'a, u8> = reader.read_cow(length as usize)?;
-        cow_bytes_to_cow_str(bytes)
+        <CowStr<'a> as ReadTold<&'a [u8], C>>::read_behind::<u32, R>(reader)
     }
 
     #[inline]
@@ -61,5 +79,16 @@ impl<'a, C: Context> ReadFrom<&'a [u8], C> for CowStr<'a> {
         ensures { result ≡ 4 }
     {
         4
+    }
+}
+
+impl<'a, C: Context> ReadTold<&'a [u8], C> for CowStr<'a> {
+    #[inline]
+    fn read_behind<N: ReadPrefix, R: LendingReader<&'a [u8], C>>(
+        reader: &mut R,
+    ) -> Result<CowStr<'a>, C::Error> {
+        let length = N::read_number(reader)?;
+        let bytes: CowSlice<'a, u8> = reader.read_cow(length)?;
+        cow_bytes_to_cow_str(bytes)
     }
 }

@@ -2,11 +2,13 @@
 ghost use Rattle.std.specs.Prelude.{◌≡◌, false, IsErrAnd};
 ghost use Rattle.speedy_base.specs.Error.{error_of};
 ghost use Rattle.speedy_layout.specs.Codecs.{unsigned_codec};
+ghost use Rattle.speedy_layout.specs.Prefixed.{prefixed_codec};
 ghost use Rattle.speedy_read.specs.Reading.{RefusesUnsized, ReadsValue};
 
 use crate::arrays::Arrays;
 use crate::lent::read_lent;
 use crate::many::{Fills, ItemByItem, Places, Strategy, Takes};
+use crate::prefixed::{ReadPrefix, ReadTold};
 use crate::readable::{ReadFrom, ReadMany};
 use crate::reader::{LendingReader, ends_before};
 use smallvec::SmallVec;
@@ -14,6 +16,7 @@ use speedy_base::context::Context;
 use speedy_base::endianness::Endianness;
 use speedy_base::error::{ErrorKind, error_end_of_input};
 use speedy_layout::layout::Layout;
+use speedy_layout::prefixed::Told;
 use std::alloc::Global;
 use std::array;
 use std::boxed::BoxedSlice;
@@ -25,8 +28,7 @@ impl<L: AsSlice<u8> + Drop, C: Context, T: ReadMany<L, C>> ReadFrom<L, C> for Ve
 
     #[inline]
     fn read_from<R: LendingReader<L, C>>(reader: &mut R) -> Result<Vec<T>, C::Error> {
-        let length = reader.read_u32()?;
-        reader.read_vec(length as usize)
+        Vec::read_behind::<u32, R>(reader)
     }
 
     #[inline]
@@ -35,18 +37,37 @@ impl<L: AsSlice<u8> + Drop, C: Context, T: ReadMany<L, C>> ReadFrom<L, C> for Ve
     }
 }
 
+impl<L: AsSlice<u8> + Drop, C: Context, T: ReadMany<L, C>> ReadTold<L, C> for Vec<T> {
+    #[inline]
+    fn read_behind<N: ReadPrefix, R: LendingReader<L, C>>(
+        reader: &mut R,
+    ) -> Result<Vec<T>, C::Error> {
+        let length = N::read_number(reader)?;
+        reader.read_vec(length)
+    }
+}
+
 impl<L: AsSlice<u8> + Drop, C: Context, T: ReadMany<L, C>> ReadFrom<L, C> for BoxedSlice<T> {
     type Strategy = ItemByItem<C>;
 
     #[inline]
     fn read_from<R: LendingReader<L, C>>(reader: &mut R) -> Result<BoxedSlice<T>, C::Error> {
-        let items: Vec<T> = reader.read_value()?;
-        Ok(items.into_boxed_slice())
+        BoxedSlice::read_behind::<u32, R>(reader)
     }
 
     #[inline]
     fn minimum_bytes_needed() -> usize {
         4
+    }
+}
+
+impl<L: AsSlice<u8> + Drop, C: Context, T: ReadMany<L, C>> ReadTold<L, C> for BoxedSlice<T> {
+    #[inline]
+    fn read_behind<N: ReadPrefix, R: LendingReader<L, C>>(
+        reader: &mut R,
+    ) -> Result<BoxedSlice<T>, C::Error> {
+        let items: Vec<T> = Vec::read_behind::<N, R>(reader)?;
+        Ok(items.into_boxed_slice())
     }
 }
 
@@ -60,13 +81,27 @@ impl<
 
     #[inline]
     fn read_from<R: LendingReader<L, C>>(reader: &mut R) -> Result<SmallVec<T, N>, C::Error> {
-        let items: Vec<T> = reader.read_value()?;
-        Ok(SmallVec::from_vec(items))
+        SmallVec::read_behind::<u32, R>(reader)
     }
 
     #[inline]
     fn minimum_bytes_needed() -> usize {
         4
+    }
+}
+
+impl<
+    L: AsSlice<u8> + Drop,
+    C: Context,
+    T: ReadMany<L, C> + MadeWith<Global>,
+    const N: usize,
+> ReadTold<L, C> for SmallVec<T, N> {
+    #[inline]
+    fn read_behind<P: ReadPrefix, R: LendingReader<L, C>>(
+        reader: &mut R,
+    ) -> Result<SmallVec<T, N>, C::Error> {
+        let items: Vec<T> = Vec::read_behind::<P, R>(reader)?;
+        Ok(SmallVec::from_vec(items))
     }
 }
 
@@ -136,8 +171,7 @@ impl<'a, C: Context> ReadFrom<&'a [u8], C> for &'a [u8] {
         ensures not_lent { RefusesUnsized C.Error.IsEof R.state (unsigned_codec 4)
             result reader.old reader.new }
     {
-        let length = reader.read_u32()?;
-        read_lent(reader, length as usize)
+        <&'a [u8] as ReadTold<&'a [u8], C>>::read_behind::<u32, R>(reader)
     }
 
     #[inline]
@@ -145,6 +179,22 @@ impl<'a, C: Context> ReadFrom<&'a [u8], C> for &'a [u8] {
         ensures { result ≡ 4 }
     {
         4
+    }
+}
+
+impl<'a, C: Context> ReadTold<&'a [u8], C> for &'a [u8] {
+    #[inline]
+    fn read_behind<N: ReadPrefix, R: LendingReader<&'a [u8], C>>(
+        reader: &mut R,
+    ) -> Result<&'a [u8], C::Error>
+        ensures reads { let bytes = ⟦<&'a [u8] as Told>⟧ in
+            ReadsValue C.Error.IsEof R.state bytes.seen (prefixed_codec (bytes.behind N.numbers)) result
+            reader.old reader.new }
+        ensures not_lent { RefusesUnsized C.Error.IsEof R.state N.numbers.codec
+            result reader.old reader.new }
+    {
+        let length = N::read_number(reader)?;
+        read_lent(reader, length)
     }
 }
 

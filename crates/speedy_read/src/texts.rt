@@ -1,15 +1,18 @@
 //! How texts are read.
 ghost use Rattle.std.specs.Prelude.{◌≡◌};
 ghost use Rattle.speedy_layout.specs.Codecs.{unsigned_codec};
+ghost use Rattle.speedy_layout.specs.Prefixed.{prefixed_codec};
 ghost use Rattle.speedy_read.specs.Reading.{RefusesUnsized, ReadsValue};
 
 use crate::lent::read_lent;
 use crate::many::ItemByItem;
+use crate::prefixed::{ReadPrefix, ReadTold};
 use crate::private::bytes_to_str;
 use crate::readable::ReadFrom;
 use crate::reader::LendingReader;
 use speedy_base::context::Context;
 use speedy_layout::layout::Layout;
+use speedy_layout::prefixed::Told;
 use std::boxed::BoxedStr;
 use std::convert::AsSlice;
 
@@ -18,8 +21,7 @@ impl<L: AsSlice<u8> + Drop, C: Context> ReadFrom<L, C> for String {
 
     #[inline]
     fn read_from<R: LendingReader<L, C>>(reader: &mut R) -> Result<String, C::Error> {
-        let length = reader.read_u32()?;
-        reader.read_string(length as usize)
+        String::read_behind::<u32, R>(reader)
     }
 
     #[inline]
@@ -28,18 +30,37 @@ impl<L: AsSlice<u8> + Drop, C: Context> ReadFrom<L, C> for String {
     }
 }
 
+impl<L: AsSlice<u8> + Drop, C: Context> ReadTold<L, C> for String {
+    #[inline]
+    fn read_behind<N: ReadPrefix, R: LendingReader<L, C>>(
+        reader: &mut R,
+    ) -> Result<String, C::Error> {
+        let length = N::read_number(reader)?;
+        reader.read_string(length)
+    }
+}
+
 impl<L: AsSlice<u8> + Drop, C: Context> ReadFrom<L, C> for BoxedStr {
     type Strategy = ItemByItem<C>;
 
     #[inline]
     fn read_from<R: LendingReader<L, C>>(reader: &mut R) -> Result<BoxedStr, C::Error> {
-        let text: String = reader.read_value()?;
-        Ok(text.into_boxed_str())
+        BoxedStr::read_behind::<u32, R>(reader)
     }
 
     #[inline]
     fn minimum_bytes_needed() -> usize {
         4
+    }
+}
+
+impl<L: AsSlice<u8> + Drop, C: Context> ReadTold<L, C> for BoxedStr {
+    #[inline]
+    fn read_behind<N: ReadPrefix, R: LendingReader<L, C>>(
+        reader: &mut R,
+    ) -> Result<BoxedStr, C::Error> {
+        let text = String::read_behind::<N, R>(reader)?;
+        Ok(text.into_boxed_str())
     }
 }
 
@@ -54,9 +75,7 @@ impl<'a, C: Context> ReadFrom<&'a [u8], C> for &'a str {
         ensures not_lent { RefusesUnsized C.Error.IsEof R.state (unsigned_codec 4)
             result reader.old reader.new }
     {
-        let length = reader.read_u32()?;
-        let bytes = read_lent(reader, length as usize)?;
-        bytes_to_str(bytes)
+        <&'a str as ReadTold<&'a [u8], C>>::read_behind::<u32, R>(reader)
     }
 
     #[inline]
@@ -64,5 +83,22 @@ impl<'a, C: Context> ReadFrom<&'a [u8], C> for &'a str {
         ensures { result ≡ 4 }
     {
         4
+    }
+}
+
+impl<'a, C: Context> ReadTold<&'a [u8], C> for &'a str {
+    #[inline]
+    fn read_behind<N: ReadPrefix, R: LendingReader<&'a [u8], C>>(
+        reader: &mut R,
+    ) -> Result<&'a str, C::Error>
+        ensures reads { let text = ⟦<&'a str as Told>⟧ in
+            ReadsValue C.Error.IsEof R.state text.seen (prefixed_codec (text.behind N.numbers)) result
+            reader.old reader.new }
+        ensures not_lent { RefusesUnsized C.Error.IsEof R.state N.numbers.codec
+            result reader.old reader.new }
+    {
+        let length = N::read_number(reader)?;
+        let bytes = read_lent(reader, length)?;
+        bytes_to_str(bytes)
     }
 }

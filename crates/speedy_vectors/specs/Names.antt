@@ -1,12 +1,15 @@
 -- The types of the program.
-use Rattle.std.specs.Prelude.{ℕ, ◌==◌, List, [], ◌∷◌, Bool, true, not, ◌&&◌, IsTrue, codes, refl}
+use Rattle.std.specs.Prelude.{ℕ, ◌==◌, List, [], ◌∷◌, Bool, true, not, ◌&&◌, IsTrue, codes, ◌⊎◌, refl}
 use Rattle.std.specs.Ordering.{nat_cmp}
 use Rattle.std.specs.String.{string_bytes, string_cmp}
 use Rattle.std.specs.declared.alloc.Global.{Global}
 use Rattle.std.specs.Int.{w8, w16, w32, w64, w128}
+use Rattle.speedy.specs.Choices.{one_case, either_case}
+use Rattle.speedy.specs.Codecs.{unit_codec, pair_codec, unsigned_codec}
 use Rattle.speedy.specs.Encoding.{Encoding}
 use Rattle.speedy.specs.Format.{Format}
 use Rattle.speedy.specs.Numbers.{unsigned_number, signed_number, usize_number}
+use Rattle.speedy.specs.Prefixed.{Choices, tagged}
 use Rattle.speedy.specs.NonZero.{non_zero_number, signed_non_zero_number}
 use Rattle.speedy.specs.Leaves.{character, byte_order, duration}
 use Rattle.speedy.specs.Addresses.{address, ip_address}
@@ -17,9 +20,7 @@ use Rattle.speedy.specs.SeenItems.{IsLess}
 use Rattle.speedy.specs.Maps.{tree_map, index_map}
 use Rattle.speedy.specs.Sets.{tree_set, index_set}
 use Rattle.speedy.specs.Texts.{text, raw_bytes, constant_bytes, counted_text}
-use Rattle.speedy.specs.OneOf.{one_of3}
 use Rattle.speedy.specs.Owned.{owned_content, borrowed_content}
-use Rattle.speedy.specs.Tags.{tag}
 use Rattle.speedy.specs.Varint.{varint}
 use Rattle.speedy_vectors.specs.declared.names.NumberName.{NumberName}
 use Rattle.speedy_vectors.specs.declared.names.NumberName.TheVariants as number_names
@@ -133,11 +134,21 @@ named_lent lent_names.BytesRef4 = by (codes "bytes_ref_4") refl 4 (λ encoding. 
 named_lent lent_names.ViewI8 = by (codes "view_i8") refl 4 (λ encoding. borrowed_content (list encoding (signed_number w8 encoding)))
 named_lent lent_names.ArrayViewI8x4 = by (codes "array_view_i8_4") refl 4 (λ encoding. borrowed_content (vector 4 (signed_number w8 encoding)))
 
+-- nothing behind the tag 0, 1 or 2
+abbrev three_cases : Choices (Unit {0} ⊎ (Unit {0} ⊎ Unit {0}))
+three_cases = either_case (one_case 0 unit_codec) (either_case (one_case 1 unit_codec) (one_case 2 unit_codec))
+
+-- nothing behind the tag 0, and three numbers behind the tags 1 and 2
+abbrev cases_of_numbers : Choices (Unit {0} ⊎ (ℕ × (ℕ × ℕ) ⊎ ℕ × (ℕ × ℕ)))
+cases_of_numbers =
+    let numbers = pair_codec (unsigned_codec 1) (pair_codec (unsigned_codec 2) (unsigned_codec 4)) in
+    either_case (one_case 0 unit_codec) (either_case (one_case 1 numbers) (one_case 2 numbers))
+
 abbrev pub named_own : OwnName → Named
 named_own own_names.Frame = by (codes "frame") refl 4 (λ encoding. pair (constant_bytes encoding (codes "SP")) (pair (counted_list (varint encoding) (varint encoding)) (counted_text encoding (unsigned_number 1 encoding))))
-named_own own_names.Enum = by (codes "enum") refl 4 (tag 3)
-named_own own_names.DerivedEnum = by (codes "derived_enum") refl 4 (one_of3 (λ _. unit) three_numbers three_numbers)
-named_own own_names.Record = by (codes "record") refl 24 (λ encoding. pair (unsigned_number 8 encoding) (pair (text encoding) (pair (list encoding (unsigned_number 1 encoding)) (pair (list encoding (signed_number w64 encoding)) (tag 3 encoding)))))
+named_own own_names.Enum = by (codes "enum") refl 4 (tagged (unsigned_number 4) three_cases)
+named_own own_names.DerivedEnum = by (codes "derived_enum") refl 4 (tagged (unsigned_number 4) cases_of_numbers)
+named_own own_names.Record = by (codes "record") refl 24 (λ encoding. pair (unsigned_number 8 encoding) (pair (text encoding) (pair (list encoding (unsigned_number 1 encoding)) (pair (list encoding (signed_number w64 encoding)) (tagged (unsigned_number 4) three_cases encoding)))))
 named_own own_names.Tree = by (codes "tree") refl 5 tree_format
 
 abbrev pub named : TypeName → Named

@@ -1,9 +1,9 @@
-//! Enums of your own, with and without parts. Each is one of the library's. To write one with parts takes an answer of
-//! a line an arm.
-ghost use Rattle.speedy.specs.declared.one_of.OneOf3.{OneOf3};
+//! Enums of your own, with and without parts: their cases, each behind its tag. Both are proved with no answer.
+ghost use Rattle.std.proofs.Common.{inl, inr};
 
-use speedy::one_of::OneOf3;
-use speedy::tag::Tag;
+use speedy::cases::Either::{Left, Right};
+use speedy::cases::{Case, Either};
+use speedy::prefixed::{Prefixed, WriteTold};
 use speedy::{Context, ItemByItem, Layout, LendingReader, ReadFrom, Writable, Writer};
 use std::convert::AsSlice;
 
@@ -15,24 +15,27 @@ pub enum Enum {
     C,
 }
 
+type Tags = Either<Case<0, ()>, Either<Case<1, ()>, Case<2, ()>>>;
+
 impl Layout for Enum {
     ghost use Rattle.speedy_vectors.specs.declared.enums.Enum.{Enum};
 
-    ghost Seen = { ⟦<Tag<3> as Layout>⟧.Seen };
+    ghost Seen = { ⟦<Prefixed<u32, Tags> as Layout>⟧.Seen };
 
-    ghost seen = { λ e. elim e [ Enum.A ↦ 0 | Enum.B ↦ 1 | Enum.C ↦ 2 ] };
+    ghost seen = { λ e. elim e [ Enum.A ↦ inl tt | Enum.B ↦ inr (inl tt) | Enum.C ↦ inr (inr tt) ] };
 
-    ghost layout = { ⟦<Tag<3> as Layout>⟧.layout };
+    ghost layout = { ⟦<Prefixed<u32, Tags> as Layout>⟧.layout };
 }
 
 impl<L: AsSlice<u8> + Drop, C: Context> ReadFrom<L, C> for Enum {
     type Strategy = ItemByItem<C>;
 
     fn read_from<R: LendingReader<L, C>>(reader: &mut R) -> Result<Enum, C::Error> {
-        match reader.read_value::<Tag<3>>()?.number {
-            0 => Ok(Enum::A),
-            1 => Ok(Enum::B),
-            _ => Ok(Enum::C),
+        let tag: Prefixed<u32, Tags> = reader.read_value()?;
+        match tag.value {
+            Left(Case(())) => Ok(Enum::A),
+            Right(Left(Case(()))) => Ok(Enum::B),
+            Right(Right(Case(()))) => Ok(Enum::C),
         }
     }
 
@@ -44,9 +47,9 @@ impl<L: AsSlice<u8> + Drop, C: Context> ReadFrom<L, C> for Enum {
 impl<C: Context> Writable<C> for Enum {
     fn write_to<W: Writer<C>>(&self, writer: &mut W) -> Result<(), C::Error> {
         match self {
-            Enum::A => writer.write_value(&Tag::<3>::new(0)),
-            Enum::B => writer.write_value(&Tag::<3>::new(1)),
-            Enum::C => writer.write_value(&Tag::<3>::new(2)),
+            Enum::A => Tags::Left(Case(())).write_behind::<u32, W>(writer),
+            Enum::B => Tags::Right(Left(Case(()))).write_behind::<u32, W>(writer),
+            Enum::C => Tags::Right(Right(Case(()))).write_behind::<u32, W>(writer),
         }
     }
 }
@@ -59,31 +62,33 @@ pub enum DerivedEnum {
     C { a: u8, b: u16, c: u32 },
 }
 
-/// What a [`DerivedEnum`] is read and written as.
-type Cases = OneOf3<(), (u8, u16, u32), (u8, u16, u32)>;
+type Numbers = (u8, u16, u32);
+
+type Cases = Either<Case<0, ()>, Either<Case<1, Numbers>, Case<2, Numbers>>>;
 
 impl Layout for DerivedEnum {
     ghost use Rattle.speedy_vectors.specs.declared.enums.DerivedEnum.{DerivedEnum};
 
-    ghost Seen = { ⟦<Cases as Layout>⟧.Seen };
+    ghost Seen = { ⟦<Prefixed<u32, Cases> as Layout>⟧.Seen };
 
     ghost seen = { λ e. elim e [
-      | DerivedEnum.A ↦ OneOf3.First tt
-      | DerivedEnum.B a b c ↦ OneOf3.Second (a, (b, c))
-      | DerivedEnum.C a b c ↦ OneOf3.Third (a, (b, c))
+      | DerivedEnum.A ↦ inl tt
+      | DerivedEnum.B a b c ↦ inr (inl (a, (b, c)))
+      | DerivedEnum.C a b c ↦ inr (inr (a, (b, c)))
     ] };
 
-    ghost layout = { ⟦<Cases as Layout>⟧.layout };
+    ghost layout = { ⟦<Prefixed<u32, Cases> as Layout>⟧.layout };
 }
 
 impl<L: AsSlice<u8> + Drop, C: Context> ReadFrom<L, C> for DerivedEnum {
     type Strategy = ItemByItem<C>;
 
     fn read_from<R: LendingReader<L, C>>(reader: &mut R) -> Result<DerivedEnum, C::Error> {
-        match reader.read_value()? {
-            OneOf3::First(()) => Ok(DerivedEnum::A),
-            OneOf3::Second((a, b, c)) => Ok(DerivedEnum::B(a, b, c)),
-            OneOf3::Third((a, b, c)) => Ok(DerivedEnum::C { a, b, c }),
+        let cases: Prefixed<u32, Cases> = reader.read_value()?;
+        match cases.value {
+            Left(Case(())) => Ok(DerivedEnum::A),
+            Right(Left(Case((a, b, c)))) => Ok(DerivedEnum::B(a, b, c)),
+            Right(Right(Case((a, b, c)))) => Ok(DerivedEnum::C { a, b, c }),
         }
     }
 
@@ -95,9 +100,13 @@ impl<L: AsSlice<u8> + Drop, C: Context> ReadFrom<L, C> for DerivedEnum {
 impl<C: Context> Writable<C> for DerivedEnum {
     fn write_to<W: Writer<C>>(&self, writer: &mut W) -> Result<(), C::Error> {
         match self {
-            DerivedEnum::A => writer.write_value(&Cases::First(())),
-            DerivedEnum::B(a, b, c) => writer.write_value(&Cases::Second((*a, *b, *c))),
-            DerivedEnum::C { a, b, c } => writer.write_value(&Cases::Third((*a, *b, *c))),
+            DerivedEnum::A => Cases::Left(Case(())).write_behind::<u32, W>(writer),
+            DerivedEnum::B(a, b, c) => {
+                Cases::Right(Left(Case((*a, *b, *c)))).write_behind::<u32, W>(writer)
+            }
+            DerivedEnum::C { a, b, c } => {
+                Cases::Right(Right(Case((*a, *b, *c)))).write_behind::<u32, W>(writer)
+            }
         }
     }
 }

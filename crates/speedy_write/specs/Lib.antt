@@ -8,7 +8,7 @@ pub mod FixedBytes
 pub mod Gathering
 pub mod Sequences
 pub mod Codes
-pub mod Cases
+pub mod Prefixed
 pub mod Collections
 pub mod Pushing
 pub mod Lengths

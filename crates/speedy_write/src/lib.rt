@@ -2,6 +2,7 @@
 #![tactic(auto)]
 
 pub mod addresses;
+pub mod cases;
 mod collections;
 pub mod collectors;
 mod counting;
@@ -12,16 +13,16 @@ pub mod flags;
 mod gathering;
 pub mod leaves;
 pub mod lists;
+pub mod magic;
 pub mod maps;
 pub mod non_zero;
 pub mod numbers;
-pub mod one_of;
 pub mod owned;
 pub mod part;
+pub mod prefixed;
 pub mod private;
 pub mod ranges;
 pub mod sets;
-pub mod tag;
 pub mod texts;
 pub mod tuples;
 pub mod varint;

@@ -1,10 +1,11 @@
 //! How lists are written.
 ghost use Rattle.std.specs.Prelude.{◌≡◌, ◌<◌, length, map, All};
 ghost use Rattle.speedy_layout.specs.Codecs.{list_codec};
+ghost use Rattle.speedy_layout.specs.Prefixed.{list_behind, prefixed_codec};
 ghost use Rattle.speedy_write.specs.Writing.{WritesValue};
 
 use crate::each::write_items;
-use crate::private::write_length;
+use crate::prefixed::{WritePrefix, WriteTold};
 use crate::writable::Writable;
 use crate::writer::Writer;
 use smallvec::SmallVec;
@@ -76,7 +77,37 @@ fn are_whole<T, const N: usize>(arrays: &[[T; N]])
     }
 }
 
-// The number of items, and then the items.
+impl<C: Context, T: Writable<C>> WriteTold<C> for Vec<T> {
+    #[inline]
+    fn write_behind<N: WritePrefix, W: Writer<C>>(&self, writer: &mut W) -> Result<(), C::Error> {
+        let items = self.as_slice();
+        write_items_behind::<N, C, T, W>(items, writer)
+    }
+}
+
+impl<'a, C: Context, T: Writable<C>> WriteTold<C> for &'a [T] {
+    #[inline]
+    fn write_behind<N: WritePrefix, W: Writer<C>>(&self, writer: &mut W) -> Result<(), C::Error> {
+        write_items_behind::<N, C, T, W>(*self, writer)
+    }
+}
+
+impl<C: Context, T: Writable<C>> WriteTold<C> for BoxedSlice<T> {
+    #[inline]
+    fn write_behind<N: WritePrefix, W: Writer<C>>(&self, writer: &mut W) -> Result<(), C::Error> {
+        write_items_behind::<N, C, T, W>(self.as_slice(), writer)
+    }
+}
+
+impl<C: Context, T: Writable<C>, const N: usize> WriteTold<C> for SmallVec<T, N> {
+    #[inline]
+    fn write_behind<P: WritePrefix, W: Writer<C>>(&self, writer: &mut W) -> Result<(), C::Error> {
+        let all = self.as_slice();
+        write_items_behind::<P, C, T, W>(all, writer)
+    }
+}
+
+// The number of items in four bytes, and then the items.
 #[inline]
 pub(crate) fn write_counted<C: Context, T: Writable<C>, W: Writer<C>>(
     items: &[T],
@@ -85,6 +116,18 @@ pub(crate) fn write_counted<C: Context, T: Writable<C>, W: Writer<C>>(
     ensures { WritesValue C.Error.from_gives W.state W.appends (map T.seen) (list_codec T.layout)
         items.now result writer.old writer.new }
 {
-    write_length(items.len(), writer)?;
+    write_items_behind::<u32, C, T, W>(items, writer)
+}
+
+// The number of items as a number of the type `N`, and then the items.
+#[inline]
+pub(crate) fn write_items_behind<N: WritePrefix, C: Context, T: Writable<C>, W: Writer<C>>(
+    items: &[T],
+    writer: &mut W,
+) -> Result<(), C::Error>
+    ensures { WritesValue C.Error.from_gives W.state W.appends (map T.seen)
+        (prefixed_codec (list_behind T.layout N.numbers)) items.now result writer.old writer.new }
+{
+    N::write_number(items.len(), writer)?;
     write_items(items, writer)
 }

@@ -1,21 +1,6 @@
-use Rattle.std.proofs.Common.{List, ℕ, refl}
-use Rattle.std.proofs.lemmas.List.{map-id}
-use Rattle.speedy_layout.specs.Numbers.{unsigned_number_laws}
-use Rattle.speedy_read.specs.Codes.{refused_covered}
-use Rattle.speedy_read.specs.Sequences.{refused_first, refused_second, second_decides}
-use Rattle.speedy_read.proofs.TextLemmas.{text_composes, bytes_cover_text, text_decides}
+use Rattle.speedy_layout.specs.Texts.{text}
 use Rattle.speedy_read.proofs.cows.CowStrReadFromRefSliceU8.read_from.Goals as goal
 
-pub returns-in_err-length : goal.returns-in_err-length
-returns-in_err-length g c = refused_first (text_composes _) c.from_residual.ensures.1 c.in_err-length.ensures
-
-pub returns-in_err-bytes : goal.returns-in_err-bytes
-returns-in_err-bytes g c =
-    let number = c.in_ok-length.ensures in
-    refused_second (text_composes _) (unsigned_number_laws 4 _) {A = List ℕ} {seen = λ t. t} number c.from_residual-in_err-bytes.ensures.1
-    (refused_covered (bytes_cover_text _ _) refl (rw number.kept.encoding at c.in_err-bytes.ensures.reads))
-
 pub returns : goal.returns
-returns g c =
-    let number = c.in_ok-length.ensures in
-    second_decides (text_composes _) (unsigned_number_laws 4 _) number (text_decides _ _ (map-id _) c.cow_bytes_to_cow_str.ensures (rw number.kept.encoding at c.in_ok-bytes.ensures.reads)) (λ _. refl)
+unfolding text
+returns g c = c.read_behind.ensures

@@ -1,16 +1,6 @@
-use Rattle.std.proofs.Common.{Bor, List, ℕ}
-use Rattle.std.proofs.lemmas.List.{map-id}
-use Rattle.speedy_layout.specs.Numbers.{unsigned_number_laws}
-use Rattle.speedy_read.specs.Sequences.{refused_first, second_decides}
-use Rattle.speedy_read.proofs.LentLemmas.{borrowed_list_composes, items_lent}
+use Rattle.speedy_layout.specs.Lists.{list}
 use Rattle.speedy_read.proofs.lists.RefSliceU8ReadFrom.read_from.Goals as goal
 
-pub returns-in_err-length-clause-reads : goal.returns-in_err-length-clause-reads
-returns-in_err-length-clause-reads g c =
-    refused_first (borrowed_list_composes _ _) c.from_residual.ensures.1 c.in_err-length.ensures
-
 pub returns-clause-reads : goal.returns-clause-reads
-returns-clause-reads g c =
-    let lent = c.read_lent.ensures in
-    second_decides (borrowed_list_composes _ _) (unsigned_number_laws 4 _) {seen = λ (b : Bor (List ℕ)). b.now}
-    c.in_ok-length.ensures (items_lent _ _ lent.range lent.reads) (λ b. map-id b.now)
+unfolding list
+returns-clause-reads g c = c.read_behind.ensures.reads

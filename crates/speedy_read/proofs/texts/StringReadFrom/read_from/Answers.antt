@@ -1,11 +1,6 @@
-use Rattle.std.proofs.Common.{refl}
-use Rattle.speedy_layout.specs.Numbers.{unsigned_number_laws}
-use Rattle.speedy_read.specs.Sequences.{refused_first, second_decides}
-use Rattle.speedy_read.proofs.TextLemmas.{text_composes}
+use Rattle.speedy_layout.specs.Texts.{text}
 use Rattle.speedy_read.proofs.texts.StringReadFrom.read_from.Goals as goal
 
-pub returns-in_err-length : goal.returns-in_err-length
-returns-in_err-length g c = refused_first (text_composes _) c.from_residual.ensures.1 c.in_err-length.ensures
-
 pub returns : goal.returns
-returns g c = let number = c.in_ok-length.ensures in second_decides (text_composes _) (unsigned_number_laws 4 _) number (rw number.kept.encoding at c.read_string.ensures) (λ _. refl)
+unfolding text
+returns g c = c.read_behind.ensures

@@ -1,0 +1,4 @@
+//! Values behind a number that tells of them: a text or a list behind its length, one of several cases behind its tag.
+pub use speedy_layout::prefixed::{Prefix, Prefixed, Told, U7};
+pub use speedy_read::prefixed::{ReadPrefix, ReadTold};
+pub use speedy_write::prefixed::{WritePrefix, WriteTold};

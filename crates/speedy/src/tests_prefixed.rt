@@ -1,0 +1,133 @@
+//! Lengths and tags of each width, cases and constants: bytes that come from outside.
+ghost use Rattle.std.specs.Prelude.{codes};
+
+use crate::asserting::{assert_bytes, assert_refused, assert_same, make_text};
+use crate::cases::{Case, Either};
+use crate::context::LittleEndian;
+use crate::endianness::Endianness;
+use crate::magic::{Constant, Magic};
+use crate::prefixed::{Prefixed, ReadPrefix, U7, WritePrefix};
+use crate::readable::{BufferReader, CopyingBufferReader};
+use crate::reader::LendingReader;
+use crate::varint::VarInt64;
+use crate::writable::Writable;
+use std::alloc::Global;
+use std::process::Abort;
+
+/// Asserts that the bytes are the text "Hi" behind its length, a number of the type `N` in the big order.
+fn assert_behind<N: ReadPrefix + WritePrefix + Drop>(rt: &impl Abort, alloc: Global, bytes: &[u8]) {
+    let order = Endianness::BigEndian;
+    let mut reader = BufferReader::new(alloc, order, bytes);
+    let text: Prefixed<N, String> = reader.read_value().expect(rt, "a text");
+    assert_same(rt, text.value.as_str(), "Hi");
+    let written = text.write_to_vec_with_ctx(alloc, order).expect(rt, "bytes");
+    assert_bytes(rt, written.as_slice(), bytes);
+}
+
+#[test]
+fn a_length_has_the_width_of_its_type(rt: HostRuntime) {
+    let alloc = rt.alloc();
+    assert_behind::<u8>(&rt, alloc, &[2, 72, 105]);
+    assert_behind::<U7>(&rt, alloc, &[2, 72, 105]);
+    assert_behind::<u16>(&rt, alloc, &[0, 2, 72, 105]);
+    assert_behind::<u32>(&rt, alloc, &[0, 0, 0, 2, 72, 105]);
+    assert_behind::<u64>(&rt, alloc, &[0, 0, 0, 0, 0, 0, 0, 2, 72, 105]);
+    assert_behind::<VarInt64>(&rt, alloc, &[2, 72, 105]);
+}
+
+#[test]
+fn a_list_stands_behind_a_length_of_variable_width(rt: HostRuntime) {
+    let alloc = rt.alloc();
+    let numbers = vec![in alloc; 7_u8; 128].expect(&rt, "a list");
+    let list: Prefixed<VarInt64, Vec<u8>> = Prefixed::new(numbers);
+    let bytes = list
+        .write_to_vec_with_ctx(alloc, LittleEndian {})
+        .expect(&rt, "bytes");
+    assert!(rt; bytes.as_slice().starts_with(&[0x80, 0x80, 7]));
+    let mut reader = BufferReader::new(alloc, LittleEndian {}, &bytes);
+    let again: Prefixed<VarInt64, Vec<u8>> = reader.read_value().expect(&rt, "a list");
+    assert_bytes(&rt, again.value.as_slice(), list.value.as_slice());
+}
+
+/// A text of so many bytes.
+fn text_of(rt: &impl Abort, alloc: Global, length: usize) -> String {
+    make_text(rt, alloc, "a")
+        .repeat(alloc, length)
+        .expect(rt, "a text")
+}
+
+#[test]
+fn a_length_past_its_type_is_refused(rt: HostRuntime) {
+    let alloc = rt.alloc();
+    let long: Prefixed<u8, String> = Prefixed::new(text_of(&rt, alloc, 256));
+    let outcome = long.write_to_vec_with_ctx(alloc, LittleEndian {});
+    assert_refused(&rt, alloc, outcome, "OutOfRangeLength");
+    let long: Prefixed<U7, String> = Prefixed::new(text_of(&rt, alloc, 128));
+    let outcome = long.write_to_vec_with_ctx(alloc, LittleEndian {});
+    assert_refused(&rt, alloc, outcome, "OutOfRangeLength");
+    let mut reader = BufferReader::new(alloc, LittleEndian {}, &[128, 97]);
+    let outcome = reader.read_value::<Prefixed<U7, String>>();
+    assert_refused(&rt, alloc, outcome, "OutOfRangeLength");
+}
+
+#[test]
+fn a_text_behind_one_byte_borrows(rt: HostRuntime) {
+    let alloc = rt.alloc();
+    let bytes = [2, 72, 105];
+    let mut reader = BufferReader::new(alloc, LittleEndian {}, &bytes);
+    let text: Prefixed<u8, &str> = reader.read_value().expect(&rt, "a text");
+    assert_same(&rt, text.value, "Hi");
+    let mut context = LittleEndian {};
+    let mut reader = CopyingBufferReader::new(alloc, &mut context, &bytes);
+    let outcome = reader.read_value::<Prefixed<u8, &str>>();
+    assert_refused(&rt, alloc, outcome, "Unsized");
+}
+
+/// Two cases of one tag.
+type Twice = Prefixed<u8, Either<Case<1, ()>, Case<1, u8>>>;
+
+#[test]
+fn of_two_cases_with_one_tag_the_first_counts(rt: HostRuntime) {
+    let alloc = rt.alloc();
+    let mut reader = BufferReader::new(alloc, LittleEndian {}, &[1, 7]);
+    let first: Twice = reader.read_value().expect(&rt, "the first case");
+    assert!(rt; first.value == Either::Left(Case(())));
+    let second: Twice = Prefixed::new(Either::Right(Case(7)));
+    let outcome = second.write_to_vec_with_ctx(alloc, LittleEndian {});
+    assert_refused(&rt, alloc, outcome, "OutOfRangeLength");
+}
+
+#[test]
+fn a_tag_of_no_case_is_refused(rt: HostRuntime) {
+    let alloc = rt.alloc();
+    let mut reader = BufferReader::new(alloc, LittleEndian {}, &[2, 7]);
+    let outcome = reader.read_value::<Twice>();
+    assert_refused(&rt, alloc, outcome, "InvalidEnumVariant");
+}
+
+/// What a file begins with.
+#[derive(Drop)]
+struct Start {}
+
+impl Constant for Start {
+    ghost bytes = { codes "SP" };
+
+    fn bytes() -> &'static [u8] {
+        b"SP"
+    }
+}
+
+#[test]
+fn a_constant_is_itself_and_nothing_else(rt: HostRuntime) {
+    let alloc = rt.alloc();
+    let bytes = Magic::<Start>::new().write_to_vec_with_ctx(alloc, LittleEndian {});
+    assert_bytes(&rt, bytes.expect(&rt, "bytes").as_slice(), b"SP");
+    let mut reader = BufferReader::new(alloc, LittleEndian {}, b"SQ");
+    let outcome = reader.read_value::<Magic<Start>>();
+    assert_refused(
+        &rt,
+        alloc,
+        outcome,
+        "ExpectedConstant { constant: [83, 80] }",
+    );
+}

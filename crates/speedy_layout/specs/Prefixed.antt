@@ -1,0 +1,110 @@
+-- A number, and behind it what the number tells of: a text behind its length, a list behind its count, one of several
+-- cases behind its tag.
+use Rattle.std.specs.Prelude.{◌≡◌, ℕ, ◌+◌, List, Bool, refl}
+use Rattle.std.proofs.Common.{ap, arith}
+use Rattle.speedy_base.specs.Encoding.{Encoding}
+use Rattle.speedy_layout.specs.Codecs.{Codec, unsigned_codec, varint_codec, length_codec}
+use Rattle.speedy_layout.specs.Codecs.{borrowed_codec, counted_list_codec, counted_text_codec}
+use Rattle.speedy_layout.specs.Codes.{coding}
+use Rattle.speedy_layout.specs.Format.{Asks, asks_nothing, Format}
+use Rattle.speedy_layout.specs.Laws.{Laws, Laws-less}
+use Rattle.speedy_layout.specs.Numbers.{unsigned_number, length_number}
+use Rattle.speedy_layout.specs.Sequences.{AsksAtMost, sequence, sequence_laws}
+use Rattle.speedy_layout.specs.Varint.{varint}
+
+-- Numbers that lengths and tags are encoded as.
+pub record Numbers : Type 1 where
+  pub codec : Codec ℕ
+  -- reading one asks for nothing
+  pub none_asked : (f : Encoding) → (codec.format f).asks ≡ asks_nothing
+
+-- Values behind a number that tells of them: which bytes, those of the number among them, encode which values. The
+-- least size is that of the number.
+pub record Behind (numbers : Numbers) (V : Type 0) : Type 1 where
+  pub format : Encoding → Format V
+  pub laws : (f : Encoding) → Laws f.strict numbers.codec.least (format f)
+
+abbrev pub prefixed_codec : {V : Type 0} {numbers : Numbers} → Behind numbers V → Codec V
+prefixed_codec {numbers = numbers} behind = record {
+  least = numbers.codec.least;
+  format = behind.format;
+  laws = behind.laws;
+}
+
+pub unsigned_asks : (width : ℕ) (f : Encoding) → (unsigned_number width f).asks ≡ asks_nothing
+unfolding unsigned_number
+unsigned_asks width f = refl
+
+pub varint_asks : (f : Encoding) → (varint f).asks ≡ asks_nothing
+unfolding varint coding sequence unsigned_number
+varint_asks f = refl
+
+pub length_asks : (width greatest : ℕ) (f : Encoding) → (length_number width greatest f).asks ≡ asks_nothing
+unfolding coding unsigned_number
+length_asks width greatest f = refl
+
+-- numbers of so many bytes
+abbrev pub unsigned_numbers : ℕ → Numbers
+unsigned_numbers width = record { codec = unsigned_codec width; none_asked = unsigned_asks width }
+
+-- numbers of a variable length
+abbrev pub varint_numbers : Numbers
+varint_numbers = record { codec = varint_codec; none_asked = varint_asks }
+
+-- numbers of so many bytes that are at most so great; greater ones are refused as lengths
+abbrev pub length_numbers : ℕ → ℕ → Numbers
+length_numbers width greatest = record {
+  codec = length_codec width greatest;
+  none_asked = length_asks width greatest;
+}
+
+-- a text behind its number of bytes
+abbrev pub text_behind : (numbers : Numbers) → Behind numbers (List ℕ)
+text_behind numbers = let text = counted_text_codec numbers.codec in record { format = text.format; laws = text.laws }
+
+-- a list behind its number of items
+abbrev pub list_behind : {V : Type 0} → Codec V → (numbers : Numbers) → Behind numbers (List V)
+list_behind item numbers =
+    let list = counted_list_codec numbers.codec item in record { format = list.format; laws = list.laws }
+
+abbrev pub borrowed_behind : {V : Type 0} {numbers : Numbers} → Behind numbers V → Behind numbers V
+borrowed_behind content =
+    let borrowed = borrowed_codec (prefixed_codec content) in record { format = borrowed.format; laws = borrowed.laws }
+
+-- ---- cases
+
+-- Values of several cases, each behind the tag of its case.
+pub record Choices (V : Type 0) : Type 1 where
+  -- the tag of the case that a value is of
+  pub tag : V → ℕ
+  -- whether a case has the tag
+  pub has : ℕ → Bool
+  -- what any of the cases asks
+  pub asks : Encoding → Asks
+  -- what stands behind a tag
+  pub behind : Encoding → ℕ → Format V
+  pub laws : (f : Encoding) (n : ℕ) → Laws f.strict 0 (behind f n)
+  pub within : (f : Encoding) (n : ℕ) → AsksAtMost (behind f n).asks (asks f)
+  -- a value stands behind the tag of its own case alone
+  pub is_tag : (f : Encoding) (n : ℕ) (v : V) (s : List ℕ) → (behind f n).spells v s → tag v ≡ n
+
+-- a value's tag, and the value
+abbrev pub tagged_parts : {V : Type 0} → (V → ℕ) → V → ℕ × V
+tagged_parts tag v = (tag v, v)
+
+-- a tag, which is spelled as a format of numbers says, and then a value of its case
+abbrev pub tagged : {V : Type 0} → (Encoding → Format ℕ) → Choices V → Encoding → Format V
+tagged number choices f = sequence (tagged_parts choices.tag) (number f) (choices.asks f) (choices.behind f)
+
+pub tagged_laws : {V : Type 0} (number : Codec ℕ) (choices : Choices V) (f : Encoding)
+    → Laws f.strict number.least (tagged number.format choices f)
+tagged_laws {V = V} number choices f =
+    Laws-less {n = number.least + 0} (omega arith)
+    (sequence_laws {n = number.least} {m = 0} (number.laws f) (choices.laws f) (choices.within f)
+    (λ v w e. ap (λ (p : ℕ × V). p.1) e))
+
+abbrev pub choices_behind : {V : Type 0} → Choices V → (numbers : Numbers) → Behind numbers V
+choices_behind choices numbers = record {
+  format = tagged numbers.codec.format choices;
+  laws = tagged_laws numbers.codec choices;
+}

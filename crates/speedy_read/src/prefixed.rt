@@ -1,0 +1,142 @@
+//! How a number is read, and behind it what it tells of.
+ghost use Rattle.std.specs.Prelude.{◌≡◌};
+ghost use Rattle.speedy_layout.specs.Prefixed.{prefixed_codec};
+ghost use Rattle.speedy_read.specs.Reading.{ReadsValue};
+
+use crate::many::ItemByItem;
+use crate::private::{
+    read_length_u7, read_length_u8, read_length_u16, read_length_u32, read_length_u64,
+    read_length_u64_varint,
+};
+use crate::readable::ReadFrom;
+use crate::reader::LendingReader;
+use speedy_base::context::Context;
+use speedy_layout::prefixed::{Prefix, Prefixed, Told, U7};
+use speedy_layout::varint::VarInt64;
+use std::convert::AsSlice;
+use std::marker::PhantomData;
+
+/// How the numbers of a type are read.
+pub trait ReadPrefix: Prefix {
+    /// Reads a number.
+    fn read_number<L: AsSlice<u8> + Drop, C: Context, R: LendingReader<L, C>>(
+        reader: &mut R,
+    ) -> Result<usize, C::Error>
+        ensures { ReadsValue C.Error.IsEof R.state (λ n. n) Self.numbers.codec result
+            reader.old reader.new };
+
+    /// The least size of a number in bytes.
+    fn least_size() -> usize
+        ensures { result ≡ Self.numbers.codec.least };
+}
+
+impl ReadPrefix for u8 {
+    #[inline]
+    fn read_number<L: AsSlice<u8> + Drop, C: Context, R: LendingReader<L, C>>(
+        reader: &mut R,
+    ) -> Result<usize, C::Error> {
+        read_length_u8(reader)
+    }
+
+    #[inline]
+    fn least_size() -> usize {
+        1
+    }
+}
+
+impl ReadPrefix for u16 {
+    #[inline]
+    fn read_number<L: AsSlice<u8> + Drop, C: Context, R: LendingReader<L, C>>(
+        reader: &mut R,
+    ) -> Result<usize, C::Error> {
+        read_length_u16(reader)
+    }
+
+    #[inline]
+    fn least_size() -> usize {
+        2
+    }
+}
+
+impl ReadPrefix for u32 {
+    #[inline]
+    fn read_number<L: AsSlice<u8> + Drop, C: Context, R: LendingReader<L, C>>(
+        reader: &mut R,
+    ) -> Result<usize, C::Error> {
+        read_length_u32(reader)
+    }
+
+    #[inline]
+    fn least_size() -> usize {
+        4
+    }
+}
+
+impl ReadPrefix for u64 {
+    #[inline]
+    fn read_number<L: AsSlice<u8> + Drop, C: Context, R: LendingReader<L, C>>(
+        reader: &mut R,
+    ) -> Result<usize, C::Error> {
+        read_length_u64(reader)
+    }
+
+    #[inline]
+    fn least_size() -> usize {
+        8
+    }
+}
+
+impl ReadPrefix for VarInt64 {
+    #[inline]
+    fn read_number<L: AsSlice<u8> + Drop, C: Context, R: LendingReader<L, C>>(
+        reader: &mut R,
+    ) -> Result<usize, C::Error> {
+        read_length_u64_varint(reader)
+    }
+
+    #[inline]
+    fn least_size() -> usize {
+        1
+    }
+}
+
+impl ReadPrefix for U7 {
+    #[inline]
+    fn read_number<L: AsSlice<u8> + Drop, C: Context, R: LendingReader<L, C>>(
+        reader: &mut R,
+    ) -> Result<usize, C::Error> {
+        read_length_u7(reader)
+    }
+
+    #[inline]
+    fn least_size() -> usize {
+        1
+    }
+}
+
+/// How what a number tells of is read, where `L` is what the reader lends.
+pub trait ReadTold<L: AsSlice<u8> + Drop, C: Context>: Told + Sized + Drop {
+    /// Reads a number of the type `N`, and what it tells of.
+    fn read_behind<N: ReadPrefix, R: LendingReader<L, C>>(reader: &mut R) -> Result<Self, C::Error>
+        ensures { ReadsValue C.Error.IsEof R.state Self.seen (prefixed_codec (Self.behind N.numbers))
+            result reader.old reader.new };
+}
+
+impl<L: AsSlice<u8> + Drop, C: Context, N: ReadPrefix + Drop, T: ReadTold<L, C>> ReadFrom<L, C>
+    for Prefixed<N, T> {
+    type Strategy = ItemByItem<C>;
+
+    #[inline]
+    fn read_from<R: LendingReader<L, C>>(reader: &mut R) -> Result<Self, C::Error> {
+        let value = T::read_behind::<N, R>(reader)?;
+        Ok(Prefixed {
+            value,
+            number: PhantomData,
+        })
+    }
+
+    #[inline]
+    fn minimum_bytes_needed() -> usize {
+        N::least_size()
+    }
+}

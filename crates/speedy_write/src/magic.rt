@@ -1,0 +1,14 @@
+//! How constants are written.
+ghost use Rattle.std.specs.Prelude.{◌≡◌};
+
+use crate::writable::Writable;
+use crate::writer::Writer;
+use speedy_base::context::Context;
+use speedy_layout::magic::{Constant, Magic};
+
+impl<C: Context, K: Constant> Writable<C> for Magic<K> {
+    #[inline]
+    fn write_to<W: Writer<C>>(&self, writer: &mut W) -> Result<(), C::Error> {
+        writer.write_bytes(K::bytes())
+    }
+}
