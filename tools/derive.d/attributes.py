@@ -1,0 +1,211 @@
+"""What the attributes of items, fields and variants say."""
+from dataclasses import dataclass
+
+import expressions
+import syntax
+from parse import Parser
+from refusal import Refusal
+from tokens import Token
+
+WIDTHS = ("u7", "u8", "u16", "u32", "u64", "u64_varint")
+# What only the compiler of the original reads, and means nothing here.
+LINTS = ("allow", "warn", "deny", "forbid", "expect", "must_use")
+OF_FIELDS = ("length", "length_type", "varint", "constant_prefix", "skip", "default_on_eof")
+OF_ITEMS = ("tag_type", "peek_tag")
+OF_VARIANTS = ("tag",)
+UNTIL_END = ("its encoding begins longer ones, so it is not known where it ends. In the code that calls a reader, "
+             "peek, or read items until the end by `read_vec_until_eof`")
+
+
+@dataclass
+class Options:
+    """What `#[speedy(..)]` says of a field."""
+    length: object = None
+    length_type: object = None
+    varint: bool = False
+    constant: object = None
+    skip: bool = False
+
+
+def sub_parser(attribute):
+    """A parser of what an attribute holds."""
+    end = Token("end", "the end of the attribute", attribute.line)
+    return Parser(list(attribute.tokens) + [end])
+
+
+def inner_parser(attribute):
+    """A parser of what stands in the brackets of `name(..)`."""
+    parser = sub_parser(attribute)
+    if not parser.take_mark("("):
+        raise parser.refuse(f"here `(` is missing: write `{attribute.name}(..)`", attribute.line)
+    inner = parser.balanced(")")
+    parser.expect(")")
+    if parser.token.kind != "end":
+        raise parser.refuse(f"`{parser.token.text}` stands behind the attribute")
+    return sub_parser(syntax.Attribute(attribute.line, attribute.name, tuple(inner)))
+
+
+def settings(attributes, known, place):
+    """The settings of all `#[speedy(..)]`, by their names: each a line and a parser at its value, or None."""
+    found = {}
+    for attribute in attributes:
+        if attribute.name != "speedy":
+            continue
+        parser = inner_parser(attribute)
+        while parser.token.kind != "end":
+            line, name = parser.line, parser.name("a setting")
+            if name not in known:
+                raise Refusal(line, f"{place} has no setting `{name}`: it has {', '.join(f'`{it}`' for it in known)}")
+            if name in found:
+                raise Refusal(line, f"`{name}` is set twice")
+            found[name] = setting(parser, name, line)
+            if not parser.take_mark(","):
+                break
+        if parser.token.kind != "end":
+            raise parser.refuse(f"`{parser.token.text}` stands behind a setting: here `,` is missing")
+    return found
+
+
+def setting(parser, name, line):
+    """The line and the value of one setting, None where it has none."""
+    flags = ("varint", "skip", "default_on_eof", "peek_tag")
+    if name in flags:
+        if parser.is_mark("="):
+            raise Refusal(line, f"`{name}` has no value")
+        return line, None
+    if not parser.take_mark("="):
+        raise Refusal(line, f"`{name}` needs a value: write `{name} = ..`")
+    if name in ("length_type", "tag_type"):
+        width = parser.name("a width")
+        if width not in WIDTHS:
+            raise Refusal(line, f"`{width}` is no width: write {', '.join(f'`{it}`' for it in WIDTHS)}")
+        return line, width
+    return line, expressions.expression(parser)
+
+
+def of_field(field):
+    """What is set of a field."""
+    others(field.attributes, "a field")
+    found = settings(field.attributes, OF_FIELDS, "a field")
+    if "default_on_eof" in found:
+        raise Refusal(found["default_on_eof"][0], "`default_on_eof` reads to the end of the input: " + UNTIL_END)
+    options = Options(skip="skip" in found, varint="varint" in found)
+    if options.skip and len(found) > 1:
+        raise Refusal(found["skip"][0], "a field with `skip` has no bytes, and so no other setting")
+    if "length" in found:
+        options.length = length(found["length"])
+    if "length_type" in found:
+        line, options.length_type = found["length_type"]
+        if options.length is not None:
+            raise Refusal(line, "a field with `length` writes no length, and so has no `length_type`")
+    if "constant_prefix" in found:
+        options.constant = constant(*found["constant_prefix"])
+    return options
+
+
+def length(found):
+    """The length that a field is told."""
+    line, value = found
+    if isinstance(value, syntax.Open):
+        raise Refusal(line, "`length = ..` reads to the end of the input: " + UNTIL_END)
+    return value
+
+
+def constant(line, value):
+    """The bytes that stand before a field."""
+    negative = isinstance(value, syntax.Unary) and value.sign == "-"
+    literal = value.inner if negative else value
+    if not isinstance(literal, syntax.Literal):
+        raise Refusal(line, "`constant_prefix` is a literal: a text, bytes, a character, a flag, or `1_u8` or `1_i8`")
+    token = literal.token
+    if token.kind == "integer":
+        return one_byte(line, -token.value if negative else token.value, token.suffix)
+    if negative or token.kind == "float":
+        raise Refusal(line, "`constant_prefix` is a text, bytes, a character, a flag, or `1_u8` or `1_i8`")
+    if token.kind in ("text", "char"):
+        return token.value.encode()
+    if token.kind == "bytes":
+        return token.value
+    if token.kind == "byte":
+        return bytes([token.value])
+    return bytes([token.text == "true"])
+
+
+def one_byte(line, value, suffix):
+    """The byte of a number, which names its type."""
+    least, past = {"u8": (0, 256), "i8": (-128, 128)}.get(suffix, (0, 0))
+    if past == 0:
+        raise Refusal(line, "a number in `constant_prefix` is one byte and names its type: write `1_u8` or `1_i8`, "
+                            "or the bytes of a wider one as `b\"..\"`")
+    if not least <= value < past:
+        raise Refusal(line, f"{value} is no `{suffix}`")
+    return bytes([value % 256])
+
+
+def others(attributes, place):
+    """Refuses what is not read here."""
+    for attribute in attributes:
+        if attribute.name in ("speedy",) or attribute.name in LINTS:
+            continue
+        raise Refusal(attribute.line, f"the attribute `{attribute.name}` of {place} is not taken: leave it out, or "
+                                      "write the impls of this type by hand")
+
+
+def of_item(item, notes):
+    """Sorts the attributes of a struct or an enum."""
+    is_enum = isinstance(item, syntax.Enum)
+    for attribute in item.attributes:
+        if attribute.name == "derive":
+            derive(item, attribute)
+        elif attribute.name == "repr":
+            representation(item, attribute, is_enum, notes)
+        elif attribute.name == "non_exhaustive" and not attribute.tokens:
+            item.kept.append("#[non_exhaustive]")
+        elif attribute.name != "speedy" and attribute.name not in LINTS:
+            others([attribute], "an item")
+    if not is_enum:
+        settings(item.attributes, (), "a struct")
+        return
+    found = settings(item.attributes, OF_ITEMS, "an enum")
+    if "peek_tag" in found:
+        raise Refusal(found["peek_tag"][0], "an enum with `peek_tag` leaves its tag to be read again, so it has no "
+                                            "encoding of its own: peek in the code that calls a reader")
+    if "tag_type" in found:
+        item.tag_type = found["tag_type"][1]
+
+
+def derive(item, attribute):
+    """Takes a `derive` apart."""
+    parser = inner_parser(attribute)
+    while parser.token.kind != "end":
+        line, name = parser.line, parser.named_type().path[-1]
+        if name in item.derives or (name == "Readable" and item.readable) or (name == "Writable" and item.writable):
+            raise Refusal(line, f"`{name}` is derived twice")
+        if name == "Readable":
+            item.readable = True
+        elif name == "Writable":
+            item.writable = True
+        else:
+            item.derives.append(name)
+        if not parser.take_mark(","):
+            break
+    if parser.token.kind != "end":
+        raise parser.refuse(f"here `,` is missing, before `{parser.token.text}`")
+
+
+def representation(item, attribute, is_enum, notes):
+    """A `repr`, which changes no bytes. What Rattle has not is left out, with a note."""
+    parser = inner_parser(attribute)
+    words = [token.text for token in parser.tokens if token.kind == "name"]
+    if not is_enum and words in (["C"], ["transparent"]):
+        item.kept.append(f"#[repr({words[0]})]")
+        return
+    notes.append((attribute.line, f"`repr({', '.join(words)})` of `{item.name}` is left out: Rattle has none, and the "
+                                  "bytes are the same"))
+
+
+def of_variant(variant):
+    """The tag that is set of a variant, as an expression, or None."""
+    others(variant.attributes, "a variant")
+    found = settings(variant.attributes, OF_VARIANTS, "a variant")
+    return found["tag"][1] if "tag" in found else None

@@ -1,0 +1,98 @@
+"""Sources that the generator refuses: a name, the source, the line of the error and words of it."""
+
+HEAD = "use speedy::{Readable, Writable};\n"
+DERIVES = "#[derive(Readable, Writable)]\n"
+
+
+def struct(fields, name="A", head=HEAD):
+    """A struct of these fields, which begin in line 4."""
+    return f"{head}{DERIVES}struct {name} {{\n{fields}\n}}\n"
+
+
+BROKEN = [
+    # Syntax.
+    ("a text without an end", struct('    #[speedy(constant_prefix = "ab)]\n    a: u8'), 4, "no end"),
+    ("a comment without an end", HEAD + "/* a\n\nstruct A;", 2, "no end"),
+    ("a bracket that is missing", HEAD + DERIVES + "struct A(u8", 3, "`)` is missing"),
+    ("a bracket that closes nothing", HEAD + "#[derive(Readable, Writable])]\nstruct A;", 2, "closes nothing"),
+    ("a comma that is missing", struct("    a: u8\n    b: u8"), 5, "`}` is missing"),
+    ("a field without a type", struct("    a,"), 4, "`:` is missing"),
+    ("a name that is a keyword", struct("    type: u8"), 4, "the name of a field"),
+    ("a number that is none", struct("    #[speedy(constant_prefix = 10_u9)]\n    a: ()"), 4, "is no number"),
+    ("an escape that is none", struct('    #[speedy(constant_prefix = "\\q")]\n    a: ()'), 4, "is no escape"),
+    ("a letter that is none of Rust's", HEAD + DERIVES + "struct A(u8); €", 3, "no token of Rust"),
+    ("a raw name", struct("    r#type: u8"), 4, "raw names"),
+    ("attributes with nothing behind", HEAD + DERIVES, 3, "an item is missing"),
+    ("documentation of the file in its middle", struct("    a: u8") + "//! later", 6, "at the head of the file"),
+    # Items that are none of types.
+    ("a function", HEAD + "fn f() {}", 2, "a function is not taken"),
+    ("an impl", struct("    a: u8") + "impl A {}", 6, "an impl is not taken"),
+    ("a trait", HEAD + "pub trait T {}", 2, "a trait is not taken"),
+    ("a macro", HEAD + "macro_rules! m { () => {} }", 2, "a macro is not taken"),
+    ("a call of a macro", HEAD + "wrapped!(A, u8);", 2, "a macro is not taken"),
+    ("a module", HEAD + "mod inner { struct A; }", 2, "a module is not taken"),
+    ("an import of all", "use std::collections::*;\n", 1, "name what it brings"),
+    ("a type that derives neither", HEAD + "#[derive(Debug)]\nstruct A;", 3, "neither `Readable` nor `Writable`"),
+    ("an item twice", struct("    a: u8") + DERIVES + "struct A;", 7, "declared twice"),
+    ("a derive twice", HEAD + "#[derive(Readable, Readable)]\nstruct A;", 2, "derived twice"),
+    ("an attribute of the file", "#![allow(unused)]\n", 1, "the whole file"),
+    # Attributes.
+    ("an attribute that is not known", HEAD + "#[serde(default)]\n" + DERIVES + "struct A;", 2, "`serde`"),
+    ("a setting that is not known", struct("    #[speedy(lenght = 4)]\n    a: Vec<u8>"), 4, "no setting `lenght`"),
+    ("a setting of an enum at a struct", HEAD + DERIVES + "#[speedy(tag_type = u8)]\nstruct A;", 3, "no setting"),
+    ("a setting twice", struct("    #[speedy(skip)]\n    #[speedy(skip)]\n    a: u8"), 5, "set twice"),
+    ("a setting without its value", struct("    #[speedy(length)]\n    a: Vec<u8>"), 4, "needs a value"),
+    ("a flag with a value", struct("    #[speedy(skip = 1)]\n    a: u8"), 4, "has no value"),
+    ("a width that is none", struct("    #[speedy(length_type = u9)]\n    a: Vec<u8>"), 4, "is no width"),
+    ("a skipped field with more", struct("    #[speedy(skip, varint)]\n    a: u64"), 4, "no other setting"),
+    ("a length and its width", struct("    n: u8,\n    #[speedy(length = n, length_type = u8)]\n    a: Vec<u8>"), 5,
+     "no `length_type`"),
+    ("the rest of the input", struct("    #[speedy(default_on_eof)]\n    a: u8"), 4, "reads to the end of the input"),
+    ("a length to the end", struct("    #[speedy(length = ..)]\n    a: Vec<u8>"), 4, "reads to the end of the input"),
+    ("a tag that is peeked at", HEAD + DERIVES + "#[speedy(peek_tag)]\nenum A { B }", 3, "no encoding of its own"),
+    ("a varint of another width", struct("    #[speedy(varint)]\n    a: u32"), 5, "of the type `u64`"),
+    ("a constant of no type", struct("    #[speedy(constant_prefix = 10)]\n    a: ()"), 4, "names its type"),
+    ("a constant past its type", struct("    #[speedy(constant_prefix = 200_i8)]\n    a: ()"), 4, "is no `i8`"),
+    ("tags that repeat", HEAD + DERIVES + "enum A {\n    B = 1,\n    C = 0,\n    D,\n}", 6, "the tag 1 of `B`"),
+    ("a tag that repeats by its setting", HEAD + DERIVES + "enum A {\n    B,\n    #[speedy(tag = 0)]\n    C,\n}", 6,
+     "the tag 0 of `B`"),
+    ("a tag past its type", HEAD + DERIVES + "#[speedy(tag_type = u7)]\nenum A { B = 128 }", 4, "the greatest is 127"),
+    ("a tag below nothing", HEAD + DERIVES + "enum A { B = -1 }", 3, "the tag -1"),
+    ("a tag that is not told", HEAD + DERIVES + "enum A { B = OTHER }", 3, "no number that this file tells"),
+    ("a tag that is called", HEAD + DERIVES + "enum A { B = f(1) }", 3, "a call is not taken"),
+    ("an enum without variants", HEAD + DERIVES + "enum A {}", 3, "has no variant"),
+    ("a tag at a field", struct("    #[speedy(tag = 1)]\n    a: u8"), 4, "no setting `tag`"),
+    ("a length of a number", struct("    #[speedy(length_type = u8)]\n    a: u32"), 5, "`length_type` is taken of"),
+    # Types.
+    ("a float", struct("    a: f32"), 4, "hold its bits"),
+    ("an atomic", "use std::sync::atomic::AtomicU8;\n" + struct("    a: AtomicU8"), 5, "hold the number"),
+    ("a time of the system", struct("    a: std::time::SystemTime"), 4, "`Duration` since the epoch"),
+    ("a reference count", "use std::rc::Rc;\n" + struct("    a: Rc<u8>"), 5, "hold the value"),
+    ("a raw pointer", struct("    a: *const u8"), 4, "a raw pointer"),
+    ("a function pointer", struct("    a: fn(u8) -> u8"), 4, "a function pointer"),
+    ("a value of any type", struct("    a: Box<dyn Fn()>"), 4, "a `dyn` value"),
+    ("a type that is not there", struct("    a: Missing"), 4, "neither declared here nor imported"),
+    ("a text without a size", struct("    a: str"), 4, "has no size"),
+    ("a slice without a size", struct("    a: [u8]"), 4, "has no size"),
+    ("a reference without a lifetime", struct("    a: &str"), 4, "needs a lifetime"),
+    ("a reference to numbers", HEAD + DERIVES + "struct A<'a>(&'a [u32]);", 3, "SliceView"),
+    ("a reference to a type", HEAD + DERIVES + "struct A<'a>(&'a String);", 3, "is written alone"),
+    ("a reference that lives for ever", struct("    a: &'static str"), 4, "name a lifetime"),
+    ("a cow without a lifetime", "use std::borrow::Cow;\n" + struct("    a: Cow<str>"), 5, "needs a lifetime"),
+    ("two lifetimes", HEAD + DERIVES + "struct A<'a, 'b>(&'a str, &'b str);", 3, "2 lifetimes"),
+    ("a map of one type", "use std::collections::BTreeMap;\n" + struct("    a: BTreeMap<u8>"), 5, "applied to 2"),
+    ("a tuple of twelve", struct("    a: (u8, u8, u8, u8, u8, u8, u8, u8, u8, u8, u8, u8)"), 4, "up to 11 parts"),
+    ("an array of a sum", struct("    a: [u8; 2 + 2]"), 4, "no array of so many"),
+    ("a generic of another module", "use other::Pair;\n" + HEAD + DERIVES + "struct A<T>(Pair<T>);", 4, "not known"),
+    ("a parameter that stands nowhere", HEAD + DERIVES + "struct A<T>(u8);", 3, "stands in no part"),
+    ("a type without a size in a bound", HEAD + DERIVES + "struct A<T: ?Sized>(Box<T>);", 3, "`?Sized`"),
+    ("a default of a const parameter", HEAD + DERIVES + "struct A<const N: usize = 2>([u8; N]);", 3,
+     "const parameter"),
+    ("a type that holds itself", struct("    a: Vec<A>"), 3, "holds itself"),
+    ("types that hold each other", struct("    a: Option<Box<B>>") + DERIVES + "struct B(Vec<A>);", 3, "holds itself"),
+    # Names of the made module.
+    ("a type named as one that is imported", HEAD + DERIVES + "struct Context(u8);", 3, "another name"),
+    ("a type named as the parts", struct("    a: u8,\n    b: u8") + DERIVES + "struct AParts;", 3, "another name"),
+    ("two types of one name", "use other::Vec as List;\nuse std::collections::HashMap as Map;\n"
+     + struct("    a: std::collections::BTreeMap<u8, u8>,\n    b: mine::BTreeMap"), 7, "from both"),
+]

@@ -1,0 +1,196 @@
+"""Sources that the generator takes: a name, the source, and lines of what is made; and random ones."""
+import random
+
+DERIVES = "#[derive(Readable, Writable)]\n"
+
+MADE = [
+    ("a struct", '''/// Whom to write to.
+#[derive(Debug, PartialEq, Readable, Writable)]
+pub struct Contact {
+    pub name: String,
+    /// It has an `@`.
+    pub mail: String,
+    pub groups: Vec<u16>,
+}
+''', ["//! Made from `types.rs`", "use std::convert::AsSlice;",
+      "/// Whom to write to.\n#[derive(Debug, PartialEq, Drop)]",
+      "    /// It has an `@`.\n    pub mail: String,", "type ContactParts = (String, String, Vec<u16>);",
+      "impl Layout for Contact {", "seen (it.name, it.mail, it.groups) };",
+      "impl<L: AsSlice<u8> + Drop, C: Context> ReadFrom<L, C> for Contact {",
+      "match reader.read_value() {\n            Ok((name, mail, groups)) => Ok(Contact { name, mail, groups }),",
+      "impl<C: Context> Writable<C> for Contact {",
+      "writer.write_value(&(Part(&self.name), Part(&self.mail), Part(&self.groups)))"]),
+    ("a generic one", DERIVES + "pub struct Labelled<T = u8> { pub label: u32, pub value: Vec<T> }\n",
+     ["pub struct Labelled<T = u8> {", "type LabelledParts<T> = (u32, Vec<T>);",
+      "impl<T: Layout> Layout for Labelled<T> {",
+      "impl<L: AsSlice<u8> + Drop, C: Context, T: ReadMany<L, C>> ReadFrom<L, C> for Labelled<T> {",
+      "impl<C: Context, T: Writable<C>> Writable<C> for Labelled<T> {"]),
+    ("one that borrows", "use std::borrow::Cow;\n" + DERIVES + "pub struct Entry<'a>(&'a str, Cow<'a, [u8]>);\n",
+     ["use std::borrow::CowSlice;", "pub struct Entry<'a>(&'a str, CowSlice<'a, u8>);",
+      "impl<'a, C: Context> ReadFrom<&'a [u8], C> for Entry<'a> {", "Ok((t0, t1)) => Ok(Entry(t0, t1)),",
+      "ensures { result ≡ ⟦<EntryParts<'a> as Layout>⟧.layout.least }"]),
+    ("a newtype", "#[derive(Clone, Copy, Readable, Writable)]\n#[repr(transparent)]\nstruct Newtype(u16);\n",
+     ["#[derive(Clone, Copy)]\n#[repr(transparent)]\nstruct Newtype(u16);", "⟦<u16 as Layout>⟧.seen it.0 };",
+      "Ok(t0) => Ok(Newtype(t0)),", "writer.write_value(&self.0)"]),
+    ("structs without parts", DERIVES + "struct Unit;\n" + DERIVES + "struct Empty {}\n",
+     ["struct Unit;", "Ok(()) => Ok(Unit),", "writer.write_value(&())", "struct Empty {}",
+      "Ok(()) => Ok(Empty {}),"]),
+    ("one of many parts", DERIVES + "struct A(u8, u8, u8, u8, u8, u8, u8, u8, u8, u8, u8, u8);\n",
+     ["type AParts = ((u8, u8, u8, u8, u8, u8), (u8, u8, u8, u8, u8, u8));",
+      "let ((t0, t1, t2, t3, t4, t5), (t6, t7, t8, t9, t10, t11)) = parts;"]),
+    ("one that another holds, declared behind it", DERIVES + "struct A<T>(B<T>);\n" + DERIVES
+     + "struct B<T>(Vec<T>);\n", ["T: ReadMany<L, C>> ReadFrom<L, C> for A<T> {"]),
+    ("the types that Rattle names otherwise", "use std::borrow::Cow;\nuse std::collections::hash_map::HashMap;\n"
+     + DERIVES + "struct A<'a> { a: Cow<'a, str>, b: Box<str>, c: Box<[u8]>, d: HashMap<u8, Cow<'a, [u16]>>, "
+     "e: Cow<'a, HashMap<u8, u8>> }\n", ["    a: CowStr<'a>,", "    b: BoxedStr,", "    c: BoxedSlice<u8>,",
+                  "    d: HashMap<u8, CowSlice<'a, u16>>,", "    e: Cow<'a, HashMap<u8, u8>>,"]),
+    ("keys", "use std::collections::{BTreeMap, HashSet};\n" + DERIVES
+     + "struct A<K, T>(BTreeMap<K, u8>, HashSet<T>) where T: std::hash::Hash + Eq, K: Ord;\n",
+     ["impl<K: SameKey + Ord, T: SameKey + Hash> Layout for A<K, T>\nwhere\n    T: Hash + Eq,\n    K: Ord,\n{",
+      "K: ReadFrom<L, C> + SameKey + Ord", "T: ReadMany<L, C> + SameKey + Hash", "T: Writable<C> + SameKey + Hash"]),
+    ("a field that is skipped, and one of few bytes", DERIVES
+     + "struct A { #[speedy(varint)] n: u64, #[speedy(skip)] cache: Vec<u8>, last: bool }\n",
+     ["type AParts = (VarInt64, bool);", "ghost seen = { λ it. (it.n, ⟦<bool as Layout>⟧.seen it.last) };",
+      "match reader.read_value::<AParts>() {", "n: n.get(),", "cache: Default::default(),",
+      "writer.write_value(&(VarInt64::from(self.n), Part(&self.last)))"]),
+    ("constants and aliases", "pub const SIZE: usize = 4 * (1 + 1);\ntype Name = [u8; SIZE];\n" + DERIVES
+     + "struct A { name: Name, id: uuid::Uuid }\n",
+     ["use speedy::ext::Uuid;", "pub const SIZE: usize = 4 * (1 + 1);", "type Name = [u8; SIZE];",
+      "    name: [u8; SIZE],"]),
+    ("types of other modules", "use crate::other::{Point, Line as Stroke};\n" + DERIVES
+     + "struct A(Point, Stroke, super::Third);\n",
+     ["use super::Third;\nuse crate::other::{Line as Stroke, Point};", "struct A(Point, Stroke, Third);"]),
+    ("what is written alone", "#[derive(Writable)]\nstruct A<'a, T>(&'a [T], &'a T, &'static str);\n",
+     ["impl<'a, T: Layout> Layout for A<'a, T> {", "impl<'a, C: Context, T: Writable<C>> Writable<C> for A<'a, T> {"]),
+    ("parameters named as those of the impls", DERIVES + "struct A<L, C>(L, C);\n",
+     ["impl<L0: AsSlice<u8> + Drop, C0: Context, L: ReadFrom<L0, C0>, C: ReadFrom<L0, C0>> ReadFrom<L0, C0>"]),
+    ("a number that an array is generic in", DERIVES + "struct A<T, const N: usize>([T; N]);\n",
+     ["impl<T: Layout, const N: usize> Layout for A<T, N> {"]),
+]
+
+MADE += [
+    ("an enum", """#[derive(Debug, Readable, Writable)]
+pub enum Message {
+    /// Nothing.
+    Ping,
+    Named(String, u8),
+    Point { x: u16, y: u16 },
+}
+""", ["ghost use Rattle.std.specs.Prelude.{◌≡◌};\nghost use Rattle.std.proofs.Common.{inl, inr};",
+      "use speedy::cases::Either::{Left, Right};",
+      "    /// Nothing.\n    Ping,\n    Named(String, u8),\n    Point { x: u16, y: u16 },",
+      "type MessageCases = Either<Case<0, ()>, Either<Case<1, (String, u8)>, Case<2, (u16, u16)>>>;",
+      "type MessageParts<'t> = Either<", "    ghost use Rattle.my_crate.specs.declared.messages.Message.{Message};",
+      "⟦<Prefixed<u32, MessageCases> as Layout>⟧.Seen", "| Message.Ping ↦ inl tt",
+      "| Message.Named t0 t1 ↦ inr (inl (⟦<(String, u8) as Layout>⟧.seen (t0, t1)))",
+      "Right(Left(Case((t0, t1)))) => Message::Named(t0, t1),",
+      "Message::Point { x, y } => Right(Right(Case((Part(x), Part(y))))),",
+      "match reader.read_value::<Prefixed<u32, MessageCases>>() {", "self.parts().write_behind::<u32, W>(writer)"]),
+    ("tags of an enum", "const FIRST: u8 = 3;\n#[derive(Readable, Writable)]\n#[speedy(tag_type = u8)]\n"
+     "enum Kind { A = FIRST as isize, B, #[speedy(tag = 2 * 10)] C = 10, D, E = 0xfe }\n",
+     ["    A = FIRST as isize,\n    B,\n    C = 10,\n    D,\n    E = 0xfe,", "Case<3, ()>", "Case<4, ()>",
+      "Case<20, ()>",
+      "Case<21, ()>", "Case<254, ()>", "fn parts(&self) -> KindCases"]),
+    ("tags of other widths", "#[derive(Readable)]\n#[speedy(tag_type = u7)]\nenum A { B }\n#[derive(Writable)]\n"
+     "#[speedy(tag_type = u64_varint)]\nenum C { D }\n",
+     ["use speedy::prefixed::{Prefixed, Told, U7, WriteTold};", "Prefixed<U7, ACases>", "Prefixed<VarInt64, CCases>"]),
+    ("an enum that is generic and borrows", "#[derive(Readable, Writable)]\nenum A<'a, T> { B(&'a str), C(Vec<T>) }\n",
+     ["type ACases<'a, T> = ", "type AParts<'a, 't, T> = ", "impl<'a, T: Layout> A<'a, T> {",
+      "fn parts<'t>(&'t self) -> AParts<'a, 't, T>",
+      "T: ReadMany<&'a [u8], C>> ReadFrom<&'a [u8], C> for A<'a, T> {"]),
+    ("lengths and constants", """#[derive(Readable, Writable)]
+struct Frame {
+    #[speedy(constant_prefix = "SP", length_type = u64_varint)]
+    parts: Vec<u16>,
+    #[speedy(length_type = u8)]
+    note: String,
+    #[speedy(constant_prefix = b"\\xff\\0")]
+    end: bool,
+}
+""", ["struct BeforeFrameParts {}", "ghost bytes = { 83 ∷ 80 ∷ [] };", 'b"SP"',
+      "ghost bytes = { 255 ∷ 0 ∷ [] };", 'b"\\xff\\x00"',
+      "    Magic<BeforeFrameParts>,\n    Prefixed<VarInt64, Vec<u16>>,\n"
+      "    Prefixed<u8, String>,\n    Magic<BeforeFrameEnd>,",
+      "⟦<BeforeFrameParts as Constant>⟧.bytes,", "Ok((_, parts, note, _, end)) => Ok(Frame {", "parts: parts.value,",
+      "let note: Prefixed<u8, _> = Prefixed::new(Part(&self.note));", "Magic::<BeforeFrameParts>::new(),"]),
+    ("constants of each kind", DERIVES + "struct A(" + ", ".join(
+        f"#[speedy(constant_prefix = {it})] ()" for it in ("'é'", "-1_i8", "true", "b'x'", "7u8")) + ");\n",
+     ["{ 195 ∷ 169 ∷ [] }", "{ 255 ∷ [] }", "{ 1 ∷ [] }", "{ 120 ∷ [] }", "{ 7 ∷ [] }"]),
+]
+
+NOTED = [
+    ("a layout in memory", "\n#[repr(packed)]\n" + DERIVES + "struct A(u16);\n", 3, "left out"),
+]
+
+
+class Random:
+    """A source of random structs."""
+
+    def __init__(self, seed):
+        self.random = random.Random(seed)
+
+    def name(self):
+        """A name of any length, which is no keyword."""
+        count = self.random.choice([1, 2, 3, 4, 5, 6, 7, 8, 9, 10, 12, 14, 18, 22])
+        return "q" + "".join(self.random.choice("abcdefghijklmnopqrstuvwxyz") for _ in range(count))
+
+    def kind(self, depth, borrows, parameters):
+        """A type."""
+        leaves = ["u8", "u16", "u32", "u64", "i64", "String", "bool", "char", "Uuid", *parameters]
+        if borrows:
+            leaves += ["&'a str", "&'a [u8]", "Cow<'a, str>", "Cow<'a, [u32]>"]
+        if depth == 0 or self.random.random() < 0.4:
+            return self.random.choice(leaves)
+        form = self.random.choice(["Vec<{}>", "Option<{}>", "({}, {})", "BTreeMap<u16, {}>", "HashMap<String, {}>",
+                                   "[{}; 31]", "Result<{}, {}>", "Box<[{}]>", "Box<str>", "Box<{}>", "({}, {}, {})",
+                                   "Range<{}>"])
+        return form.format(*(self.kind(depth - 1, borrows, parameters) for _ in range(form.count("{}"))))
+
+    def docs(self, indent):
+        """Documentation, or none."""
+        return f"{indent}/// {self.name()} {self.name()}.\n" if self.random.random() < 0.3 else ""
+
+    def enum(self, place):
+        """An enum."""
+        variants = []
+        for it in range(self.random.choice([1, 2, 3, 4, 5, 8, 11, 16])):
+            name = f"{self.name().capitalize()}{it}"
+            count = self.random.choice([1, 1, 2, 3, 6, 9])
+            kinds = [self.kind(self.random.randrange(3), False, []) for _ in range(count)]
+            named = "".join(f"{self.docs('        ')}        {self.name()}{at}: {kind},\n"
+                            for at, kind in enumerate(kinds))
+            variants.append(self.docs("    ") + self.random.choice([
+                f"    {name},\n", f"    {name}({', '.join(kinds)}),\n", f"    {name} {{\n{named}    }},\n"]))
+        return f"{self.docs('')}{DERIVES}enum {self.name().capitalize()}{place} {{\n{''.join(variants)}}}\n"
+
+    def struct(self, place):
+        """A struct."""
+        count = self.random.choice([0, 1, 1, 2, 2, 3, 3, 4, 5, 6, 7, 8, 12, 13, 20, 40])
+        parameters = [f"T{it}" for it in range(self.random.choice([0, 0, 0, 1, 2, 3]))]
+        wants_loan = self.random.random() < 0.3
+        kinds = [self.kind(self.random.randrange(4), wants_loan, parameters) for _ in range(count)]
+        used = [it for it in parameters if any(it in kind for kind in kinds)]
+        borrows = any("'a" in kind for kind in kinds)
+        debug = [it + (": std::fmt::Debug" if self.random.random() < 0.2 else "") for it in used]
+        generics = ", ".join((["'a"] if borrows else []) + debug)
+        generics = f"<{generics}>" if generics else ""
+        where = f" where {used[0]}: Clone + Eq" if used and self.random.random() < 0.3 else ""
+        derives = self.random.sample(["Debug", "PartialEq", "Clone", "Eq"], self.random.randrange(4))
+        head = f"{self.docs('')}#[derive({', '.join(derives + ['Readable', 'Writable'])})]\n"
+        head += f"{self.random.choice(['pub ', '', 'pub(crate) '])}struct {self.name().capitalize()}{place}{generics}"
+        if count == 0:
+            return head + ";\n"
+        if self.random.random() < 0.4:
+            fields = ", ".join(self.random.choice(["pub ", ""]) + kind for kind in kinds)
+            return f"{head}({fields}){where};\n"
+        fields = "".join(f"{self.docs('    ')}    {self.random.choice(['pub ', ''])}{self.name()}{it}: {kind},\n"
+                         for it, kind in enumerate(kinds))
+        return f"{head}{where} {{\n{fields}}}\n"
+
+
+def random_source(seed):
+    """A source of three structs and two enums."""
+    made = Random(seed)
+    head = ("use std::borrow::Cow;\nuse std::collections::{BTreeMap, HashMap};\nuse std::ops::Range;\n"
+            "use uuid::Uuid;\nuse speedy::{Readable, Writable};\n")
+    return head + "\n".join([made.struct(place) for place in range(3)] + [made.enum(place) for place in (3, 4)])

@@ -1,0 +1,85 @@
+"""The types that are read and written, by the paths that Rust has them at."""
+from dataclasses import dataclass
+
+# What an argument of a type has to be: a part that is read, an item of a list, a key that is compared or hashed, what
+# makes hashers.
+PART, ITEM, ORDERED, HASHED, HASHER = "part", "item", "ordered", "hashed", "hasher"
+
+
+@dataclass(frozen=True)
+class Known:
+    """A type of Rattle: its name, the module that it is imported from, and what its arguments are."""
+    name: str
+    module: object = None
+    arguments: tuple = ()
+
+
+PRIMITIVES = ("u8", "u16", "u32", "u64", "u128", "usize", "i8", "i16", "i32", "i64", "i128", "bool", "char")
+# Those that are filled in place, and lent by views.
+NUMBERS = ("u8", "u16", "u32", "u64", "u128", "i8", "i16", "i32", "i64", "i128")
+
+KNOWN = {
+    "std::string::String": Known("String"),
+    "std::vec::Vec": Known("Vec", None, ((ITEM,),)),
+    "std::option::Option": Known("Option", None, ((PART,),)),
+    "std::result::Result": Known("Result", None, ((PART,), (PART,))),
+    "std::boxed::Box": Known("Box", None, ((PART,),)),
+    "std::borrow::Cow": Known("Cow", "std::borrow", ((PART,),)),
+    "std::collections::BTreeMap": Known("BTreeMap", "std::collections", ((PART, ORDERED), (PART,))),
+    "std::collections::BTreeSet": Known("BTreeSet", "std::collections", ((ITEM, ORDERED),)),
+    "std::collections::HashMap": Known("HashMap", "std::collections", ((PART, HASHED), (PART,), (HASHER,))),
+    "std::collections::HashSet": Known("HashSet", "std::collections", ((ITEM, HASHED), (HASHER,))),
+    "std::ops::Range": Known("Range", "std::ops", ((PART,),)),
+    "std::ops::RangeInclusive": Known("RangeInclusive", "std::ops", ((PART,),)),
+    "std::net::Ipv4Addr": Known("Ipv4Addr", "std::net"),
+    "std::net::Ipv6Addr": Known("Ipv6Addr", "std::net"),
+    "std::net::IpAddr": Known("IpAddr", "std::net"),
+    "std::time::Duration": Known("Duration", "std::time"),
+    "uuid::Uuid": Known("Uuid", "speedy::ext"),
+    "indexmap::IndexMap": Known("IndexMap", "speedy::ext", ((PART, HASHED), (PART,), (HASHER,))),
+    "indexmap::IndexSet": Known("IndexSet", "speedy::ext", ((ITEM, HASHED), (HASHER,))),
+    "smallvec::SmallVec": Known("SmallVec", "speedy::ext"),
+    "speedy::Endianness": Known("Endianness", "speedy"),
+    "speedy::private::VarInt64": Known("VarInt64", "speedy::varint"),
+}
+for bits in (8, 16, 32, 64):
+    for sign in ("U", "I"):
+        KNOWN[f"std::num::NonZero{sign}{bits}"] = Known(f"NonZero{sign}{bits}", "std::num")
+for kind in ("HashMap", "HashSet"):
+    KNOWN[f"std::collections::{'hash_map' if kind == 'HashMap' else 'hash_set'}::{kind}"] = \
+        KNOWN[f"std::collections::{kind}"]
+for kind in ("BTreeMap", "BTreeSet"):
+    KNOWN[f"std::collections::{'btree_map' if kind == 'BTreeMap' else 'btree_set'}::{kind}"] = \
+        KNOWN[f"std::collections::{kind}"]
+
+# What is in scope without an import.
+PRELUDE = {"String": "std::string::String", "Vec": "std::vec::Vec", "Option": "std::option::Option",
+           "Result": "std::result::Result", "Box": "std::boxed::Box"}
+
+# Traits that mean in a bound what they mean in Rust.
+BOUNDS = {
+    "std::hash::Hash": ("Hash", "std::hash"), "std::fmt::Debug": ("Debug", "std::fmt"), "std::cmp::Eq": ("Eq", None),
+    "std::cmp::PartialEq": ("PartialEq", None), "std::cmp::Ord": ("Ord", None),
+    "std::cmp::PartialOrd": ("PartialOrd", None), "std::marker::Copy": ("Copy", None),
+    "std::clone::Clone": ("Clone", None), "std::hash::BuildHasher": ("BuildHasher", "std::hash"),
+    "std::default::Default": ("Default", None),
+}
+PRELUDE_BOUNDS = {"Eq": "std::cmp::Eq", "PartialEq": "std::cmp::PartialEq", "Ord": "std::cmp::Ord",
+                  "PartialOrd": "std::cmp::PartialOrd", "Copy": "std::marker::Copy",
+                  "Default": "std::default::Default", "Clone": "std::clone::Clone"}
+
+# Why a type is neither read nor written, and what to take.
+NONE_OF_OURS = {
+    "f32": "a float is not taken: hold its bits, as a `u32` of `to_bits`, which are the same bytes",
+    "f64": "a float is not taken: hold its bits, as a `u64` of `to_bits`, which are the same bytes",
+    "isize": "`isize` is neither read nor written: take an `i64`",
+    "str": "`str` has no size: take `String`, `Box<str>`, `Cow<'a, str>` or `&'a str`",
+    "std::time::SystemTime": "`SystemTime` is not taken: hold the `Duration` since the epoch, of the same bytes",
+    "std::time::Instant": "an `Instant` is neither read nor written",
+    "std::marker::PhantomData": "`PhantomData` is neither read nor written: set `skip`, or leave the field out",
+    "std::rc::Rc": "`Rc` is neither read nor written: hold the value, or a `Box`",
+    "std::sync::Arc": "`Arc` is neither read nor written: hold the value, or a `Box`",
+    "std::collections::VecDeque": "`VecDeque` is neither read nor written: take a `Vec`",
+    "std::cell::Cell": "a cell is neither read nor written: hold its value",
+    "std::cell::RefCell": "a cell is neither read nor written: hold its value",
+}

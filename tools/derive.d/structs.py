@@ -1,0 +1,458 @@
+"""The impls of a struct: it has the layout of the tuple of its parts, is read as that and written as it."""
+from dataclasses import dataclass
+
+import syntax
+from generics import Generics, impl_lines
+from known import PART
+from layout import WIDTH, Node, binding, braces, call, flat, generic, lines, pattern, written_call
+from refusal import Refusal
+from scope import asks, names_in, text
+
+# The types of numbers, and the first number past each, by the names that the original has for them.
+NUMBERS = {"u7": ("U7", 1 << 7), "u8": ("u8", 1 << 8), "u16": ("u16", 1 << 16), "u32": ("u32", 1 << 32),
+           "u64": ("u64", 1 << 64), "u64_varint": ("VarInt64", 1 << 64)}
+# What may stand behind a length of another width.
+COUNTED = ("String", "Vec", "BoxedStr", "BoxedSlice", "SmallVec")
+# So many parts stand in one tuple. Of more the search for proofs meets its step limit.
+MOST_PARTS = 6
+GHOST_WIDTH = 118
+
+
+@dataclass
+class Part:
+    """A part of what is read and written: its type, what it is bound to in reading, what is seen of it, what is
+    written."""
+    type: object
+    bound: str
+    seen: str
+    written: str
+    # What is seen of it by itself, where it is of another type than the field.
+    seen_alone: str = ""
+    # The type that it is written as, where it is none of its own, as a lifetime makes it.
+    written_type: object = None
+    # A statement before it is written, and the name that this binds.
+    before: object = None
+
+
+def split(parts):
+    """The parts as a tree of tuples that are short enough; a tree is a part or a list of trees."""
+    trees = list(parts)
+    if not trees:
+        return None
+    while len(trees) > MOST_PARTS:
+        groups = -(-len(trees) // MOST_PARTS)
+        size, more = divmod(len(trees), groups)
+        cut, at = [], 0
+        for place in range(groups):
+            end = at + size + (1 if place < more else 0)
+            cut.append(trees[at:end] if end - at > 1 else trees[at])
+            at = end
+        trees = cut
+    return trees[0] if len(trees) == 1 else trees
+
+
+def fold(tree, leaf, node):
+    """Builds something of a tree."""
+    if isinstance(tree, list):
+        return node([fold(it, leaf, node) for it in tree])
+    return leaf(tree)
+
+
+def type_node(kind):
+    """A type of Rattle, to be laid out."""
+    if isinstance(kind, syntax.Tuple) and kind.parts:
+        return generic("(", [type_node(it) for it in kind.parts])
+    if isinstance(kind, syntax.Named) and kind.arguments:
+        return generic(kind.path[-1] + "<", [type_node(it) for it in kind.arguments])
+    return text(kind)
+
+
+class Shape:
+    """What the impls of a type are made of."""
+
+    def __init__(self, item, scope, parts, skipped, alias):
+        self.item = item
+        self.scope = scope
+        self.tree = split(parts)
+        self.parts = parts
+        kinds = [part.type for part in parts] + skipped
+        self.generics = Generics(item, scope, kinds)
+        self.asked = asked_of(item, scope, parts, skipped)
+        self.tuple = fold(self.tree, lambda it: it.type, lambda its: syntax.Tuple(item.line, tuple(its))) \
+            if parts else syntax.Tuple(item.line, ())
+        self.self_type = item.name + self.generics.arguments()
+        # A single part of a short type needs no other name.
+        self.alias = alias if isinstance(self.tree, list) or len(text(self.tuple)) > 24 else None
+        if self.alias and (self.alias in scope.items or self.alias in scope.uses):
+            raise Refusal(item.line, f"the made module names the parts `{self.alias}`: give that item another name")
+        used = names_in(self.tuple)
+        self.parts_type = self.alias + self.generics.used(used) if self.alias else text(self.tuple)
+
+    def alias_lines(self):
+        """The alias of the tuple of parts."""
+        if not self.alias:
+            return []
+        head = f"type {self.parts_type} = "
+        docs = f"/// What [`{self.item.name}`] is read and written as."
+        return [docs] + lines(type_node(self.tuple), 0, head, ";") + [""]
+
+
+def asked_of(item, scope, parts, skipped):
+    """What is asked of each parameter, by its name."""
+    found = {it.name: [] for it in item.parameters if it.kind == "type"}
+    for part in parts:
+        for name, role in asks(part.type, scope):
+            if name in found and role not in found[name]:
+                found[name].append(role)
+    for kind in skipped:
+        for name in names_in(kind):
+            if name in found and "skip" not in found[name]:
+                found[name].append("skip")
+    unused = [name for name, roles in found.items() if not roles]
+    if unused:
+        raise Refusal(item.line, f"the parameter `{unused[0]}` stands in no part: leave it out")
+    scope.asked[item.name] = tuple(tuple(found[it.name]) or (PART,) for it in item.parameters if it.kind == "type")
+    return found
+
+
+# The parts of a struct or of a variant.
+
+@dataclass
+class Access:
+    """How a field is named: what it is bound to in reading, in a clause, as a reference and as a value."""
+    bound: str
+    seen: str
+    reference: str
+    value: str
+
+
+def accesses_of(fields):
+    """How the fields of a struct are named."""
+    found = []
+    for place, field in enumerate(fields):
+        name = field.name or str(place)
+        found.append(Access(field.name or f"t{place}", f"it.{name}", f"&self.{name}", f"self.{name}"))
+    return found
+
+
+def parts_of(item, scope, fields, accesses, of_field, owner=None):
+    """The parts of the fields, and the types of those that are skipped. `owner` is the struct, or a variant's path."""
+    parts, skipped = [], []
+    for field, access in zip(fields, accesses):
+        field.options = of_field(field)
+        kind = scope.convert(field.type, item.parameters, not item.readable)
+        if field.options.skip:
+            skipped.append(kind)
+            continue
+        if field.options.constant is not None:
+            parts.append(constant_part(scope, field, access, owner or item.name))
+        parts.append(part_of(scope, field, access, kind))
+    return parts, skipped
+
+
+def part_of(scope, field, access, kind):
+    """The part of one field."""
+    options = field.options
+    if options.length is not None:
+        raise Refusal(field.line, "`length` is not taken yet: write the impls of this type by hand, with `vector`")
+    if options.varint:
+        return varint_part(scope, field, access, kind)
+    if options.length_type:
+        return prefixed_part(scope, field, access, kind)
+    return Part(kind, access.bound, access.seen, f"Part({access.reference})", written_type=kind)
+
+
+def varint_part(scope, field, access, kind):
+    """A number that is written in as few bytes as it needs."""
+    if text(kind) != "u64":
+        raise Refusal(field.line, "`varint` is for fields of the type `u64`")
+    if field.options.length_type:
+        raise Refusal(field.line, "a number has no length: leave `length_type` out")
+    scope.need("speedy::varint", "VarInt64", field.line)
+    return Part(syntax.Named(field.line, ("VarInt64",)), access.bound, access.seen, f"VarInt64::from({access.value})",
+                access.seen)
+
+
+def prefixed_part(scope, field, access, kind):
+    """A text or a list behind a length of its own width."""
+    if not isinstance(kind, syntax.Named) or kind.path[-1] not in COUNTED:
+        raise Refusal(field.line, "`length_type` is taken of `String`, `Vec`, `Box<str>`, `Box<[T]>` and `SmallVec`: "
+                                  f"write a `Prefixed` of `{text(kind)}` by hand")
+    number = number_of(scope, field.options.length_type, field.line)
+    scope.need("speedy::prefixed", "Prefixed", field.line)
+    line = field.line
+    name = access.bound if access.bound not in ("writer", "self") else access.bound + "_"
+    return Part(syntax.Named(line, ("Prefixed",), (syntax.Named(line, (number,)), kind)), access.bound, access.seen,
+                f"Prefixed::new(Part({access.reference}))", f"⟦<{text(kind)} as Layout>⟧.seen {access.seen}",
+                before=(name, f"Prefixed<{number}, _>"))
+
+
+def number_of(scope, width, line):
+    """The type of numbers of a width, as the original names it."""
+    number = NUMBERS[width][0]
+    if number == "U7":
+        scope.need("speedy::prefixed", "U7", line)
+    if number == "VarInt64":
+        scope.need("speedy::varint", "VarInt64", line)
+    return number
+
+
+def constant_part(scope, field, access, owner):
+    """The bytes before a field, as a part of their own."""
+    line = field.line
+    name = f"Before{owner.replace('::', '')}" + "".join(it.capitalize() for it in access.bound.split("_"))
+    if name in scope.items or name in scope.uses:
+        raise Refusal(line, f"the made module names the bytes before this field `{name}`: give that item another name")
+    scope.need("speedy::magic", "Constant", line)
+    scope.need("speedy::magic", "Magic", line)
+    scope.ghosts |= {"[]"} | ({"◌∷◌"} if field.options.constant else set())
+    data = field.options.constant
+    listed = " ∷ ".join([str(byte) for byte in data] + ["[]"])
+    label = field.name or access.bound[1:]
+    scope.constants_made += ["", f"/// The bytes before [`{owner}::{label}`].", "#[derive(Drop)]",
+                             f"struct {name} {{}}", "", f"impl Constant for {name} {{", f"    ghost bytes = {{ {listed} }};", "",
+                             "    fn bytes() -> &'static [u8] {", f"        {byte_string(data)}", "    }", "}"]
+    return Part(syntax.Named(line, ("Magic",), (syntax.Named(line, (name,)),)), "_", "", f"Magic::<{name}>::new()",
+                f"⟦<{name} as Constant>⟧.bytes")
+
+
+def byte_string(data):
+    """The literal of some bytes."""
+    return 'b"' + "".join(chr(it) if 32 <= it < 127 and chr(it) not in '"\\' else f"\\x{it:02x}" for it in data) + '"'
+
+
+def built(name, shape, fields, accesses):
+    """A struct or a variant, of the variables that its parts are bound to."""
+    values = []
+    for field, access in zip(fields, accesses):
+        value = access.bound
+        if field.options.skip:
+            value = "Default::default()"
+        elif field.options.varint:
+            value = f"{access.bound}.get()"
+        elif field.options.length_type:
+            value = f"{access.bound}.value"
+        values.append(value if not field.name or value == field.name else f"{field.name}: {value}")
+    if shape == "unit":
+        return name
+    if shape == "tuple":
+        return call(f"{name}(", values)
+    return braces(name, values) if values else f"{name} {{}}"
+
+
+# The impls.
+
+def struct_lines(item, scope, of_field):
+    """The alias and the impls of a struct."""
+    accesses = accesses_of(item.fields)
+    parts, skipped = parts_of(item, scope, item.fields, accesses, of_field)
+    shape = Shape(item, scope, parts, skipped, f"{item.name}Parts")
+    found = shape.alias_lines() + layout_lines(shape, seen_lines(shape))
+    if item.readable:
+        value = built(item.name, item.shape, item.fields, accesses)
+        found += [""] + read_lines(shape, read_body(shape, value))
+    if item.writable:
+        found += [""] + write_lines(shape)
+    return found
+
+
+def layout_lines(shape, seen):
+    """`impl Layout`."""
+    generics, quoted = shape.generics, f"⟦<{shape.parts_type} as Layout>⟧"
+    shape.scope.need("speedy", "Layout", shape.item.line)
+    head = impl_lines(generics.of_impl(shape.asked, generics.laying_out()), "Layout", shape.self_type,
+                      generics.where_lines())
+    return head + [f"    ghost Seen = {{ {quoted}.Seen }};", "", *seen, "",
+                   f"    ghost layout = {{ {quoted}.layout }};", "}"]
+
+
+def seen_lines(shape):
+    """What is seen of a struct: what is of its parts."""
+    if not shape.parts:
+        return ["    ghost seen = { λ _. tt };"]
+    before, tree = seen_of_parts(shape.tree, shape.parts, shape.parts_type)
+    return clause_lines(4, f"ghost seen = {{ λ it. {before}", tree, " };")
+
+
+def seen_of_parts(tree, parts, quoted):
+    """What is seen of parts: what stands before a tuple of clauses, and that tuple."""
+    if any(part.seen_alone for part in parts):
+        return "", fold(tree, seen_of, paired)
+    return f"⟦<{quoted} as Layout>⟧.seen ", fold(tree, lambda part: part.seen, list)
+
+
+def seen_of(part):
+    """What is seen of a part by itself."""
+    return part.seen_alone or f"⟦<{text(part.type)} as Layout>⟧.seen {part.seen}"
+
+
+def paired(its):
+    """Parts as pairs that nest to the right, as what is seen of a tuple does."""
+    found = its[-1]
+    for it in reversed(its[:-1]):
+        found = [it, found]
+    return found
+
+
+def clause_text(tree):
+    """A tuple of clauses on one line."""
+    return "(" + ", ".join(clause_text(it) for it in tree) + ")" if isinstance(tree, list) else tree
+
+
+def clause_lines(indent, before, tree, behind):
+    """A tuple of clauses, with one a line where they do not fit."""
+    one = " " * indent + before + clause_text(tree) + behind
+    if len(one) <= GHOST_WIDTH or not isinstance(tree, list):
+        return [one]
+    found = [" " * indent + before + "("]
+    for it in tree:
+        found += clause_lines(indent + 2, "", it, ",")
+    return found + [" " * indent + ")" + behind]
+
+
+def read_lines(shape, body):
+    """`impl ReadFrom`."""
+    found, trait = read_head(shape)
+    return found + body + ["    }", ""] + least_lines(shape, trait) + ["}"]
+
+
+def read_head(shape):
+    """The lines of it up to the body of `read_from`, and the trait."""
+    generics, scope, line = shape.generics, shape.scope, shape.item.line
+    for name in ("Context", "ItemByItem", "LendingReader", "ReadFrom"):
+        scope.need("speedy", name, line)
+    context = f"{generics.context}: Context"
+    if generics.lifetimes:
+        lent, front = f"&{generics.lifetimes[0]} [u8]", [context]
+    else:
+        scope.need("std::convert", "AsSlice", line)
+        lent, front = generics.lent, [f"{generics.lent}: AsSlice<u8> + Drop", context]
+    trait = f"ReadFrom<{lent}, {generics.context}>"
+    head = impl_lines(generics.of_impl(shape.asked, generics.reading(), front), trait, shape.self_type,
+                      generics.where_lines())
+    reader = f"LendingReader<{lent}, {generics.context}>"
+    found = head + [f"    type Strategy = ItemByItem<{generics.context}>;", ""]
+    found += function_lines(f"fn read_from<{generics.reader}: {reader}>", f"reader: &mut {generics.reader}",
+                            f"Result<{shape.self_type}, {generics.context}::Error>")
+    return found, trait
+
+
+def function_lines(head, parameter, result):
+    """The head of a function with one parameter besides `self`, up to its `{`."""
+    one = f"    {head}({parameter}) -> {result} {{"
+    if len(one) <= WIDTH:
+        return [one]
+    return [f"    {head}(", *(f"        {it}," for it in parameter.split(", ")), f"    ) -> {result} {{"]
+
+
+def least_lines(shape, trait):
+    """The least size."""
+    lent, context = trait[len("ReadFrom<"):-1].rsplit(", ", 1)
+    head = f"<{shape.parts_type} as ReadFrom<"
+    call_of = lines(Node(head, [lent, context], ">>::minimum_bytes_needed()", last=False), 8)
+    if not shape.generics.lifetimes:
+        return ["    fn minimum_bytes_needed() -> usize {", *call_of, "    }"]
+    shape.scope.ghosts.add("◌≡◌")
+    return ["    fn minimum_bytes_needed() -> usize",
+            f"        ensures {{ result ≡ ⟦<{shape.parts_type} as Layout>⟧.layout.least }}",
+            "    {", *call_of, "    }"]
+
+
+def read_body(shape, value):
+    """The body of `read_from`: the tuple of parts, taken apart. An error is passed on by a `match`, since with `?` the
+    search for proofs meets its step limit in a struct that holds others."""
+    read = "reader.read_value()"
+    if any(part.seen_alone for part in shape.parts):
+        read = f"reader.read_value::<{shape.parts_type}>()"
+    bound = "()" if not shape.parts else fold(shape.tree, lambda it: it.bound, lambda its: pattern("(", its))
+    value = call("Ok(", [value])
+    if is_nested(shape.tree):
+        arm = taken_apart("Ok(parts)", bound, value)
+    else:
+        arm = arm_lines(pattern("Ok(", [bound]), value)
+    return [f"        match {read} {{", *arm, "            Err(error) => Err(error),", "        }"]
+
+
+def as_passed(shape, name):
+    """A parameter by value in an `ensures`, which has another name where it holds a reference."""
+    return f"{name}.entry" if shape.generics.lifetimes else name
+
+
+def without_skips(asked):
+    """What is asked of parameters but where a value is skipped."""
+    return {name: tuple(role for role in roles if role != "skip") for name, roles in asked.items()}
+
+
+def seen_clause(shape, left, right):
+    """The clause that the same is seen of both."""
+    shape.scope.ghosts.add("◌≡◌")
+    own = f"⟦<{shape.self_type} as Layout>⟧"
+    return [f"        ensures {{ ◌≡◌ {{A = {own}.Seen}}", f"            ({left(own)})",
+            f"            ({right(own)}) }}"]
+
+
+def is_nested(tree):
+    """Whether a tuple holds tuples."""
+    return isinstance(tree, list) and any(isinstance(it, list) for it in tree)
+
+
+def taken_apart(head, bound, value):
+    """An arm of a `match` whose tuple is taken apart in it: a pattern cannot move out of tuples in a tuple."""
+    return lines(head, 12, "", " => {") + binding(bound, "parts", 16) + lines(value, 16) + ["            }"]
+
+
+def arm_lines(bound, value):
+    """An arm of a `match`: the value behind the pattern, or on lines of its own."""
+    head = lines(bound, 12, "", " =>")
+    first = lines(value, 12, head[-1].strip() + " ", ",")
+    if len(first[0]) > WIDTH:
+        return head + lines(value, 16, "", ",")
+    return head[:-1] + first
+
+
+def write_lines(shape):
+    """`impl Writable`."""
+    found = write_head(shape)
+    for part in shape.parts:
+        if part.before:
+            name, kind = part.before
+            found += binding(f"{name}: {kind}", part.written, 8)
+            part.written = name
+            shape.scope.need("speedy", "Part", shape.item.line)
+    return found + lines(call("writer.write_value(", [written(shape)]), 8) + ["    }", "}"]
+
+
+def write_head(shape):
+    """The lines of it up to the body of `write_to`."""
+    generics, scope, line = shape.generics, shape.scope, shape.item.line
+    for name in ("Context", "Writable", "Writer"):
+        scope.need("speedy", name, line)
+    front = [f"{generics.context}: Context"]
+    head = impl_lines(generics.of_impl(shape.asked, generics.writing(), front), f"Writable<{generics.context}>",
+                      shape.self_type, generics.where_lines())
+    return head + function_lines(f"fn write_to<{generics.writer}: Writer<{generics.context}>>",
+                                 f"&self, writer: &mut {generics.writer}", f"Result<(), {generics.context}::Error>")
+
+
+def written(shape):
+    """What is written of a struct."""
+    if not shape.parts:
+        return "&()"
+    if not isinstance(shape.tree, list):
+        single = shape.tree.written
+        return "&" + single[len("Part(&"):-1] if single.startswith("Part(&") else "&" + single
+    need_part(shape)
+    return fold_head(shape.tree)
+
+
+def need_part(shape):
+    """Imports `Part`, where a part is written as one."""
+    if any(part.written.startswith("Part(") for part in shape.parts):
+        shape.scope.need("speedy", "Part", shape.item.line)
+
+
+def fold_head(tree):
+    """The tuple of what is written, behind a `&`."""
+    whole = fold(tree, lambda it: written_call(it.written), lambda its: call("(", its))
+    whole.head = "&" + whole.head
+    return whole

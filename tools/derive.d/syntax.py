@@ -1,0 +1,238 @@
+"""What a file of types is made of: items, types, generics, attributes and the expressions of constants."""
+from dataclasses import dataclass, field
+
+
+# Expressions.
+
+@dataclass(frozen=True)
+class Literal:
+    """A literal, as its token."""
+    token: object
+
+    @property
+    def line(self):
+        """Where it stands."""
+        return self.token.line
+
+
+@dataclass(frozen=True)
+class Mention:
+    """A constant, a field or another value by its name."""
+    line: int
+    path: tuple
+
+
+@dataclass(frozen=True)
+class Unary:
+    """A sign before an expression."""
+    line: int
+    sign: str
+    inner: object
+
+
+@dataclass(frozen=True)
+class Binary:
+    """Two expressions with a sign between them."""
+    line: int
+    sign: str
+    left: object
+    right: object
+
+
+@dataclass(frozen=True)
+class Cast:
+    """`inner as target`."""
+    line: int
+    inner: object
+    target: object
+
+
+@dataclass(frozen=True)
+class Listed:
+    """`[a, b, c]`."""
+    line: int
+    items: tuple
+
+
+@dataclass(frozen=True)
+class Open:
+    """`..`, which as a length stands for all that is left."""
+    line: int
+
+
+# Types.
+
+@dataclass(frozen=True)
+class Lifetime:
+    """A lifetime, with its quote."""
+    line: int
+    name: str
+
+
+@dataclass(frozen=True)
+class Named:
+    """A type by its path, with what it is applied to."""
+    line: int
+    path: tuple
+    arguments: tuple = ()
+
+
+@dataclass(frozen=True)
+class Reference:
+    """`&'a T` or `&'a mut T`."""
+    line: int
+    lifetime: object
+    mutable: bool
+    target: object
+
+
+@dataclass(frozen=True)
+class Slice:
+    """`[T]`."""
+    line: int
+    item: object
+
+
+@dataclass(frozen=True)
+class Array:
+    """`[T; N]`."""
+    line: int
+    item: object
+    length: object
+
+
+@dataclass(frozen=True)
+class Tuple:
+    """`(A, B)`, or `()`."""
+    line: int
+    parts: tuple
+
+
+# Generics.
+
+@dataclass(frozen=True)
+class Unsized:
+    """The bound `?Sized`."""
+    line: int
+
+
+@dataclass(frozen=True)
+class Parameter:
+    """A lifetime, a type or a constant (`kind`) that an item is generic in."""
+    line: int
+    kind: str
+    name: str
+    bounds: tuple = ()
+    default: object = None
+    constant_type: object = None
+
+
+@dataclass(frozen=True)
+class Where:
+    """A line of a `where`."""
+    line: int
+    subject: object
+    bounds: tuple
+
+
+# Items.
+
+@dataclass(frozen=True)
+class Attribute:
+    """`#[name tokens]`; of `name(..)` the tokens are those between the brackets."""
+    line: int
+    name: str
+    tokens: tuple
+
+
+@dataclass
+class Field:
+    """A part of a struct or of a variant; of a tuple it has no name."""
+    line: int
+    docs: list
+    visibility: str
+    name: object
+    type: object
+    attributes: list
+    options: object = None
+
+
+@dataclass
+class Variant:
+    """A variant of an enum. `shape` is `unit`, `tuple` or `named`."""
+    line: int
+    docs: list
+    name: str
+    shape: str
+    fields: list
+    discriminant: object
+    attributes: list
+    tag: object = None
+
+
+@dataclass
+class Declared:
+    """A struct or an enum: what both have."""
+    line: int
+    docs: list
+    attributes: list
+    visibility: str
+    name: str
+    parameters: list
+    wheres: list
+    derives: list = field(default_factory=list)
+    kept: list = field(default_factory=list)
+    readable: bool = False
+    writable: bool = False
+
+
+@dataclass
+class Struct(Declared):
+    """A struct. `shape` is `unit`, `tuple` or `named`."""
+    shape: str = "unit"
+    fields: list = field(default_factory=list)
+
+
+@dataclass
+class Enum(Declared):
+    """An enum."""
+    variants: list = field(default_factory=list)
+    tag_type: str = "u32"
+
+
+@dataclass
+class Use:
+    """One name that a `use` brings."""
+    line: int
+    visibility: str
+    path: tuple
+    name: str
+
+
+@dataclass
+class Constant:
+    """`const NAME: TYPE = VALUE;`."""
+    line: int
+    docs: list
+    visibility: str
+    name: str
+    type: object
+    value: object
+
+
+@dataclass
+class Alias:
+    """`type NAME = TYPE;`."""
+    line: int
+    docs: list
+    visibility: str
+    name: str
+    type: object
+
+
+@dataclass
+class File:
+    """A file of types."""
+    docs: list
+    uses: list
+    items: list
