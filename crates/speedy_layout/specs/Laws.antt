@@ -83,6 +83,24 @@ plain_laws {spells = spells} decodes least_size one = record {
   refuses_own = λ kind h. absurd h;
 }
 
+-- a format of the same bytes whose writing is refused with other kinds
+pub Laws-refusing : {V : Type 0} {strict : Bool} {least : ℕ} {F : Format V} (refuses : ErrorKind → Type 0)
+    → ((kind : ErrorKind) → refuses kind → IsOwnKind kind) → Laws strict least F
+    → Laws strict least (record F { refuses_writing = refuses })
+Laws-refusing refuses own laws = record {
+  decodes = laws.decodes;
+  tells = laws.tells;
+  written_spells = laws.written_spells;
+  written_alone = laws.written_alone;
+  shortest = laws.shortest;
+  least_size = laws.least_size;
+  has_written = laws.has_written;
+  one_written = laws.one_written;
+  malformed_unspelled = laws.malformed_unspelled;
+  names_own = laws.names_own;
+  refuses_own = own;
+}
+
 -- a smaller least size, of a format of the same bytes that asks otherwise, but is hashed where the first is
 pub Laws-asking : {V : Type 0} {strict : Bool} {n m : ℕ} {F : Format V} (asks : Asks)
     → (asks.hashed ≡ false → F.asks.hashed ≡ false) → m ≤ n → Laws strict n F → Laws strict m (record F { asks = asks })

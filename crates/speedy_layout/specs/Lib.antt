@@ -34,5 +34,6 @@ pub mod Zigzag
 pub mod Codecs
 pub mod Prefixed
 pub mod Choices
+pub mod Frames
 pub mod Views
 pub mod ViewIters

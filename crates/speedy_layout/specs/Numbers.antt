@@ -4,14 +4,14 @@ use Rattle.std.proofs.Common.{sym, ◌∙◌, ap, subst, arith}
 use Rattle.std.proofs.lemmas.List.{take_at, drop_at}
 use Rattle.std.specs.Int.{Width, byte_len, cast_unsigned}
 use Rattle.speedy_base.specs.declared.error.ErrorKind.TheVariants as kinds
-use Rattle.speedy_base.specs.Digits.{SpellsNumber, number}
-use Rattle.speedy_base.specs.DigitsLemmas.{SpellsNumber-same_bytes}
+use Rattle.speedy_base.specs.Digits.{SpellsNumber, number, digits}
+use Rattle.speedy_base.specs.DigitsLemmas.{SpellsNumber-same_bytes, SpellsNumber-below, SpellsNumber-digits}
 use Rattle.speedy_base.specs.Encoding.{Encoding}
 use Rattle.speedy_base.specs.Signed.{SpellsSigned}
 use Rattle.speedy_base.specs.SignedLemmas.{SpellsSigned-same_value}
 use Rattle.speedy_layout.specs.Format.{Format, plain_format}
 use Rattle.speedy_layout.specs.Laws.{Laws, Codec, plain_laws}
-use Rattle.speedy_layout.specs.Codes.{subset_codec}
+use Rattle.speedy_layout.specs.Codes.{subset_codec, coding, Accepts-exact_means}
 
 -- numbers of so many bytes
 unfoldable pub unsigned_number : ℕ → Encoding → Format ℕ
@@ -73,3 +73,29 @@ length_codec width greatest = subset_codec (λ n. n ≤ greatest) kinds.OutOfRan
 
 abbrev pub length_number : ℕ → ℕ → Encoding → Format ℕ
 length_number width greatest = (length_codec width greatest).format
+
+-- ---- smaller numbers
+
+-- a smaller number is written in no more bytes than any spelling of a greater one has
+abbrev pub WritesSmaller : Format ℕ → Type 0
+WritesSmaller F =
+    (n m : ℕ) (s : List ℕ) → n ≤ m → F.spells m s → (b : List ℕ) × F.writes n b × (length b ≤ length s)
+
+pub unsigned_smaller : (width : ℕ) (encoding : Encoding) → WritesSmaller (unsigned_number width encoding)
+unfolding unsigned_number
+unsigned_smaller width encoding n m s l h =
+    let below = SpellsNumber-below width encoding.order m s h in
+    let spelled = SpellsNumber-digits width encoding.order n (omega arith) in
+    let b = spelled.width_is in
+    let c = h.width_is in
+    (digits encoding.order width n, spelled, omega arith)
+
+pub length_smaller : (width greatest : ℕ) (encoding : Encoding)
+    → WritesSmaller (length_number width greatest encoding)
+unfolding coding
+length_smaller width greatest encoding n m s l h =
+    let is = Accepts-exact_means encoding.strict (λ (u v : ℕ). (u ≡ v) × (v ≤ greatest))
+    (λ kind. kind ≡ kinds.OutOfRangeLength) h.code m h.stands in
+    let b = unsigned_smaller width encoding n h.code s (let e = is.0 in omega arith) h.code_is in
+    let most = is.1 in
+    (b.0, record { code = n; code_is = b.1; stands = (refl, omega arith) }, b.2)

@@ -9,14 +9,17 @@ use Rattle.speedy_layout.specs.Codes.{coding}
 use Rattle.speedy_layout.specs.Format.{Asks, asks_nothing, Format}
 use Rattle.speedy_layout.specs.Laws.{Laws, Laws-less}
 use Rattle.speedy_layout.specs.Numbers.{unsigned_number, length_number}
+use Rattle.speedy_layout.specs.Numbers.{WritesSmaller, unsigned_smaller, length_smaller}
 use Rattle.speedy_layout.specs.Sequences.{AsksAtMost, sequence, sequence_laws}
-use Rattle.speedy_layout.specs.Varint.{varint}
+use Rattle.speedy_layout.specs.Varint.{varint, varint_smaller}
 
 -- Numbers that lengths and tags are encoded as.
 pub record Numbers : Type 1 where
   pub codec : Codec ℕ
   -- reading one asks for nothing
   pub none_asked : (f : Encoding) → (codec.format f).asks ≡ asks_nothing
+  -- a smaller one is written in no more bytes
+  pub smaller : (f : Encoding) → WritesSmaller (codec.format f)
 
 -- Values behind a number that tells of them: which bytes, those of the number among them, encode which values. The
 -- least size is that of the number.
@@ -45,17 +48,22 @@ length_asks width greatest f = refl
 
 -- numbers of so many bytes
 abbrev pub unsigned_numbers : ℕ → Numbers
-unsigned_numbers width = record { codec = unsigned_codec width; none_asked = unsigned_asks width }
+unsigned_numbers width = record {
+  codec = unsigned_codec width;
+  none_asked = unsigned_asks width;
+  smaller = unsigned_smaller width;
+}
 
 -- numbers of a variable length
 abbrev pub varint_numbers : Numbers
-varint_numbers = record { codec = varint_codec; none_asked = varint_asks }
+varint_numbers = record { codec = varint_codec; none_asked = varint_asks; smaller = varint_smaller }
 
 -- numbers of so many bytes that are at most so great; greater ones are refused as lengths
 abbrev pub length_numbers : ℕ → ℕ → Numbers
 length_numbers width greatest = record {
   codec = length_codec width greatest;
   none_asked = length_asks width greatest;
+  smaller = length_smaller width greatest;
 }
 
 -- a text behind its number of bytes

@@ -13,8 +13,8 @@ use Rattle.speedy_base.specs.Encoding.{Encoding}
 use Rattle.speedy_layout.specs.Format.{asks_nothing, Format}
 use Rattle.speedy_layout.specs.Laws.{Laws, Codec, Laws-less}
 use Rattle.speedy_layout.specs.Codes.{Code, IsCode, coding, coding_codec, exact_code, exact_is_code}
-use Rattle.speedy_layout.specs.Codes.{Accepts-exact_means, Accepts-is}
-use Rattle.speedy_layout.specs.Numbers.{unsigned_number, unsigned_number_laws, unsigned_codec}
+use Rattle.speedy_layout.specs.Codes.{Accepts-exact_means, Accepts-is, Accepts-means}
+use Rattle.speedy_layout.specs.Numbers.{unsigned_number, unsigned_number_laws, unsigned_codec, WritesSmaller}
 use Rattle.speedy_layout.specs.Sequences.{AsksAtMost, asks_same, sequence, sequence_laws}
 
 -- a first byte: so many leading one bits, and a low part below the first zero bit, which is 0 where no bit is left for it
@@ -302,6 +302,36 @@ varint_laws = (coding_codec varint_code prefixed_digits varint_is_code).laws
 
 abbrev pub varint_codec : Codec ℕ
 varint_codec = record { least = 1; format = varint; laws = varint_laws }
+
+pub varint_smaller : (encoding : Encoding) → WritesSmaller (varint encoding)
+unfolding varint coding
+varint_smaller encoding n m s l h =
+    let other = prefixed-is encoding h.code s h.code_is in
+    let j = h.code.0.0 in
+    let is = Accepts-means encoding.strict varint_code h.code m ((varint_is_code encoding).chosen_means h.code m)
+    h.stands in
+    let below : n < 2 ^ (7 - j) * 256 ^ j = let held = other.holds in omega arith in
+    let f = fewest_from 8 0 n refl (λ j l. absurd (omega arith))
+    (capacity-below_64 j n other.first_is.at_most_eight below) in
+    let k = f.0 in
+    let low = div_below n (256 ^ k) (2 ^ (7 - k)) (pow_above k) f.1.enough in
+    let first = (256 - 2 ^ (8 - k)) + n / 256 ^ k in
+    let tail = digits LittleEndian k (n % 256 ^ k) in
+    let after = SpellsNumber-digits k LittleEndian (n % 256 ^ k) (mod_below n (256 ^ k) (pow_above k)) in
+    let starts : IsFirstByte k (n / 256 ^ k) first =
+    record { at_most_eight = f.1.at_most_eight; low_is_below = low; byte_is = refl } in
+    let fewer = IsFewest-least k j n f.1 below in
+    let b = after.width_is in
+    let c : length s ≡ suc (length other.tail) = ap length other.whole_is in
+    let d = other.width_is in (
+      first ∷ tail,
+      record {
+        code = code_of n k;
+        code_is = prefixed_written encoding k (n / 256 ^ k) (n % 256 ^ k) first tail starts after;
+        stands = (f.1, refl, refl);
+      },
+      omega arith,
+    )
 
 -- ---- for readers
 

@@ -6,6 +6,7 @@ pub mod cases;
 pub mod cows;
 pub mod fixed_numbers;
 pub mod flags;
+pub mod frames;
 pub mod laws;
 pub mod layout;
 pub mod leaves;
