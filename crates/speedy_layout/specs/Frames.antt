@@ -1,5 +1,5 @@
 -- Frames: the number of a value's bytes, and then just these.
-use Rattle.std.specs.Prelude.{◌≡◌, ℕ, ◌+◌, ◌≤◌, List, [], ◌++◌, length, Bool, true, false, ◌||◌, ◌⊎◌, refl}
+use Rattle.std.specs.Prelude.{◌≡◌, ℕ, ◌+◌, ◌-◌, ◌^◌, ◌<◌, ◌≤◌, List, [], ◌++◌, length, Bool, true, false, ◌||◌, ◌⊎◌, refl}
 use Rattle.std.proofs.Common.{sym, ◌∙◌, ap, subst, arith, inl, inr}
 use Rattle.std.proofs.lemmas.List.{length-append}
 use Rattle.speedy_base.specs.declared.error.ErrorKind.{ErrorKind}
@@ -22,12 +22,16 @@ frame_parts bytes = (length bytes, bytes)
 abbrev pub counted_bytes : Format ℕ → Asks → Format (List ℕ)
 counted_bytes number asks = sequence frame_parts number asks raw_bytes
 
+-- the bytes can be counted
+abbrev pub AreCounted : List ℕ → Type 0
+AreCounted bytes = length bytes < 2 ^ 64 - 1
+
 -- What the bytes of a frame stand for: a value that all of them spell. Others are refused as a value is, or as bytes
 -- that are too many or too few for one.
 abbrev pub frame_code : {V : Type 0} → Format V → Code (List ℕ) V
 frame_code F = record {
-  means = λ bytes v. F.spells v bytes;
-  chosen = λ bytes v. F.writes v bytes;
+  means = λ bytes v. F.spells v bytes × AreCounted bytes;
+  chosen = λ bytes v. F.writes v bytes × AreCounted bytes;
   refusals = λ kind. F.names kind ⊎ (kind ≡ kinds.OutOfRangeLength);
 }
 
@@ -39,7 +43,7 @@ frame_asks asks = record asks { memory = true }
 abbrev pub frame_coding : {V : Type 0} → Encoding → Format ℕ → Format V → Format V
 frame_coding f number F = coding f (frame_code F) (counted_bytes number (frame_asks F.asks))
 
--- A value behind the number of its bytes.
+-- A value behind the number of its bytes, which are fewer than `usize::MAX`.
 unfoldable pub frame : {V : Type 0} → Encoding → Format ℕ → Format V → Format V
 frame f number F = record (frame_coding f number F) {
   refuses_writing = λ kind. number.refuses_writing kind ⊎ F.refuses_writing kind;
@@ -97,24 +101,22 @@ written_frame asks laws smaller u w b d fewer h k =
 
 module _ {V : Type 0} {strict : Bool} {least more : ℕ} {number : Format ℕ} {F : Format V}
     (numbers : Laws strict least number) (smaller : WritesSmaller number) (laws : Laws strict more F) where
-  counted : Format (List ℕ)
-  counted = counted_bytes number (frame_asks F.asks)
-
   pub frame_is_code : IsCode (frame_code F) (counted_bytes number (frame_asks F.asks))
   frame_is_code = record {
-    one_meaning = λ u v w h k. (laws.decodes v w u u [] [] h k refl).0;
-    one_chosen = λ none u w v h k. laws.one_written (counted_unhashed number (frame_asks F.asks) none) v u w h k;
-    tells = λ _ decided v w s t h k. laws.tells v w h.code k.code h.stands k.stands;
-    chosen_means = λ u v h. laws.written_spells v u h;
+    one_meaning = λ u v w h k. (laws.decodes v w u u [] [] h.0 k.0 refl).0;
+    one_chosen = λ none u w v h k. laws.one_written (counted_unhashed number (frame_asks F.asks) none) v u w h.0 k.0;
+    tells = λ _ decided v w s t h k. laws.tells v w h.code k.code h.stands.0 k.stands.0;
+    chosen_means = λ u v h. (laws.written_spells v u h.0, h.1);
     has_chosen = λ v bytes h.
-        let w = laws.has_written v h.code h.stands in
-        let b = shorter_frame (frame_asks F.asks) numbers smaller w.0 h.code bytes
-        (laws.shortest v w.0 h.code w.1 h.stands) h.code_is in
+        let w = laws.has_written v h.code h.stands.0 in
+        let fewer = laws.shortest v w.0 h.code w.1 h.stands.0 in
+        let b = shorter_frame (frame_asks F.asks) numbers smaller w.0 h.code bytes fewer h.code_is in
         let whole = counted_bytes_laws (frame_asks F.asks) numbers in
-        (b.0, record { code = w.0; code_is = whole.written_spells w.0 b.0 b.1; stands = w.1 });
+        let are = h.stands.1 in
+        (b.0, record { code = w.0; code_is = whole.written_spells w.0 b.0 b.1; stands = (w.1, omega arith) });
     chosen_shortest = λ v b d h k.
         written_frame (frame_asks F.asks) numbers smaller h.code k.code b d
-        (laws.shortest v h.code k.code h.stands k.stands) h.code_is k.code_is;
+        (laws.shortest v h.code k.code h.stands.0 k.stands.0) h.code_is k.code_is;
     refusals_own = λ kind h.
         elim h [
           | inl named ↦ laws.names_own kind named

@@ -27,7 +27,7 @@ use Rattle.speedy_read.proofs.OwnedLemmas.{owned_read}
 use Rattle.speedy_read.proofs.ListLemmas.{list_composes}
 
 -- what is not so is told by a test
-lends_nothing : (lends : Bool) → (IsTrue lends → ⊥) → lends ≡ false
+pub lends_nothing : (lends : Bool) → (IsTrue lends → ⊥) → lends ≡ false
 lends_nothing false not = refl
 lends_nothing true not = absurd (not refl)
 

@@ -13,6 +13,7 @@ pub mod BufferLemmas
 pub mod RoundTripLemmas
 pub mod CollectionLemmas
 pub mod LentLemmas
+pub mod FrameLemmas
 pub mod ViewLemmas
 pub mod OwnedReaderLemmas
 pub mod StepLemmas

@@ -5,6 +5,8 @@ pub mod Counted
 pub mod Codes
 pub mod Flags
 pub mod Prefixed
+pub mod Frames
+pub mod FrameModel
 pub mod Buffers
 pub mod CopyingModel
 pub mod OwnedModel

@@ -11,6 +11,8 @@ pub mod collections;
 pub mod copying_reader;
 pub mod cows;
 pub mod flags;
+mod frame_reader;
+pub mod frames;
 pub mod laws;
 pub mod leaves;
 pub mod lent;

@@ -1,0 +1,333 @@
+-- What is read from the bytes of a frame makes a read of the frame.
+use Rattle.std.specs.Prelude.{◌≡◌, ◌≢◌, ℕ, zero, suc, ◌-◌, ◌^◌, ◌<◌, ◌≤◌, List, [], ◌++◌, length, replicate, Bool, true, false}
+use Rattle.std.specs.Prelude.{IsTrue, ◌⊎◌, Result, Ok, Err, IsErrAnd, refl}
+use Rattle.std.specs.Borrow.{GName}
+use Rattle.std.proofs.Common.{sym, ◌∙◌, ap, subst, arith, inl, inr, lit<}
+use Rattle.std.proofs.lemmas.Bool.{true≢false}
+use Rattle.std.proofs.lemmas.List.{append_assoc, append-nil, length-append, length-replicate, nil_from_length}
+use Rattle.speedy_base.specs.declared.error.ErrorKind.{ErrorKind}
+use Rattle.speedy_base.specs.declared.error.ErrorKind.TheVariants as kinds
+use Rattle.speedy_base.specs.declared.error.Error.{Error}
+use Rattle.speedy_base.specs.Digits.{AreBytes}
+use Rattle.speedy_base.specs.DigitsLemmas.{AreBytes-append, AreBytes-append_parts}
+use Rattle.speedy_base.specs.Encoding.{Encoding}
+use Rattle.speedy_base.specs.declared.device.Faults.{Faults}
+use Rattle.speedy_base.specs.MemoryDevices.{no_faults}
+use Rattle.speedy_base.specs.Error.{error_of, is_eof_error, IsNamed, IsNamed-more}
+use Rattle.speedy_layout.specs.Codes.{coding, IsDemand, Accepts, Accepts-is, Accepts-means}
+use Rattle.speedy_layout.specs.Format.{Format, Parts}
+use Rattle.speedy_layout.specs.Frames.{frame, frame_code, frame_asks, AreCounted}
+use Rattle.speedy_layout.specs.Laws.{Laws}
+use Rattle.speedy_layout.specs.Lists.{repeat, vector}
+use Rattle.speedy_layout.specs.Numbers.{unsigned_number}
+use Rattle.speedy_layout.specs.Owned.{owned_content}
+use Rattle.speedy_layout.specs.Sequences.{asks_left, asks_right, asks_nothing_more, sequence}
+use Rattle.speedy_layout.specs.Texts.{raw_bytes, raw_bytes_laws, each_byte, each_byte_is}
+use Rattle.speedy_read.specs.Buffers.{memory_state}
+use Rattle.speedy_read.specs.Codes.{Covers, got_covered, unaccepted}
+use Rattle.speedy_read.specs.Frames.{filling, Unfilled, Fills, FillsIfNoneLeft}
+use Rattle.speedy_read.specs.Reading.{ReaderState, Got, IsTold, refusing_kinds, Excused, Refused, Unspelled, Reads}
+use Rattle.speedy_read.specs.ReadingLemmas.{IsTold-part, Reads-passed, part_refused}
+use Rattle.speedy_read.specs.Sequences.{Composes}
+
+-- the number of bytes is read, and then a value that fills so many
+pub frame_composes : {V : Type 0} (f : Encoding) (number : Format ℕ) (F : Format V)
+    → Composes number (filling f F) (frame f number F) (λ n v. v)
+unfolding frame coding sequence raw_bytes
+frame_composes f number F = record {
+  joins = λ n v s t h k. record {
+    code = k.code;
+    code_is = record {
+      front = s;
+      back = t;
+      whole_is = refl;
+      first_is = subst (λ (m : ℕ). number.spells m s) (sym (ap length k.code_is.0 ∙ k.code_is.1)) h;
+      second_is = (k.code_is.0, sym (ap length k.code_is.0));
+    };
+    stands = k.stands;
+  };
+  splits = λ v s h. (
+    length h.code,
+    v,
+    record {
+      front = h.code_is.front;
+      back = h.code_is.back;
+      whole_is = h.code_is.whole_is;
+      first_is = h.code_is.first_is;
+      second_is = record { code = h.code; code_is = h.code_is.second_is; stands = h.stands };
+    },
+  );
+  names_first = λ kind h. inl (inl h);
+  names_second = λ n kind h. elim h [ inl x ↦ absurd x | inr x ↦ inr x ];
+  malformed = λ bytes h.
+      elim h [
+        | inl (inl x) ↦ inl x
+        | inl (inr x) ↦ absurd x.1.second_is
+        | inr x ↦ inr (
+          length x.code,
+          record {
+            front = x.code_is.front;
+            back = x.code_is.back ++ x.rest;
+            whole_is = x.whole_is
+                ∙ (ap (λ s. s ++ x.rest) x.code_is.whole_is ∙ append_assoc x.code_is.front x.code_is.back x.rest);
+            first_is = x.code_is.first_is;
+            second_is = inr (record {
+              code = x.code;
+              front = x.code_is.back;
+              rest = x.rest;
+              whole_is = refl;
+              code_is = x.code_is.second_is;
+              nothing = x.nothing;
+            });
+          },
+        )
+      ];
+  asks_first = asks_left number.asks (frame_asks F.asks);
+  asks_second = λ n. asks_right number.asks (frame_asks F.asks);
+}
+
+-- where so many bytes are refused, a value that fills them is
+pub bytes_cover_filling : {V : Type 0} (f : Encoding) (F : Format V) (n : ℕ) → Covers (raw_bytes n) (filling f F n)
+unfolding coding raw_bytes
+bytes_cover_filling f F n = record {
+  under = λ v s h. (h.code, h.code_is);
+  names = λ kind h. absurd h;
+  malformed = λ bytes are h. elim h [ inl x ↦ inl x | inr x ↦ inr (x.code, x.front, x.rest, x.whole_is, x.code_is) ];
+  asks = asks_nothing_more;
+}
+
+-- no call of a device fails in a read of bytes in memory, so what excuses it is want of memory
+memory_excused : {E : Type 0} (gives : Error → E → Type 0) (takes : Bool) (e : E) (old new : ReaderState)
+    → old.fixed.asks_memory ≡ false → old.faults ≡ no_faults → new.faults ≡ no_faults
+    → Excused gives takes e old new → gives (error_of kinds.OutOfMemory) e × IsTrue takes
+memory_excused gives takes e old new never before since (inl (h, inl t, _)) = (h, t)
+memory_excused gives takes e old new never before since (inl (h, inr t, _)) = absurd (true≢false (sym t ∙ never))
+memory_excused gives takes e old new never before since (inr fault) =
+    let a = ap (λ (f : Faults). f.count) before in
+    let b = ap (λ (f : Faults). f.count) since in
+    absurd (elim fault.0 [ inl more ↦ omega arith | inr most ↦ omega arith ])
+
+module _ {E V : Type 0} {gives : Error → E → Type 0} {eof : E → Bool} {F : Format V} {lends : Bool}
+    {targets after : List GName} {bytes rest : List ℕ} {f g : Encoding} where
+  unspelled : {e : E} → Refused gives eof F e (memory_state lends targets bytes f) (memory_state lends after rest g)
+      → AreBytes bytes → AreCounted bytes → (IsTrue F.asks.lending → IsTrue lends) → (v : V)
+      → F.spells v bytes → ⊥
+  unspelled refused are fit lent v h =
+      (refused.because (record { tells = refl; are_bytes = are; fit = fit; lends = lent })).no_front v bytes []
+      (sym (append-nil bytes)) h
+
+  -- a read from the bytes of a frame that is refused
+  refused_filling : (keeps_eof : (error : Error) (e : E) → gives error e → eof e ≡ is_eof_error error) (e x : E)
+      → ((x ≡ e) × (eof e ≡ false)) ⊎ (gives (error_of kinds.OutOfRangeLength) x × (eof e ≡ true))
+      → Excused gives F.asks.memory e (memory_state lends targets bytes f) (memory_state lends after rest g)
+      ⊎ Refused gives eof F e (memory_state lends targets bytes f) (memory_state lends after rest g)
+      → (gives (error_of kinds.OutOfMemory) x × IsTrue F.asks.memory) ⊎ Unfilled gives F lends x bytes
+  refused_filling keeps_eof e x (inl same) (inl excused) =
+      let want = memory_excused gives F.asks.memory e (memory_state lends targets bytes f)
+      (memory_state lends after rest g) refl refl refl excused in
+      inl (subst (gives (error_of kinds.OutOfMemory)) (sym same.0) want.0, want.1)
+  refused_filling keeps_eof e x (inr ended) (inl excused) =
+      let want = memory_excused gives F.asks.memory e (memory_state lends targets bytes f)
+      (memory_state lends after rest g) refl refl refl excused in
+      absurd (true≢false (sym ended.1 ∙ keeps_eof _ e want.0))
+  refused_filling keeps_eof e x (inl same) (inr refused) = inr (record {
+    kind = elim refused.kind [
+      | inl ended ↦ absurd (true≢false (sym ended.1 ∙ same.1))
+      | inr named ↦ (named.0, inl named.1, subst (gives (error_of named.0)) (sym same.0) named.2)
+    ];
+    because = unspelled refused;
+  })
+  refused_filling keeps_eof e x (inr ended) (inr refused) =
+      inr (record { kind = (kinds.OutOfRangeLength, inr refl, ended.0); because = unspelled refused })
+
+  -- what is answered where none of the frame's bytes may be left
+  pub filled : {A : Type 0} {seen : A → V} {strict : Bool} {least : ℕ} → Laws strict least F
+      → ((error : Error) (e : E) → gives error e → eof e ≡ is_eof_error error) → AreCounted bytes → (read result : Result A E)
+      {left : ℕ} → left ≡ length rest → FillsIfNoneLeft gives eof read left result
+      → Reads gives eof seen F read (memory_state lends targets bytes f) (memory_state lends after rest g)
+      → Fills gives seen F lends result bytes
+  filled {seen = seen} laws keeps_eof fit (Ok x) (Ok y) is judged r =
+      let none : rest ≡ [] = nil_from_length rest (sym is ∙ judged.1) in
+      let front = r.answer.front in
+      let whole : bytes ≡ front = r.answer.taken refl ∙ (ap (λ s. front ++ s) none ∙ append-nil front) in
+      (rw (whole, judged.0) r.answer.front_is, fit)
+  filled {seen = seen} laws keeps_eof fit (Ok x) (Err e) is judged r = inr (record {
+    kind = (kinds.OutOfRangeLength, inr refl, judged.0);
+    because = λ are fit lent v h.
+        let same = laws.decodes v (seen x) bytes r.answer.front [] rest h r.answer.front_is
+        (append-nil bytes ∙ r.answer.taken refl) in
+        judged.1 (is ∙ sym (ap length same.2));
+  })
+  filled laws keeps_eof fit (Err e) (Ok y) is judged r = absurd judged
+  filled laws keeps_eof fit (Err e) (Err x) is judged r = refused_filling keeps_eof e x judged r.answer
+
+-- ---- a frame that is read
+
+-- what is refused that does not fill its frame is named
+unfilled_named : {V : Type 0} (F : Format V) (lends : Bool) (kind : ErrorKind)
+    → (IsTrue F.asks.lending → IsTrue lends) → refusing_kinds F lends kind ⊎ (kind ≡ kinds.OutOfRangeLength)
+    → F.names kind ⊎ (kind ≡ kinds.OutOfRangeLength)
+unfilled_named F lends kind lent (inl (inl h)) = inl h
+unfilled_named F lends kind lent (inl (inr h)) = absurd (true≢false (sym (lent h.0) ∙ h.1))
+unfilled_named F lends kind lent (inr h) = inr h
+
+-- and of a kind that a read of the frame is refused with
+unfilled_refused : {V : Type 0} (f : Encoding) (F : Format V) (n : ℕ) (lends outer : Bool)
+    → (lends ≡ false → outer ≡ false) → (kind : ErrorKind)
+    → refusing_kinds F lends kind ⊎ (kind ≡ kinds.OutOfRangeLength) → refusing_kinds (filling f F n) outer kind
+unfolding coding
+unfilled_refused f F n lends outer same kind (inl (inl h)) = inl (inr (inl (inl h)))
+unfilled_refused f F n lends outer same kind (inl (inr h)) = inr (h.0, same h.1, h.2)
+unfilled_refused f F n lends outer same kind (inr h) = inl (inr (inl (inr h)))
+
+-- where one reader lends whenever another does
+lends_too : (lends outer : Bool) → (lends ≡ false → outer ≡ false) → IsTrue outer → IsTrue lends
+lends_too true outer same h = refl
+lends_too false outer same h = absurd (true≢false (sym h ∙ same refl))
+
+-- the bytes of the frame were read, and no value fills them
+unfilled_read : {E V : Type 0} {gives : Error → E → Type 0} {eof : E → Bool} (f : Encoding) {F : Format V} {least : ℕ}
+    → Laws f.strict least F → (n : ℕ) {lends : Bool} {old new : ReaderState}
+    → (lends ≡ false → old.fixed.lends ≡ false) → {e : E} {bytes : List ℕ} → Got ((raw_bytes n).spells bytes) old new
+    → Unfilled gives F lends e bytes → IsTold (filling f F n) old → Unspelled gives eof (filling f F n) e old.to_come
+unfolding coding raw_bytes
+unfilled_read {gives = gives} {eof = eof} f {F = F} laws n {lends = lends} {old = old} {new = new} same {e = e}
+    {bytes = bytes} got unfilled told =
+    let lent : IsTrue F.asks.lending → IsTrue lends =
+    λ need. lends_too lends old.fixed.lends same (told.lends need) in
+    let taken = got.taken told.tells in
+    let are = subst AreBytes (sym got.front_is.0)
+    (AreBytes-append_parts got.front new.to_come (subst AreBytes taken told.are_bytes)).0 in
+    let joined = ap length taken ∙ length-append got.front new.to_come in
+    let whole = ap length got.front_is.0 in
+    let fit = told.fit in
+    let named : IsNamed gives (λ kind. (frame_code F).refusals kind ⊎ IsDemand f.strict (frame_code F) kind) e =
+    (unfilled.kind.0, inl (unfilled_named F lends unfilled.kind.0 lent unfilled.kind.1), unfilled.kind.2) in
+    let un : Unspelled gives eof (coding f (frame_code F) (raw_bytes n)) e old.to_come =
+    unaccepted f (frame_code F) (raw_bytes_laws n) new.to_come got.front_is taken
+    (λ v h. unfilled.because are (omega arith) lent v
+    (Accepts-means f.strict (frame_code F) bytes v (λ k. (laws.written_spells v bytes k.0, k.1)) h).0) named in
+    record { no_front = un.no_front; too_short = un.too_short; malformed = un.malformed }
+
+module _ {E A B V : Type 0} {gives : Error → E → Type 0} {eof : E → Bool} {shown : A → List ℕ} {x : A} {seen : B → V}
+    (f : Encoding) {F : Format V} {least : ℕ} (laws : Laws f.strict least F) (n : ℕ) {lends : Bool}
+    {old new : ReaderState} (same : lends ≡ false → old.fixed.lends ≡ false) where
+  -- the bytes of the frame were read, and then a value that fills them or none
+  pub filling_read : (result : Result B E) → Reads gives eof shown (raw_bytes n) (Ok x) old new
+      → Fills gives seen F lends result (shown x) → Reads gives eof seen (filling f F n) result old new
+  unfolding coding
+  filling_read (Ok y) r fills =
+      got_covered (λ s h. record {
+        code = shown x;
+        code_is = h;
+        stands = Accepts-is f.strict (frame_code F) (shown x) (seen y) fills
+            (λ strict. (laws.written_alone strict (seen y) (shown x) fills.0, fills.1));
+      }) r
+  filling_read (Err e) r (inl want) = record {
+    kept = r.kept;
+    answer = inl (inl (want.0, inl refl, r.answer.no_fault));
+  }
+  filling_read (Err e) r (inr unfilled) = record {
+    kept = r.kept;
+    answer = inr (record {
+      no_fault = r.answer.no_fault;
+      kind = inr (IsNamed-more gives e (unfilled_refused f F n lends old.fixed.lends same) unfilled.kind);
+      because = unfilled_read f laws n same r.answer unfilled;
+    });
+  }
+
+-- a value is read from the bytes of a frame, under the context of the reader that they were read from
+pub frame_filled : {E A B V : Type 0} {gives : Error → E → Type 0} {eof : E → Bool} {shown : A → List ℕ} {x : A}
+    {seen : B → V} (F : Encoding → Format V) {least : ℕ} → ((f : Encoding) → Laws f.strict least (F f)) → (n : ℕ)
+    {lends : Bool} {result : Result B E} {old mid new : ReaderState} {lent : Encoding}
+    → (lends ≡ false → old.fixed.lends ≡ false) → Reads gives eof shown (raw_bytes n) (Ok x) old mid
+    → lent ≡ mid.encoding → new ≡ mid → Fills gives seen (F lent) lends result (shown x)
+    → Reads gives eof seen (filling old.encoding (F old.encoding) n) result old new
+frame_filled {gives = gives} {eof = eof} {shown = shown} {x = x} {seen = seen} F laws n {lends = lends}
+    {result = result} {old = old} same r own is fills =
+    subst (λ (s : ReaderState). Reads gives eof seen (filling old.encoding (F old.encoding) n) result old s) (sym is)
+    (filling_read old.encoding (laws old.encoding) n same result r
+    (subst (λ (f : Encoding). Fills gives seen (F f) lends result (shown x)) (own ∙ r.kept.encoding) fills))
+
+-- ---- bytes of a vector
+
+-- numbers of one digit that were read are bytes
+pub bytes_of_vector : {E A B : Type 0} {gives : Error → E → Type 0} {eof : E → Bool} {seen : A → List ℕ}
+    {shown : B → List ℕ} {x : A} {y : B} (n : ℕ) (encoding : Encoding) {old new : ReaderState} → shown y ≡ seen x
+    → Reads gives eof seen (vector n (unsigned_number 1 encoding)) (Ok x) old new
+    → Reads gives eof shown (raw_bytes n) (Ok y) old new
+unfolding vector owned_content repeat unsigned_number raw_bytes
+bytes_of_vector {seen = seen} {x = x} n encoding same r =
+    got_covered (λ s h. let is = each_byte_is encoding.order (seen x) s h.1 in (same ∙ is, ap length (sym is) ∙ h.0)) r
+
+-- as many bytes are numbers
+as_numbers : (n : ℕ) (encoding : Encoding) (bytes : List ℕ) → AreBytes bytes → length bytes ≡ n
+    → (vector n (unsigned_number 1 encoding)).spells bytes bytes
+unfolding vector owned_content repeat unsigned_number
+as_numbers n encoding bytes are long = (long, each_byte encoding.order bytes are)
+
+names_none : (n : ℕ) (encoding : Encoding) (kind : ErrorKind) → (vector n (unsigned_number 1 encoding)).names kind → ⊥
+unfolding vector owned_content repeat unsigned_number
+names_none n encoding kind h = absurd h
+
+lends_none : (n : ℕ) (encoding : Encoding) → (vector n (unsigned_number 1 encoding)).asks.lending ≡ false
+unfolding vector owned_content repeat unsigned_number
+lends_none n encoding = refl
+
+AreBytes-zeros : (n : ℕ) → AreBytes (replicate n 0)
+AreBytes-zeros zero = tt
+AreBytes-zeros (suc n) = (lit< tt, AreBytes-zeros n)
+
+-- where so many numbers of one digit are refused, a value that fills so many bytes is
+vector_unspelled : {E V : Type 0} {gives : Error → E → Type 0} {eof : E → Bool} (f : Encoding) (F : Format V) (n : ℕ)
+    {e : E} {bytes : List ℕ} → AreBytes bytes
+    → Unspelled gives eof (vector n (unsigned_number 1 f)) e bytes → Unspelled gives eof (filling f F n) e bytes
+unfolding coding raw_bytes
+vector_unspelled f F n {e = e} {bytes = bytes} are un = record {
+  no_front = no_front;
+  too_short = λ v more h.
+      let long = length-append bytes more in
+      let whole = ap length h.code_is.0 ∙ h.code_is.1 in
+      let same = ap length h.code_is.0 in
+      let zeros = replicate (length more) 0 in
+      let all = length-append bytes zeros in
+      let count = length-replicate {A = ℕ} (length more) 0 in
+      un.too_short (bytes ++ zeros) zeros
+      (as_numbers n f (bytes ++ zeros) (AreBytes-append bytes zeros are (AreBytes-zeros (length more))) (omega (arith, h.code_is.1)));
+  malformed = λ bad.
+      elim bad [
+        | inl x ↦ absurd x
+        | inr x ↦ absurd (un.no_front x.front x.front x.rest x.whole_is
+            (as_numbers n f x.front (AreBytes-append_parts x.front x.rest (subst AreBytes x.whole_is are)).0 x.code_is.1))
+      ];
+} where
+  no_front : (v : _) (front rest : List ℕ) → bytes ≡ front ++ rest → (filling f F n).spells v front → ⊥
+  no_front v front rest is h =
+      un.no_front front front rest is
+      (as_numbers n f front (AreBytes-append_parts front rest (subst AreBytes is are)).0 h.code_is.1)
+
+pub vector_refused : {E A B V : Type 0} {gives : Error → E → Type 0} {eof : E → Bool} {seen : A → List ℕ} {seen' : B → V}
+    (f : Encoding) (F : Format V) (n : ℕ) {e : E} {result : Result B E} {old new : ReaderState}
+    → IsErrAnd result (λ x. x ≡ e) → Reads gives eof seen (vector n (unsigned_number 1 f)) (Err e) old new
+    → Reads gives eof seen' (filling f F n) result old new
+vector_refused f F n {new = new} passed r =
+    Reads-passed passed (record {
+      kept = r.kept;
+      answer = part_refused new refl refl (λ _. refl) (λ t. absurd (true≢false (sym t ∙ lends_none n f)))
+          (λ kind h. absurd (names_none n f kind h))
+          (λ told because. vector_unspelled f F n told.are_bytes
+          (because (IsTold-part (λ t. absurd (true≢false (sym t ∙ lends_none n f))) told))) r.answer;
+    })
+
+-- ---- a reader whose context was lent
+
+-- a reader that has its context back, with the encoding that this had, is seen as it was
+pub context_back : {R C : Type 0} {state : R → ReaderState} (with_context : R → C → R) (at : R → C)
+    (encoding : C → Encoding) → ((r : R) → (state r).encoding ≡ encoding (at r))
+    → ((r : R) (c : C) → state (with_context r c) ≡ record (state r) { encoding = encoding c })
+    → (r after : R) (lent c : C) → lent ≡ at r → encoding c ≡ encoding lent → after ≡ with_context r c
+    → state after ≡ state r
+context_back {state = state} with_context at encoding encoding_at state_with r after lent c value kept is =
+    ap state is
+    ∙ (state_with r c
+    ∙ ap (λ e. record (state r) { encoding = e }) (kept ∙ (ap encoding value ∙ sym (encoding_at r))))

@@ -1,0 +1,53 @@
+-- How a value is read that fills its frame.
+use Rattle.std.specs.Prelude.{◌≡◌, ◌≢◌, ℕ, ◌-◌, ◌^◌, ◌<◌, List, [], ◌++◌, length, Bool, true, false, IsTrue, ◌⊎◌}
+use Rattle.std.specs.Prelude.{Result, Ok, Err, MatchResult, refl}
+use Rattle.std.specs.Borrow.{GName}
+use Rattle.std.proofs.Common.{sym, ◌∙◌, ap, subst, arith, inl, inr}
+use Rattle.std.proofs.lemmas.Bool.{true≢false}
+use Rattle.std.proofs.lemmas.List.{append_assoc, append-nil}
+use Rattle.speedy_base.specs.declared.error.ErrorKind.{ErrorKind}
+use Rattle.speedy_base.specs.declared.error.ErrorKind.TheVariants as kinds
+use Rattle.speedy_base.specs.declared.error.Error.{Error}
+use Rattle.speedy_base.specs.Digits.{AreBytes}
+use Rattle.speedy_base.specs.Encoding.{Encoding}
+use Rattle.speedy_base.specs.Error.{error_of, is_eof_error, IsNamed}
+use Rattle.speedy_layout.specs.Codes.{coding}
+use Rattle.speedy_layout.specs.Format.{Format, Parts}
+use Rattle.speedy_layout.specs.Frames.{frame_code, frame_asks, AreCounted}
+use Rattle.speedy_layout.specs.Laws.{Laws}
+use Rattle.speedy_layout.specs.Sequences.{asks_left, asks_right, asks_nothing_more, sequence}
+use Rattle.speedy_layout.specs.Texts.{raw_bytes}
+use Rattle.speedy_read.specs.Buffers.{memory_state}
+use Rattle.speedy_read.specs.Reading.{ReaderState, refusing_kinds, Excused, Refused, Reads}
+use Rattle.speedy_read.specs.Sequences.{Composes}
+
+-- values that fill so many bytes
+abbrev pub filling : {V : Type 0} → Encoding → Format V → ℕ → Format V
+filling f F n = record (coding f (frame_code F) (raw_bytes n)) { asks = frame_asks F.asks }
+
+module _ {E : Type 0} (gives : Error → E → Type 0) where
+  -- bytes that no value fills were refused, as its type refuses them or as too many or too few
+  pub record Unfilled {V : Type 0} (F : Format V) (lends : Bool) (e : E) (bytes : List ℕ) : Type 0 where
+    pub kind : IsNamed gives (λ kind. refusing_kinds F lends kind ⊎ (kind ≡ kinds.OutOfRangeLength)) e
+    pub because : AreBytes bytes → AreCounted bytes → (IsTrue F.asks.lending → IsTrue lends)
+        → (v : V) → F.spells v bytes → ⊥
+
+  -- what was answered of the bytes of a frame, which are lent or not: a value that fills them, want of memory for it,
+  -- or that none does
+  abbrev pub Fills : {A V : Type 0} → (A → V) → Format V → Bool → Result A E → List ℕ → Type 0
+  Fills seen F lends result bytes =
+      MatchResult result
+      (λ x. F.spells (seen x) bytes × AreCounted bytes)
+      (λ e. (gives (error_of kinds.OutOfMemory) e × IsTrue F.asks.memory) ⊎ Unfilled F lends e bytes)
+
+  -- what is made of a read of which so many bytes are left: an answer that left some, and an end of the frame's bytes,
+  -- are refused as a length
+  abbrev pub FillsIfNoneLeft : {A : Type 0} → (E → Bool) → Result A E → ℕ → Result A E → Type 0
+  FillsIfNoneLeft eof read left result =
+      MatchResult read
+      (λ x. MatchResult result
+      (λ y. (y ≡ x) × (left ≡ 0))
+      (λ e. gives (error_of kinds.OutOfRangeLength) e × (left ≢ 0)))
+      (λ e. MatchResult result
+      (λ _. ⊥)
+      (λ x. ((x ≡ e) × (eof e ≡ false)) ⊎ (gives (error_of kinds.OutOfRangeLength) x × (eof e ≡ true))))

@@ -1,0 +1,150 @@
+//! How frames are read: the number of a value's bytes, and then the value from just these.
+ghost use Rattle.std.specs.Prelude.{◌≡◌, true, false};
+ghost use Rattle.speedy_read.specs.Frames.{filling, Fills, FillsIfNoneLeft};
+ghost use Rattle.speedy_read.specs.Reading.{Reads};
+
+use crate::copying_reader::CopyingBufferReader;
+use crate::frame_reader::FrameReader;
+use crate::lent::NothingLent;
+use crate::owned_reader::OwnedReader;
+use crate::prefixed::{ReadPrefix, ReadTold};
+use crate::readable::ReadFrom;
+use crate::reader::LendingReader;
+use speedy_base::context::Context;
+use speedy_base::error::{Error, IsEof, error_out_of_range_length};
+use speedy_layout::frames::Frame;
+use std::alloc::Global;
+use std::convert::AsSlice;
+
+// Out of the bytes that the reader lends, or out of a vector that grows as they come.
+impl<'a, C: Context, T: ReadFrom<&'a [u8], C>> ReadTold<&'a [u8], C> for Frame<T> {
+    #[inline]
+    fn read_behind<N: ReadPrefix, R: LendingReader<&'a [u8], C>>(
+        reader: &mut R,
+    ) -> Result<Frame<T>, C::Error> {
+        let length = N::read_number(reader)?;
+        let value = read_framed(reader, length)?;
+        Ok(Frame(value))
+    }
+}
+
+impl<C: Context, T: ReadFrom<NothingLent, C>> ReadTold<NothingLent, C> for Frame<T> {
+    #[inline]
+    fn read_behind<N: ReadPrefix, R: LendingReader<NothingLent, C>>(
+        reader: &mut R,
+    ) -> Result<Frame<T>, C::Error> {
+        let length = N::read_number(reader)?;
+        let value = read_framed_owned(reader, length)?;
+        Ok(Frame(value))
+    }
+}
+
+// The value that fills the next `length` bytes, from which it may borrow.
+fn read_framed<'a, T: ReadFrom<&'a [u8], C>, C: Context, R: LendingReader<&'a [u8], C>>(
+    reader: &mut R,
+    length: usize,
+) -> Result<T, C::Error>
+    ensures { let encoding = (R.state reader.old).encoding in
+        Reads C.Error.from_gives C.Error.eof T.seen (filling encoding (T.layout.format encoding) length) result
+        (R.state reader.old) (R.state reader.new) }
+{
+    keeps_context(reader);
+    let alloc = reader.alloc();
+    match reader.read_bytes_borrowed(length) {
+        Some(lent) => {
+            let bytes = lent?;
+            fill_lent(alloc, reader.context_mut(), bytes)
+        }
+        None => {
+            let bytes: Vec<u8> = reader.read_vec(length)?;
+            fill_copied(alloc, reader.context_mut(), &bytes)
+        }
+    }
+}
+
+// What a proof knows of a reader's context without a lifetime, it is told here for readers that lend for one.
+#[inline]
+fn keeps_context<L: AsSlice<u8> + Drop, C: Context, R: LendingReader<L, C>>(_reader: &R)
+    ensures at { (r : R) → (R.state r).encoding ≡ C.encoding (R.at r) }
+    ensures with_another { (r : R) (c : C) →
+        R.state (R.with_context r c) ≡ record (R.state r) { encoding = C.encoding c } }
+{}
+
+// The value that fills the next `length` bytes, which borrows nothing.
+fn read_framed_owned<T: ReadFrom<NothingLent, C>, C: Context, R: LendingReader<NothingLent, C>>(
+    reader: &mut R,
+    length: usize,
+) -> Result<T, C::Error>
+    ensures { let encoding = (R.state reader.old).encoding in
+        Reads C.Error.from_gives C.Error.eof T.seen (filling encoding (T.layout.format encoding) length) result
+        (R.state reader.old) (R.state reader.new) }
+{
+    let alloc = reader.alloc();
+    let bytes: Vec<u8> = reader.read_vec(length)?;
+    fill_owned(alloc, reader.context_mut(), &bytes)
+}
+
+// The value that fills the bytes, and may borrow from them.
+#[inline]
+fn fill_lent<'a, T: ReadFrom<&'a [u8], C>, C: Context>(
+    alloc: Global,
+    context: &mut C,
+    bytes: &'a [u8],
+) -> Result<T, C::Error>
+    ensures encoding { C.encoding context.new ≡ C.encoding context.old }
+    ensures fills { Fills C.Error.from_gives T.seen (T.layout.format (C.encoding context.old)) true result bytes.now }
+{
+    let mut reader = FrameReader::new(alloc, context, bytes);
+    let read = T::read_from(&mut reader);
+    let left = reader.finish();
+    unless_left(read, left)
+}
+
+// The value that fills the bytes. Nothing of them is lent for as long as what a reader lends.
+#[inline]
+fn fill_copied<'a, T: ReadFrom<&'a [u8], C>, C: Context>(
+    alloc: Global,
+    context: &mut C,
+    bytes: &[u8],
+) -> Result<T, C::Error>
+    ensures encoding { C.encoding context.new ≡ C.encoding context.old }
+    ensures fills { Fills C.Error.from_gives T.seen (T.layout.format (C.encoding context.old)) false result bytes.now }
+{
+    let mut reader = CopyingBufferReader::new(alloc, context, bytes);
+    let read = T::read_from(&mut reader);
+    let left = reader.finish();
+    unless_left(read, left)
+}
+
+// The value that fills the bytes, and borrows nothing.
+#[inline]
+fn fill_owned<T: ReadFrom<NothingLent, C>, C: Context>(
+    alloc: Global,
+    context: &mut C,
+    bytes: &[u8],
+) -> Result<T, C::Error>
+    ensures encoding { C.encoding context.new ≡ C.encoding context.old }
+    ensures fills { Fills C.Error.from_gives T.seen (T.layout.format (C.encoding context.old)) true result bytes.now }
+{
+    let mut reader = FrameReader::new(alloc, context, bytes);
+    let read = reader.read_owned_value();
+    let left = reader.finish();
+    unless_left(read, left)
+}
+
+// What was read, if nothing is left behind it. Bytes that are left or that lack are a length that is wrong: within the
+// frame no more are to come.
+#[inline]
+fn unless_left<T: Drop, E: From<Error> + IsEof + Drop>(
+    read: Result<T, E>,
+    left: usize,
+) -> Result<T, E>
+    ensures { FillsIfNoneLeft E.from_gives E.eof read left result }
+{
+    match read {
+        Ok(value) if left == 0 => Ok(value),
+        Ok(_) => Err(error_out_of_range_length()),
+        Err(error) if error.is_eof() => Err(error_out_of_range_length()),
+        Err(error) => Err(error),
+    }
+}
