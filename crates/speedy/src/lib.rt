@@ -28,6 +28,8 @@ mod tests_endianness;
 #[cfg(test)]
 mod tests_errors;
 #[cfg(test)]
+mod tests_frames;
+#[cfg(test)]
 mod tests_laws;
 #[cfg(test)]
 mod tests_lent;

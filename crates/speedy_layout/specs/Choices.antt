@@ -4,7 +4,6 @@ use Rattle.std.specs.Prelude.{◌≡◌, ℕ, ◌⊎◌, List, Bool, true, false
 use Rattle.std.proofs.Common.{sym, ◌∙◌, ap, subst, arith, inl, inr}
 use Rattle.std.proofs.lemmas.Bool.Decides.{eqb_tells}
 use Rattle.speedy_base.specs.declared.error.ErrorKind.TheVariants as kinds
-use Rattle.speedy_base.specs.Encoding.{Encoding}
 use Rattle.speedy_layout.specs.Codecs.{Codec}
 use Rattle.speedy_layout.specs.Format.{Asks, asks_nothing, either_asks, Format, IsOwnKind}
 use Rattle.speedy_layout.specs.Laws.{Laws, Laws-less, Decided}

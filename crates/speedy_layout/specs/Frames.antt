@@ -6,8 +6,8 @@ use Rattle.speedy_base.specs.declared.error.ErrorKind.{ErrorKind}
 use Rattle.speedy_base.specs.declared.error.ErrorKind.TheVariants as kinds
 use Rattle.speedy_base.specs.Encoding.{Encoding}
 use Rattle.speedy_layout.specs.Codecs.{Codec}
-use Rattle.speedy_layout.specs.Codes.{Code, Coded, IsCode, coding, coding_laws}
-use Rattle.speedy_layout.specs.Format.{Asks, Format, Parts, IsOwnKind}
+use Rattle.speedy_layout.specs.Codes.{Code, IsCode, coding, coding_laws}
+use Rattle.speedy_layout.specs.Format.{Asks, Format, IsOwnKind}
 use Rattle.speedy_layout.specs.Laws.{Laws, Laws-less, Laws-refusing}
 use Rattle.speedy_layout.specs.Numbers.{WritesSmaller}
 use Rattle.speedy_layout.specs.Prefixed.{Numbers, Behind}
@@ -114,7 +114,7 @@ module _ {V : Type 0} {strict : Bool} {least more : ℕ} {number : Format ℕ} {
         let whole = counted_bytes_laws (frame_asks F.asks) numbers in
         let are = h.stands.1 in
         (b.0, record { code = w.0; code_is = whole.written_spells w.0 b.0 b.1; stands = (w.1, omega arith) });
-    chosen_shortest = λ v b d h k.
+    chosen_shortest = λ _ v b d h k.
         written_frame (frame_asks F.asks) numbers smaller h.code k.code b d
         (laws.shortest v h.code k.code h.stands.0 k.stands.0) h.code_is k.code_is;
     refusals_own = λ kind h.

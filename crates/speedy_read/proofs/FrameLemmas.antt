@@ -1,5 +1,5 @@
 -- What is read from the bytes of a frame makes a read of the frame.
-use Rattle.std.specs.Prelude.{◌≡◌, ◌≢◌, ℕ, zero, suc, ◌-◌, ◌^◌, ◌<◌, ◌≤◌, List, [], ◌++◌, length, replicate, Bool, true, false}
+use Rattle.std.specs.Prelude.{◌≡◌, ℕ, zero, suc, List, [], ◌++◌, length, replicate, Bool, true, false}
 use Rattle.std.specs.Prelude.{IsTrue, ◌⊎◌, Result, Ok, Err, IsErrAnd, refl}
 use Rattle.std.specs.Borrow.{GName}
 use Rattle.std.proofs.Common.{sym, ◌∙◌, ap, subst, arith, inl, inr, lit<}
@@ -14,8 +14,8 @@ use Rattle.speedy_base.specs.Encoding.{Encoding}
 use Rattle.speedy_base.specs.declared.device.Faults.{Faults}
 use Rattle.speedy_base.specs.MemoryDevices.{no_faults}
 use Rattle.speedy_base.specs.Error.{error_of, is_eof_error, IsNamed, IsNamed-more}
-use Rattle.speedy_layout.specs.Codes.{coding, IsDemand, Accepts, Accepts-is, Accepts-means}
-use Rattle.speedy_layout.specs.Format.{Format, Parts}
+use Rattle.speedy_layout.specs.Codes.{coding, IsDemand, Accepts-is, Accepts-means}
+use Rattle.speedy_layout.specs.Format.{Format}
 use Rattle.speedy_layout.specs.Frames.{frame, frame_code, frame_asks, AreCounted}
 use Rattle.speedy_layout.specs.Laws.{Laws}
 use Rattle.speedy_layout.specs.Lists.{repeat, vector}
@@ -142,8 +142,8 @@ module _ {E V : Type 0} {gives : Error → E → Type 0} {eof : E → Bool} {F :
 
   -- what is answered where none of the frame's bytes may be left
   pub filled : {A : Type 0} {seen : A → V} {strict : Bool} {least : ℕ} → Laws strict least F
-      → ((error : Error) (e : E) → gives error e → eof e ≡ is_eof_error error) → AreCounted bytes → (read result : Result A E)
-      {left : ℕ} → left ≡ length rest → FillsIfNoneLeft gives eof read left result
+      → ((error : Error) (e : E) → gives error e → eof e ≡ is_eof_error error) → AreCounted bytes
+      → (read result : Result A E) {left : ℕ} → left ≡ length rest → FillsIfNoneLeft gives eof read left result
       → Reads gives eof seen F read (memory_state lends targets bytes f) (memory_state lends after rest g)
       → Fills gives seen F lends result bytes
   filled {seen = seen} laws keeps_eof fit (Ok x) (Ok y) is judged r =
@@ -293,12 +293,14 @@ vector_unspelled f F n {e = e} {bytes = bytes} are un = record {
       let all = length-append bytes zeros in
       let count = length-replicate {A = ℕ} (length more) 0 in
       un.too_short (bytes ++ zeros) zeros
-      (as_numbers n f (bytes ++ zeros) (AreBytes-append bytes zeros are (AreBytes-zeros (length more))) (omega (arith, h.code_is.1)));
+      (as_numbers n f (bytes ++ zeros) (AreBytes-append bytes zeros are (AreBytes-zeros (length more)))
+      (omega (arith, h.code_is.1)));
   malformed = λ bad.
       elim bad [
         | inl x ↦ absurd x
         | inr x ↦ absurd (un.no_front x.front x.front x.rest x.whole_is
-            (as_numbers n f x.front (AreBytes-append_parts x.front x.rest (subst AreBytes x.whole_is are)).0 x.code_is.1))
+            (as_numbers n f x.front (AreBytes-append_parts x.front x.rest (subst AreBytes x.whole_is are)).0
+            x.code_is.1))
       ];
 } where
   no_front : (v : _) (front rest : List ℕ) → bytes ≡ front ++ rest → (filling f F n).spells v front → ⊥
@@ -306,8 +308,8 @@ vector_unspelled f F n {e = e} {bytes = bytes} are un = record {
       un.no_front front front rest is
       (as_numbers n f front (AreBytes-append_parts front rest (subst AreBytes is are)).0 h.code_is.1)
 
-pub vector_refused : {E A B V : Type 0} {gives : Error → E → Type 0} {eof : E → Bool} {seen : A → List ℕ} {seen' : B → V}
-    (f : Encoding) (F : Format V) (n : ℕ) {e : E} {result : Result B E} {old new : ReaderState}
+pub vector_refused : {E A B V : Type 0} {gives : Error → E → Type 0} {eof : E → Bool} {seen : A → List ℕ}
+    {seen' : B → V} (f : Encoding) (F : Format V) (n : ℕ) {e : E} {result : Result B E} {old new : ReaderState}
     → IsErrAnd result (λ x. x ≡ e) → Reads gives eof seen (vector n (unsigned_number 1 f)) (Err e) old new
     → Reads gives eof seen' (filling f F n) result old new
 vector_refused f F n {new = new} passed r =

@@ -1,25 +1,16 @@
 -- How a value is read that fills its frame.
-use Rattle.std.specs.Prelude.{◌≡◌, ◌≢◌, ℕ, ◌-◌, ◌^◌, ◌<◌, List, [], ◌++◌, length, Bool, true, false, IsTrue, ◌⊎◌}
-use Rattle.std.specs.Prelude.{Result, Ok, Err, MatchResult, refl}
-use Rattle.std.specs.Borrow.{GName}
-use Rattle.std.proofs.Common.{sym, ◌∙◌, ap, subst, arith, inl, inr}
-use Rattle.std.proofs.lemmas.Bool.{true≢false}
-use Rattle.std.proofs.lemmas.List.{append_assoc, append-nil}
-use Rattle.speedy_base.specs.declared.error.ErrorKind.{ErrorKind}
+use Rattle.std.specs.Prelude.{◌≡◌, ◌≢◌, ℕ, List, Bool, true, false, IsTrue, ◌⊎◌}
+use Rattle.std.specs.Prelude.{Result, MatchResult}
 use Rattle.speedy_base.specs.declared.error.ErrorKind.TheVariants as kinds
 use Rattle.speedy_base.specs.declared.error.Error.{Error}
 use Rattle.speedy_base.specs.Digits.{AreBytes}
 use Rattle.speedy_base.specs.Encoding.{Encoding}
-use Rattle.speedy_base.specs.Error.{error_of, is_eof_error, IsNamed}
+use Rattle.speedy_base.specs.Error.{error_of, IsNamed}
 use Rattle.speedy_layout.specs.Codes.{coding}
-use Rattle.speedy_layout.specs.Format.{Format, Parts}
+use Rattle.speedy_layout.specs.Format.{Format}
 use Rattle.speedy_layout.specs.Frames.{frame_code, frame_asks, AreCounted}
-use Rattle.speedy_layout.specs.Laws.{Laws}
-use Rattle.speedy_layout.specs.Sequences.{asks_left, asks_right, asks_nothing_more, sequence}
 use Rattle.speedy_layout.specs.Texts.{raw_bytes}
-use Rattle.speedy_read.specs.Buffers.{memory_state}
-use Rattle.speedy_read.specs.Reading.{ReaderState, refusing_kinds, Excused, Refused, Reads}
-use Rattle.speedy_read.specs.Sequences.{Composes}
+use Rattle.speedy_read.specs.Reading.{refusing_kinds}
 
 -- values that fill so many bytes
 abbrev pub filling : {V : Type 0} → Encoding → Format V → ℕ → Format V

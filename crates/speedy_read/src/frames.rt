@@ -12,30 +12,30 @@ use crate::readable::ReadFrom;
 use crate::reader::LendingReader;
 use speedy_base::context::Context;
 use speedy_base::error::{Error, IsEof, error_out_of_range_length};
-use speedy_layout::frames::Frame;
+use speedy_layout::frames::Framed;
 use std::alloc::Global;
 use std::convert::AsSlice;
 
 // Out of the bytes that the reader lends, or out of a vector that grows as they come.
-impl<'a, C: Context, T: ReadFrom<&'a [u8], C>> ReadTold<&'a [u8], C> for Frame<T> {
+impl<'a, C: Context, T: ReadFrom<&'a [u8], C>> ReadTold<&'a [u8], C> for Framed<T> {
     #[inline]
     fn read_behind<N: ReadPrefix, R: LendingReader<&'a [u8], C>>(
         reader: &mut R,
-    ) -> Result<Frame<T>, C::Error> {
+    ) -> Result<Framed<T>, C::Error> {
         let length = N::read_number(reader)?;
         let value = read_framed(reader, length)?;
-        Ok(Frame(value))
+        Ok(Framed(value))
     }
 }
 
-impl<C: Context, T: ReadFrom<NothingLent, C>> ReadTold<NothingLent, C> for Frame<T> {
+impl<C: Context, T: ReadFrom<NothingLent, C>> ReadTold<NothingLent, C> for Framed<T> {
     #[inline]
     fn read_behind<N: ReadPrefix, R: LendingReader<NothingLent, C>>(
         reader: &mut R,
-    ) -> Result<Frame<T>, C::Error> {
+    ) -> Result<Framed<T>, C::Error> {
         let length = N::read_number(reader)?;
         let value = read_framed_owned(reader, length)?;
-        Ok(Frame(value))
+        Ok(Framed(value))
     }
 }
 

@@ -5,6 +5,7 @@ pub mod FillLemmas
 pub mod FixedLemmas
 pub mod GatheringLemmas
 pub mod ListLemmas
+pub mod FrameLemmas
 pub mod NonZeroLemmas
 pub mod NumberLemmas
 pub mod OptionLemmas

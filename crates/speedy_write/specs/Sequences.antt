@@ -93,7 +93,7 @@ one_length laws v a b h k =
 
 -- ---- the same write in other words
 
-IsOutOfRange-more : {E : Type 0} (gives : Error → E → Type 0) {names more : ErrorKind → Type 0} (e : E)
+pub IsOutOfRange-more : {E : Type 0} (gives : Error → E → Type 0) {names more : ErrorKind → Type 0} (e : E)
     → ((kind : ErrorKind) → names kind → more kind) → IsOutOfRange gives names e → IsOutOfRange gives more e
 IsOutOfRange-more gives e n (inl h) = inl h
 IsOutOfRange-more gives e n (inr h) = inr (IsNamed-more gives e n h)

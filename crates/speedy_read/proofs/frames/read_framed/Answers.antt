@@ -3,7 +3,8 @@ use Rattle.std.specs.Borrow.{Bor}
 use Rattle.std.proofs.lemmas.Bool.{true≢false}
 use Rattle.std.proofs.lemmas.List.{map-id}
 use Rattle.speedy_read.specs.Codes.{refused_covered}
-use Rattle.speedy_read.proofs.FrameLemmas.{bytes_cover_filling, vector_refused, bytes_of_vector, frame_filled, context_back}
+use Rattle.speedy_read.proofs.FrameLemmas.{bytes_cover_filling, vector_refused, bytes_of_vector}
+use Rattle.speedy_read.proofs.FrameLemmas.{frame_filled, context_back}
 use Rattle.speedy_read.proofs.LentLemmas.{lends_nothing, slices_show}
 use Rattle.speedy_read.proofs.frames.read_framed.Goals as goal
 
