@@ -6,8 +6,8 @@ from layout import call, lines, pattern, pattern_braces, written_call
 from refusal import Refusal
 from scope import names_in, text
 from structs import (NUMBERS, Access, arm_lines, as_passed, asked_of, built, clause_lines, fold, is_nested,
-                     layout_lines, least_lines, number_of, parts_of, read_head, seen_clause, seen_of_parts, split,
-                     taken_apart, type_node, without_skips, write_head)
+                     layout_lines, least_lines, number_of, parts_of, prefixed, read_head, seen_clause, seen_of_parts,
+                     split, taken_apart, type_node, without_skips, write_head)
 
 
 class Case:
@@ -132,6 +132,9 @@ class Shape:
 
 def enum_lines(item, scope, of_field, of_variant, place):
     """The aliases and the impls of an enum."""
+    if any(it.kind == "type" for it in item.parameters):
+        raise Refusal(item.line, f"`{item.name}` is generic in a type, of which the check does not know that cases of it "
+                                 "have room in memory: name the type, or write the impls by hand with `OneOf2`")
     if not item.variants:
         raise Refusal(item.line, f"`{item.name}` has no variant, and so no value that is read or written")
     tags_of(item, scope.constants, of_variant)
@@ -232,7 +235,7 @@ def from_cases_lines(shape):
         variant = case.variant
         value = built(f"{shape.item.name}::{variant.name}", variant.shape, variant.fields, case.accesses)
         if is_nested(case.tree):
-            found += taken_apart(sided(case, pattern("Case(", ["parts"]), pattern), inner, value)
+            found += taken_apart(sided(case, pattern("Case(", ["parts"]), pattern), case.tree, value)
         else:
             found += arm_lines(sided(case, pattern("Case(", [inner]), pattern), value)
     return found + ["        }", "    }"]
@@ -260,7 +263,8 @@ def parts_arm(item, case):
     """An arm of it. Of many parts the tuple is made first."""
     bound, inner = variant_pattern(item, case), "()"
     if case.parts:
-        inner = fold(case.tree, lambda part: written_call(part.written), lambda its: call("(", its))
+        inner = fold(case.tree, lambda part: prefixed(part) if part.before else written_call(part.written),
+                     lambda its: call("(", its))
     if not is_nested(case.tree):
         return arm_lines(bound, sided(case, call("Case(", [inner]), call))
     made = lines(inner, 16, "let parts = ", ";")

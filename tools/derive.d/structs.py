@@ -13,8 +13,10 @@ NUMBERS = {"u7": ("U7", 1 << 7), "u8": ("u8", 1 << 8), "u16": ("u16", 1 << 16), 
            "u64": ("u64", 1 << 64), "u64_varint": ("VarInt64", 1 << 64)}
 # What may stand behind a length of another width.
 COUNTED = ("String", "Vec", "BoxedStr", "BoxedSlice", "SmallVec")
-# So many parts stand in one tuple. Of more the search for proofs meets its step limit.
+# So many parts stand in one tuple. More are split into tuples of so many, since else the search for proofs meets its
+# step limit.
 MOST_PARTS = 6
+PARTS_OF_MANY = 4
 GHOST_WIDTH = 118
 
 
@@ -39,8 +41,10 @@ def split(parts):
     trees = list(parts)
     if not trees:
         return None
-    while len(trees) > MOST_PARTS:
-        groups = -(-len(trees) // MOST_PARTS)
+    most = MOST_PARTS
+    while len(trees) > most:
+        most = PARTS_OF_MANY
+        groups = -(-len(trees) // most)
         size, more = divmod(len(trees), groups)
         cut, at = [], 0
         for place in range(groups):
@@ -168,9 +172,8 @@ def varint_part(scope, field, access, kind):
         raise Refusal(field.line, "`varint` is for fields of the type `u64`")
     if field.options.length_type:
         raise Refusal(field.line, "a number has no length: leave `length_type` out")
-    scope.need("speedy::varint", "VarInt64", field.line)
-    return Part(syntax.Named(field.line, ("VarInt64",)), access.bound, access.seen, f"VarInt64::from({access.value})",
-                access.seen)
+    scope.need("speedy::varints", "Varint", field.line)
+    return Part(syntax.Named(field.line, ("Varint",)), access.bound, access.seen, f"Varint({access.value})", access.seen)
 
 
 def prefixed_part(scope, field, access, kind):
@@ -180,10 +183,11 @@ def prefixed_part(scope, field, access, kind):
                                   f"write a `Prefixed` of `{text(kind)}` by hand")
     number = number_of(scope, field.options.length_type, field.line)
     scope.need("speedy::prefixed", "Prefixed", field.line)
+    scope.need("std::marker", "PhantomData", field.line)
     line = field.line
     name = access.bound if access.bound not in ("writer", "self") else access.bound + "_"
     return Part(syntax.Named(line, ("Prefixed",), (syntax.Named(line, (number,)), kind)), access.bound, access.seen,
-                f"Prefixed::new(Part({access.reference}))", f"⟦<{text(kind)} as Layout>⟧.seen {access.seen}",
+                f"Part({access.reference})", f"⟦<{text(kind)} as Layout>⟧.seen {access.seen}",
                 before=(name, f"Prefixed<{number}, _>"))
 
 
@@ -229,7 +233,7 @@ def built(name, shape, fields, accesses):
         if field.options.skip:
             value = "Default::default()"
         elif field.options.varint:
-            value = f"{access.bound}.get()"
+            value = f"{access.bound}.0"
         elif field.options.length_type:
             value = f"{access.bound}.value"
         values.append(value if not field.name or value == field.name else f"{field.name}: {value}")
@@ -367,7 +371,7 @@ def read_body(shape, value):
     bound = "()" if not shape.parts else fold(shape.tree, lambda it: it.bound, lambda its: pattern("(", its))
     value = call("Ok(", [value])
     if is_nested(shape.tree):
-        arm = taken_apart("Ok(parts)", bound, value)
+        arm = taken_apart("Ok(parts)", shape.tree, value)
     else:
         arm = arm_lines(pattern("Ok(", [bound]), value)
     return [f"        match {read} {{", *arm, "            Err(error) => Err(error),", "        }"]
@@ -396,9 +400,24 @@ def is_nested(tree):
     return isinstance(tree, list) and any(isinstance(it, list) for it in tree)
 
 
-def taken_apart(head, bound, value):
-    """An arm of a `match` whose tuple is taken apart in it: a pattern cannot move out of tuples in a tuple."""
-    return lines(head, 12, "", " => {") + binding(bound, "parts", 16) + lines(value, 16) + ["            }"]
+def taken_apart(head, tree, value):
+    """An arm of a `match` whose tuple is taken apart in it, tuple by tuple: no pattern moves out of tuples in a tuple."""
+    names = set(fold(tree, lambda part: {part.bound}, lambda its: set().union(*its)))
+    found, waiting, count = lines(head, 12, "", " => {"), [("parts", tree)], 0
+    while waiting:
+        name, it = waiting.pop(0)
+        bound, inner = [], []
+        for part in it:
+            if isinstance(part, list):
+                count += 1
+                group = "parts" + "_" * (f"parts{count}" in names) + str(count)
+                inner.append((group, part))
+                bound.append(group)
+            else:
+                bound.append(part.bound)
+        found += binding(pattern("(", bound), name, 16)
+        waiting = inner + waiting
+    return found + lines(value, 16) + ["            }"]
 
 
 def arm_lines(bound, value):
@@ -416,7 +435,7 @@ def write_lines(shape):
     for part in shape.parts:
         if part.before:
             name, kind = part.before
-            found += binding(f"{name}: {kind}", part.written, 8)
+            found += lines(prefixed(part), 8, f"let {name}: {kind} = ", ";")
             part.written = name
             shape.scope.need("speedy", "Part", shape.item.line)
     return found + lines(call("writer.write_value(", [written(shape)]), 8) + ["    }", "}"]
@@ -443,6 +462,12 @@ def written(shape):
         return "&" + single[len("Part(&"):-1] if single.startswith("Part(&") else "&" + single
     need_part(shape)
     return fold_head(shape.tree)
+
+
+def prefixed(part):
+    """A text or a list behind its length. It is no call of `new`, since an equation from a contract leaves the proof of
+    a write open."""
+    return braces("Prefixed", [f"value: {part.written}", "number: PhantomData"])
 
 
 def need_part(shape):

@@ -55,6 +55,7 @@ mod tests_varint;
 mod tests_views;
 #[cfg(test)]
 mod tests_writers;
+pub mod varints;
 pub mod writable_impl;
 
 pub use buffer::Buffer;
