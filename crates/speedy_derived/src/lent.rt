@@ -1,0 +1,191 @@
+//! Made from `lent.rs` by `tools/derive`: change that, and make this again.
+//!
+//! Structs that borrow from what they are read from.
+ghost use Rattle.std.specs.Prelude.{◌≡◌};
+
+use speedy::{Context, ItemByItem, Layout, LendingReader, Part, ReadFrom, Writable, Writer};
+use std::borrow::{Cow, CowSlice, CowStr};
+use std::collections::BTreeMap;
+
+#[derive(Debug, Drop)]
+pub struct CowOfBytes<'a> {
+    pub bytes: CowSlice<'a, u8>,
+}
+
+impl<'a> Layout for CowOfBytes<'a> {
+    ghost Seen = { ⟦<CowSlice<'a, u8> as Layout>⟧.Seen };
+
+    ghost seen = { λ it. ⟦<CowSlice<'a, u8> as Layout>⟧.seen it.bytes };
+
+    ghost layout = { ⟦<CowSlice<'a, u8> as Layout>⟧.layout };
+}
+
+impl<'a, C: Context> ReadFrom<&'a [u8], C> for CowOfBytes<'a> {
+    type Strategy = ItemByItem<C>;
+
+    fn read_from<R: LendingReader<&'a [u8], C>>(
+        reader: &mut R,
+    ) -> Result<CowOfBytes<'a>, C::Error> {
+        match reader.read_value() {
+            Ok(bytes) => Ok(CowOfBytes { bytes }),
+            Err(error) => Err(error),
+        }
+    }
+
+    fn minimum_bytes_needed() -> usize
+        ensures { result ≡ ⟦<CowSlice<'a, u8> as Layout>⟧.layout.least }
+    {
+        <CowSlice<'a, u8> as ReadFrom<&'a [u8], C>>::minimum_bytes_needed()
+    }
+}
+
+impl<'a, C: Context> Writable<C> for CowOfBytes<'a> {
+    fn write_to<W: Writer<C>>(&self, writer: &mut W) -> Result<(), C::Error> {
+        writer.write_value(&self.bytes)
+    }
+}
+
+#[derive(Debug, Drop)]
+pub struct CowOfText<'a> {
+    pub inner: CowStr<'a>,
+}
+
+impl<'a> Layout for CowOfText<'a> {
+    ghost Seen = { ⟦<CowStr<'a> as Layout>⟧.Seen };
+
+    ghost seen = { λ it. ⟦<CowStr<'a> as Layout>⟧.seen it.inner };
+
+    ghost layout = { ⟦<CowStr<'a> as Layout>⟧.layout };
+}
+
+impl<'a, C: Context> ReadFrom<&'a [u8], C> for CowOfText<'a> {
+    type Strategy = ItemByItem<C>;
+
+    fn read_from<R: LendingReader<&'a [u8], C>>(reader: &mut R) -> Result<CowOfText<'a>, C::Error> {
+        match reader.read_value() {
+            Ok(inner) => Ok(CowOfText { inner }),
+            Err(error) => Err(error),
+        }
+    }
+
+    fn minimum_bytes_needed() -> usize
+        ensures { result ≡ ⟦<CowStr<'a> as Layout>⟧.layout.least }
+    {
+        <CowStr<'a> as ReadFrom<&'a [u8], C>>::minimum_bytes_needed()
+    }
+}
+
+impl<'a, C: Context> Writable<C> for CowOfText<'a> {
+    fn write_to<W: Writer<C>>(&self, writer: &mut W) -> Result<(), C::Error> {
+        writer.write_value(&self.inner)
+    }
+}
+
+/// Two cows of different types.
+#[derive(Debug, Drop)]
+pub struct TwoCows<'a> {
+    pub a: Cow<'a, BTreeMap<u8, u8>>,
+    pub b: CowSlice<'a, u8>,
+}
+
+/// What [`TwoCows`] is read and written as.
+type TwoCowsParts<'a> = (Cow<'a, BTreeMap<u8, u8>>, CowSlice<'a, u8>);
+
+impl<'a> Layout for TwoCows<'a> {
+    ghost Seen = { ⟦<TwoCowsParts<'a> as Layout>⟧.Seen };
+
+    ghost seen = { λ it. ⟦<TwoCowsParts<'a> as Layout>⟧.seen (it.a, it.b) };
+
+    ghost layout = { ⟦<TwoCowsParts<'a> as Layout>⟧.layout };
+}
+
+impl<'a, C: Context> ReadFrom<&'a [u8], C> for TwoCows<'a> {
+    type Strategy = ItemByItem<C>;
+
+    fn read_from<R: LendingReader<&'a [u8], C>>(reader: &mut R) -> Result<TwoCows<'a>, C::Error> {
+        match reader.read_value() {
+            Ok((a, b)) => Ok(TwoCows { a, b }),
+            Err(error) => Err(error),
+        }
+    }
+
+    fn minimum_bytes_needed() -> usize
+        ensures { result ≡ ⟦<TwoCowsParts<'a> as Layout>⟧.layout.least }
+    {
+        <TwoCowsParts<'a> as ReadFrom<&'a [u8], C>>::minimum_bytes_needed()
+    }
+}
+
+impl<'a, C: Context> Writable<C> for TwoCows<'a> {
+    fn write_to<W: Writer<C>>(&self, writer: &mut W) -> Result<(), C::Error> {
+        writer.write_value(&(Part(&self.a), Part(&self.b)))
+    }
+}
+
+#[derive(Debug, Drop)]
+pub struct LentText<'a>(pub &'a str);
+
+impl<'a> Layout for LentText<'a> {
+    ghost Seen = { ⟦<&'a str as Layout>⟧.Seen };
+
+    ghost seen = { λ it. ⟦<&'a str as Layout>⟧.seen it.0 };
+
+    ghost layout = { ⟦<&'a str as Layout>⟧.layout };
+}
+
+impl<'a, C: Context> ReadFrom<&'a [u8], C> for LentText<'a> {
+    type Strategy = ItemByItem<C>;
+
+    fn read_from<R: LendingReader<&'a [u8], C>>(reader: &mut R) -> Result<LentText<'a>, C::Error> {
+        match reader.read_value() {
+            Ok(t0) => Ok(LentText(t0)),
+            Err(error) => Err(error),
+        }
+    }
+
+    fn minimum_bytes_needed() -> usize
+        ensures { result ≡ ⟦<&'a str as Layout>⟧.layout.least }
+    {
+        <&'a str as ReadFrom<&'a [u8], C>>::minimum_bytes_needed()
+    }
+}
+
+impl<'a, C: Context> Writable<C> for LentText<'a> {
+    fn write_to<W: Writer<C>>(&self, writer: &mut W) -> Result<(), C::Error> {
+        writer.write_value(&self.0)
+    }
+}
+
+#[derive(Debug, Drop)]
+pub struct LentBytes<'a>(pub &'a [u8]);
+
+impl<'a> Layout for LentBytes<'a> {
+    ghost Seen = { ⟦<&'a [u8] as Layout>⟧.Seen };
+
+    ghost seen = { λ it. ⟦<&'a [u8] as Layout>⟧.seen it.0 };
+
+    ghost layout = { ⟦<&'a [u8] as Layout>⟧.layout };
+}
+
+impl<'a, C: Context> ReadFrom<&'a [u8], C> for LentBytes<'a> {
+    type Strategy = ItemByItem<C>;
+
+    fn read_from<R: LendingReader<&'a [u8], C>>(reader: &mut R) -> Result<LentBytes<'a>, C::Error> {
+        match reader.read_value() {
+            Ok(t0) => Ok(LentBytes(t0)),
+            Err(error) => Err(error),
+        }
+    }
+
+    fn minimum_bytes_needed() -> usize
+        ensures { result ≡ ⟦<&'a [u8] as Layout>⟧.layout.least }
+    {
+        <&'a [u8] as ReadFrom<&'a [u8], C>>::minimum_bytes_needed()
+    }
+}
+
+impl<'a, C: Context> Writable<C> for LentBytes<'a> {
+    fn write_to<W: Writer<C>>(&self, writer: &mut W) -> Result<(), C::Error> {
+        writer.write_value(&self.0)
+    }
+}

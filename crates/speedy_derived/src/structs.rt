@@ -1,0 +1,362 @@
+//! Made from `structs.rs` by `tools/derive`: change that, and make this again.
+//!
+//! Structs of each form, parts that may be missing or are left out, and numbers of few bytes.
+use speedy::varints::Varint;
+use speedy::{Context, ItemByItem, Layout, LendingReader, Part, ReadFrom, Writable, Writer};
+use std::convert::AsSlice;
+
+/// Named parts.
+#[derive(Debug, Drop)]
+pub struct Numbers {
+    /// It has one byte.
+    pub a: u8,
+    pub b: u16,
+    pub c: u32,
+}
+
+/// What [`Numbers`] is read and written as.
+type NumbersParts = (u8, u16, u32);
+
+impl Layout for Numbers {
+    ghost Seen = { ⟦<NumbersParts as Layout>⟧.Seen };
+
+    ghost seen = { λ it. ⟦<NumbersParts as Layout>⟧.seen (it.a, it.b, it.c) };
+
+    ghost layout = { ⟦<NumbersParts as Layout>⟧.layout };
+}
+
+impl<L: AsSlice<u8> + Drop, C: Context> ReadFrom<L, C> for Numbers {
+    type Strategy = ItemByItem<C>;
+
+    fn read_from<R: LendingReader<L, C>>(reader: &mut R) -> Result<Numbers, C::Error> {
+        match reader.read_value() {
+            Ok((a, b, c)) => Ok(Numbers { a, b, c }),
+            Err(error) => Err(error),
+        }
+    }
+
+    fn minimum_bytes_needed() -> usize {
+        <NumbersParts as ReadFrom<L, C>>::minimum_bytes_needed()
+    }
+}
+
+impl<C: Context> Writable<C> for Numbers {
+    fn write_to<W: Writer<C>>(&self, writer: &mut W) -> Result<(), C::Error> {
+        writer.write_value(&(Part(&self.a), Part(&self.b), Part(&self.c)))
+    }
+}
+
+/// Parts without names.
+#[derive(Debug, Drop)]
+pub struct Triple(pub u8, pub u16, pub u32);
+
+/// What [`Triple`] is read and written as.
+type TripleParts = (u8, u16, u32);
+
+impl Layout for Triple {
+    ghost Seen = { ⟦<TripleParts as Layout>⟧.Seen };
+
+    ghost seen = { λ it. ⟦<TripleParts as Layout>⟧.seen (it.0, it.1, it.2) };
+
+    ghost layout = { ⟦<TripleParts as Layout>⟧.layout };
+}
+
+impl<L: AsSlice<u8> + Drop, C: Context> ReadFrom<L, C> for Triple {
+    type Strategy = ItemByItem<C>;
+
+    fn read_from<R: LendingReader<L, C>>(reader: &mut R) -> Result<Triple, C::Error> {
+        match reader.read_value() {
+            Ok((t0, t1, t2)) => Ok(Triple(t0, t1, t2)),
+            Err(error) => Err(error),
+        }
+    }
+
+    fn minimum_bytes_needed() -> usize {
+        <TripleParts as ReadFrom<L, C>>::minimum_bytes_needed()
+    }
+}
+
+impl<C: Context> Writable<C> for Triple {
+    fn write_to<W: Writer<C>>(&self, writer: &mut W) -> Result<(), C::Error> {
+        writer.write_value(&(Part(&self.0), Part(&self.1), Part(&self.2)))
+    }
+}
+
+/// No part, and no braces.
+#[derive(Debug, Drop)]
+pub struct Unit;
+
+impl Layout for Unit {
+    ghost Seen = { ⟦<() as Layout>⟧.Seen };
+
+    ghost seen = { λ _. tt };
+
+    ghost layout = { ⟦<() as Layout>⟧.layout };
+}
+
+impl<L: AsSlice<u8> + Drop, C: Context> ReadFrom<L, C> for Unit {
+    type Strategy = ItemByItem<C>;
+
+    fn read_from<R: LendingReader<L, C>>(reader: &mut R) -> Result<Unit, C::Error> {
+        match reader.read_value() {
+            Ok(()) => Ok(Unit),
+            Err(error) => Err(error),
+        }
+    }
+
+    fn minimum_bytes_needed() -> usize {
+        <() as ReadFrom<L, C>>::minimum_bytes_needed()
+    }
+}
+
+impl<C: Context> Writable<C> for Unit {
+    fn write_to<W: Writer<C>>(&self, writer: &mut W) -> Result<(), C::Error> {
+        writer.write_value(&())
+    }
+}
+
+/// No part between braces.
+#[derive(Debug, Drop)]
+pub struct Empty {}
+
+impl Layout for Empty {
+    ghost Seen = { ⟦<() as Layout>⟧.Seen };
+
+    ghost seen = { λ _. tt };
+
+    ghost layout = { ⟦<() as Layout>⟧.layout };
+}
+
+impl<L: AsSlice<u8> + Drop, C: Context> ReadFrom<L, C> for Empty {
+    type Strategy = ItemByItem<C>;
+
+    fn read_from<R: LendingReader<L, C>>(reader: &mut R) -> Result<Empty, C::Error> {
+        match reader.read_value() {
+            Ok(()) => Ok(Empty {}),
+            Err(error) => Err(error),
+        }
+    }
+
+    fn minimum_bytes_needed() -> usize {
+        <() as ReadFrom<L, C>>::minimum_bytes_needed()
+    }
+}
+
+impl<C: Context> Writable<C> for Empty {
+    fn write_to<W: Writer<C>>(&self, writer: &mut W) -> Result<(), C::Error> {
+        writer.write_value(&())
+    }
+}
+
+/// A single part.
+#[derive(Clone, Debug, PartialEq, Drop)]
+pub struct Newtype(pub u16);
+
+impl Layout for Newtype {
+    ghost Seen = { ⟦<u16 as Layout>⟧.Seen };
+
+    ghost seen = { λ it. ⟦<u16 as Layout>⟧.seen it.0 };
+
+    ghost layout = { ⟦<u16 as Layout>⟧.layout };
+}
+
+impl<L: AsSlice<u8> + Drop, C: Context> ReadFrom<L, C> for Newtype {
+    type Strategy = ItemByItem<C>;
+
+    fn read_from<R: LendingReader<L, C>>(reader: &mut R) -> Result<Newtype, C::Error> {
+        match reader.read_value() {
+            Ok(t0) => Ok(Newtype(t0)),
+            Err(error) => Err(error),
+        }
+    }
+
+    fn minimum_bytes_needed() -> usize {
+        <u16 as ReadFrom<L, C>>::minimum_bytes_needed()
+    }
+}
+
+impl<C: Context> Writable<C> for Newtype {
+    fn write_to<W: Writer<C>>(&self, writer: &mut W) -> Result<(), C::Error> {
+        writer.write_value(&self.0)
+    }
+}
+
+/// A list of structs.
+#[derive(Debug, Drop)]
+pub struct Holder {
+    pub field: Vec<Empty>,
+}
+
+impl Layout for Holder {
+    ghost Seen = { ⟦<Vec<Empty> as Layout>⟧.Seen };
+
+    ghost seen = { λ it. ⟦<Vec<Empty> as Layout>⟧.seen it.field };
+
+    ghost layout = { ⟦<Vec<Empty> as Layout>⟧.layout };
+}
+
+impl<L: AsSlice<u8> + Drop, C: Context> ReadFrom<L, C> for Holder {
+    type Strategy = ItemByItem<C>;
+
+    fn read_from<R: LendingReader<L, C>>(reader: &mut R) -> Result<Holder, C::Error> {
+        match reader.read_value() {
+            Ok(field) => Ok(Holder { field }),
+            Err(error) => Err(error),
+        }
+    }
+
+    fn minimum_bytes_needed() -> usize {
+        <Vec<Empty> as ReadFrom<L, C>>::minimum_bytes_needed()
+    }
+}
+
+impl<C: Context> Writable<C> for Holder {
+    fn write_to<W: Writer<C>>(&self, writer: &mut W) -> Result<(), C::Error> {
+        writer.write_value(&self.field)
+    }
+}
+
+#[derive(Debug, Drop)]
+pub struct Optional {
+    pub data: Option<u16>,
+}
+
+impl Layout for Optional {
+    ghost Seen = { ⟦<Option<u16> as Layout>⟧.Seen };
+
+    ghost seen = { λ it. ⟦<Option<u16> as Layout>⟧.seen it.data };
+
+    ghost layout = { ⟦<Option<u16> as Layout>⟧.layout };
+}
+
+impl<L: AsSlice<u8> + Drop, C: Context> ReadFrom<L, C> for Optional {
+    type Strategy = ItemByItem<C>;
+
+    fn read_from<R: LendingReader<L, C>>(reader: &mut R) -> Result<Optional, C::Error> {
+        match reader.read_value() {
+            Ok(data) => Ok(Optional { data }),
+            Err(error) => Err(error),
+        }
+    }
+
+    fn minimum_bytes_needed() -> usize {
+        <Option<u16> as ReadFrom<L, C>>::minimum_bytes_needed()
+    }
+}
+
+impl<C: Context> Writable<C> for Optional {
+    fn write_to<W: Writer<C>>(&self, writer: &mut W) -> Result<(), C::Error> {
+        writer.write_value(&self.data)
+    }
+}
+
+#[derive(Debug, Drop)]
+pub struct Outcome {
+    pub data: Result<u16, u16>,
+}
+
+impl Layout for Outcome {
+    ghost Seen = { ⟦<Result<u16, u16> as Layout>⟧.Seen };
+
+    ghost seen = { λ it. ⟦<Result<u16, u16> as Layout>⟧.seen it.data };
+
+    ghost layout = { ⟦<Result<u16, u16> as Layout>⟧.layout };
+}
+
+impl<L: AsSlice<u8> + Drop, C: Context> ReadFrom<L, C> for Outcome {
+    type Strategy = ItemByItem<C>;
+
+    fn read_from<R: LendingReader<L, C>>(reader: &mut R) -> Result<Outcome, C::Error> {
+        match reader.read_value() {
+            Ok(data) => Ok(Outcome { data }),
+            Err(error) => Err(error),
+        }
+    }
+
+    fn minimum_bytes_needed() -> usize {
+        <Result<u16, u16> as ReadFrom<L, C>>::minimum_bytes_needed()
+    }
+}
+
+impl<C: Context> Writable<C> for Outcome {
+    fn write_to<W: Writer<C>>(&self, writer: &mut W) -> Result<(), C::Error> {
+        writer.write_value(&self.data)
+    }
+}
+
+#[derive(Debug, Drop)]
+pub struct Skipping {
+    pub a: u8,
+    pub cache: u8,
+    pub c: u8,
+}
+
+/// What [`Skipping`] is read and written as.
+type SkippingParts = (u8, u8);
+
+impl Layout for Skipping {
+    ghost Seen = { ⟦<SkippingParts as Layout>⟧.Seen };
+
+    ghost seen = { λ it. ⟦<SkippingParts as Layout>⟧.seen (it.a, it.c) };
+
+    ghost layout = { ⟦<SkippingParts as Layout>⟧.layout };
+}
+
+impl<L: AsSlice<u8> + Drop, C: Context> ReadFrom<L, C> for Skipping {
+    type Strategy = ItemByItem<C>;
+
+    fn read_from<R: LendingReader<L, C>>(reader: &mut R) -> Result<Skipping, C::Error> {
+        match reader.read_value() {
+            Ok((a, c)) => Ok(Skipping {
+                a,
+                cache: Default::default(),
+                c,
+            }),
+            Err(error) => Err(error),
+        }
+    }
+
+    fn minimum_bytes_needed() -> usize {
+        <SkippingParts as ReadFrom<L, C>>::minimum_bytes_needed()
+    }
+}
+
+impl<C: Context> Writable<C> for Skipping {
+    fn write_to<W: Writer<C>>(&self, writer: &mut W) -> Result<(), C::Error> {
+        writer.write_value(&(Part(&self.a), Part(&self.c)))
+    }
+}
+
+#[derive(Debug, Drop)]
+pub struct Variable {
+    pub value: u64,
+}
+
+impl Layout for Variable {
+    ghost Seen = { ⟦<Varint as Layout>⟧.Seen };
+
+    ghost seen = { λ it. it.value };
+
+    ghost layout = { ⟦<Varint as Layout>⟧.layout };
+}
+
+impl<L: AsSlice<u8> + Drop, C: Context> ReadFrom<L, C> for Variable {
+    type Strategy = ItemByItem<C>;
+
+    fn read_from<R: LendingReader<L, C>>(reader: &mut R) -> Result<Variable, C::Error> {
+        match reader.read_value::<Varint>() {
+            Ok(value) => Ok(Variable { value: value.0 }),
+            Err(error) => Err(error),
+        }
+    }
+
+    fn minimum_bytes_needed() -> usize {
+        <Varint as ReadFrom<L, C>>::minimum_bytes_needed()
+    }
+}
+
+impl<C: Context> Writable<C> for Variable {
+    fn write_to<W: Writer<C>>(&self, writer: &mut W) -> Result<(), C::Error> {
+        writer.write_value(&Varint(self.value))
+    }
+}
