@@ -25,6 +25,7 @@ pub use Rattle.speedy_layout.specs.StdSets
 pub use Rattle.speedy_layout.specs.FixedNumbers
 pub use Rattle.speedy_layout.specs.Flags
 pub use Rattle.speedy_layout.specs.Format
+pub use Rattle.speedy_layout.specs.Frames
 pub use Rattle.speedy_layout.specs.GatheredLemmas
 pub use Rattle.speedy_layout.specs.Gathering
 pub use Rattle.speedy_layout.specs.Equality
@@ -55,6 +56,8 @@ pub use Rattle.speedy_read.specs.Collections as ReadCollections
 pub use Rattle.speedy_read.specs.Counted as ReadCounted
 pub use Rattle.speedy_read.specs.CopyingModel
 pub use Rattle.speedy_read.specs.Flags as ReadFlags
+pub use Rattle.speedy_read.specs.FrameModel
+pub use Rattle.speedy_read.specs.Frames as ReadFrames
 pub use Rattle.speedy_read.specs.Lending
 pub use Rattle.speedy_read.specs.OwnedModel
 pub use Rattle.speedy_read.specs.Prefixed as ReadPrefixed
