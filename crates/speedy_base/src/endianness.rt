@@ -1,7 +1,7 @@
 //! Byte orders: how the digits of a number lie in bytes.
 ghost use Rattle.std.specs.Prelude.{◌≡◌, ◌↔◌, ◌++◌, length, IsTrue};
 ghost use Rattle.std.specs.Int.{w16, w32, w64, w128};
-ghost use Rattle.speedy_base.specs.Digits.{SpellsNumber, swapped};
+ghost use Rattle.speedy_base.specs.Digits.{SpellsNumber};
 ghost use Rattle.speedy_base.specs.Signed.{SpellsSigned};
 
 /// A byte order: the order in which the base 256 digits of a number are written.
@@ -156,26 +156,6 @@ impl Endianness {
         match self {
             Endianness::LittleEndian => joined(low, high),
             Endianness::BigEndian => joined(high, low),
-        }
-    }
-
-    /// Reverses the bytes of a number where the order is big, and leaves it as it is where it is little.
-    #[inline]
-    pub fn swap_u16(self, value: &mut u16)
-        ensures { value.new ≡ swapped self 2 value.old }
-    {
-        if self.conversion_necessary() {
-            *value = value.swap_bytes();
-        }
-    }
-
-    /// Reverses the bytes of a number where the order is big, and leaves it as it is where it is little.
-    #[inline]
-    pub fn swap_u32(self, value: &mut u32)
-        ensures { value.new ≡ swapped self 4 value.old }
-    {
-        if self.conversion_necessary() {
-            *value = value.swap_bytes();
         }
     }
 }

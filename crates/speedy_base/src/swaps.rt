@@ -124,6 +124,22 @@ fn swap_each<T: Swap>(order: Endianness, slice: &mut [T])
 impl Endianness {
     /// Reverses the bytes of a number where the order is big, and leaves it as it is where it is little.
     #[inline]
+    pub fn swap_u16(self, value: &mut u16)
+        ensures { value.new ≡ swapped self 2 value.old }
+    {
+        swap_one(self, value);
+    }
+
+    /// Reverses the bytes of a number where the order is big, and leaves it as it is where it is little.
+    #[inline]
+    pub fn swap_u32(self, value: &mut u32)
+        ensures { value.new ≡ swapped self 4 value.old }
+    {
+        swap_one(self, value);
+    }
+
+    /// Reverses the bytes of a number where the order is big, and leaves it as it is where it is little.
+    #[inline]
     pub fn swap_u64(self, value: &mut u64)
         ensures { value.new ≡ swapped self 8 value.old }
     {

@@ -22,6 +22,8 @@ pub record IsFixed {V : Type 0} (size : ℕ) (F : Encoding → Format V) : Type 
   pub spells : (encoding : Encoding) (v : V) (bytes : List ℕ) → (F encoding).spells v bytes → spelled_in F encoding.order v bytes
   pub writes : (encoding : Encoding) (v : V) (bytes : List ℕ) → spelled_in F encoding.order v bytes → (F encoding).writes v bytes
   pub length_is : (order : Endianness) (v : V) (bytes : List ℕ) → spelled_in F order v bytes → length bytes ≡ size
+  -- no bytes are refused but for their number
+  pub none_malformed : (encoding : Encoding) (bytes : List ℕ) → (F encoding).malformed bytes → ⊥
 
 -- any bytes of that size spell the number that is decoded of them
 abbrev pub Decodes : {A V : Type 0} → ℕ → (Encoding → Format V) → (A → V) → (Endianness → List ℕ → A) → Type 0
@@ -61,6 +63,7 @@ unsigned_fixed w = record {
   spells = λ encoding v bytes h. h;
   writes = λ encoding v bytes h. h;
   length_is = λ order v bytes h. h.width_is;
+  none_malformed = λ _ _ h. h;
 }
 
 pub unsigned_decodes : (w : Width) → Decodes (byte_len w) (unsigned_number (byte_len w)) (λ (n : ℕ). n) number
@@ -75,6 +78,7 @@ signed_fixed w = record {
   spells = λ encoding v bytes h. h;
   writes = λ encoding v bytes h. h;
   length_is = λ order v bytes h. h.digits.width_is;
+  none_malformed = λ _ _ h. h;
 }
 
 pub signed_decodes : (w : Width) → Decodes (byte_len w) (signed_number w) (λ (z : ℤ). z) (λ order bytes. cast_signed w (number order bytes))

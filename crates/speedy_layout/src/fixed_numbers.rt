@@ -11,6 +11,9 @@ use crate::view_items::FixedSize;
 use speedy_base::endianness::Endianness;
 use std::alloc::AllocError;
 
+/// The number of bytes of the widest number.
+pub const MOST_DIGITS: usize = 16;
+
 /// A number of a fixed size, whose bytes are its digits.
 pub trait FixedNumber: FixedSize + Layout + Copy + Default + Drop {
     /// The number that `SIZE` bytes encode in an order.
@@ -235,6 +238,15 @@ impl FixedNumber for i128 {
     ghost is_fixed = { signed_fixed w128 };
 
     ghost decodes = { signed_decodes w128 };
+}
+
+/// The number that the bytes encode, of which there are `SIZE`.
+#[inline(always)]
+pub fn number_of<T: FixedNumber>(order: Endianness, bytes: &[u8]) -> T
+    requires { length bytes.now ≡ T.SIZE }
+    ensures { spelled_in T.layout.format order (T.seen result) bytes.now }
+{
+    T::decode(order, bytes)
 }
 
 /// Appends the numbers that the bytes encode one after another. The bytes are those of whole numbers.

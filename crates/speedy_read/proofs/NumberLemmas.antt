@@ -1,17 +1,17 @@
--- Reads of bytes make reads of numbers, and these make reads of signed numbers, at each width.
-use Rattle.std.specs.Prelude.{◌≡◌, ℕ, ℤ, ◌+◌, ◌<◌, List, [], ◌∷◌, ◌++◌, length, Bool, Ok, Err, Result, IsErrAnd, refl}
-use Rattle.std.specs.Int.{Width, byte_len, cast_unsigned, cast_signed}
-use Rattle.std.proofs.Common.{get_or, ◌∙◌, ap, ap₂, subst, arith, sym, inl, inr}
+-- Reads of bytes make reads of numbers of any fixed size.
+use Rattle.std.specs.Prelude.{◌≡◌, ℕ, ◌+◌, List, ◌++◌, length, Bool, Ok, Err, Result, IsErrAnd, refl}
+use Rattle.std.proofs.Common.{◌∙◌, ap, ap₂, subst, sym, inl, inr}
 use Rattle.std.proofs.lemmas.List.{length-append}
 use Rattle.speedy_base.specs.declared.error.Error.{Error}
 use Rattle.speedy_base.specs.declared.endianness.Endianness.{Endianness}
 use Rattle.speedy_base.specs.Digits.{SpellsNumber}
-use Rattle.speedy_base.specs.DigitsLemmas.{SpellsNumber-one_byte}
 use Rattle.speedy_base.specs.Encoding.{Encoding}
-use Rattle.speedy_base.specs.SignedLemmas.{SpellsSigned-answered}
-use Rattle.speedy_layout.specs.Numbers.{unsigned_number, signed_number}
+use Rattle.speedy_layout.specs.FixedNumbers.{IsFixed, spelled_in, size_of_fixed}
+use Rattle.speedy_layout.specs.Format.{Format}
+use Rattle.speedy_layout.specs.Laws.{Laws}
+use Rattle.speedy_layout.specs.Numbers.{unsigned_number}
 use Rattle.speedy_layout.specs.Texts.{raw_bytes}
-use Rattle.speedy_layout.specs.Sequences.{asks_same, sequence}
+use Rattle.speedy_layout.specs.Sequences.{asks_same, asks_nothing_more, sequence}
 use Rattle.speedy_layout.specs.Tuples.{pair}
 use Rattle.speedy_read.specs.Reading.{ReaderState, Reads, Peeks}
 use Rattle.speedy_read.specs.Codes.{Covers, refused_covered, peek_refused_covered, got_covered, ahead_covered}
@@ -21,26 +21,6 @@ pub bytes_cover_digits : (width : ℕ) (encoding : Encoding) → Covers (raw_byt
 unfolding raw_bytes unsigned_number
 bytes_cover_digits width encoding = record {
   under = λ v s h. (s, (refl, h.width_is));
-  names = λ kind h. absurd h;
-  malformed = λ bytes _ h. absurd h;
-  asks = asks_same;
-}
-
-number_stands : (width : ℕ) (encoding : Encoding) (n : ℕ) (bytes s : List ℕ) → SpellsNumber width encoding.order n bytes → (raw_bytes width).spells bytes s → (unsigned_number width encoding).spells n s
-unfolding raw_bytes unsigned_number
-number_stands width encoding n bytes s sp h = subst (SpellsNumber width encoding.order n) h.0 sp
-
-byte_stands : (encoding : Encoding) (b : ℕ) (bytes s : List ℕ) → b ≡ get_or bytes 0 0 → b < 256 → (raw_bytes 1).spells bytes s → (unsigned_number 1 encoding).spells b s
-unfolding raw_bytes unsigned_number
-byte_stands encoding b [] s e l h = let m = ap length h.0 ∙ h.1 in absurd (omega arith)
-byte_stands encoding b (x ∷ []) s e l h = subst (SpellsNumber 1 encoding.order b) (ap (λ (y : ℕ). y ∷ []) e ∙ h.0) (SpellsNumber-one_byte encoding.order b l)
-byte_stands encoding b (x ∷ y ∷ bytes) s e l h = let m = ap length h.0 ∙ h.1 in absurd (omega arith)
-
--- a signed number is read as the unsigned number of its bits
-digits_cover_signed : (w : Width) (encoding : Encoding) → Covers (unsigned_number (byte_len w) encoding) (signed_number w encoding)
-unfolding unsigned_number signed_number
-digits_cover_signed w encoding = record {
-  under = λ z s h. (cast_unsigned w z, h.digits);
   names = λ kind h. absurd h;
   malformed = λ bytes _ h. absurd h;
   asks = asks_same;
@@ -65,16 +45,6 @@ unfolding raw_bytes unsigned_number sequence
 two_stand m n encoding a b front back bytes s first second whole h = record { front = front; back = back; whole_is = sym h.0 ∙ whole; first_is = first; second_is = second }
 
 module _ {E : Type 0} {gives : Error → E → Type 0} {eof : E → Bool} {old new : ReaderState} where
-  -- where so many bytes are refused, the number is
-  pub number_refused : (width : ℕ) {A B : Type 0} {seen : A → List ℕ} {seen' : B → ℕ} {e : E} {result : Result B E} → IsErrAnd result (λ x. x ≡ e) → Reads gives eof seen (raw_bytes width) (Err e) old new → Reads gives eof seen' (unsigned_number width old.encoding) result old new
-  number_refused width passed r = refused_covered (bytes_cover_digits width old.encoding) passed r
-
-  -- the number that the bytes spell in the order that the reader has after them
-  pub number_read : {width n : ℕ} {order : Endianness} {bytes : List ℕ} {A : Type 0} {x : A} → Reads gives eof (λ _. bytes) (raw_bytes width) (Ok x) old new → order ≡ new.encoding.order → SpellsNumber width order n bytes → Reads gives eof (λ m. m) (unsigned_number width old.encoding) (Ok n) old new
-  number_read {width = width} {n = n} {bytes = bytes} r is spelled =
-      let same = is ∙ ap (λ (encoding : Encoding). encoding.order) r.kept.encoding in
-      got_covered (λ s h. number_stands width old.encoding n bytes s (subst (λ (o : Endianness). SpellsNumber width o n bytes) same spelled) h) r
-
   -- where the bytes of two numbers are refused, both numbers are
   pub two_refused : (m n : ℕ) {A B : Type 0} {seen : A → List ℕ} {seen' : B → ℕ × ℕ} {e : E} {result : Result B E} → IsErrAnd result (λ x. x ≡ e) → Reads gives eof seen (raw_bytes (m + n)) (Err e) old new
       → Reads gives eof seen' (pair (unsigned_number m old.encoding) (unsigned_number n old.encoding)) result old new
@@ -89,35 +59,45 @@ module _ {E : Type 0} {gives : Error → E → Type 0} {eof : E → Bool} {old n
       got_covered
       (λ s h. two_stand m n old.encoding a b front back bytes s (subst (λ (o : Endianness). SpellsNumber m o a front) same first) (subst (λ (o : Endianness). SpellsNumber n o b back) same second) whole h) r
 
-  -- and so is a number that is peeked
-  pub number_not_peeked : (width : ℕ) {A B : Type 0} {seen : A → List ℕ} {seen' : B → ℕ} {e : E} {result : Result B E} → IsErrAnd result (λ x. x ≡ e) → Peeks gives eof seen (raw_bytes width) (Err e) old new → Peeks gives eof seen' (unsigned_number width old.encoding) result old new
-  number_not_peeked width passed r = peek_refused_covered (bytes_cover_digits width old.encoding) passed r
+-- Numbers of a fixed size are read and peeked as their digits.
+module _ {V : Type 0} {F : Encoding → Format V} {least width : ℕ}
+    (laws : (encoding : Encoding) → Laws encoding.strict least (F encoding)) (fixed : IsFixed width F) where
+  digits_cover : {size : ℕ} → size ≡ width → (encoding : Encoding) → Covers (raw_bytes size) (F encoding)
+  unfolding raw_bytes
+  digits_cover is encoding = record {
+    under = λ v s h. (s, (refl, size_of_fixed fixed encoding v s h ∙ sym is));
+    names = λ kind h. absurd h;
+    malformed = λ bytes _ h. absurd (fixed.none_malformed encoding bytes h);
+    asks = asks_nothing_more;
+  }
 
-  pub number_peeked : {width n : ℕ} {order : Endianness} {bytes : List ℕ} {A : Type 0} {x : A} → Peeks gives eof (λ _. bytes) (raw_bytes width) (Ok x) old new → order ≡ new.encoding.order → SpellsNumber width order n bytes → Peeks gives eof (λ m. m) (unsigned_number width old.encoding) (Ok n) old new
-  number_peeked {width = width} {n = n} {bytes = bytes} r is spelled =
-      let same = is ∙ ap (λ (encoding : Encoding). encoding.order) r.kept.encoding in
-      ahead_covered (λ s h. number_stands width old.encoding n bytes s (subst (λ (o : Endianness). SpellsNumber width o n bytes) same spelled) h) r
+  digits_stand : (size : ℕ) {order : Endianness} {encoding : Encoding} {v : V} {bytes : List ℕ} → order ≡ encoding.order
+      → spelled_in F order v bytes → (s : List ℕ) → (raw_bytes size).spells bytes s → (F encoding).spells v s
+  unfolding raw_bytes
+  digits_stand size {encoding = encoding} {v = v} {bytes = bytes} same spelled s h =
+      let written = fixed.writes encoding v bytes (subst (λ (o : Endianness). spelled_in F o v bytes) same spelled) in
+      subst ((F encoding).spells v) h.0 ((laws encoding).written_spells v bytes written)
 
-  -- one byte that was read or peeked is the number
-  pub byte_read : {b : ℕ} {bytes : List ℕ} {A : Type 0} {x : A} → b ≡ get_or bytes 0 0 → b < 256 → Reads gives eof (λ _. bytes) (raw_bytes 1) (Ok x) old new → Reads gives eof (λ m. m) (unsigned_number 1 old.encoding) (Ok b) old new
-  byte_read {b = b} {bytes = bytes} value range r = got_covered (λ s h. byte_stands old.encoding b bytes s value range h) r
+  module _ {E : Type 0} {gives : Error → E → Type 0} {eof : E → Bool} {old new : ReaderState} {A B : Type 0}
+      {bytes : List ℕ} {seen : B → V} where
+    pub digits_refused : {size : ℕ} {e : E} {result : Result B E} → size ≡ width → IsErrAnd result (λ x. x ≡ e)
+        → Reads gives eof (λ (_ : A). bytes) (raw_bytes size) (Err e) old new
+        → Reads gives eof seen (F old.encoding) result old new
+    digits_refused is passed r = refused_covered (digits_cover is old.encoding) passed r
 
-  pub byte_peeked : {b : ℕ} {bytes : List ℕ} {A : Type 0} {x : A} → b ≡ get_or bytes 0 0 → b < 256 → Peeks gives eof (λ _. bytes) (raw_bytes 1) (Ok x) old new → Peeks gives eof (λ m. m) (unsigned_number 1 old.encoding) (Ok b) old new
-  byte_peeked {b = b} {bytes = bytes} value range r = ahead_covered (λ s h. byte_stands old.encoding b bytes s value range h) r
+    pub digits_read : (size : ℕ) {order : Endianness} {x : A} {y : B} → order ≡ new.encoding.order
+        → spelled_in F order (seen y) bytes → Reads gives eof (λ (_ : A). bytes) (raw_bytes size) (Ok x) old new
+        → Reads gives eof seen (F old.encoding) (Ok y) old new
+    digits_read size same spelled r =
+        got_covered (digits_stand size (same ∙ ap (λ (e : Encoding). e.order) r.kept.encoding) spelled) r
 
-  -- where the unsigned number is refused, the signed one is
-  pub signed_refused : (w : Width) {e : E} {result : Result ℤ E} → IsErrAnd result (λ x. x ≡ e) → Reads gives eof (λ n. n) (unsigned_number (byte_len w) old.encoding) (Err e) old new → Reads gives eof (λ z. z) (signed_number w old.encoding) result old new
-  signed_refused w passed r = refused_covered (digits_cover_signed w old.encoding) passed r
+    pub digits_not_peeked : {size : ℕ} {e : E} {result : Result B E} → size ≡ width → IsErrAnd result (λ x. x ≡ e)
+        → Peeks gives eof (λ (_ : A). bytes) (raw_bytes size) (Err e) old new
+        → Peeks gives eof seen (F old.encoding) result old new
+    digits_not_peeked is passed r = peek_refused_covered (digits_cover is old.encoding) passed r
 
-  -- the signed number of the bits that were read
-  pub signed_read : (w : Width) {n : ℕ} {z : ℤ} → Reads gives eof (λ m. m) (unsigned_number (byte_len w) old.encoding) (Ok n) old new → z ≡ cast_signed w n → Reads gives eof (λ y. y) (signed_number w old.encoding) (Ok (cast_signed w (cast_unsigned w z))) old new
-  unfolding unsigned_number signed_number
-  signed_read w {n = n} {z = z} r e = got_covered (λ s h. SpellsSigned-answered w old.encoding.order n z s e h) r
-
-  -- and so is a signed number that is peeked
-  pub signed_not_peeked : (w : Width) {e : E} {result : Result ℤ E} → IsErrAnd result (λ x. x ≡ e) → Peeks gives eof (λ n. n) (unsigned_number (byte_len w) old.encoding) (Err e) old new → Peeks gives eof (λ z. z) (signed_number w old.encoding) result old new
-  signed_not_peeked w passed r = peek_refused_covered (digits_cover_signed w old.encoding) passed r
-
-  pub signed_peeked : (w : Width) {n : ℕ} {z : ℤ} → Peeks gives eof (λ m. m) (unsigned_number (byte_len w) old.encoding) (Ok n) old new → z ≡ cast_signed w n → Peeks gives eof (λ y. y) (signed_number w old.encoding) (Ok (cast_signed w (cast_unsigned w z))) old new
-  unfolding unsigned_number signed_number
-  signed_peeked w {n = n} {z = z} r e = ahead_covered (λ s h. SpellsSigned-answered w old.encoding.order n z s e h) r
+    pub digits_peeked : (size : ℕ) {order : Endianness} {x : A} {y : B} → order ≡ new.encoding.order
+        → spelled_in F order (seen y) bytes → Peeks gives eof (λ (_ : A). bytes) (raw_bytes size) (Ok x) old new
+        → Peeks gives eof seen (F old.encoding) (Ok y) old new
+    digits_peeked size same spelled r =
+        ahead_covered (digits_stand size (same ∙ ap (λ (e : Encoding). e.order) r.kept.encoding) spelled) r

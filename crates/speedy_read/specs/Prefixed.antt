@@ -1,12 +1,12 @@
 -- How a tag is read, and behind it a value of its case.
 use Rattle.std.specs.Prelude.{◌≡◌, ◌≢◌, ℕ, ◌⊎◌, Bool, true, false, nat_eq, Result, Err, IsErrAnd, refl}
-use Rattle.std.proofs.Common.{sym, ap, inl, inr}
+use Rattle.std.proofs.Common.{ap, inl, inr}
 use Rattle.std.proofs.lemmas.Bool.Decides.{eqb_tells}
 use Rattle.speedy_base.specs.declared.error.ErrorKind.TheVariants as kinds
 use Rattle.speedy_base.specs.declared.error.Error.{Error}
 use Rattle.speedy_base.specs.Error.{error_of, IsNamed}
 use Rattle.speedy_base.specs.Encoding.{Encoding}
-use Rattle.speedy_layout.specs.Choices.{no_value, only_if, either, one_case, either_case}
+use Rattle.speedy_layout.specs.Choices.{only_if, either, one_case, either_case}
 use Rattle.speedy_layout.specs.Codecs.{Codec}
 use Rattle.speedy_layout.specs.Format.{Format}
 use Rattle.speedy_layout.specs.Prefixed.{Choices, tagged, tagged_parts}

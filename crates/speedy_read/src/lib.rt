@@ -10,6 +10,7 @@ mod chunks;
 pub mod collections;
 pub mod copying_reader;
 pub mod cows;
+mod digits;
 pub mod flags;
 mod frame_reader;
 pub mod frames;

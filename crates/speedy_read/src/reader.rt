@@ -15,6 +15,7 @@ ghost use Rattle.speedy_read.specs.Reading.{Skips, PeeksValue, PeeksUnsigned, Pe
 ghost use Rattle.speedy_read.specs.Reading.{IsRight, Expects, LendsBytes, LendsAll, LendsUntilUsed};
 
 use crate::collections::FromItems;
+use crate::digits::{peek_number, read_number};
 use crate::lent::NothingLent;
 use crate::many::FromLent;
 use crate::owned_reader::OwnedReader;
@@ -138,9 +139,7 @@ pub trait LendingReader<L: AsSlice<u8> + Drop, C: Context> {
     final fn read_u8(&mut self) -> Result<u8, C::Error>
         ensures { ReadsUnsigned C.Error.IsEof state 1 result self.old self.new }
     {
-        let mut bytes = [0u8; 1];
-        self.read_bytes(&mut bytes)?;
-        Ok(byte_of(&bytes))
+        read_number::<u8, L, C, Self>(self)
     }
 
     /// The next 2 bytes as a number in the context's order.
@@ -148,9 +147,7 @@ pub trait LendingReader<L: AsSlice<u8> + Drop, C: Context> {
     final fn read_u16(&mut self) -> Result<u16, C::Error>
         ensures { ReadsUnsigned C.Error.IsEof state 2 result self.old self.new }
     {
-        let mut bytes = [0u8; 2];
-        self.read_bytes(&mut bytes)?;
-        Ok(self.endianness().read_u16(&bytes))
+        read_number::<u16, L, C, Self>(self)
     }
 
     /// The next 4 bytes as a number in the context's order.
@@ -158,9 +155,7 @@ pub trait LendingReader<L: AsSlice<u8> + Drop, C: Context> {
     final fn read_u32(&mut self) -> Result<u32, C::Error>
         ensures { ReadsUnsigned C.Error.IsEof state 4 result self.old self.new }
     {
-        let mut bytes = [0u8; 4];
-        self.read_bytes(&mut bytes)?;
-        Ok(self.endianness().read_u32(&bytes))
+        read_number::<u32, L, C, Self>(self)
     }
 
     /// The next 8 bytes as a number in the context's order.
@@ -168,9 +163,7 @@ pub trait LendingReader<L: AsSlice<u8> + Drop, C: Context> {
     final fn read_u64(&mut self) -> Result<u64, C::Error>
         ensures { ReadsUnsigned C.Error.IsEof state 8 result self.old self.new }
     {
-        let mut bytes = [0u8; 8];
-        self.read_bytes(&mut bytes)?;
-        Ok(self.endianness().read_u64(&bytes))
+        read_number::<u64, L, C, Self>(self)
     }
 
     /// The next 16 bytes as a number in the context's order.
@@ -178,9 +171,7 @@ pub trait LendingReader<L: AsSlice<u8> + Drop, C: Context> {
     final fn read_u128(&mut self) -> Result<u128, C::Error>
         ensures { ReadsUnsigned C.Error.IsEof state 16 result self.old self.new }
     {
-        let mut bytes = [0u8; 16];
-        self.read_bytes(&mut bytes)?;
-        Ok(self.endianness().read_u128(&bytes))
+        read_number::<u128, L, C, Self>(self)
     }
 
     /// The next byte as a signed number.
@@ -188,7 +179,7 @@ pub trait LendingReader<L: AsSlice<u8> + Drop, C: Context> {
     final fn read_i8(&mut self) -> Result<i8, C::Error>
         ensures { ReadsSigned C.Error.IsEof state w8 result self.old self.new }
     {
-        Ok(self.read_u8()?.cast_signed())
+        read_number::<i8, L, C, Self>(self)
     }
 
     /// The next 2 bytes as a signed number in the context's order.
@@ -196,7 +187,7 @@ pub trait LendingReader<L: AsSlice<u8> + Drop, C: Context> {
     final fn read_i16(&mut self) -> Result<i16, C::Error>
         ensures { ReadsSigned C.Error.IsEof state w16 result self.old self.new }
     {
-        Ok(self.read_u16()?.cast_signed())
+        read_number::<i16, L, C, Self>(self)
     }
 
     /// The next 4 bytes as a signed number in the context's order.
@@ -204,7 +195,7 @@ pub trait LendingReader<L: AsSlice<u8> + Drop, C: Context> {
     final fn read_i32(&mut self) -> Result<i32, C::Error>
         ensures { ReadsSigned C.Error.IsEof state w32 result self.old self.new }
     {
-        Ok(self.read_u32()?.cast_signed())
+        read_number::<i32, L, C, Self>(self)
     }
 
     /// The next 8 bytes as a signed number in the context's order.
@@ -212,7 +203,7 @@ pub trait LendingReader<L: AsSlice<u8> + Drop, C: Context> {
     final fn read_i64(&mut self) -> Result<i64, C::Error>
         ensures { ReadsSigned C.Error.IsEof state w64 result self.old self.new }
     {
-        Ok(self.read_u64()?.cast_signed())
+        read_number::<i64, L, C, Self>(self)
     }
 
     /// The next 16 bytes as a signed number in the context's order.
@@ -220,7 +211,7 @@ pub trait LendingReader<L: AsSlice<u8> + Drop, C: Context> {
     final fn read_i128(&mut self) -> Result<i128, C::Error>
         ensures { ReadsSigned C.Error.IsEof state w128 result self.old self.new }
     {
-        Ok(self.read_u128()?.cast_signed())
+        read_number::<i128, L, C, Self>(self)
     }
 
     /// The next byte, which is not taken.
@@ -229,9 +220,7 @@ pub trait LendingReader<L: AsSlice<u8> + Drop, C: Context> {
         ensures { PeeksValue C.Error.IsEof state (λ x. x) (unsigned_codec 1)
             result self.old self.new }
     {
-        let mut bytes = [0u8; 1];
-        self.peek_bytes(&mut bytes)?;
-        Ok(byte_of(&bytes))
+        peek_number::<u8, L, C, Self>(self)
     }
 
     /// The next 2 bytes as a number in the context's order, which are not taken.
@@ -239,9 +228,7 @@ pub trait LendingReader<L: AsSlice<u8> + Drop, C: Context> {
     final fn peek_u16(&mut self) -> Result<u16, C::Error>
         ensures { PeeksUnsigned C.Error.IsEof state 2 result self.old self.new }
     {
-        let mut ahead = [0u8; 2];
-        self.peek_bytes(&mut ahead)?;
-        Ok(self.endianness().read_u16(&ahead))
+        peek_number::<u16, L, C, Self>(self)
     }
 
     /// The next 4 bytes as a number in the context's order, which are not taken.
@@ -249,9 +236,7 @@ pub trait LendingReader<L: AsSlice<u8> + Drop, C: Context> {
     final fn peek_u32(&mut self) -> Result<u32, C::Error>
         ensures { PeeksUnsigned C.Error.IsEof state 4 result self.old self.new }
     {
-        let mut ahead = [0u8; 4];
-        self.peek_bytes(&mut ahead)?;
-        Ok(self.endianness().read_u32(&ahead))
+        peek_number::<u32, L, C, Self>(self)
     }
 
     /// The next 8 bytes as a number in the context's order, which are not taken.
@@ -259,9 +244,7 @@ pub trait LendingReader<L: AsSlice<u8> + Drop, C: Context> {
     final fn peek_u64(&mut self) -> Result<u64, C::Error>
         ensures { PeeksUnsigned C.Error.IsEof state 8 result self.old self.new }
     {
-        let mut ahead = [0u8; 8];
-        self.peek_bytes(&mut ahead)?;
-        Ok(self.endianness().read_u64(&ahead))
+        peek_number::<u64, L, C, Self>(self)
     }
 
     /// The next 16 bytes as a number in the context's order, which are not taken.
@@ -269,9 +252,7 @@ pub trait LendingReader<L: AsSlice<u8> + Drop, C: Context> {
     final fn peek_u128(&mut self) -> Result<u128, C::Error>
         ensures { PeeksUnsigned C.Error.IsEof state 16 result self.old self.new }
     {
-        let mut ahead = [0u8; 16];
-        self.peek_bytes(&mut ahead)?;
-        Ok(self.endianness().read_u128(&ahead))
+        peek_number::<u128, L, C, Self>(self)
     }
 
     /// The next byte as a signed number, which is not taken.
@@ -279,7 +260,7 @@ pub trait LendingReader<L: AsSlice<u8> + Drop, C: Context> {
     final fn peek_i8(&mut self) -> Result<i8, C::Error>
         ensures { PeeksSigned C.Error.IsEof state w8 result self.old self.new }
     {
-        Ok(self.peek_u8()?.cast_signed())
+        peek_number::<i8, L, C, Self>(self)
     }
 
     /// The next 2 bytes as a signed number in the context's order, which are not taken.
@@ -287,7 +268,7 @@ pub trait LendingReader<L: AsSlice<u8> + Drop, C: Context> {
     final fn peek_i16(&mut self) -> Result<i16, C::Error>
         ensures { PeeksSigned C.Error.IsEof state w16 result self.old self.new }
     {
-        Ok(self.peek_u16()?.cast_signed())
+        peek_number::<i16, L, C, Self>(self)
     }
 
     /// The next 4 bytes as a signed number in the context's order, which are not taken.
@@ -295,7 +276,7 @@ pub trait LendingReader<L: AsSlice<u8> + Drop, C: Context> {
     final fn peek_i32(&mut self) -> Result<i32, C::Error>
         ensures { PeeksSigned C.Error.IsEof state w32 result self.old self.new }
     {
-        Ok(self.peek_u32()?.cast_signed())
+        peek_number::<i32, L, C, Self>(self)
     }
 
     /// The next 8 bytes as a signed number in the context's order, which are not taken.
@@ -303,7 +284,7 @@ pub trait LendingReader<L: AsSlice<u8> + Drop, C: Context> {
     final fn peek_i64(&mut self) -> Result<i64, C::Error>
         ensures { PeeksSigned C.Error.IsEof state w64 result self.old self.new }
     {
-        Ok(self.peek_u64()?.cast_signed())
+        peek_number::<i64, L, C, Self>(self)
     }
 
     /// The next 16 bytes as a signed number in the context's order, which are not taken.
@@ -311,7 +292,7 @@ pub trait LendingReader<L: AsSlice<u8> + Drop, C: Context> {
     final fn peek_i128(&mut self) -> Result<i128, C::Error>
         ensures { PeeksSigned C.Error.IsEof state w128 result self.old self.new }
     {
-        Ok(self.peek_u128()?.cast_signed())
+        peek_number::<i128, L, C, Self>(self)
     }
 
     /// The next integer of variable length, which is encoded alike in both orders. More bytes than the number needs are
@@ -524,15 +505,6 @@ pub struct EndOfInput {}
 pub trait Reader<'a, C: Context>: LendingReader<&'a [u8], C> {}
 
 impl<'a, C: Context, R: LendingReader<&'a [u8], C>> Reader<'a, C> for R {}
-
-// What a proof knows of the byte is its range, which the contents of a buffer don't show.
-#[inline]
-fn byte_of(bytes: &[u8; 1]) -> u8
-    ensures value { result ≡ slice_index bytes.now 0 }
-    ensures range { result < 256 }
-{
-    bytes[0]
-}
 
 // Whether it is known before any is read that fewer bytes are to come than so many items have at least.
 pub(crate) fn ends_before<L: AsSlice<u8> + Drop, C: Context, R: LendingReader<L, C>>(

@@ -1,13 +1,12 @@
--- Writes of bytes make writes of numbers, and these make writes of signed numbers, at each width.
+-- What the writing of numbers, lengths, flags and durations cites.
 use Rattle.std.specs.Prelude.{◌≡◌, ℕ, ℤ, ◌^◌, ◌/◌, ◌%◌, ◌≤◌, ◌<◌, List, [], ◌∷◌, Bool, true, false, Result, Err, refl}
-use Rattle.std.proofs.Common.{subst, sym, ap, ◌∙◌, arith, inr, inl}
+use Rattle.std.proofs.Common.{subst, arith, inr, inl}
 use mir.Val.{bool_byte}
 use mir.ValLaws.{to_z-of_z}
-use Rattle.std.specs.Int.{Width, byte_len, cast_unsigned, cast_signed}
+use Rattle.std.specs.Int.{Width, cast_unsigned, cast_signed}
 use Rattle.std.specs.Int.RustNames.{FitsSigned}
 use Rattle.speedy_base.specs.declared.error.ErrorKind.TheVariants as kinds
 use Rattle.speedy_base.specs.declared.error.Error.{Error}
-use Rattle.speedy_base.specs.declared.endianness.Endianness.{Endianness}
 use Rattle.speedy_base.specs.Digits.{SpellsNumber, digits}
 use Rattle.speedy_base.specs.declared.endianness.Endianness.TheVariants.{LittleEndian}
 use Rattle.speedy_base.specs.DigitsLemmas.{SpellsNumber-below, SpellsNumber-digits}
@@ -22,28 +21,10 @@ use Rattle.speedy_layout.specs.Numbers.{unsigned_number, unsigned_number_laws, s
 use Rattle.speedy_layout.specs.Numbers.{length_number, length_codec}
 use Rattle.speedy_layout.specs.Varint.{varint, prefixed_written}
 use Rattle.speedy_write.specs.Codes.{subset_written}
-use Rattle.speedy_write.specs.Writing.{WriterState, Writes, WritesBytes}
-use Rattle.speedy_write.specs.Sequences.{Kept-same, Writes-as, form_written}
+use Rattle.speedy_write.specs.Writing.{WriterState, Writes}
+use Rattle.speedy_write.specs.Sequences.{Kept-same}
 
 module _ {E : Type 0} {gives : Error → E → Type 0} {result : Result (Unit {0}) E} {old new : WriterState} {appended : List ℕ → Type 0} where
-  -- bytes that spell the number in the writer's order are written as the number is
-  pub number_written : {width n : ℕ} {bytes : List ℕ} {order : Endianness} → order ≡ old.encoding.order
-      → SpellsNumber width order n bytes → WritesBytes gives bytes result old new appended
-      → Writes gives (unsigned_number width) n result old new appended
-  unfolding unsigned_number
-  number_written {width = width} {n = n} {bytes = bytes} same spelled w = form_written (unsigned_number_laws width) (subst (λ (o : Endianness). SpellsNumber width o n bytes) same spelled) w
-
-  -- the unsigned number of the same bits is written as the signed one is
-  pub signed_written : {n : ℕ} {z : ℤ} (w : Width) → FitsSigned w z
-      → n ≡ cast_unsigned w (cast_signed w (cast_unsigned w z))
-      → Writes gives (unsigned_number (byte_len w)) n result old new appended
-      → Writes gives (signed_number w) z result old new appended
-  unfolding unsigned_number signed_number
-  signed_written {n = n} {z = z} w range e h =
-      let same : n ≡ cast_unsigned w z = e ∙ ap (cast_unsigned w) (to_z-of_z w z range) in
-      let spells : ℕ → List ℕ → Type 0 = SpellsNumber (byte_len w) old.encoding.order in
-      Writes-as (λ _ k. k) (λ b k. record { range = range; digits = subst (λ (m : ℕ). spells m b) same k }) (λ b k. (b, subst (λ (m : ℕ). spells m b) (sym same) k.digits, refl)) (λ b k. (b, subst (λ (m : ℕ). spells m b) (sym same) k.digits)) h
-
   -- a signed number is what its bits stand for
   pub signed_value_written : {z : ℤ} (w : Width) → FitsSigned w z
       → Writes gives (signed_number w) (cast_signed w (cast_unsigned w z)) result old new appended

@@ -3,13 +3,13 @@ ghost use Rattle.std.specs.Prelude.{◌≡◌, ◌<◌, ◌≤◌, ◌+◌, ◌*
 ghost use Rattle.speedy_base.specs.Encoding.{Encoding};
 ghost use Rattle.speedy_layout.specs.Format.{Each};
 ghost use Rattle.speedy_write.specs.FixedBytes.{PutsAt};
-ghost use Rattle.speedy_write.specs.Writing.{WritesValues};
+ghost use Rattle.speedy_write.specs.Writing.{RefusesFull, WritesValue, WritesValues};
 
 use crate::writer::Writer;
 use speedy_base::context::Context;
 use speedy_base::endianness::Endianness;
 use speedy_layout::Layout;
-use speedy_layout::fixed_numbers::FixedNumber;
+use speedy_layout::fixed_numbers::{FixedNumber, MOST_DIGITS};
 use std::time::Duration;
 
 /// How values of a type are put as bytes: always as so many, which the order alone decides.
@@ -102,6 +102,22 @@ pub(crate) fn put_number<T: FixedNumber>(number: T, order: Endianness, output: &
         (T.layout.format encoding).writes (T.seen number) output.new }
 {
     number.encode(order, output);
+}
+
+// Writes a number.
+#[inline(always)]
+pub(crate) fn write_number<T: FixedNumber, C: Context, W: Writer<C>>(
+    number: T,
+    writer: &mut W,
+) -> Result<(), C::Error>
+    ensures writes { WritesValue C.Error.from_gives W.state W.appends T.seen T.layout number
+        result writer.old writer.new }
+    ensures full { RefusesFull C.Error.from_gives W.state result writer.old writer.new }
+{
+    let mut bytes = [0; MOST_DIGITS];
+    let digits = &mut bytes[..T::SIZE];
+    put_number(number, writer.endianness(), digits);
+    writer.write_bytes(digits)
 }
 
 // Puts the bytes of the values, one after another, which fill the output.

@@ -9,7 +9,7 @@ ghost use Rattle.speedy_write.specs.Writing.{WriterState, WritesValue, WritesVal
 ghost use Rattle.speedy_write.specs.Writing.{WritesSigned, RefusesFull, CountsBytes, IsRight};
 
 use crate::each::{write_item, write_items};
-use crate::fixed::FixedBytes;
+use crate::fixed::{FixedBytes, write_number};
 use crate::writable::Writable;
 use speedy_base::context::Context;
 use speedy_base::endianness::Endianness;
@@ -118,7 +118,7 @@ pub trait Writer<C: Context> {
             result self.old self.new }
         ensures full { RefusesFull C.Error.from_gives state result self.old self.new }
     {
-        self.write_bytes(&[value])
+        write_number::<u8, C, Self>(value, self)
     }
 
     /// Writes two bytes, in the context's order.
@@ -128,8 +128,7 @@ pub trait Writer<C: Context> {
             result self.old self.new }
         ensures full { RefusesFull C.Error.from_gives state result self.old self.new }
     {
-        let bytes = self.endianness().bytes_of_u16(value);
-        self.write_bytes(&bytes)
+        write_number::<u16, C, Self>(value, self)
     }
 
     /// Writes four bytes, in the context's order.
@@ -139,8 +138,7 @@ pub trait Writer<C: Context> {
             result self.old self.new }
         ensures full { RefusesFull C.Error.from_gives state result self.old self.new }
     {
-        let bytes = self.endianness().bytes_of_u32(value);
-        self.write_bytes(&bytes)
+        write_number::<u32, C, Self>(value, self)
     }
 
     /// Writes an integer of variable length, in one to nine bytes: as few as hold it.
@@ -165,8 +163,7 @@ pub trait Writer<C: Context> {
             result self.old self.new }
         ensures full { RefusesFull C.Error.from_gives state result self.old self.new }
     {
-        let bytes = self.endianness().bytes_of_u64(value);
-        self.write_bytes(&bytes)
+        write_number::<u64, C, Self>(value, self)
     }
 
     /// Writes sixteen bytes, in the context's order.
@@ -176,8 +173,7 @@ pub trait Writer<C: Context> {
             result self.old self.new }
         ensures full { RefusesFull C.Error.from_gives state result self.old self.new }
     {
-        let bytes = self.endianness().bytes_of_u128(value);
-        self.write_bytes(&bytes)
+        write_number::<u128, C, Self>(value, self)
     }
 
     /// Writes a signed number as a byte.
@@ -187,7 +183,7 @@ pub trait Writer<C: Context> {
             result self.old self.new }
         ensures full { RefusesFull C.Error.from_gives state result self.old self.new }
     {
-        self.write_u8(value.cast_unsigned())
+        write_number::<i8, C, Self>(value, self)
     }
 
     /// Writes a signed number as two bytes, in the context's order.
@@ -197,7 +193,7 @@ pub trait Writer<C: Context> {
             result self.old self.new }
         ensures full { RefusesFull C.Error.from_gives state result self.old self.new }
     {
-        self.write_u16(value.cast_unsigned())
+        write_number::<i16, C, Self>(value, self)
     }
 
     /// Writes a signed number as four bytes, in the context's order.
@@ -207,7 +203,7 @@ pub trait Writer<C: Context> {
             result self.old self.new }
         ensures full { RefusesFull C.Error.from_gives state result self.old self.new }
     {
-        self.write_u32(value.cast_unsigned())
+        write_number::<i32, C, Self>(value, self)
     }
 
     /// Writes a signed number as eight bytes, in the context's order.
@@ -217,7 +213,7 @@ pub trait Writer<C: Context> {
             result self.old self.new }
         ensures full { RefusesFull C.Error.from_gives state result self.old self.new }
     {
-        self.write_u64(value.cast_unsigned())
+        write_number::<i64, C, Self>(value, self)
     }
 
     /// Writes a signed number as sixteen bytes, in the context's order.
@@ -227,7 +223,7 @@ pub trait Writer<C: Context> {
             result self.old self.new }
         ensures full { RefusesFull C.Error.from_gives state result self.old self.new }
     {
-        self.write_u128(value.cast_unsigned())
+        write_number::<i128, C, Self>(value, self)
     }
 
     /// Writes a value.

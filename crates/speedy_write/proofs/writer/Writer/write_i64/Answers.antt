@@ -1,6 +1,0 @@
-use Rattle.std.specs.Int.{w64}
-use Rattle.speedy_write.proofs.NumberLemmas.{signed_written}
-use Rattle.speedy_write.proofs.writer.Writer.write_i64.Goals as goal
-
-pub returns-clause-writes : goal.returns-clause-writes
-returns-clause-writes g c = signed_written w64 c.ranges.value c.cast_unsigned.ensures c.write_u64.ensures.writes
