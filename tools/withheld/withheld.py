@@ -11,7 +11,7 @@ PROGRAM = TOP + "/crates/speedy_vectors/"
 # Names of types that borrow, of which no value is read where nothing is lent.
 BORROWING = set(
     "str_ref bytes_ref bytes_ref_4 view_i8 array_view_i8_4 view_u16 array_view_u16_2 opt_str tuple_str_bytes "
-    "array_str_2 vec_str map_str_bytes".split()
+    "array_str_2 vec_str map_str_bytes u8_str framed_str".split()
 )
 # Names of types that may borrow, so that the ways by which nothing may be borrowed do not exist for them.
 NOT_OWNED = BORROWING | set("cow_str cow_u8 cow_u16 cow_u32 cow_u64 cow_strings record".split())
@@ -21,9 +21,10 @@ LEAST_SIZES = {
     0: "unit",
     1: """
         u8 i8 bool varint nonzero_u8 nonzero_i8 endianness opt_u16 res_u16_u8 opt_bool opt_varint res_u16_u16
-        res_string_vec opt_str opt_cow_map box_u8
+        res_string_vec opt_str opt_cow_map box_u8 u8_string u7_string u8_str varint_vec_string framed_u16
+        framed_vec_u16
     """,
-    2: "u16 i16 nonzero_u16 nonzero_i16 tuple_1 box_u16 array_opt_u16_2",
+    2: "u16 i16 nonzero_u16 nonzero_i16 tuple_1 box_u16 array_opt_u16_2 framed_twice",
     3: "tuple_u16_u8 tuple_3_u8",
     4: """
         u32 i32 nonzero_i32 nonzero_u32 char ipv4 range_u16 range_incl_u16 tuple_u16_u16 array_u8_4
@@ -35,13 +36,13 @@ LEAST_SIZES = {
         cow_u64 cow_strings set_u16 set_varint set_string hash_set_u16 hash_set_string index_set_u16
         index_set_string map_u8_u8 map_u16_bool map_u16_u8 map_u8_map map_string_vec_u16 map_str_bytes
         hash_map_u16_bool hash_map_u16_u8 hash_map_string_vec_u16 index_map_u8_u8 index_map_string_u16
-        cow_set_u16 cow_hash_set_u16 cow_map_u16_u8 cow_hash_map_u16_u8
+        cow_set_u16 cow_hash_set_u16 cow_map_u16_u8 cow_hash_map_u16_u8 framed_string framed_str
     """,
     5: "ip tree",
     7: "tuple_u8_u16_u32",
     8: """
         u64 i64 usize nonzero_u64 nonzero_i64 array_u16_4 array_string_2 array_str_2 tuple_pairs
-        tuple_2_strings range_string range_incl_string tuple_str_bytes
+        tuple_2_strings range_string range_incl_string tuple_str_bytes u64_vec_u16
     """,
     12: "duration",
     16: "u128 i128 uuid ipv6",
