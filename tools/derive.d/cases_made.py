@@ -111,7 +111,8 @@ struct Frame {
       "    Magic<BeforeFrameParts>,\n    Prefixed<VarInt64, Vec<u16>>,\n"
       "    Prefixed<u8, String>,\n    Magic<BeforeFrameEnd>,",
       "⟦<BeforeFrameParts as Constant>⟧.bytes,", "Ok((_, parts, note, _, end)) => Ok(Frame {", "parts: parts.value,",
-      "let note: Prefixed<u8, _> = Prefixed {\n            value: Part(&self.note),", "Magic::<BeforeFrameParts>::new(),"]),
+      "let note: Prefixed<u8, _> = Prefixed {\n            value: Part(&self.note),",
+      "Magic::<BeforeFrameParts>::new(),"]),
     ("constants of each kind", DERIVES + "struct A(" + ", ".join(
         f"#[speedy(constant_prefix = {it})] ()" for it in ("'é'", "-1_i8", "true", "b'x'", "7u8")) + ");\n",
      ["{ 195 ∷ 169 ∷ [] }", "{ 255 ∷ [] }", "{ 1 ∷ [] }", "{ 120 ∷ [] }", "{ 7 ∷ [] }"]),

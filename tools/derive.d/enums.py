@@ -133,8 +133,8 @@ class Shape:
 def enum_lines(item, scope, of_field, of_variant, place):
     """The aliases and the impls of an enum."""
     if any(it.kind == "type" for it in item.parameters):
-        raise Refusal(item.line, f"`{item.name}` is generic in a type, of which the check does not know that cases of it "
-                                 "have room in memory: name the type, or write the impls by hand with `OneOf2`")
+        raise Refusal(item.line, f"`{item.name}` is generic in a type, of which the check does not know that cases of "
+                                 "it have room in memory: name the type, or write the impls by hand with `OneOf2`")
     if not item.variants:
         raise Refusal(item.line, f"`{item.name}` has no variant, and so no value that is read or written")
     tags_of(item, scope.constants, of_variant)
@@ -213,7 +213,8 @@ def injected(case):
 def method_lines(shape):
     """What turns cases into the enum, and the enum into what is written."""
     generics = shape.generics
-    head = impl_lines(generics.of_impl(without_skips(shape.asked), generics.laying_out()), None, shape.self_type, generics.where_lines())
+    asked = generics.of_impl(without_skips(shape.asked), generics.laying_out())
+    head = impl_lines(asked, None, shape.self_type, generics.where_lines())
     found = list(head)
     if shape.item.readable:
         found += from_cases_lines(shape)

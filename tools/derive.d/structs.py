@@ -173,7 +173,8 @@ def varint_part(scope, field, access, kind):
     if field.options.length_type:
         raise Refusal(field.line, "a number has no length: leave `length_type` out")
     scope.need("speedy::varints", "Varint", field.line)
-    return Part(syntax.Named(field.line, ("Varint",)), access.bound, access.seen, f"Varint({access.value})", access.seen)
+    varint = syntax.Named(field.line, ("Varint",))
+    return Part(varint, access.bound, access.seen, f"Varint({access.value})", access.seen)
 
 
 def prefixed_part(scope, field, access, kind):
@@ -214,7 +215,8 @@ def constant_part(scope, field, access, owner):
     listed = " ∷ ".join([str(byte) for byte in data] + ["[]"])
     label = field.name or access.bound[1:]
     scope.constants_made += ["", f"/// The bytes before [`{owner}::{label}`].", "#[derive(Drop)]",
-                             f"struct {name} {{}}", "", f"impl Constant for {name} {{", f"    ghost bytes = {{ {listed} }};", "",
+                             f"struct {name} {{}}", "", f"impl Constant for {name} {{",
+                             f"    ghost bytes = {{ {listed} }};", "",
                              "    fn bytes() -> &'static [u8] {", f"        {byte_string(data)}", "    }", "}"]
     return Part(syntax.Named(line, ("Magic",), (syntax.Named(line, (name,)),)), "_", "", f"Magic::<{name}>::new()",
                 f"⟦<{name} as Constant>⟧.bytes")
@@ -401,7 +403,10 @@ def is_nested(tree):
 
 
 def taken_apart(head, tree, value):
-    """An arm of a `match` whose tuple is taken apart in it, tuple by tuple: no pattern moves out of tuples in a tuple."""
+    """An arm of a `match` whose tuple is taken apart in it, tuple by tuple.
+
+    No pattern moves out of tuples in a tuple.
+    """
     names = set(fold(tree, lambda part: {part.bound}, lambda its: set().union(*its)))
     found, waiting, count = lines(head, 12, "", " => {"), [("parts", tree)], 0
     while waiting:

@@ -2,8 +2,8 @@
 //!
 //! A test ends where one of these does not hold. They answer nothing, so a test has no other way out than its end,
 //! which is what makes it quick to prove. `assert_encoding` calls each form of `Readable` over a buffer. Other tests
-//! decode by `read_value` of a reader: the proof of a call of a form names all forms at the type, and takes 5 seconds for
-//! a number and 25 for a cow.
+//! decode by `read_value` of a reader: the proof of a call of a form names all forms at the type, and takes 5 seconds
+//! for a number and 25 for a cow.
 use crate::collections::FromItems;
 use crate::context::{BigEndian, Context, LittleEndian};
 use crate::endianness::Endianness;
@@ -229,8 +229,8 @@ where
 }
 
 /// Asserts that each value and its bytes in the little and in the big order belong together, in each way of writing to
-/// memory and of reading from it. The byte behind an encoding is not taken. The type borrows nothing, and no encoding is
-/// shorter than the least size.
+/// memory and of reading from it. The byte behind an encoding is not taken. The type borrows nothing, and no encoding
+/// is shorter than the least size.
 pub(crate) fn assert_encoding<'a, T>(
     rt: &impl Abort,
     alloc: Global,

@@ -1,20 +1,29 @@
 -- That std's conversions between numbers and bytes are digits in base 256, as the functions of this crate call them.
-use Rattle.std.proofs.Common.{◌≡◌, ◌↔◌, Bool, false, true≢false, IsTrue, ℕ, zero, suc, ◌+◌, ◌-◌, ◌*◌, ◌^◌, ◌<◌, List, [], ◌∷◌, length, reverse, slice_index, refl, sym, ap, ap₂, ◌∙◌, subst, arith, ◌++◌, drop}
-use Rattle.std.proofs.lemmas.List.{append-nil, drop_all, length-append, length-drop, reverse-append, length-reverse, take_at}
+use Rattle.std.proofs.Common.{◌≡◌, ◌↔◌, Bool, false, true≢false, IsTrue, ℕ, zero, suc, ◌+◌, ◌-◌, ◌*◌, ◌^◌, ◌<◌, List}
+use Rattle.std.proofs.Common.{[], ◌∷◌, length, reverse, slice_index, refl, sym, ap, ap₂, ◌∙◌, subst, arith, ◌++◌, drop}
+use Rattle.std.proofs.lemmas.List.{append-nil, drop_all, length-append, length-drop, reverse-append, length-reverse}
+use Rattle.std.proofs.lemmas.List.{take_at}
 use borrow.Rule.Slice.PartMut.{put_mid, post_of}
 use mir.Val.{bits}
-use Rattle.std.specs.Int.{Width, byte_len, byte_worth, sum_through, from_le_bytes, from_be_bytes, to_le_bytes, swap_bytes}
+use Rattle.std.specs.Int.{Width, byte_len, byte_worth, sum_through, from_le_bytes, from_be_bytes, to_le_bytes}
+use Rattle.std.specs.Int.{swap_bytes}
 use Rattle.speedy_base.specs.declared.endianness.Endianness.{Endianness}
 use Rattle.speedy_base.specs.declared.endianness.Endianness.TheVariants.{LittleEndian, BigEndian}
 use Rattle.speedy_base.specs.Digits.{little_number, number, little_digits, digits, AreBytes, SpellsNumber, swapped}
-use Rattle.speedy_base.specs.DigitsLemmas.{sum_first, sum_same, reverse-cons, little_number-append, byte_len-above, little_number-from_le_bytes, to_le_bytes-little_digits, length-little_digits, AreBytes-little_digits, AreBytes-append, AreBytes-reverse, little_digits-little_number, SpellsNumber-digits, SpellsNumber-to_le_bytes, pow-byte_len}
+use Rattle.speedy_base.specs.DigitsLemmas.{sum_first, sum_same, reverse-cons, little_number-append, byte_len-above}
+use Rattle.speedy_base.specs.DigitsLemmas.{little_number-from_le_bytes, to_le_bytes-little_digits, length-little_digits}
+use Rattle.speedy_base.specs.DigitsLemmas.{AreBytes-little_digits, AreBytes-append, AreBytes-reverse}
+use Rattle.speedy_base.specs.DigitsLemmas.{little_digits-little_number, SpellsNumber-digits, SpellsNumber-to_le_bytes}
+use Rattle.speedy_base.specs.DigitsLemmas.{pow-byte_len}
 
 worth_is : (i b : ℕ) → byte_worth i b ≡ b * 256 ^ i
 worth_is zero b = omega arith
 worth_is (suc i) b = refl
 
-little_number-reverse_cons : (b : ℕ) (bs : List ℕ) → little_number (reverse (b ∷ bs)) ≡ b * 256 ^ length bs + little_number (reverse bs)
-little_number-reverse_cons b bs = rw (reverse-cons b bs, little_number-append (reverse bs) (b ∷ []), length-reverse bs) (omega arith)
+little_number-reverse_cons : (b : ℕ) (bs : List ℕ)
+    → little_number (reverse (b ∷ bs)) ≡ b * 256 ^ length bs + little_number (reverse bs)
+little_number-reverse_cons b bs =
+    rw (reverse-cons b bs, little_number-append (reverse bs) (b ∷ []), length-reverse bs) (omega arith)
 
 from_high_first : (k : ℕ) (bytes : List ℕ) → length bytes ≡ suc k
     → sum_through (λ i. byte_worth (k - i) (slice_index bytes i)) k ≡ little_number (reverse bytes)
@@ -26,68 +35,82 @@ from_high_first (suc k) (b ∷ bs) e =
     let top : suc k - 0 ≡ length bs = omega arith in
     sum_first (λ i. byte_worth (suc k - i) (slice_index (b ∷ bs) i)) k
     ∙ ap₂ ◌+◌ (worth_is (suc k - 0) b ∙ ap (λ (n : ℕ). b * 256 ^ n) top)
-    (sum_same (λ i. byte_worth (suc k - suc i) (slice_index bs i)) (λ i. byte_worth (k - i) (slice_index bs i)) k (λ i l. let less : suc k - suc i ≡ k - i = omega arith in ap (λ (n : ℕ). byte_worth n (slice_index bs i)) less)
+    (sum_same (λ i. byte_worth (suc k - suc i) (slice_index bs i)) (λ i. byte_worth (k - i) (slice_index bs i)) k
+    (λ i l. let less : suc k - suc i ≡ k - i = omega arith in ap (λ (n : ℕ). byte_worth n (slice_index bs i)) less)
     ∙ from_high_first k bs (omega arith))
     ∙ sym (little_number-reverse_cons b bs)
 
-pub little_number-from_be_bytes : (w : Width) (bytes : List ℕ) → length bytes ≡ byte_len w → from_be_bytes w bytes ≡ little_number (reverse bytes)
+pub little_number-from_be_bytes : (w : Width) (bytes : List ℕ) → length bytes ≡ byte_len w
+    → from_be_bytes w bytes ≡ little_number (reverse bytes)
 little_number-from_be_bytes w bytes e = from_high_first (byte_len w - 1) bytes (e ∙ byte_len-above w)
 
 -- a number that was read from a slice, byte by byte
-pub SpellsNumber-from_le_bytes : (w : Width) (order : Endianness) (n : ℕ) (bytes items : List ℕ) → order ≡ LittleEndian → items ≡ bytes
+pub SpellsNumber-from_le_bytes : (w : Width) (order : Endianness) (n : ℕ) (bytes items : List ℕ) → order ≡ LittleEndian
+    → items ≡ bytes
     → length bytes ≡ byte_len w → AreBytes bytes → n ≡ from_le_bytes w items → SpellsNumber (byte_len w) order n bytes
 unfolding number
 SpellsNumber-from_le_bytes w order n bytes items is same len are e = record {
   width_is = len;
   are_bytes = are;
-  value_is = ap (λ (o : Endianness). number o bytes) is ∙ sym (e ∙ ap (from_le_bytes w) same ∙ little_number-from_le_bytes w bytes len);
+  value_is = ap (λ (o : Endianness). number o bytes) is
+      ∙ sym (e ∙ ap (from_le_bytes w) same ∙ little_number-from_le_bytes w bytes len);
 }
 
-pub SpellsNumber-from_be_bytes : (w : Width) (order : Endianness) (n : ℕ) (bytes items : List ℕ) → order ≡ BigEndian → items ≡ bytes
+pub SpellsNumber-from_be_bytes : (w : Width) (order : Endianness) (n : ℕ) (bytes items : List ℕ) → order ≡ BigEndian
+    → items ≡ bytes
     → length bytes ≡ byte_len w → AreBytes bytes → n ≡ from_be_bytes w items → SpellsNumber (byte_len w) order n bytes
 unfolding number
 SpellsNumber-from_be_bytes w order n bytes items is same len are e = record {
   width_is = len;
   are_bytes = are;
-  value_is = ap (λ (o : Endianness). number o bytes) is ∙ sym (e ∙ ap (from_be_bytes w) same ∙ little_number-from_be_bytes w bytes len);
+  value_is = ap (λ (o : Endianness). number o bytes) is
+      ∙ sym (e ∙ ap (from_be_bytes w) same ∙ little_number-from_be_bytes w bytes len);
 }
 
 -- a number that was turned into the order, and then written least digit first
-pub SpellsNumber-turned : (w : Width) (order : Endianness) (n turned : ℕ) (bytes : List ℕ) → turned ≡ swapped order (byte_len w) n → n < 2 ^ bits w
+pub SpellsNumber-turned : (w : Width) (order : Endianness) (n turned : ℕ) (bytes : List ℕ)
+    → turned ≡ swapped order (byte_len w) n → n < 2 ^ bits w
     → bytes ≡ to_le_bytes w turned → SpellsNumber (byte_len w) order n bytes
 unfolding digits number swapped
-SpellsNumber-turned w LittleEndian n turned bytes is l e = SpellsNumber-to_le_bytes w LittleEndian n bytes refl l (e ∙ ap (to_le_bytes w) is)
+SpellsNumber-turned w LittleEndian n turned bytes is l e =
+    SpellsNumber-to_le_bytes w LittleEndian n bytes refl l (e ∙ ap (to_le_bytes w) is)
 SpellsNumber-turned w BigEndian n turned bytes is l e =
     let width = byte_len w in
     let low = little_digits width n in
     let sized : length (reverse low) ≡ width = length-reverse low ∙ length-little_digits width n in
     let same : little_digits width (little_number (reverse low)) ≡ reverse low =
-    ap (λ (k : ℕ). little_digits k (little_number (reverse low))) (sym sized) ∙ little_digits-little_number (reverse low) (AreBytes-reverse low (AreBytes-little_digits width n)) in
-    subst (SpellsNumber width BigEndian n) (sym (e ∙ (to_le_bytes-little_digits w turned ∙ (ap (little_digits width) is ∙ same))))
+    ap (λ (k : ℕ). little_digits k (little_number (reverse low))) (sym sized)
+    ∙ little_digits-little_number (reverse low) (AreBytes-reverse low (AreBytes-little_digits width n)) in
+    subst (SpellsNumber width BigEndian n)
+    (sym (e ∙ (to_le_bytes-little_digits w turned ∙ (ap (little_digits width) is ∙ same))))
     (SpellsNumber-digits width BigEndian n (subst (λ (m : ℕ). n < m) (pow-byte_len w) l))
 
 -- what is put into either half of a list
 pub halves_put : (a zeros b : List ℕ) → length a ≡ 8 → length zeros ≡ 8 → put_mid 8 8 (a ++ zeros) b ≡ a ++ b
 halves_put a zeros b front back =
     let whole = length-append a zeros in
-    let rest : post_of 8 8 (a ++ zeros) ≡ [] = drop_all 8 (drop 8 (a ++ zeros)) (omega (arith, length-drop 8 (a ++ zeros), whole, front, back)) in
+    let rest : post_of 8 8 (a ++ zeros) ≡ [] =
+    drop_all 8 (drop 8 (a ++ zeros)) (omega (arith, length-drop 8 (a ++ zeros), whole, front, back)) in
     ap₂ (λ x y. x ++ (b ++ y)) (take_at a zeros 8 front) rest ∙ ap (λ y. a ++ y) (append-nil b)
 
 -- the digits of a number are those of its halves, the lower first under little and the higher under big
-pub SpellsNumber-low_first : (half n low high : ℕ) (order : Endianness) (xs ys : List ℕ) → order ≡ LittleEndian → SpellsNumber half order low xs → SpellsNumber half order high ys
+pub SpellsNumber-low_first : (half n low high : ℕ) (order : Endianness) (xs ys : List ℕ) → order ≡ LittleEndian
+    → SpellsNumber half order low xs → SpellsNumber half order high ys
     → n ≡ low + 256 ^ half * high → SpellsNumber (half + half) order n (xs ++ ys)
 unfolding number
 SpellsNumber-low_first half n low high order xs ys is h k e =
     let a = subst (λ (o : Endianness). SpellsNumber half o low xs) is h in
     let b = subst (λ (o : Endianness). SpellsNumber half o high ys) is k in
-    let value : little_number (xs ++ ys) ≡ n = little_number-append xs ys ∙ (ap₂ ◌+◌ a.value_is (ap₂ (λ w m. 256 ^ w * m) a.width_is b.value_is) ∙ sym e) in
+    let value : little_number (xs ++ ys) ≡ n =
+    little_number-append xs ys ∙ (ap₂ ◌+◌ a.value_is (ap₂ (λ w m. 256 ^ w * m) a.width_is b.value_is) ∙ sym e) in
     subst (λ (o : Endianness). SpellsNumber (half + half) o n (xs ++ ys)) (sym is) (record {
       width_is = length-append xs ys ∙ ap₂ ◌+◌ a.width_is b.width_is;
       are_bytes = AreBytes-append xs ys a.are_bytes b.are_bytes;
       value_is = value;
     })
 
-pub SpellsNumber-high_first : (half n low high : ℕ) (order : Endianness) (xs ys : List ℕ) → order ≡ BigEndian → SpellsNumber half order high xs → SpellsNumber half order low ys
+pub SpellsNumber-high_first : (half n low high : ℕ) (order : Endianness) (xs ys : List ℕ) → order ≡ BigEndian
+    → SpellsNumber half order high xs → SpellsNumber half order low ys
     → n ≡ low + 256 ^ half * high → SpellsNumber (half + half) order n (xs ++ ys)
 unfolding number
 SpellsNumber-high_first half n low high order xs ys is h k e =
@@ -102,7 +125,8 @@ SpellsNumber-high_first half n low high order xs ys is h k e =
       value_is = value;
     })
 
-pub swapped-swap_bytes : (w : Width) (order : Endianness) (n : ℕ) → order ≡ BigEndian → swap_bytes w n ≡ swapped order (byte_len w) n
+pub swapped-swap_bytes : (w : Width) (order : Endianness) (n : ℕ) → order ≡ BigEndian
+    → swap_bytes w n ≡ swapped order (byte_len w) n
 unfolding swapped digits number
 swapped-swap_bytes w order n is =
     ap (from_be_bytes w) (to_le_bytes-little_digits w n)
@@ -110,6 +134,7 @@ swapped-swap_bytes w order n is =
     ∙ sym (ap (λ (o : Endianness). swapped o (byte_len w) n) is)
 
 -- an order that is not the one is the other
-pub little_from_not_big : (order : Endianness) (is_big : Bool) → (IsTrue is_big ↔ (order ≡ BigEndian)) → is_big ≡ false → order ≡ LittleEndian
+pub little_from_not_big : (order : Endianness) (is_big : Bool) → (IsTrue is_big ↔ (order ≡ BigEndian)) → is_big ≡ false
+    → order ≡ LittleEndian
 little_from_not_big LittleEndian is_big h e = refl
 little_from_not_big BigEndian is_big h e = absurd (true≢false (sym (h.1 refl) ∙ e))

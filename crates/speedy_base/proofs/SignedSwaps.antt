@@ -8,7 +8,8 @@ use Rattle.speedy_base.specs.declared.endianness.Endianness.TheVariants.{BigEndi
 use Rattle.speedy_base.proofs.Conversions.{swapped-swap_bytes}
 use Rattle.speedy_base.specs.Signed.{swapped_signed}
 
-pub swapped_signed-swap_bytes : (w : Width) (z : ℤ) → cast_signed w (swap_bytes w (cast_unsigned w z)) ≡ swapped_signed BigEndian w z
+pub swapped_signed-swap_bytes : (w : Width) (z : ℤ)
+    → cast_signed w (swap_bytes w (cast_unsigned w z)) ≡ swapped_signed BigEndian w z
 unfolding swapped_signed
 swapped_signed-swap_bytes w z = ap (cast_signed w) (swapped-swap_bytes w BigEndian (cast_unsigned w z) refl)
 
@@ -17,4 +18,6 @@ pub swapped_signed-answered : (w : Width) (y z : ℤ) → FitsSigned w y → Fit
     → y ≡ cast_signed w (swap_bytes w (cast_unsigned w (cast_signed w (cast_unsigned w z))))
     → cast_signed w (cast_unsigned w y) ≡ swapped_signed BigEndian w z
 swapped_signed-answered w y z f g e =
-    to_z-of_z w y f ∙ (e ∙ (ap (λ (x : ℤ). cast_signed w (swap_bytes w (cast_unsigned w x))) (to_z-of_z w z g) ∙ swapped_signed-swap_bytes w z))
+    to_z-of_z w y f
+    ∙ (e ∙ (ap (λ (x : ℤ). cast_signed w (swap_bytes w (cast_unsigned w x))) (to_z-of_z w z g)
+    ∙ swapped_signed-swap_bytes w z))

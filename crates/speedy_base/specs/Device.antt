@@ -1,5 +1,6 @@
 -- What sources and sinks of bytes do in one call.
-use Rattle.std.specs.Prelude.{◌≡◌, ℕ, ◌<◌, ◌≤◌, Bool, List, [], ◌++◌, length, take, IsTrue, Result, IfOk, OnOk, IfErr, OnErr}
+use Rattle.std.specs.Prelude.{◌≡◌, ℕ, ◌<◌, ◌≤◌, Bool, List, [], ◌++◌, length, take, IsTrue, Result, IfOk, OnOk, IfErr}
+use Rattle.std.specs.Prelude.{OnErr}
 use Rattle.std.specs.declared.io.Error.{Error as StdIoError}
 use Rattle.speedy_base.specs.declared.device.Faults.{Faults}
 use Rattle.speedy_base.specs.FailedCalls.{OneFailed}
@@ -10,7 +11,8 @@ pub record SourceState : Type 0 where
   pub to_come : List ℕ
   pub faults : Faults
 
--- a sink: whether it tells which bytes it took, those bytes where it does, its failed calls, and whether all that it took was passed on
+-- a sink: whether it tells which bytes it took, those bytes where it does, its failed calls, and whether all that it
+-- took was passed on
 pub record SinkState : Type 0 where
   pub tells : Bool
   pub taken : List ℕ

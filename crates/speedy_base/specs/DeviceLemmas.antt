@@ -14,7 +14,10 @@ DeviceKept-same = record { tells = refl; faults = omega arith }
 
 -- one call after another keeps what each keeps
 pub DeviceKept-after : {a b c : Bool} {x y z : Faults} → DeviceKept a b x y → DeviceKept b c y z → DeviceKept a c x z
-DeviceKept-after h k = record { tells = k.tells ∙ h.tells; faults = let i = h.faults in let j = k.faults in omega arith }
+DeviceKept-after h k = record {
+  tells = k.tells ∙ h.tells;
+  faults = let i = h.faults in let j = k.faults in omega arith;
+}
 
 -- a device that tells its bytes goes on doing so
 pub DeviceKept-told : {a b : Bool} {x y : Faults} → DeviceKept a b x y → IsTrue a → IsTrue b
@@ -32,7 +35,8 @@ pub grown : (error : StdIoError) (old new : Faults) → OneFailed error old new 
 grown error old new h = one_more_grew old.count new.count h.0
 
 -- so what became of its error is that of a fault, whether it is told which one or not
-pub failed_call : {E : Type 0} (gives : Error → E → Type 0) (tells : Bool) (error : StdIoError) (e : E) (old new : Faults)
+pub failed_call : {E : Type 0} (gives : Error → E → Type 0) (tells : Bool) (error : StdIoError) (e : E)
+    (old new : Faults)
     → OneFailed error old new → IsErrorOf gives error e → IsOfFault gives tells e old new
 failed_call gives tells error e old new h is = (grown error old new h, λ _. (error, h, is))
 

@@ -1,9 +1,12 @@
--- What holds of base 256 digits, at each width and in both orders; and that std's conversions between numbers and bytes are these digits.
-use Rattle.std.proofs.Common.{◌≡◌, ℕ, zero, suc, ◌+◌, ◌-◌, ◌*◌, ◌/◌, ◌%◌, ◌^◌, ◌<◌, ◌≤◌, List, [], ◌∷◌, ◌++◌, length, reverse, get_or, slice_index, refl, sym, ap, ap₂, ◌∙◌, subst, subst₂, arith}
+-- What holds of base 256 digits, at each width and in both orders; and that std's conversions between numbers and bytes
+-- are these digits.
+use Rattle.std.proofs.Common.{◌≡◌, ℕ, zero, suc, ◌+◌, ◌-◌, ◌*◌, ◌/◌, ◌%◌, ◌^◌, ◌<◌, ◌≤◌, List, [], ◌∷◌, ◌++◌, length}
+use Rattle.std.proofs.Common.{reverse, get_or, slice_index, refl, sym, ap, ap₂, ◌∙◌, subst, subst₂, arith}
 use Rattle.std.proofs.Math.Nat.{pow-suc, div-div-eq-div-mul, div-one}
 use Rattle.std.proofs.lemmas.List.{reverse-append, reverse-reverse, length-reverse}
 use mir.Val.{bits, Fits}
-use Rattle.std.specs.Int.{Width, w8, w16, w32, w64, w128, byte_len, byte_at, byte_worth, bytes_low_first, sum_through, from_le_bytes, to_le_bytes}
+use Rattle.std.specs.Int.{Width, w8, w16, w32, w64, w128, byte_len, byte_at, byte_worth, bytes_low_first, sum_through}
+use Rattle.std.specs.Int.{from_le_bytes, to_le_bytes}
 use Rattle.speedy_base.specs.declared.endianness.Endianness.{Endianness}
 use Rattle.speedy_base.specs.declared.endianness.Endianness.TheVariants.{LittleEndian, BigEndian}
 use Rattle.speedy_base.specs.Digits.{little_number, number, little_digits, digits, AreBytes, SpellsNumber, swapped}
@@ -35,13 +38,15 @@ pub reverse-cons : (b : ℕ) (bs : List ℕ) → reverse (b ∷ bs) ≡ reverse 
 reverse-cons b bs = reverse-append (b ∷ []) bs
 
 -- the digits of two lists, one above the other
-pub little_number-append : (xs ys : List ℕ) → little_number (xs ++ ys) ≡ little_number xs + 256 ^ length xs * little_number ys
+pub little_number-append : (xs ys : List ℕ)
+    → little_number (xs ++ ys) ≡ little_number xs + 256 ^ length xs * little_number ys
 little_number-append [] ys = omega arith
 little_number-append (x ∷ xs) ys = rw (pow-suc 256 (length xs), little_number-append xs ys) (omega arith)
 
 -- ---- std's numbers from bytes
 
-from_low_first : (k : ℕ) (bytes : List ℕ) → length bytes ≡ suc k → sum_through (λ i. byte_worth i (slice_index bytes i)) k ≡ little_number bytes
+from_low_first : (k : ℕ) (bytes : List ℕ) → length bytes ≡ suc k
+    → sum_through (λ i. byte_worth i (slice_index bytes i)) k ≡ little_number bytes
 from_low_first zero [] e = absurd (omega arith)
 from_low_first zero (b ∷ []) e = omega arith
 from_low_first zero (b ∷ c ∷ bs) e = absurd (omega arith)
@@ -49,7 +54,8 @@ from_low_first (suc k) [] e = absurd (omega arith)
 from_low_first (suc k) (b ∷ bs) e =
     sum_first (λ i. byte_worth i (slice_index (b ∷ bs) i)) k
     ∙ ap (λ (n : ℕ). b + n)
-    (sum_same (λ i. byte_worth (suc i) (slice_index bs i)) (λ i. 256 * byte_worth i (slice_index bs i)) k (λ i l. worth_more i (slice_index bs i))
+    (sum_same (λ i. byte_worth (suc i) (slice_index bs i)) (λ i. 256 * byte_worth i (slice_index bs i)) k
+    (λ i l. worth_more i (slice_index bs i))
     ∙ sum_times (λ i. byte_worth i (slice_index bs i)) 256 k
     ∙ ap (λ (n : ℕ). 256 * n) (from_low_first k bs (omega arith)))
 
@@ -61,7 +67,8 @@ byte_len-above w32 = refl
 byte_len-above w64 = refl
 byte_len-above w128 = refl
 
-pub little_number-from_le_bytes : (w : Width) (bytes : List ℕ) → length bytes ≡ byte_len w → from_le_bytes w bytes ≡ little_number bytes
+pub little_number-from_le_bytes : (w : Width) (bytes : List ℕ) → length bytes ≡ byte_len w
+    → from_le_bytes w bytes ≡ little_number bytes
 little_number-from_le_bytes w bytes e = from_low_first (byte_len w - 1) bytes (e ∙ byte_len-above w)
 
 -- ---- std's bytes of numbers
@@ -75,7 +82,8 @@ div-pow-suc i n = div-div-eq-div-mul n (256 ^ i) 256 ∙ ap (λ (m : ℕ). n / m
 
 low_first_is : (i k n : ℕ) → bytes_low_first i k n ≡ little_digits k (n / 256 ^ i)
 low_first_is i zero n = refl
-low_first_is i (suc k) n = ap₂ ◌∷◌ (byte_at-is i n) (low_first_is (suc i) k n ∙ ap (little_digits k) (sym (div-pow-suc i n)))
+low_first_is i (suc k) n =
+    ap₂ ◌∷◌ (byte_at-is i n) (low_first_is (suc i) k n ∙ ap (little_digits k) (sym (div-pow-suc i n)))
 
 pub to_le_bytes-little_digits : (w : Width) (n : ℕ) → to_le_bytes w n ≡ little_digits (byte_len w) n
 to_le_bytes-little_digits w n = low_first_is 0 (byte_len w) n ∙ ap (little_digits (byte_len w)) (div-one n)
@@ -100,7 +108,8 @@ AreBytes-append_parts (x ∷ xs) ys h = let rest = AreBytes-append_parts xs ys h
 
 pub AreBytes-reverse : (bytes : List ℕ) → AreBytes bytes → AreBytes (reverse bytes)
 AreBytes-reverse [] h = tt
-AreBytes-reverse (b ∷ bs) h = subst AreBytes (sym (reverse-cons b bs)) (AreBytes-append (reverse bs) (b ∷ []) (AreBytes-reverse bs h.1) (h.0, tt))
+AreBytes-reverse (b ∷ bs) h =
+    subst AreBytes (sym (reverse-cons b bs)) (AreBytes-append (reverse bs) (b ∷ []) (AreBytes-reverse bs h.1) (h.0, tt))
 
 -- ---- digits, least first
 
@@ -114,9 +123,12 @@ AreBytes-little_digits (suc width) n = (omega arith, AreBytes-little_digits widt
 
 pub little_number-below : (bytes : List ℕ) → AreBytes bytes → little_number bytes < 256 ^ length bytes
 little_number-below [] h = omega arith
-little_number-below (b ∷ bs) h = let rest : little_number bs < 256 ^ length bs = little_number-below bs h.1 in omega (arith, pow-suc 256 (length bs), h.0)
+little_number-below (b ∷ bs) h =
+    let rest : little_number bs < 256 ^ length bs = little_number-below bs h.1 in
+    omega (arith, pow-suc 256 (length bs), h.0)
 
-pub little_digits-little_number : (bytes : List ℕ) → AreBytes bytes → little_digits (length bytes) (little_number bytes) ≡ bytes
+pub little_digits-little_number : (bytes : List ℕ) → AreBytes bytes
+    → little_digits (length bytes) (little_number bytes) ≡ bytes
 little_digits-little_number [] h = refl
 little_digits-little_number (b ∷ bs) h =
     let first : (b + 256 * little_number bs) % 256 ≡ b = omega (arith, h.0) in
@@ -127,7 +139,8 @@ pub little_number-little_digits : (width n : ℕ) → n < 256 ^ width → little
 little_number-little_digits zero n l = omega arith
 little_number-little_digits (suc width) n l =
     let less : n / 256 < 256 ^ width = omega (arith, pow-suc 256 width) in
-    let rest : little_number (little_digits width (n / 256)) ≡ n / 256 = little_number-little_digits width (n / 256) less in
+    let rest : little_number (little_digits width (n / 256)) ≡ n / 256 =
+    little_number-little_digits width (n / 256) less in
     omega arith
 
 -- ---- digits in either order
@@ -145,9 +158,11 @@ AreBytes-digits BigEndian width n = AreBytes-reverse (little_digits width n) (Ar
 pub number-digits : (order : Endianness) (width n : ℕ) → n < 256 ^ width → number order (digits order width n) ≡ n
 unfolding digits number
 number-digits LittleEndian width n l = little_number-little_digits width n l
-number-digits BigEndian width n l = ap little_number (reverse-reverse (little_digits width n)) ∙ little_number-little_digits width n l
+number-digits BigEndian width n l =
+    ap little_number (reverse-reverse (little_digits width n)) ∙ little_number-little_digits width n l
 
-pub digits-number : (order : Endianness) (bytes : List ℕ) → AreBytes bytes → digits order (length bytes) (number order bytes) ≡ bytes
+pub digits-number : (order : Endianness) (bytes : List ℕ) → AreBytes bytes
+    → digits order (length bytes) (number order bytes) ≡ bytes
 unfolding digits number
 digits-number LittleEndian bytes h = little_digits-little_number bytes h
 digits-number BigEndian bytes h =
@@ -159,30 +174,42 @@ digits-number BigEndian bytes h =
 pub number-below : (order : Endianness) (bytes : List ℕ) → AreBytes bytes → number order bytes < 256 ^ length bytes
 unfolding number
 number-below LittleEndian bytes h = little_number-below bytes h
-number-below BigEndian bytes h = subst (λ (width : ℕ). little_number (reverse bytes) < 256 ^ width) (length-reverse bytes) (little_number-below (reverse bytes) (AreBytes-reverse bytes h))
+number-below BigEndian bytes h = subst (λ (width : ℕ). little_number (reverse bytes) < 256 ^ width)
+    (length-reverse bytes) (little_number-below (reverse bytes) (AreBytes-reverse bytes h))
 
 -- ---- spellings
 
 -- each number that is small enough has a spelling
-pub SpellsNumber-digits : (width : ℕ) (order : Endianness) (n : ℕ) → n < 256 ^ width → SpellsNumber width order n (digits order width n)
-SpellsNumber-digits width order n l = record { width_is = length-digits order width n; are_bytes = AreBytes-digits order width n; value_is = number-digits order width n l }
+pub SpellsNumber-digits : (width : ℕ) (order : Endianness) (n : ℕ) → n < 256 ^ width
+    → SpellsNumber width order n (digits order width n)
+SpellsNumber-digits width order n l = record {
+  width_is = length-digits order width n;
+  are_bytes = AreBytes-digits order width n;
+  value_is = number-digits order width n l;
+}
 
 -- and no other
-pub SpellsNumber-unique : (width : ℕ) (order : Endianness) (n : ℕ) (bytes : List ℕ) → SpellsNumber width order n bytes → bytes ≡ digits order width n
-SpellsNumber-unique width order n bytes s = sym (digits-number order bytes s.are_bytes) ∙ ap₂ (digits order) s.width_is s.value_is
+pub SpellsNumber-unique : (width : ℕ) (order : Endianness) (n : ℕ) (bytes : List ℕ) → SpellsNumber width order n bytes
+    → bytes ≡ digits order width n
+SpellsNumber-unique width order n bytes s =
+    sym (digits-number order bytes s.are_bytes) ∙ ap₂ (digits order) s.width_is s.value_is
 
 -- the same bytes spell one number
-pub SpellsNumber-same_value : (width : ℕ) (order : Endianness) (m n : ℕ) (bytes : List ℕ) → SpellsNumber width order m bytes
+pub SpellsNumber-same_value : (width : ℕ) (order : Endianness) (m n : ℕ) (bytes : List ℕ)
+    → SpellsNumber width order m bytes
     → SpellsNumber width order n bytes → m ≡ n
 SpellsNumber-same_value width order m n bytes s t = sym s.value_is ∙ t.value_is
 
 -- the same number has one spelling
 pub SpellsNumber-same_bytes : (width : ℕ) (order : Endianness) (n : ℕ) (xs ys : List ℕ) → SpellsNumber width order n xs
     → SpellsNumber width order n ys → xs ≡ ys
-SpellsNumber-same_bytes width order n xs ys s t = SpellsNumber-unique width order n xs s ∙ sym (SpellsNumber-unique width order n ys t)
+SpellsNumber-same_bytes width order n xs ys s t =
+    SpellsNumber-unique width order n xs s ∙ sym (SpellsNumber-unique width order n ys t)
 
-pub SpellsNumber-below : (width : ℕ) (order : Endianness) (n : ℕ) (bytes : List ℕ) → SpellsNumber width order n bytes → n < 256 ^ width
-SpellsNumber-below width order n bytes s = subst₂ (λ (m w : ℕ). m < 256 ^ w) s.value_is s.width_is (number-below order bytes s.are_bytes)
+pub SpellsNumber-below : (width : ℕ) (order : Endianness) (n : ℕ) (bytes : List ℕ) → SpellsNumber width order n bytes
+    → n < 256 ^ width
+SpellsNumber-below width order n bytes s =
+    subst₂ (λ (m w : ℕ). m < 256 ^ w) s.value_is s.width_is (number-below order bytes s.are_bytes)
 
 -- ---- spellings by std's conversions
 
@@ -210,11 +237,14 @@ pow-byte_len w64 = refl
 pow-byte_len w128 = refl
 
 -- a number of the type, written
-pub SpellsNumber-to_le_bytes : (w : Width) (order : Endianness) (n : ℕ) (bytes : List ℕ) → order ≡ LittleEndian → n < 2 ^ bits w
+pub SpellsNumber-to_le_bytes : (w : Width) (order : Endianness) (n : ℕ) (bytes : List ℕ) → order ≡ LittleEndian
+    → n < 2 ^ bits w
     → bytes ≡ to_le_bytes w n → SpellsNumber (byte_len w) order n bytes
 unfolding digits
 SpellsNumber-to_le_bytes w order n bytes is l e =
-    subst₂ (λ (o : Endianness) (bs : List ℕ). SpellsNumber (byte_len w) o n bs) (sym is) (sym (e ∙ to_le_bytes-little_digits w n)) (SpellsNumber-digits (byte_len w) LittleEndian n (subst (λ (m : ℕ). n < m) (pow-byte_len w) l))
+    subst₂ (λ (o : Endianness) (bs : List ℕ). SpellsNumber (byte_len w) o n bs) (sym is)
+    (sym (e ∙ to_le_bytes-little_digits w n))
+    (SpellsNumber-digits (byte_len w) LittleEndian n (subst (λ (m : ℕ). n < m) (pow-byte_len w) l))
 
 -- ---- std's reversal of a number's bytes
 
@@ -231,9 +261,12 @@ SpellsNumber-one_byte LittleEndian b l = record { width_is = refl; are_bytes = (
 SpellsNumber-one_byte BigEndian b l = record { width_is = refl; are_bytes = (l, tt); value_is = omega arith }
 
 -- which has no other spelling
-pub SpellsNumber-is_one_byte : (order : Endianness) (n : ℕ) (bytes : List ℕ) → SpellsNumber 1 order n bytes → bytes ≡ n ∷ []
+pub SpellsNumber-is_one_byte : (order : Endianness) (n : ℕ) (bytes : List ℕ) → SpellsNumber 1 order n bytes
+    → bytes ≡ n ∷ []
 unfolding number
 SpellsNumber-is_one_byte order n [] h = let l = h.width_is in absurd (omega arith)
-SpellsNumber-is_one_byte LittleEndian n (b ∷ []) h = ap (λ (x : ℕ). x ∷ []) (let e : b + 256 * 0 ≡ n = h.value_is in omega arith)
-SpellsNumber-is_one_byte BigEndian n (b ∷ []) h = ap (λ (x : ℕ). x ∷ []) (let e : b + 256 * 0 ≡ n = h.value_is in omega arith)
+SpellsNumber-is_one_byte LittleEndian n (b ∷ []) h =
+    ap (λ (x : ℕ). x ∷ []) (let e : b + 256 * 0 ≡ n = h.value_is in omega arith)
+SpellsNumber-is_one_byte BigEndian n (b ∷ []) h =
+    ap (λ (x : ℕ). x ∷ []) (let e : b + 256 * 0 ≡ n = h.value_is in omega arith)
 SpellsNumber-is_one_byte order n (b ∷ c ∷ bytes) h = let l = h.width_is in absurd (omega arith)

@@ -21,7 +21,8 @@ is_eof_kind kinds.UnexpectedEndOfOutputBuffer = true
 is_eof_kind (kinds.IoError e) = is_io_eof (error_kind e.value)
 is_eof_kind _ = false
 
--- the kinds with which input ends: `UnexpectedEndOfInput`, and where it comes from a device also an `IoError` that stands for an end
+-- the kinds with which input ends: `UnexpectedEndOfInput`, and where it comes from a device also an `IoError` that
+-- stands for an end
 abbrev pub EndsInput : Bool → ErrorKind → Type 0
 EndsInput by_device kinds.UnexpectedEndOfInput = Unit {0}
 EndsInput by_device (kinds.IoError e) = IsTrue by_device × IsTrue (is_io_eof (error_kind e.value))
@@ -38,11 +39,19 @@ text_of kinds.OutOfRangeLength = Some (codes "out of range length")
 text_of kinds.OutOfRangeUsize = Some (codes "value cannot fit into an usize on this architecture")
 text_of kinds.UnexpectedEndOfInput = Some (codes "unexpected end of input")
 text_of kinds.UnexpectedEndOfOutputBuffer = Some (codes "unexpected end of output buffer")
-text_of (kinds.InputBufferIsTooSmall actual expected) = Some (codes "input buffer is too small; expected at least " ++ (decimal expected ++ (codes " bytes, got " ++ decimal actual)))
-text_of (kinds.OutputBufferIsTooSmall actual expected) = Some (codes "output buffer is too small; expected at least " ++ (decimal expected ++ (codes " bytes, got " ++ decimal actual)))
-text_of (kinds.LengthIsNotTheSameAsLengthAttribute field) = Some (codes "the length of '" ++ (field.now ++ codes "' is not the same as its 'length' attribute"))
-text_of (kinds.ExpectedConstant constant) = Some (codes "expected a predefined " ++ (decimal (length constant.now) ++ codes " bytes(s) long constant"))
-text_of kinds.Unsized = Some (codes "type is unsized hence requires zero-copy deserialization; use `read_from_buffer` or similar to deserialize it")
+text_of (kinds.InputBufferIsTooSmall actual expected) =
+    Some (codes "input buffer is too small; expected at least "
+    ++ (decimal expected ++ (codes " bytes, got " ++ decimal actual)))
+text_of (kinds.OutputBufferIsTooSmall actual expected) =
+    Some (codes "output buffer is too small; expected at least "
+    ++ (decimal expected ++ (codes " bytes, got " ++ decimal actual)))
+text_of (kinds.LengthIsNotTheSameAsLengthAttribute field) =
+    Some (codes "the length of '" ++ (field.now ++ codes "' is not the same as its 'length' attribute"))
+text_of (kinds.ExpectedConstant constant) =
+    Some (codes "expected a predefined " ++ (decimal (length constant.now) ++ codes " bytes(s) long constant"))
+text_of kinds.Unsized =
+    Some (codes
+    "type is unsized hence requires zero-copy deserialization; use `read_from_buffer` or similar to deserialize it")
 text_of kinds.EndiannessMismatch = Some (codes "endianness mismatch")
 text_of kinds.NotWrittenForm = Some (codes "spelling is not the written one")
 text_of (kinds.IoError e) = None

@@ -1,7 +1,8 @@
 -- What is seen of a buffer between a device and its readers.
 use Rattle.std.specs.Prelude.{ℕ, List, ◌++◌, length, take, drop}
 
--- the bytes that are kept, in the order in which they came, how many can be kept, and what stands in the stretch that was lent last
+-- the bytes that are kept, in the order in which they came, how many can be kept, and what stands in the stretch that
+-- was lent last
 pub record Ring : Type 0 where
   pub bytes : List ℕ
   pub capacity : ℕ

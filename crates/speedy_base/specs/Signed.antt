@@ -6,7 +6,8 @@ use Rattle.speedy_base.specs.declared.endianness.Endianness.{Endianness}
 use Rattle.speedy_base.specs.declared.endianness.Endianness.TheVariants.{LittleEndian, BigEndian}
 use Rattle.speedy_base.specs.Digits.{SpellsNumber, swapped}
 
--- a number of the type, by the digits of the unsigned number that has its bits: itself, or of a negative one what lies `2 ^ bits` above it
+-- a number of the type, by the digits of the unsigned number that has its bits: itself, or of a negative one what lies
+-- `2 ^ bits` above it
 pub record SpellsSigned (w : Width) (order : Endianness) (z : ℤ) (bytes : List ℕ) : Type 0 where
   pub range : FitsSigned w z
   pub digits : SpellsNumber (byte_len w) order (cast_unsigned w z) bytes

@@ -1,5 +1,6 @@
 //! Bytes that wait between a device and its readers.
-ghost use Rattle.std.specs.Prelude.{◌≡◌, ◌+◌, ◌-◌, ◌≤◌, ◌↔◌, min, [], ◌++◌, length, take, drop, None, IsOk, IfOk, OnOk, OnErr, IsTrue};
+ghost use Rattle.std.specs.Prelude.{◌≡◌, ◌+◌, ◌-◌, ◌≤◌, ◌↔◌, min, [], ◌++◌, length, take, drop, None, IsOk, IfOk, OnOk};
+ghost use Rattle.std.specs.Prelude.{OnErr, IsTrue};
 ghost use Rattle.std.specs.Borrow.{Array, Lends, sem, u8};
 ghost use Rattle.speedy_base.specs.Ring.{with_room};
 ghost use Rattle.speedy_base.specs.contracts.circular_buffer.CircularBuffer.{the_row};

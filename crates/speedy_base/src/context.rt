@@ -3,7 +3,8 @@ ghost use Rattle.std.specs.Prelude.{◌≡◌};
 ghost use Rattle.std.proofs.Common.{ap};
 ghost use Rattle.speedy_base.specs.Encoding.{Encoding, plain_encoding, strict_encoding};
 ghost use Rattle.speedy_base.specs.Error.{is_eof_error, Error as Refusal};
-ghost use Rattle.speedy_base.specs.declared.endianness.Endianness.TheVariants.{LittleEndian as LittleOrder, BigEndian as BigOrder};
+ghost use Rattle.speedy_base.specs.declared.endianness.Endianness.TheVariants.{LittleEndian as LittleOrder};
+ghost use Rattle.speedy_base.specs.declared.endianness.Endianness.TheVariants.{BigEndian as BigOrder};
 
 use crate::endianness::Endianness;
 use crate::error::{Error, IsEof};

@@ -1,10 +1,13 @@
 //! Sources and sinks: where bytes come from and go to.
-ghost use Rattle.std.specs.Prelude.{◌≡◌, ◌≤◌, ◌↔◌, min, [], ◌++◌, length, take, drop, IsOk, IfOk, IfErr, OnOk, OnErr, IsTrue, false};
+ghost use Rattle.std.specs.Prelude.{◌≡◌, ◌≤◌, ◌↔◌, min, [], ◌++◌, length, take, drop, IsOk, IfOk, IfErr, OnOk, OnErr};
+ghost use Rattle.std.specs.Prelude.{IsTrue, false};
 ghost use Rattle.speedy_base.specs.FailedCalls.{OneFailed};
 ghost use Rattle.std.specs.IoError.{error_kind};
 ghost use Rattle.std.specs.Io.KnownBytes.{ReadConsumes, WriteAppends, Keeps};
 ghost use Rattle.speedy_base.specs.Device.{SourceState, SinkState, Holds, Pulls, Pushes, Flushes};
-ghost use Rattle.speedy_base.specs.MemoryDevices.{bytes_source, vec_sink_bytes, vec_sink_faults, vec_sink_state, counted_inner, counted_faults, counted_settled, counted_source, counted_sink, no_faults};
+ghost use Rattle.speedy_base.specs.MemoryDevices.{bytes_source, vec_sink_bytes, vec_sink_faults, vec_sink_state};
+ghost use Rattle.speedy_base.specs.MemoryDevices.{counted_inner, counted_faults, counted_settled, counted_source};
+ghost use Rattle.speedy_base.specs.MemoryDevices.{counted_sink, no_faults};
 
 use std::alloc::Global;
 use std::io::{self, ErrorKind, Read, Write};
@@ -52,8 +55,8 @@ pub trait Source {
     fn pull(&mut self, output: &mut [u8]) -> Result<usize, io::Error>
         ensures { Pulls result (source self.old) (source self.new) output.new };
 
-    /// Whether at least `size` bytes are to come, as only a source may say that tells its bytes to the contracts. A reader
-    /// then makes room for a long list at once. This body says nothing of the kind.
+    /// Whether at least `size` bytes are to come, as only a source may say that tells its bytes to the contracts. A
+    /// reader then makes room for a long list at once. This body says nothing of the kind.
     #[inline(always)]
     fn can_pull_at_least(&self, _size: usize) -> bool
         ensures { IsTrue result → Holds (source self.now) _size }

@@ -178,7 +178,8 @@ impl fmt::Display for Error {
             ),
             ErrorKind::Unsized => write!(
                 f,
-                "type is unsized hence requires zero-copy deserialization; use `read_from_buffer` or similar to deserialize it"
+                "type is unsized hence requires zero-copy deserialization; \
+                 use `read_from_buffer` or similar to deserialize it"
             ),
             ErrorKind::EndiannessMismatch => write!(f, "endianness mismatch"),
             ErrorKind::NotWrittenForm => write!(f, "spelling is not the written one"),

@@ -13,8 +13,8 @@ fn shown<T: Debug + Drop>(alloc: Global, outcome: &Result<T, Error>) -> Result<S
     }
 }
 
-/// What is answered to bytes as a value of a type that may borrow: the least size of the type, how many bytes encode the
-/// value, those that it is written as, and the value; or the kind of the error. Its only error is out of memory.
+/// What is answered to bytes as a value of a type that may borrow: the least size of the type, how many bytes encode
+/// the value, those that it is written as, and the value; or the kind of the error. Its only error is out of memory.
 pub fn answer_of_buffer<'a, T: ReadFrom<&'a [u8], Endianness> + Writable<Endianness> + Debug>(
     alloc: Global,
     order: Endianness,

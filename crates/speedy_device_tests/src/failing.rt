@@ -23,8 +23,8 @@ impl Plan {
     }
 }
 
-/// A source or a sink that moves at most so many bytes a call. One of its calls fails, counted from 1, pulls, pushes and
-/// flushes together: it moves nothing, and the calls after it go on. It tells no bytes.
+/// A source or a sink that moves at most so many bytes a call. One of its calls fails, counted from 1, pulls, pushes
+/// and flushes together: it moves nothing, and the calls after it go on. It tells no bytes.
 #[derive(Drop)]
 pub(crate) struct Failing<D> {
     pub(crate) inner: D,

@@ -17,8 +17,8 @@ pub(crate) trait Probe {
     );
 }
 
-/// Reads from a buffer that lends its bytes, from one that is copied, and from a stream of a byte a pull, unbuffered and
-/// buffered.
+/// Reads from a buffer that lends its bytes, from one that is copied, and from a stream of a byte a pull, unbuffered
+/// and buffered.
 pub(crate) fn read_by_each(
     rt: &impl Abort,
     alloc: Global,

@@ -103,8 +103,8 @@ fn make_reader<'s, S: Source>(
     StreamReader::new(alloc, LittleEndian {}, source, is_buffering).expect(rt, "a reader")
 }
 
-/// Asserts that a vector of 10,000 bytes is read of a source that gives so many a pull, and that no more than the 9 bytes
-/// after it are left, and all of these where nothing is read ahead.
+/// Asserts that a vector of 10,000 bytes is read of a source that gives so many a pull, and that no more than the 9
+/// bytes after it are left, and all of these where nothing is read ahead.
 fn assert_long_vector(rt: &impl Abort, alloc: Global, most: usize, is_buffering: bool) {
     let mut bytes = vec![in alloc; 7; 10_013].expect(rt, "a buffer");
     bytes[..4].copy_from_slice(&[0x10, 0x27, 0, 0]);

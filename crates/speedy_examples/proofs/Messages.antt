@@ -96,7 +96,8 @@ message_kind {bytes = bytes} (Err e) a =
       of_kind (inr named) = inl (named.2 ∙ ap error_of (lent_message_names named.0 named.1))
 
 -- no message has no bytes, and no bytes are malformed as one
-pub no_empty_message : (encoding : Encoding) (m : Message) (front rest : List ℕ) → (message_in encoding).spells m front → front ++ rest ≢ []
+pub no_empty_message : (encoding : Encoding) (m : Message) (front rest : List ℕ) → (message_in encoding).spells m front
+    → front ++ rest ≢ []
 no_empty_message encoding m front rest h none =
     let least = (message_laws encoding).least_size m front h in
     let size = ap length none in
@@ -113,7 +114,8 @@ nothing_malformed encoding (inr (n, parts)) =
     absurd (omega arith)
 
 -- a reader that tells its bytes tells those of messages, which borrow nothing
-pub told_message : (encoding : Encoding) {state : ReaderState} → IsTrue state.fixed.tells → AreBytes state.to_come → length state.to_come < 2 ^ 64 - 1 → IsTold (message_in encoding) state
+pub told_message : (encoding : Encoding) {state : ReaderState} → IsTrue state.fixed.tells → AreBytes state.to_come
+    → length state.to_come < 2 ^ 64 - 1 → IsTold (message_in encoding) state
 told_message encoding tells are_bytes fit = record {
   tells = tells;
   are_bytes = are_bytes;
@@ -122,7 +124,8 @@ told_message encoding tells are_bytes fit = record {
 }
 
 -- an end is `UnexpectedEndOfInput`, or the error of a device
-pub end_kind : (by_device : Bool) {e : Error} (kind : ErrorKind) → EndsInput by_device kind → e ≡ error_of kind → IsFailure e ⊎ (e ≡ error_of kinds.UnexpectedEndOfInput)
+pub end_kind : (by_device : Bool) {e : Error} (kind : ErrorKind) → EndsInput by_device kind → e ≡ error_of kind
+    → IsFailure e ⊎ (e ≡ error_of kinds.UnexpectedEndOfInput)
 end_kind by_device kinds.UnexpectedEndOfInput ends is = inr is
 end_kind by_device (kinds.IoError boxed) ends is = inl (inr (boxed.value, (kinds.IoError boxed, refl, is)))
 end_kind by_device _ ends is = absurd ends

@@ -19,14 +19,16 @@ use Rattle.speedy_examples.specs.Callers.{itself, IsFailure, IsRefusal}
 abbrev pub NextRefused : Error → ReaderState → ReaderState → Type 0
 NextRefused e old new =
     PeekWants itself e old new
-    ⊎ (Excused itself (message_in old.encoding).asks.memory e old new ⊎ Refused itself is_eof_error (message_in old.encoding) e old new)
+    ⊎ (Excused itself (message_in old.encoding).asks.memory e old new
+    ⊎ Refused itself is_eof_error (message_in old.encoding) e old new)
 
 -- what a peek of a byte answers
 abbrev PeeksByte : Result ℕ Error → ReaderState → ReaderState → Type 0
 PeeksByte result old new = Peeks itself is_eof_error (λ (n : ℕ). n) (unsigned_number 1 old.encoding) result old new
 
 -- any byte spells a number
-byte_spelled : (encoding : Encoding) (b : ℕ) → b < 256 → (unsigned_number 1 encoding).spells (number encoding.order (b ∷ [])) (b ∷ [])
+byte_spelled : (encoding : Encoding) (b : ℕ) → b < 256
+    → (unsigned_number 1 encoding).spells (number encoding.order (b ∷ [])) (b ∷ [])
 unfolding unsigned_number
 byte_spelled encoding b h = record { width_is = refl; are_bytes = (h, tt); value_is = refl }
 
@@ -42,11 +44,14 @@ told_byte {old = old} told = record {
   lends = λ h. absurd (let none : IsTrue false = subst IsTrue (byte_lends_nothing old.encoding) h in cc);
 }
 
-no_byte : {e : Error} {old new : ReaderState} → Refused itself is_eof_error (unsigned_number 1 old.encoding) e old new → IsTold (message_in old.encoding) old → old.to_come ≡ []
+no_byte : {e : Error} {old new : ReaderState} → Refused itself is_eof_error (unsigned_number 1 old.encoding) e old new
+    → IsTold (message_in old.encoding) old → old.to_come ≡ []
 no_byte {old = old} refused told = go old.to_come refl where
   go : (bytes : List ℕ) → old.to_come ≡ bytes → bytes ≡ []
   go [] is = refl
-  go (b ∷ rest) is = absurd ((refused.because (told_byte told)).no_front _ (b ∷ []) rest is (byte_spelled old.encoding b (subst AreBytes is told.are_bytes).0))
+  go (b ∷ rest) is =
+      absurd ((refused.because (told_byte told)).no_front _ (b ∷ []) rest is
+      (byte_spelled old.encoding b (subst AreBytes is told.are_bytes).0))
 
 -- a byte names no kind of its own
 byte_end : (by_device lends : Bool) {e : Error} (encoding : Encoding)
@@ -58,7 +63,8 @@ byte_end by_device lends encoding (inr (kind, inl named, given)) = absurd named
 byte_end by_device lends encoding (inr (kind, inr unlent, given)) = absurd (let none = unlent.0 in cc)
 
 -- where a peek of a byte says that the input ended, none is left: no failed call says so
-pub peeked_end : {e : Error} {old new : ReaderState} → (let refused : Result ℕ Error = Err e in PeeksByte refused old new) → kind_of e ≡ kinds.UnexpectedEndOfInput
+pub peeked_end : {e : Error} {old new : ReaderState}
+    → (let refused : Result ℕ Error = Err e in PeeksByte refused old new) → kind_of e ≡ kinds.UnexpectedEndOfInput
     → IsTold (message_in old.encoding) old → IsTrue old.fixed.tells_faults → old.to_come ≡ []
 peeked_end {e = e} {old = old} {new = new} peeks is told tells_faults = of peeks.answer where
   not_memory : e ≡ error_of kinds.OutOfMemory → ⊥
@@ -67,33 +73,44 @@ peeked_end {e = e} {old = old} {new = new} peeks is told tells_faults = of peeks
   not_fault : IsOfFailedCall itself e old.faults new.faults → ⊥
   not_fault (error, one, named) = subst (IsIoErrorOf error) (sym (ap kind_of named.2) ∙ is) named.1
 
-  of : PeekWants itself e old new ⊎ (Excused itself (unsigned_number 1 old.encoding).asks.memory e old new ⊎ Refused itself is_eof_error (unsigned_number 1 old.encoding) e old new) → old.to_come ≡ []
+  of : PeekWants itself e old new
+      ⊎ (Excused itself (unsigned_number 1 old.encoding).asks.memory e old new
+      ⊎ Refused itself is_eof_error (unsigned_number 1 old.encoding) e old new) → old.to_come ≡ []
   of (inl wants) = absurd (not_memory wants.0)
   of (inr (inl (inl wants))) = absurd (not_memory wants.0)
   of (inr (inl (inr fault))) = absurd (not_fault (fault.1 tells_faults))
   of (inr (inr refused)) = no_byte refused told
 
 -- where the peek is refused, so is the message
-pub peek_refused : {e : Error} {old new : ReaderState} → (let refused : Result ℕ Error = Err e in PeeksByte refused old new) → NextRefused e old new
+pub peek_refused : {e : Error} {old new : ReaderState}
+    → (let refused : Result ℕ Error = Err e in PeeksByte refused old new) → NextRefused e old new
 peek_refused {e = e} {old = old} {new = new} peeks = of peeks.answer where
-  nothing : IsEnd itself is_eof_error old.fixed.ends_by_device e → old.to_come ≡ [] → Unspelled itself is_eof_error (message_in old.encoding) e old.to_come
+  nothing : IsEnd itself is_eof_error old.fixed.ends_by_device e → old.to_come ≡ []
+      → Unspelled itself is_eof_error (message_in old.encoding) e old.to_come
   nothing ends none = record {
     no_front = λ m front rest whole spelled. no_empty_message old.encoding m front rest spelled (sym whole ∙ none);
     too_short = λ _ _ _. ends.1;
     malformed = λ bad. absurd (nothing_malformed old.encoding (subst (message_in old.encoding).malformed none bad));
   }
 
-  of : PeekWants itself e old new ⊎ (Excused itself (unsigned_number 1 old.encoding).asks.memory e old new ⊎ Refused itself is_eof_error (unsigned_number 1 old.encoding) e old new) → NextRefused e old new
+  of : PeekWants itself e old new
+      ⊎ (Excused itself (unsigned_number 1 old.encoding).asks.memory e old new
+      ⊎ Refused itself is_eof_error (unsigned_number 1 old.encoding) e old new) → NextRefused e old new
   of (inl wants) = inl wants
   of (inr (inl (inl wants))) = inr (inl (inl (wants.0, inl (message_asks_memory old.encoding), wants.2)))
   of (inr (inl (inr fault))) = inr (inl (inr fault))
   of (inr (inr refused)) =
       let ends = byte_end old.fixed.ends_by_device old.fixed.lends old.encoding refused.kind in
-      inr (inr (record { no_fault = refused.no_fault; kind = inl ends; because = λ told. nothing ends (no_byte refused told) }))
+      inr (inr (record {
+        no_fault = refused.no_fault;
+        kind = inl ends;
+        because = λ told. nothing ends (no_byte refused told);
+      }))
 
 -- and so it is where the read behind the peek is
 pub read_refused : {A : Type 0} {seen : A → Message} {e : Error} {b : ℕ} {old mid new : ReaderState}
-    → (let peeked : Result ℕ Error = Ok b in PeeksByte peeked old mid) → (let refused : Result A Error = Err e in Reads itself is_eof_error seen (message_in mid.encoding) refused mid new)
+    → (let peeked : Result ℕ Error = Ok b in PeeksByte peeked old mid)
+    → (let refused : Result A Error = Err e in Reads itself is_eof_error seen (message_in mid.encoding) refused mid new)
     → NextRefused e old new
 read_refused {e = e} {old = old} {mid = mid} {new = new} peeks reads = of reads.answer where
   fixed : mid.fixed ≡ old.fixed
@@ -115,7 +132,8 @@ read_refused {e = e} {old = old} {mid = mid} {new = new} peeks reads = of reads.
         lends = rw (fixed, encoding) told.lends;
       }
 
-  of : Excused itself (message_in mid.encoding).asks.memory e mid new ⊎ Refused itself is_eof_error (message_in mid.encoding) e mid new → NextRefused e old new
+  of : Excused itself (message_in mid.encoding).asks.memory e mid new
+      ⊎ Refused itself is_eof_error (message_in mid.encoding) e mid new → NextRefused e old new
   of (inl (inl wants)) = inr (inl (inl (wants.0, inl (message_asks_memory old.encoding), wants.2 ∙ same_faults)))
   of (inl (inr fault)) = inr (inl (inr (rw (fixed, same_faults) at fault)))
   of (inr refused) = inr (inr (record {
@@ -125,21 +143,25 @@ read_refused {e = e} {old = old} {mid = mid} {new = new} peeks reads = of reads.
   }))
 
 -- where no byte is left, the peek is refused, and only memory or the device is at fault
-pub ended_by_failure : {e : Error} {old new : ReaderState} → IsTrue old.fixed.tells_faults → e ≢ error_of kinds.UnexpectedEndOfInput
+pub ended_by_failure : {e : Error} {old new : ReaderState} → IsTrue old.fixed.tells_faults
+    → e ≢ error_of kinds.UnexpectedEndOfInput
     → (let refused : Result ℕ Error = Err e in PeeksByte refused old new) → IsFailure e
 ended_by_failure {e = e} {old = old} {new = new} tells_faults other peeks = of peeks.answer where
   only_device : IsFailure e ⊎ (e ≡ error_of kinds.UnexpectedEndOfInput) → IsFailure e
   only_device (inl failure) = failure
   only_device (inr is) = absurd (other is)
 
-  of : PeekWants itself e old new ⊎ (Excused itself (unsigned_number 1 old.encoding).asks.memory e old new ⊎ Refused itself is_eof_error (unsigned_number 1 old.encoding) e old new) → IsFailure e
+  of : PeekWants itself e old new
+      ⊎ (Excused itself (unsigned_number 1 old.encoding).asks.memory e old new
+      ⊎ Refused itself is_eof_error (unsigned_number 1 old.encoding) e old new) → IsFailure e
   of (inl wants) = inl wants.0
   of (inr (inl (inl wants))) = inl wants.0
   of (inr (inl (inr fault))) = let failed = fault.1 tells_faults in inr (failed.0, failed.2)
   of (inr (inr refused)) = let ends = byte_end old.fixed.ends_by_device old.fixed.lends old.encoding refused.kind in
       only_device (end_kind old.fixed.ends_by_device ends.0.0 ends.0.1 ends.0.2)
 
-pub not_ended : {b : ℕ} {old mid : ReaderState} → (let peeked : Result ℕ Error = Ok b in PeeksByte peeked old mid) → IsTrue old.fixed.tells → old.to_come ≢ []
+pub not_ended : {b : ℕ} {old mid : ReaderState} → (let peeked : Result ℕ Error = Ok b in PeeksByte peeked old mid)
+    → IsTrue old.fixed.tells → old.to_come ≢ []
 unfolding unsigned_number
 not_ended peeks tells none =
     let ahead = peeks.answer in
@@ -149,7 +171,8 @@ not_ended peeks tells none =
     absurd (omega arith)
 
 -- what the next message of a reader that tells its failed calls is refused with
-pub next_kind : {e : Error} {old new : ReaderState} → IsTrue old.fixed.tells_faults → NextRefused e old new → IsFailure e ⊎ IsRefusal (message_in old.encoding) e
+pub next_kind : {e : Error} {old new : ReaderState} → IsTrue old.fixed.tells_faults → NextRefused e old new
+    → IsFailure e ⊎ IsRefusal (message_in old.encoding) e
 next_kind {e = e} {old = old} {new = new} tells_faults refused = of refused where
   of_end : IsFailure e ⊎ (e ≡ error_of kinds.UnexpectedEndOfInput) → IsFailure e ⊎ IsRefusal (message_in old.encoding) e
   of_end (inl failure) = inl failure

@@ -30,7 +30,13 @@ each_spelled encoding (n ∷ ns) h =
     let width = length-digits encoding.order 2 n in
     let sizes = more.2 in (
       first ++ more.0,
-      record { front = first; back = more.0; whole_is = refl; first_is = SpellsNumber-digits 2 encoding.order n (h 0 (omega arith)); second_is = more.1 },
+      record {
+        front = first;
+        back = more.0;
+        whole_is = refl;
+        first_is = SpellsNumber-digits 2 encoding.order n (h 0 (omega arith));
+        second_is = more.1;
+      },
       omega arith,
     )
 
@@ -45,15 +51,24 @@ list_spelled encoding ns h few =
     let width = length-digits encoding.order 4 (length ns) in
     let sizes = items.2 in (
       count ++ items.0,
-      record { front = count; back = items.0; whole_is = refl; first_is = SpellsNumber-digits 4 encoding.order (length ns) few; second_is = (refl, items.1) },
+      record {
+        front = count;
+        back = items.0;
+        whole_is = refl;
+        first_is = SpellsNumber-digits 4 encoding.order (length ns) few;
+        second_is = (refl, items.1);
+      },
       omega arith,
     )
 
 -- why the writing of so few numbers was refused
 pub only_memory : {X : Type 0} {e : Error} (encoding : Encoding) (ns : List ℕ) → HaveTwoBytes ns → length ns < 2 ^ 32
-    → (e ≡ error_of kinds.OutOfMemory) ⊎ (((bytes : List ℕ) → (list encoding (unsigned_number 2 encoding)).spells (map (λ n. n) ns) bytes → length bytes < 2 ^ 64 - 1 → ⊥) × X)
+    → (e ≡ error_of kinds.OutOfMemory)
+    ⊎ (((bytes : List ℕ) → (list encoding (unsigned_number 2 encoding)).spells (map (λ n. n) ns) bytes
+    → length bytes < 2 ^ 64 - 1 → ⊥) × X)
     → e ≡ error_of kinds.OutOfMemory
 only_memory encoding ns h few (inl memory) = memory
 only_memory encoding ns h few (inr none) =
     let spelled = list_spelled encoding ns h few in
-    absurd (none.0 spelled.0 (subst (λ (vs : List ℕ). (list encoding (unsigned_number 2 encoding)).spells vs spelled.0) (sym (map-id ns)) spelled.1) spelled.2)
+    absurd (none.0 spelled.0 (subst (λ (vs : List ℕ). (list encoding (unsigned_number 2 encoding)).spells vs spelled.0)
+    (sym (map-id ns)) spelled.1) spelled.2)

@@ -32,13 +32,15 @@ nothing_taken (Ok x) a = a.value.untouched a.value.front_is
 nothing_taken (Err e) a = tt
 
 -- the bytes at the front of what the source had spell these values, and the others are still to come
-pub record ReadSoFar {V : Type 0} (spells : V → List ℕ → Type 0) (values : List V) (before : SourceState) (now : ReaderState) : Type 0 where
+pub record ReadSoFar {V : Type 0} (spells : V → List ℕ → Type 0) (values : List V) (before : SourceState)
+    (now : ReaderState) : Type 0 where
   pub bytes : List ℕ
   pub read : Each spells values bytes
   pub same_tells : now.fixed.tells ≡ before.tells
   pub left : IsTrue before.tells → before.to_come ≡ bytes ++ now.to_come
 
-pub none_read : {V : Type 0} {spells : V → List ℕ → Type 0} {values : List V} {before : SourceState} {now : ReaderState} → values ≡ [] → now.fixed.tells ≡ before.tells → now.to_come ≡ before.to_come → ReadSoFar spells values before now
+pub none_read : {V : Type 0} {spells : V → List ℕ → Type 0} {values : List V} {before : SourceState} {now : ReaderState}
+    → values ≡ [] → now.fixed.tells ≡ before.tells → now.to_come ≡ before.to_come → ReadSoFar spells values before now
 none_read {spells = spells} none tells to_come = record {
   bytes = [];
   read = subst (λ vs. Each spells vs []) (sym none) refl;
@@ -46,21 +48,37 @@ none_read {spells = spells} none tells to_come = record {
   left = λ _. sym to_come;
 }
 
-pub one_more_read : {V : Type 0} {spells : V → List ℕ → Type 0} {values more : List V} {before : SourceState} {now after : ReaderState} (value : V) → ReadSoFar spells values before now → more ≡ values ++ (value ∷ []) → after.fixed ≡ now.fixed → (front : List ℕ) × spells value front × (IsTrue now.fixed.tells → now.to_come ≡ front ++ after.to_come) → ReadSoFar spells more before after
-one_more_read {spells = spells} {values = values} {before = before} {after = after} value so_far more_is fixed (front, front_is, taken) = record {
-  bytes = so_far.bytes ++ front;
-  read =
-      subst (λ vs. Each spells vs (so_far.bytes ++ front)) (sym more_is)
-      (each_append spells values (value ∷ []) so_far.bytes front so_far.read (record { front = front; back = []; whole_is = sym (append-nil front); first_is = front_is; second_is = refl }));
-  same_tells = ap (λ (kind : ReaderKind). kind.tells) fixed ∙ so_far.same_tells;
-  left = λ told.
-      so_far.left told
-      ∙ (ap (λ rest. so_far.bytes ++ rest) (taken (subst IsTrue (sym so_far.same_tells) told))
-      ∙ sym (append_assoc so_far.bytes front after.to_come));
-}
+pub one_more_read : {V : Type 0} {spells : V → List ℕ → Type 0} {values more : List V} {before : SourceState}
+    {now after : ReaderState} (value : V) → ReadSoFar spells values before now → more ≡ values ++ (value ∷ [])
+    → after.fixed ≡ now.fixed
+    → (front : List ℕ) × spells value front × (IsTrue now.fixed.tells → now.to_come ≡ front ++ after.to_come)
+    → ReadSoFar spells more before after
+one_more_read {spells = spells} {values = values} {before = before} {after = after} value so_far more_is fixed
+    (front, front_is, taken) = record {
+      bytes = so_far.bytes ++ front;
+      read =
+          subst (λ vs. Each spells vs (so_far.bytes ++ front)) (sym more_is)
+          (each_append spells values (value ∷ []) so_far.bytes front so_far.read
+          (record {
+            front = front;
+            back = [];
+            whole_is = sym (append-nil front);
+            first_is = front_is;
+            second_is = refl;
+          }));
+      same_tells = ap (λ (kind : ReaderKind). kind.tells) fixed ∙ so_far.same_tells;
+      left = λ told.
+          so_far.left told
+          ∙ (ap (λ rest. so_far.bytes ++ rest) (taken (subst IsTrue (sym so_far.same_tells) told))
+          ∙ sym (append_assoc so_far.bytes front after.to_come));
+    }
 
 -- where the source is at its end, all that it had was read
-pub all_read : {V : Type 0} {spells : V → List ℕ → Type 0} {values : List V} {before : SourceState} {now : ReaderState} → ReadSoFar spells values before now → (IsTrue now.fixed.tells → AreBytes now.to_come → length now.to_come < 2 ^ 64 - 1 → now.to_come ≡ []) → (bytes : List ℕ) × Each spells values bytes × (IsTrue before.tells → AreBytes before.to_come → length before.to_come < 2 ^ 64 - 1 → before.to_come ≡ bytes)
+pub all_read : {V : Type 0} {spells : V → List ℕ → Type 0} {values : List V} {before : SourceState} {now : ReaderState}
+    → ReadSoFar spells values before now
+    → (IsTrue now.fixed.tells → AreBytes now.to_come → length now.to_come < 2 ^ 64 - 1 → now.to_come ≡ [])
+    → (bytes : List ℕ) × Each spells values bytes
+    × (IsTrue before.tells → AreBytes before.to_come → length before.to_come < 2 ^ 64 - 1 → before.to_come ≡ bytes)
 all_read {before = before} {now = now} so_far ended = (
   so_far.bytes,
   so_far.read,
@@ -73,9 +91,12 @@ all_read {before = before} {now = now} so_far ended = (
 )
 
 -- what is left of a list of values behind those that were read
-left_of : {V : Type 0} {strict : Bool} {least : ℕ} {F : Format V} → Laws strict least F → 0 < least → (read values : List V) (bytes rest whole : List ℕ)
-    → Each F.spells read bytes → Each F.spells values whole → whole ≡ bytes ++ rest → (more : List V) × Each F.spells more rest
-left_of {F = F} laws some [] values bytes rest whole h k is = (values, subst (Each F.spells values) (is ∙ ap (λ b. b ++ rest) h) k)
+left_of : {V : Type 0} {strict : Bool} {least : ℕ} {F : Format V} → Laws strict least F → 0 < least
+    → (read values : List V) (bytes rest whole : List ℕ)
+    → Each F.spells read bytes → Each F.spells values whole → whole ≡ bytes ++ rest
+    → (more : List V) × Each F.spells more rest
+left_of {F = F} laws some [] values bytes rest whole h k is =
+    (values, subst (Each F.spells values) (is ∙ ap (λ b. b ++ rest) h) k)
 left_of laws some (v ∷ read) [] bytes rest whole h k is =
     let first = laws.least_size v h.front h.first_is in
     let size = ap length (sym is ∙ k) in
@@ -88,24 +109,35 @@ left_of laws some (v ∷ read) (w ∷ values) bytes rest whole h k is =
     left_of laws some read values h.back rest k.back h.second_is k.second_is same.2
 
 -- why a message was refused where the source had nothing but messages: none is left, or it is there
-pub refused_by_failure : {values : List Message} {before : SourceState} {now after : ReaderState} {e : Error} (all : List Message)
-    → ReadSoFar message.spells values before now → Each message.spells all before.to_come → now.encoding ≡ (plain_encoding LittleEndian) → IsTrue before.tells → AreBytes before.to_come → length before.to_come < 2 ^ 64 - 1
-    → IsTrue now.fixed.tells_faults → NextRefused e now after → (IsTold (message_in now.encoding) now → IsTrue now.fixed.tells_faults → now.to_come ≡ [] → IsFailure e) → IsFailure e
-refused_by_failure {values = values} {before = before} {now = now} {after = after} {e = e} all so_far messages encoding tells are_bytes fit tells_faults refused ended =
+pub refused_by_failure : {values : List Message} {before : SourceState} {now after : ReaderState} {e : Error}
+    (all : List Message)
+    → ReadSoFar message.spells values before now → Each message.spells all before.to_come
+    → now.encoding ≡ (plain_encoding LittleEndian) → IsTrue before.tells → AreBytes before.to_come
+    → length before.to_come < 2 ^ 64 - 1
+    → IsTrue now.fixed.tells_faults → NextRefused e now after
+    → (IsTold (message_in now.encoding) now → IsTrue now.fixed.tells_faults → now.to_come ≡ [] → IsFailure e)
+    → IsFailure e
+refused_by_failure {values = values} {before = before} {now = now} {after = after} {e = e} all so_far messages encoding
+    tells are_bytes fit tells_faults refused ended =
     let left = so_far.left tells in
-    let more = left_of (message_laws (plain_encoding LittleEndian)) (omega arith) values all so_far.bytes now.to_come before.to_come so_far.read messages left in
+    let more = left_of (message_laws (plain_encoding LittleEndian)) (omega arith) values all so_far.bytes now.to_come
+    before.to_come so_far.read messages left in
     let sizes = ap length left ∙ length-append so_far.bytes now.to_come in
-    let told = told_message now.encoding (subst IsTrue (sym so_far.same_tells) tells) (AreBytes-append_parts so_far.bytes now.to_come (subst AreBytes left are_bytes)).1 (omega arith) in
+    let told = told_message now.encoding (subst IsTrue (sym so_far.same_tells) tells)
+    (AreBytes-append_parts so_far.bytes now.to_come (subst AreBytes left are_bytes)).1 (omega arith) in
     of more.0 more.1 told refused where
-      of : (more : List Message) → Each message.spells more now.to_come → IsTold (message_in now.encoding) now → NextRefused e now after → IsFailure e
+      of : (more : List Message) → Each message.spells more now.to_come → IsTold (message_in now.encoding) now
+          → NextRefused e now after → IsFailure e
       of [] none told refused = ended told tells_faults none
       of (m ∷ more) some told (inl wants) = inl wants.0
       of (m ∷ more) some told (inr (inl (inl wants))) = inl wants.0
       of (m ∷ more) some told (inr (inl (inr fault))) = let failed = fault.1 tells_faults in inr (failed.0, failed.2)
-      of (m ∷ more) some told (inr (inr refused)) = absurd ((refused.because told).no_front m some.front some.back some.whole_is (rw encoding some.first_is))
+      of (m ∷ more) some told (inr (inr refused)) =
+          absurd ((refused.because told).no_front m some.front some.back some.whole_is (rw encoding some.first_is))
 
 -- no source has so many messages that their number is no `u64`
-pub not_so_many : {values : List Message} {before : SourceState} {now : ReaderState} → ReadSoFar message.spells values before now → 2 ^ 64 - 1 ≤ length values
+pub not_so_many : {values : List Message} {before : SourceState} {now : ReaderState}
+    → ReadSoFar message.spells values before now → 2 ^ 64 - 1 ≤ length values
     → IsTrue before.tells → length before.to_come < 2 ^ 64 - 1 → ⊥
 not_so_many {values = values} {now = now} so_far many tells fit =
     let size = each_size (message_laws (plain_encoding LittleEndian)) values so_far.bytes so_far.read in
@@ -113,7 +145,9 @@ not_so_many {values = values} {now = now} so_far many tells fit =
     omega arith
 
 -- bytes in memory are a source of which no call fails
-pub wants_memory : {buffers takes : Bool} {e : Error} {bytes left : List ℕ} → WantsMemory itself takes buffers e (bytes_source bytes) (bytes_source left) ⊎ IsOfFailedCall itself e no_faults no_faults
+pub wants_memory : {buffers takes : Bool} {e : Error} {bytes left : List ℕ}
+    → WantsMemory itself takes buffers e (bytes_source bytes) (bytes_source left)
+    ⊎ IsOfFailedCall itself e no_faults no_faults
     → e ≡ error_of kinds.OutOfMemory
 wants_memory (inl wants) = wants.given
 wants_memory (inr failed) = let one = failed.1.0 in absurd (omega arith)

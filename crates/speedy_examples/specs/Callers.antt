@@ -1,4 +1,5 @@
--- Words of the callers' contracts: values that have an encoding, bytes that begin with one, and errors that say nothing of either.
+-- Words of the callers' contracts: values that have an encoding, bytes that begin with one, and errors that say nothing
+-- of either.
 use Rattle.std.specs.Prelude.{◌≡◌, ℕ, ◌-◌, ◌^◌, ◌<◌, List, ◌++◌, length, ◌⊎◌}
 use Rattle.std.specs.declared.io.Error.{Error as StdIoError}
 use Rattle.speedy.specs.Error.{error_of, IsNamed}
@@ -13,7 +14,8 @@ HasEncoding format v = (bytes : List ℕ) × format.spells v bytes × (length by
 
 -- a prefix of the bytes encodes some value
 abbrev pub HasFront : {V : Type 0} → Format V → List ℕ → Type 0
-HasFront {V = V} format bytes = (v : V) × (front : List ℕ) × (rest : List ℕ) × format.spells v front × (bytes ≡ front ++ rest)
+HasFront {V = V} format bytes =
+    (v : V) × (front : List ℕ) × (rest : List ℕ) × format.spells v front × (bytes ≡ front ++ rest)
 
 -- an error of the crate becomes no other one
 abbrev pub itself : Error → Error → Type 0
@@ -25,4 +27,5 @@ IsFailure e = (e ≡ error_of kinds.OutOfMemory) ⊎ ((error : StdIoError) × Is
 
 -- of a kind that the type names, or that says that the bytes ended too soon, or that the values are too many
 abbrev pub IsRefusal : {V : Type 0} → Format V → Error → Type 0
-IsRefusal format e = IsNamed itself format.names e ⊎ (e ≡ error_of kinds.UnexpectedEndOfInput) ⊎ (e ≡ error_of kinds.OutOfRangeLength)
+IsRefusal format e =
+    IsNamed itself format.names e ⊎ (e ≡ error_of kinds.UnexpectedEndOfInput) ⊎ (e ≡ error_of kinds.OutOfRangeLength)

@@ -1,5 +1,6 @@
 //! Values in memory.
-ghost use Rattle.std.specs.Prelude.{◌≡◌, ◌<◌, ◌≤◌, ◌-◌, ◌^◌, ◌++◌, ℕ, List, length as count, map, IsTrue, IfOk, IfErr, IsOkUnless};
+ghost use Rattle.std.specs.Prelude.{◌≡◌, ◌<◌, ◌≤◌, ◌-◌, ◌^◌, ◌++◌, ℕ, List, length as count, map, IsTrue, IfOk, IfErr};
+ghost use Rattle.std.specs.Prelude.{IsOkUnless};
 ghost use Rattle.speedy.specs.Codecs.{vector_codec};
 ghost use Rattle.speedy.specs.Encoding.{plain_encoding, strict_encoding};
 ghost use Rattle.speedy.specs.Error.{error_of};
@@ -57,8 +58,8 @@ pub fn again_in<'a, C: Context + Copy, T: Writable<C> + Readable<'a, C>>(
     T::read_from_buffer_with_ctx(alloc, context, buffer)
 }
 
-/// Writes any value that borrows nothing to a vector, and reads it back from there. If it has an encoding, the only error
-/// is out of memory.
+/// Writes any value that borrows nothing to a vector, and reads it back from there. If it has an encoding, the only
+/// error is out of memory.
 pub fn again_owned<T: Writable<Endianness> + ReadableOwned<Endianness>>(
     alloc: Global,
     order: Endianness,
@@ -85,8 +86,8 @@ pub fn load<L: Buffer<Endianness>, T: ReadFrom<L, Endianness>>(
     bytes.read_front(alloc, order)
 }
 
-/// Reads items one after the other, from any reader, and leaves what comes after them. What was written is read: the only
-/// errors are then out of memory and a failed call of the device.
+/// Reads items one after the other, from any reader, and leaves what comes after them. What was written is read: the
+/// only errors are then out of memory and a failed call of the device.
 pub fn read_slice<L: AsSlice<u8> + Drop, C: Context, R: LendingReader<L, C>, T: ReadMany<L, C>>(
     reader: &mut R,
     length: usize,
@@ -104,8 +105,8 @@ pub fn read_slice<L: AsSlice<u8> + Drop, C: Context, R: LendingReader<L, C>, T: 
     reader.read_vec(length)
 }
 
-/// Reads a value from a prefix of a buffer and writes it again. The context reads only canonical encodings, so these are
-/// the very bytes that were read. If a prefix is one, the only error is out of memory.
+/// Reads a value from a prefix of a buffer and writes it again. The context reads only canonical encodings, so these
+/// are the very bytes that were read. If a prefix is one, the only error is out of memory.
 pub fn again_the_same_bytes(alloc: Global, bytes: &[u8]) -> Result<Vec<u8>, Error>
     ensures same { let it = ⟦<Option<String> as Layout>⟧ in
         let format = it.layout.format (strict_encoding Endianness.LittleEndian) in

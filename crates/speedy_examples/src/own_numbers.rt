@@ -1,4 +1,5 @@
-//! Enums whose tags are numbers of their own, in one byte: one without parts, and one with. Both are proved with no answer.
+//! Enums whose tags are numbers of their own, in one byte: one without parts, and one with. Both are proved with no
+//! answer.
 ghost use Rattle.std.proofs.Common.{inl, inr};
 
 use speedy::cases::Either::{Left, Right};

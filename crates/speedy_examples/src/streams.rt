@@ -17,8 +17,8 @@ use speedy::{Endianness, Error, IsEof, Layout, LendingReader, LittleEndian, Read
 use std::alloc::Global;
 use std::convert::AsSlice;
 
-/// Writes a value to a sink that keeps it in memory, and reads it back from there. If it has an encoding, the only errors
-/// are out of memory and that of a failed push.
+/// Writes a value to a sink that keeps it in memory, and reads it back from there. If it has an encoding, the only
+/// errors are out of memory and that of a failed push.
 pub fn again_through_a_sink(
     alloc: Global,
     order: Endianness,
@@ -74,8 +74,8 @@ pub fn two_messages(alloc: Global, bytes: &[u8]) -> Result<((u16, String), (u16,
     Ok((first, second))
 }
 
-/// Writes two messages to a sink, and reads both back from what it took. If they have encodings, the only errors are out
-/// of memory and that of a failed push.
+/// Writes two messages to a sink, and reads both back from what it took. If they have encodings, the only errors are
+/// out of memory and that of a failed push.
 pub fn two_messages_again(
     alloc: Global,
     first: &(u16, String),
@@ -94,8 +94,8 @@ pub fn two_messages_again(
     two_messages(alloc, sink.bytes())
 }
 
-/// The next message of a reader, or `None` where no byte is left. A clean error means that the bytes begin with no message:
-/// an end within one is an error.
+/// The next message of a reader, or `None` where no byte is left. A clean error means that the bytes begin with no
+/// message: an end within one is an error.
 pub fn next_or_end<L: AsSlice<u8> + Drop, R: LendingReader<L, LittleEndian>>(
     reader: &mut R,
 ) -> Result<Option<(u16, String)>, Error>
@@ -132,8 +132,8 @@ pub fn next_or_end<L: AsSlice<u8> + Drop, R: LendingReader<L, LittleEndian>>(
     }
 }
 
-/// All messages of a source, until it ends. If its bytes are messages and nothing else, the only errors are out of memory
-/// and that of the source.
+/// All messages of a source, until it ends. If its bytes are messages and nothing else, the only errors are out of
+/// memory and that of the source.
 pub fn all_messages<S: Source>(alloc: Global, source: &mut S) -> Result<Vec<(u16, String)>, Error>
     ensures all { let it = ⟦<(u16, String) as Layout>⟧ in
         let format = it.layout.format (plain_encoding Endianness.LittleEndian) in

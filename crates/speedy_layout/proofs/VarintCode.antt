@@ -1,5 +1,6 @@
 -- What the code of `VarInt64` computes is the format `varint`.
-use Rattle.std.proofs.Common.{◌≡◌, ℕ, zero, suc, ◌+◌, ◌-◌, ◌*◌, ◌/◌, ◌%◌, ◌^◌, ◌<◌, ◌≤◌, List, [], ◌∷◌, ◌++◌, length, take, drop, min, inl, inr, lit<, add-one, refl, sym, ap, ap₂, ◌∙◌, subst, arith}
+use Rattle.std.proofs.Common.{◌≡◌, ℕ, zero, suc, ◌+◌, ◌-◌, ◌*◌, ◌/◌, ◌%◌, ◌^◌, ◌<◌, ◌≤◌, List, [], ◌∷◌, ◌++◌, length}
+use Rattle.std.proofs.Common.{take, drop, min, inl, inr, lit<, add-one, refl, sym, ap, ap₂, ◌∙◌, subst, arith}
 use Rattle.std.proofs.Math.Pow.{pow_mono}
 use Rattle.std.proofs.Math.Nat.{pow-suc, one-le-pow, mul-zero}
 use Rattle.std.proofs.lemmas.Bool.{cases_lt}
@@ -9,7 +10,8 @@ use lib.Count.{count_leading_zeros}
 use Rattle.std.proofs.lemmas.List.{take-append-drop, length-take-le, length-append, length-drop}
 use Rattle.speedy_base.specs.declared.endianness.Endianness.TheVariants.{LittleEndian}
 use Rattle.speedy_base.specs.Digits.{SpellsNumber, number, little_number, AreBytes}
-use Rattle.speedy_base.specs.DigitsLemmas.{little_number-append, little_number-from_le_bytes, AreBytes-append_parts, little_number-below}
+use Rattle.speedy_base.specs.DigitsLemmas.{little_number-append, little_number-from_le_bytes, AreBytes-append_parts}
+use Rattle.speedy_base.specs.DigitsLemmas.{little_number-below}
 use Rattle.speedy_base.specs.Encoding.{Encoding}
 use Rattle.speedy_layout.specs.Varint.{IsFirstByte, StartsVarint, HasNoShorter, varint, capacity}
 use Rattle.speedy_layout.proofs.VarintForms.{varint-written}
@@ -49,7 +51,11 @@ no_shorter_from_power k n h j l =
 
 -- the part of a first byte above its low part, as the code computes it
 pub first_byte_is : (k low : ℕ) → k ≤ 8 → low < 2 ^ (7 - k) → IsFirstByte k low ((256 - 256 / 2 ^ k) + low)
-first_byte_is k low l small = record { at_most_eight = l; low_is_below = small; byte_is = ap (λ (i : ℕ). (256 - i) + low) (mark k l) }
+first_byte_is k low l small = record {
+  at_most_eight = l;
+  low_is_below = small;
+  byte_is = ap (λ (i : ℕ). (256 - i) + low) (mark k l);
+}
 
 -- which fits a byte
 pub first_byte_fits : (k low x : ℕ) → IsFirstByte k low x → x < 256
@@ -113,20 +119,26 @@ no_shorter_bytes k n m e l = no_shorter_from_power k n (λ some.
 -- ---- encoding
 
 -- the front of the digits spells the low part of the number
-pub SpellsNumber-front : (k w n : ℕ) (bytes : List ℕ) → k ≤ w → SpellsNumber w LittleEndian n bytes → SpellsNumber k LittleEndian (n % 256 ^ k) (take k bytes)
+pub SpellsNumber-front : (k w n : ℕ) (bytes : List ℕ) → k ≤ w → SpellsNumber w LittleEndian n bytes
+    → SpellsNumber k LittleEndian (n % 256 ^ k) (take k bytes)
 unfolding number
 SpellsNumber-front k w n bytes l h =
     let parts = take-append-drop k bytes in
     let width : length (take k bytes) ≡ k = length-take-le k bytes (let e = h.width_is in omega arith) in
     let each = AreBytes-append_parts (take k bytes) (drop k bytes) (subst AreBytes (sym parts) h.are_bytes) in
-    let low : little_number (take k bytes) < 256 ^ k = subst (λ (i : ℕ). little_number (take k bytes) < 256 ^ i) width (little_number-below (take k bytes) each.0) in
+    let low : little_number (take k bytes) < 256 ^ k =
+    subst (λ (i : ℕ). little_number (take k bytes) < 256 ^ i) width (little_number-below (take k bytes) each.0) in
     let whole : n ≡ little_number (take k bytes) + 256 ^ k * little_number (drop k bytes) =
-    sym h.value_is ∙ (ap little_number (sym parts) ∙ (little_number-append (take k bytes) (drop k bytes) ∙ ap (λ (i : ℕ). little_number (take k bytes) + 256 ^ i * little_number (drop k bytes)) width)) in
+    sym h.value_is
+    ∙ (ap little_number (sym parts) ∙ (little_number-append (take k bytes) (drop k bytes)
+    ∙ ap (λ (i : ℕ). little_number (take k bytes) + 256 ^ i * little_number (drop k bytes)) width)) in
     let turned : n ≡ little_number (drop k bytes) * 256 ^ k + little_number (take k bytes) = omega arith in
     record {
       width_is = width;
       are_bytes = each.0;
-      value_is = sym (ap (λ (i : ℕ). i % 256 ^ k) turned ∙ mod-mul-add (little_number (drop k bytes)) (256 ^ k) (little_number (take k bytes)) low);
+      value_is =
+          sym (ap (λ (i : ℕ). i % 256 ^ k) turned
+          ∙ mod-mul-add (little_number (drop k bytes)) (256 ^ k) (little_number (take k bytes)) low);
     }
 
 -- the low part of the first byte is small enough
@@ -141,14 +153,22 @@ no_low k n l m small =
     let below = low_below k n small in
     omega arith
 
-pub written : (encoding : Encoding) (n k low : ℕ) (bytes items : List ℕ) → k ≤ 8 → n < 2 ^ (7 - k) * 256 ^ k → HasNoShorter k n → low ≡ n / 256 ^ k → SpellsNumber 8 LittleEndian n bytes → items ≡ bytes → (varint encoding).writes n (take (k + 1) (((256 - 256 / 2 ^ k) + low) ∷ items))
+pub written : (encoding : Encoding) (n k low : ℕ) (bytes items : List ℕ) → k ≤ 8 → n < 2 ^ (7 - k) * 256 ^ k
+    → HasNoShorter k n → low ≡ n / 256 ^ k → SpellsNumber 8 LittleEndian n bytes → items ≡ bytes
+    → (varint encoding).writes n (take (k + 1) (((256 - 256 / 2 ^ k) + low) ∷ items))
 written encoding n k low bytes items l small no_shorter low_is digits same =
     let first = (256 - 256 / 2 ^ k) + low in
     let below = subst (λ (i : ℕ). i < 2 ^ (7 - k)) (sym low_is) (low_below k n small) in
-    let whole : take (k + 1) (first ∷ items) ≡ first ∷ take k bytes = ap₂ (λ (i : ℕ) (xs : List ℕ). take i (first ∷ xs)) (add-one k) same in
+    let whole : take (k + 1) (first ∷ items) ≡ first ∷ take k bytes =
+    ap₂ (λ (i : ℕ) (xs : List ℕ). take i (first ∷ xs)) (add-one k) same in
     subst ((varint encoding).writes n) (sym whole)
-    (varint-written encoding k n first (take k bytes) (record { at_most_eight = l; enough = small; no_shorter = no_shorter })
-    (subst (λ (i : ℕ). IsFirstByte k i first) low_is (first_byte_is k low l below)) (SpellsNumber-front k 8 n bytes l digits))
+    (varint-written encoding k n first (take k bytes) (record {
+      at_most_eight = l;
+      enough = small;
+      no_shorter = no_shorter;
+    })
+    (subst (λ (i : ℕ). IsFirstByte k i first) low_is (first_byte_is k low l below))
+    (SpellsNumber-front k 8 n bytes l digits))
 
 -- ---- decoding
 
@@ -168,14 +188,21 @@ zeros_add_nothing (suc (suc (suc (suc (suc (suc (suc (suc zero)))))))) = refl
 zeros_add_nothing (suc (suc (suc (suc (suc (suc (suc (suc (suc k))))))))) = refl
 
 -- digits that are filled up with zeros
-pub SpellsNumber-padded : (n : ℕ) (bytes : List ℕ) → length bytes ≤ 8 → AreBytes bytes → n ≡ from_le_bytes w64 (bytes ++ drop (length bytes) zeros) → SpellsNumber (length bytes) LittleEndian n bytes
+pub SpellsNumber-padded : (n : ℕ) (bytes : List ℕ) → length bytes ≤ 8 → AreBytes bytes
+    → n ≡ from_le_bytes w64 (bytes ++ drop (length bytes) zeros) → SpellsNumber (length bytes) LittleEndian n bytes
 unfolding number
 SpellsNumber-padded n bytes l are e =
     let width : length (bytes ++ drop (length bytes) zeros) ≡ 8 = simp (length-append, length-drop) (omega arith) in
     let none = zeros_add_nothing (length bytes) in
     let sum = little_number-append bytes (drop (length bytes) zeros) in
-    let value : n ≡ little_number (bytes ++ drop (length bytes) zeros) = e ∙ little_number-from_le_bytes w64 (bytes ++ drop (length bytes) zeros) width in
-    record { width_is = refl; are_bytes = are; value_is = let nothing : 256 ^ length bytes * little_number (drop (length bytes) zeros) ≡ 0 = ap (λ (i : ℕ). 256 ^ length bytes * i) none ∙ mul-zero (256 ^ length bytes) in omega arith }
+    let value : n ≡ little_number (bytes ++ drop (length bytes) zeros) =
+    e ∙ little_number-from_le_bytes w64 (bytes ++ drop (length bytes) zeros) width in
+    record {
+      width_is = refl;
+      are_bytes = are;
+      value_is = let nothing : 256 ^ length bytes * little_number (drop (length bytes) zeros) ≡ 0 =
+          ap (λ (i : ℕ). 256 ^ length bytes * i) none ∙ mul-zero (256 ^ length bytes) in omega arith;
+    }
 
 -- the low part, as the code computes it
 pub low_is : (k low x : ℕ) → IsFirstByte k low x → x - (256 - 256 / 2 ^ k) ≡ low
@@ -194,8 +221,10 @@ high_at_eight k low x l h =
     rw zero_low (omega arith)
 
 -- and otherwise the shift loses nothing
-pub high_below_eight : (k low x : ℕ) → k < 8 → IsFirstByte k low x → ((x - (256 - 256 / 2 ^ k)) * 2 ^ (8 * k)) % 2 ^ 64 ≡ low * 256 ^ k
+pub high_below_eight : (k low x : ℕ) → k < 8 → IsFirstByte k low x
+    → ((x - (256 - 256 / 2 ^ k)) * 2 ^ (8 * k)) % 2 ^ 64 ≡ low * 256 ^ k
 high_below_eight k low x l h =
     let up : 2 ^ ((7 - k) + 8 * k) ≤ 2 ^ 64 = pow_mono {i = (7 - k) + 8 * k} {j = 64} (omega arith) in
     ap (λ (i : ℕ). (i * 2 ^ (8 * k)) % 2 ^ 64) (low_is k low x h)
-    ∙ (shl_whole low (7 - k) (8 * k) 64 h.low_is_below (omega arith) ∙ ap (λ (i : ℕ). low * i) (byte_power k h.at_most_eight))
+    ∙ (shl_whole low (7 - k) (8 * k) 64 h.low_is_below (omega arith)
+    ∙ ap (λ (i : ℕ). low * i) (byte_power k h.at_most_eight))

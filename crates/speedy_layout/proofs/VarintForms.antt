@@ -5,18 +5,25 @@ use Rattle.speedy_base.specs.declared.endianness.Endianness.TheVariants.{LittleE
 use Rattle.speedy_base.specs.Digits.{SpellsNumber}
 use Rattle.speedy_base.specs.Encoding.{Encoding}
 use Rattle.speedy_layout.specs.Codes.{coding, Accepts-means}
-use Rattle.speedy_layout.specs.Varint.{IsFirstByte, IsFewest, varint, varint_code, capacity-below_64, prefixed_written, prefixed-is, varint_is_code}
+use Rattle.speedy_layout.specs.Varint.{IsFirstByte, IsFewest, varint, varint_code, capacity-below_64, prefixed_written}
+use Rattle.speedy_layout.specs.Varint.{prefixed-is, varint_is_code}
 
 -- the written form of an integer, where they are the fewest
-pub varint-written : (encoding : Encoding) (k n first : ℕ) (tail : List ℕ) → IsFewest k n → IsFirstByte k (n / 256 ^ k) first
+pub varint-written : (encoding : Encoding) (k n first : ℕ) (tail : List ℕ) → IsFewest k n
+    → IsFirstByte k (n / 256 ^ k) first
     → SpellsNumber k LittleEndian (n % 256 ^ k) tail → (varint encoding).writes n (first ∷ tail)
 unfolding varint coding
-varint-written encoding k n first tail fewest h digits = record { code = ((k, n / 256 ^ k), n % 256 ^ k); code_is = prefixed_written encoding k (n / 256 ^ k) (n % 256 ^ k) first tail h digits; stands = (fewest, refl, refl) }
+varint-written encoding k n first tail fewest h digits = record {
+  code = ((k, n / 256 ^ k), n % 256 ^ k);
+  code_is = prefixed_written encoding k (n / 256 ^ k) (n % 256 ^ k) first tail h digits;
+  stands = (fewest, refl, refl);
+}
 
 -- a number that has a spelling is below 2 ^ 64
 pub varint-below_64 : (encoding : Encoding) (n : ℕ) (bytes : List ℕ) → (varint encoding).spells n bytes → n < 2 ^ 64
 unfolding varint coding
 varint-below_64 encoding n bytes h =
     let is = prefixed-is encoding h.code bytes h.code_is in
-    let means = Accepts-means encoding.strict varint_code h.code n ((varint_is_code encoding).chosen_means h.code n) h.stands in
+    let means =
+    Accepts-means encoding.strict varint_code h.code n ((varint_is_code encoding).chosen_means h.code n) h.stands in
     capacity-below_64 h.code.0.0 n is.first_is.at_most_eight (let l = is.holds in omega arith)

@@ -32,7 +32,8 @@ abbrev pub address : ℕ → Encoding → Format (List ℕ)
 address width = (address_codec width).format
 
 -- octets that are joined in twos and taken apart again
-pub octets_of-segments_of : (k : ℕ) (octets : List ℕ) → length octets ≡ k * 2 → AreBytes octets → octets_of (segments_of octets) ≡ octets
+pub octets_of-segments_of : (k : ℕ) (octets : List ℕ) → length octets ≡ k * 2 → AreBytes octets
+    → octets_of (segments_of octets) ≡ octets
 octets_of-segments_of k [] l h = refl
 octets_of-segments_of k (a ∷ []) l h = absurd (omega arith)
 octets_of-segments_of k (a ∷ b ∷ octets) l h =

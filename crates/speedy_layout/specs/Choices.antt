@@ -1,5 +1,5 @@
--- The cases of an enum: one case, and the cases of a first or of a second group. Where both groups have a tag, the first
--- counts: a value of the second behind it has no encoding.
+-- The cases of an enum: one case, and the cases of a first or of a second group. Where both groups have a tag, the
+-- first counts: a value of the second behind it has no encoding.
 use Rattle.std.specs.Prelude.{◌≡◌, ℕ, ◌⊎◌, List, Bool, true, false, nat_eq, ◌||◌, refl}
 use Rattle.std.proofs.Common.{sym, ◌∙◌, ap, subst, arith, inl, inr}
 use Rattle.std.proofs.lemmas.Bool.Decides.{eqb_tells}

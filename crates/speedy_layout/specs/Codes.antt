@@ -17,13 +17,15 @@ pub record Code (U V : Type 0) : Type 1 where
   pub refusals : ErrorKind → Type 0
 
 -- the bytes are those of a code that stands for the value
-pub record Coded {U V : Type 0} (spelled : U → List ℕ → Type 0) (stands_for : U → V → Type 0) (v : V) (bytes : List ℕ) : Type 0 where
+pub record Coded {U V : Type 0} (spelled : U → List ℕ → Type 0) (stands_for : U → V → Type 0) (v : V)
+    (bytes : List ℕ) : Type 0 where
   pub code : U
   pub code_is : spelled code bytes
   pub stands : stands_for code v
 
 -- a code that is accepted as no value is spelled by a front of the bytes
-pub record MeansNothing {U V : Type 0} (spells : U → List ℕ → Type 0) (means : U → V → Type 0) (bytes : List ℕ) : Type 0 where
+pub record MeansNothing {U V : Type 0} (spells : U → List ℕ → Type 0) (means : U → V → Type 0)
+    (bytes : List ℕ) : Type 0 where
   pub code : U
   pub front : List ℕ
   pub rest : List ℕ
@@ -72,30 +74,35 @@ pub record IsCode {U V : Type 0} (c : Code U V) (F : Format U) : Type 0 where
   -- and it means the value
   pub chosen_means : (u : U) (v : V) → c.chosen u v → c.means u v
   -- one is chosen where the value has a spelling
-  pub has_chosen : (v : V) (bytes : List ℕ) → Coded F.spells c.means v bytes → (b : List ℕ) × Coded F.spells c.chosen v b
+  pub has_chosen : (v : V) (bytes : List ℕ) → Coded F.spells c.means v bytes
+      → (b : List ℕ) × Coded F.spells c.chosen v b
   -- no spelling of the value is shorter than those of the chosen code that are written, where none of a code is
   pub chosen_shortest : ((u : U) (b d : List ℕ) → F.writes u b → F.spells u d → length b ≤ length d)
       → (v : V) (b d : List ℕ) → Coded F.writes c.chosen v b → Coded F.spells c.means v d → length b ≤ length d
   pub refusals_own : (kind : ErrorKind) → c.refusals kind → IsOwnKind kind
 
 -- what is chosen is accepted
-pub Accepts-chosen : {U V : Type 0} (strict : Bool) (c : Code U V) (u : U) (v : V) → (c.chosen u v → c.means u v) → c.chosen u v
+pub Accepts-chosen : {U V : Type 0} (strict : Bool) (c : Code U V) (u : U) (v : V) → (c.chosen u v → c.means u v)
+    → c.chosen u v
     → Accepts strict c u v
 Accepts-chosen false c u v f h = f h
 Accepts-chosen true c u v f h = h
 
 -- what is accepted means the value
-pub Accepts-means : {U V : Type 0} (strict : Bool) (c : Code U V) (u : U) (v : V) → (c.chosen u v → c.means u v) → Accepts strict c u v → c.means u v
+pub Accepts-means : {U V : Type 0} (strict : Bool) (c : Code U V) (u : U) (v : V) → (c.chosen u v → c.means u v)
+    → Accepts strict c u v → c.means u v
 Accepts-means false c u v f h = h
 Accepts-means true c u v f h = f h
 
 -- under a demand it is chosen
-pub Accepts-demanded : {U V : Type 0} (strict : Bool) (c : Code U V) (u : U) (v : V) → IsTrue strict → Accepts strict c u v → c.chosen u v
+pub Accepts-demanded : {U V : Type 0} (strict : Bool) (c : Code U V) (u : U) (v : V) → IsTrue strict
+    → Accepts strict c u v → c.chosen u v
 Accepts-demanded false c u v s h = absurd (cc)
 Accepts-demanded true c u v s h = h
 
 -- what means the value, and is chosen for it under a demand, is accepted as it
-pub Accepts-is : {U V : Type 0} (strict : Bool) (c : Code U V) (u : U) (v : V) → c.means u v → (IsTrue strict → c.chosen u v) → Accepts strict c u v
+pub Accepts-is : {U V : Type 0} (strict : Bool) (c : Code U V) (u : U) (v : V) → c.means u v
+    → (IsTrue strict → c.chosen u v) → Accepts strict c u v
 Accepts-is false c u v h f = h
 Accepts-is true c u v h f = f refl
 
@@ -103,16 +110,29 @@ demand_own : {U V : Type 0} (strict : Bool) (c : Code U V) (kind : ErrorKind) �
 demand_own strict c kind h = subst IsOwnKind (sym h.1) tt
 
 -- the laws of values that are spelled as their codes
-pub coding_laws : {U V : Type 0} (encoding : Encoding) {c : Code U V} {least : ℕ} {F : Format U} → Laws encoding.strict least F → IsCode c F
+pub coding_laws : {U V : Type 0} (encoding : Encoding) {c : Code U V} {least : ℕ} {F : Format U}
+    → Laws encoding.strict least F → IsCode c F
     → Laws encoding.strict least (coding encoding c F)
 unfolding coding
 coding_laws {U = U} {V = V} encoding {c = c} {F = F} laws is = record {
   decodes = λ v w s t r q h k e.
-      let same = laws.decodes h.code k.code s t r q h.code_is k.code_is e in
-      (is.one_meaning k.code v w (subst (λ (u : U). c.means u v) same.0 (means h.code v h.stands)) (means k.code w k.stands), same.1, same.2);
+      let same = laws.decodes h.code k.code s t r q h.code_is k.code_is e in (
+        is.one_meaning k.code v w (subst (λ (u : U). c.means u v) same.0 (means h.code v h.stands))
+            (means k.code w k.stands),
+        same.1,
+        same.2,
+      );
   tells = λ v w s t h k. by_hashed F.asks.hashed refl v w s t (meant v s h) (meant w t k);
-  written_spells = λ v b h. record { code = h.code; code_is = laws.written_spells h.code b h.code_is; stands = Accepts-chosen strict c h.code v (is.chosen_means h.code v) h.stands };
-  written_alone = λ s v b h. record { code = h.code; code_is = laws.written_alone s h.code b h.code_is; stands = Accepts-demanded strict c h.code v s h.stands };
+  written_spells = λ v b h. record {
+    code = h.code;
+    code_is = laws.written_spells h.code b h.code_is;
+    stands = Accepts-chosen strict c h.code v (is.chosen_means h.code v) h.stands;
+  };
+  written_alone = λ s v b h. record {
+    code = h.code;
+    code_is = laws.written_alone s h.code b h.code_is;
+    stands = Accepts-demanded strict c h.code v s h.stands;
+  };
   shortest = λ v b d h k. is.chosen_shortest laws.shortest v b d h (meant v d k);
   least_size = λ v b h. laws.least_size h.code b h.code_is;
   has_written = λ v b h.
@@ -129,7 +149,10 @@ coding_laws {U = U} {V = V} encoding {c = c} {F = F} laws is = record {
             let same = laws.decodes x.code h.code x.front front x.rest rest x.code_is h.code_is (sym x.whole_is) in
             x.nothing v (subst (λ (u : U). Accepts strict c u v) (sym same.0) h.stands)
       ];
-  names_own = λ kind n. elim n [ inl x ↦ laws.names_own kind x | inr x ↦ elim x [ inl y ↦ is.refusals_own kind y | inr y ↦ demand_own strict c kind y ] ];
+  names_own = λ kind n. elim n [
+    | inl x ↦ laws.names_own kind x
+    | inr x ↦ elim x [ inl y ↦ is.refusals_own kind y | inr y ↦ demand_own strict c kind y ]
+  ];
   refuses_own = laws.refuses_own;
 } where
   strict : Bool
@@ -170,13 +193,15 @@ abbrev pub exact_code : {U V : Type 0} → (U → V → Type 0) → (ErrorKind �
 exact_code means refusals = record { means = means; chosen = means; refusals = refusals }
 
 -- a code that means a value is accepted as it under a demand too
-pub Accepts-exact : {U V : Type 0} (strict : Bool) (means : U → V → Type 0) (refusals : ErrorKind → Type 0) (u : U) (v : V) → means u v
+pub Accepts-exact : {U V : Type 0} (strict : Bool) (means : U → V → Type 0) (refusals : ErrorKind → Type 0) (u : U)
+    (v : V) → means u v
     → Accepts strict (exact_code means refusals) u v
 Accepts-exact false means refusals u v h = h
 Accepts-exact true means refusals u v h = h
 
 -- and means it
-pub Accepts-exact_means : {U V : Type 0} (strict : Bool) (means : U → V → Type 0) (refusals : ErrorKind → Type 0) (u : U) (v : V)
+pub Accepts-exact_means : {U V : Type 0} (strict : Bool) (means : U → V → Type 0) (refusals : ErrorKind → Type 0)
+    (u : U) (v : V)
     → Accepts strict (exact_code means refusals) u v → means u v
 Accepts-exact_means false means refusals u v h = h
 Accepts-exact_means true means refusals u v h = h

@@ -1,5 +1,6 @@
 -- Equality that holds exactly where the same is seen.
-use Rattle.std.specs.Prelude.{◌≡◌, ℕ, ◌/◌, ◌%◌, List, [], ◌∷◌, map, Bool, true, false, ◌&&◌, IsTrue, nat_eq, ◌↔◌, ◌⊎◌, get_or, drop, Some, None, Result, Ok, Err, refl}
+use Rattle.std.specs.Prelude.{◌≡◌, ℕ, ◌/◌, ◌%◌, List, [], ◌∷◌, map, Bool, true, false, ◌&&◌, IsTrue, nat_eq, ◌↔◌, ◌⊎◌}
+use Rattle.std.specs.Prelude.{get_or, drop, Some, None, Result, Ok, Err, refl}
 use Rattle.std.proofs.Common.{sym, ◌∙◌, ap, ap₂, subst, arith, inl, inr, true≢false}
 use Rattle.std.specs.Option.{option_map, option_eq, unwrap_or}
 use Rattle.std.specs.Result.{result_map_both, result_eq}
@@ -42,8 +43,10 @@ pub first_part : {U V : Type 0} {b : Bool} {answer : Bool → Bool} {t u : U} {v
     → Tells b t u → TellsAfter answer v w
     → let one : U × V = (t, v) in let other : U × V = (u, w) in Tells (answer b) one other
 first_part {U} {V} {b = b} {answer = answer} part others = (
-  λ h. let both = both_so b answer others.refused h in ap₂ (λ (x : U) (y : V). let r : U × V = (x, y) in r) (part.0 both.0) (others.tells.0 both.1),
-  λ e. subst (λ (a : Bool). IsTrue (answer a)) (sym (part.1 (ap (λ (p : U × V). p.0) e))) (others.tells.1 (ap (λ (p : U × V). p.1) e)),
+  λ h. let both = both_so b answer others.refused h in
+      ap₂ (λ (x : U) (y : V). let r : U × V = (x, y) in r) (part.0 both.0) (others.tells.0 both.1),
+  λ e. subst (λ (a : Bool). IsTrue (answer a)) (sym (part.1 (ap (λ (p : U × V). p.0) e)))
+      (others.tells.1 (ap (λ (p : U × V). p.1) e)),
 )
 
 -- a part between
@@ -57,7 +60,8 @@ next_part part others = record { refused = others.refused; tells = first_part pa
 pub unit_tells : TellsApart (λ (x y : Unit {0}). true) (λ x. x)
 unit_tells x y = (λ h. refl, λ e. refl)
 
-pub order_tells : (eq : Endianness → Endianness → Bool) → IsTrue (eq LittleEndian LittleEndian) → IsTrue (eq BigEndian BigEndian)
+pub order_tells : (eq : Endianness → Endianness → Bool) → IsTrue (eq LittleEndian LittleEndian)
+    → IsTrue (eq BigEndian BigEndian)
     → eq LittleEndian BigEndian ≡ false → eq BigEndian LittleEndian ≡ false → TellsApart eq (λ x. x)
 order_tells eq l b lb bl LittleEndian LittleEndian = (λ h. refl, λ e. l)
 order_tells eq l b lb bl BigEndian BigEndian = (λ h. refl, λ e. b)
@@ -85,7 +89,9 @@ right_or v (inr w) = w
 ok_same : {V W : Type 0} {v w : V} → let one : Result V W = Ok v in let other : Result V W = Ok w in one ≡ other → v ≡ w
 ok_same {V} {v = v} e = ap (λ r. ok_or_this v r) e
 
-err_same : {V W : Type 0} {v w : W} → let one : Result V W = Err v in let other : Result V W = Err w in one ≡ other → v ≡ w
+err_same : {V W : Type 0} {v w : W} → let one : Result V W = Err v in
+    let other : Result V W = Err w in
+    one ≡ other → v ≡ w
 err_same {v = v} e = ap (λ r. err_or_this v r) e
 
 inl_same : {V W : Type 0} {v w : V} → let one : V ⊎ W = inl v in let other : V ⊎ W = inl w in one ≡ other → v ≡ w
@@ -108,10 +114,12 @@ module _ {A V : Type 0} {eq : A → A → Bool} {seen : A → V} (item : TellsAp
   list_tells (x ∷ xs) (y ∷ ys) =
       let both = first_part (item x y) (last_part (list_tells xs ys)) in (
         λ h. ap (λ (p : V × List V). p.0 ∷ p.1) (both.0 h),
-        λ e. both.1 (ap₂ (λ (v : V) (vs : List V). let r : V × List V = (v, vs) in r) (ap (λ vs. get_or vs 0 (seen x)) e) (ap (λ vs. drop 1 vs) e)),
+        λ e. both.1 (ap₂ (λ (v : V) (vs : List V). let r : V × List V = (v, vs) in r)
+            (ap (λ vs. get_or vs 0 (seen x)) e) (ap (λ vs. drop 1 vs) e)),
       )
 
-pub result_tells : {A B V W : Type 0} {eq : A → A → Bool} {eq_err : B → B → Bool} {seen : A → V} {seen_err : B → W} → TellsApart eq seen
+pub result_tells : {A B V W : Type 0} {eq : A → A → Bool} {eq_err : B → B → Bool} {seen : A → V} {seen_err : B → W}
+    → TellsApart eq seen
     → TellsApart eq_err seen_err → TellsApart (result_eq eq eq_err) (result_map_both seen seen_err)
 result_tells item err (Ok x) (Ok y) = (λ h. ap Ok ((item x y).0 h), λ e. (item x y).1 (ok_same e))
 result_tells item err (Ok x) (Err y) = (λ h. absurd (true≢false (sym h)), λ e. absurd (cc))
@@ -132,13 +140,21 @@ one_segments (x ∷ xs) (y ∷ ys) e =
     ap₂ ◌∷◌ same (one_segments xs ys (ap (λ vs. drop 2 vs) e))
 
 pub segments_tell : (xs ys : List ℕ) → Tells (pointwise nat_eq xs ys) (octets_of xs) (octets_of ys)
-segments_tell xs ys = let same = bytes_decides xs ys in (λ h. ap octets_of (same.0 h), λ e. same.1 (one_segments xs ys e))
+segments_tell xs ys =
+    let same = bytes_decides xs ys in
+    (λ h. ap octets_of (same.0 h), λ e. same.1 (one_segments xs ys e))
 
-pub ip_tells : (eq : IpAddr → IpAddr → Bool) → ((a b : Ipv4Addr) → eq (V4 a) (V4 b) ≡ pointwise nat_eq a.octets b.octets)
+pub ip_tells : (eq : IpAddr → IpAddr → Bool)
+    → ((a b : Ipv4Addr) → eq (V4 a) (V4 b) ≡ pointwise nat_eq a.octets b.octets)
     → ((a b : Ipv6Addr) → eq (V6 a) (V6 b) ≡ pointwise nat_eq a.segments b.segments)
-    → ((a : Ipv4Addr) (b : Ipv6Addr) → eq (V4 a) (V6 b) ≡ false) → ((a : Ipv6Addr) (b : Ipv4Addr) → eq (V6 a) (V4 b) ≡ false)
+    → ((a : Ipv4Addr) (b : Ipv6Addr) → eq (V4 a) (V6 b) ≡ false)
+    → ((a : Ipv6Addr) (b : Ipv4Addr) → eq (V6 a) (V4 b) ≡ false)
     → TellsApart eq ip_octets
-ip_tells eq short long s l (V4 a) (V4 b) = let same = bytes_decides a.octets b.octets in (λ h. ap inl (same.0 (sym (short a b) ∙ h)), λ e. short a b ∙ same.1 (inl_same e))
-ip_tells eq short long s l (V6 a) (V6 b) = let same = segments_tell a.segments b.segments in (λ h. ap inr (same.0 (sym (long a b) ∙ h)), λ e. long a b ∙ same.1 (inr_same e))
+ip_tells eq short long s l (V4 a) (V4 b) =
+    let same = bytes_decides a.octets b.octets in
+    (λ h. ap inl (same.0 (sym (short a b) ∙ h)), λ e. short a b ∙ same.1 (inl_same e))
+ip_tells eq short long s l (V6 a) (V6 b) =
+    let same = segments_tell a.segments b.segments in
+    (λ h. ap inr (same.0 (sym (long a b) ∙ h)), λ e. long a b ∙ same.1 (inr_same e))
 ip_tells eq short long s l (V4 a) (V6 b) = (λ h. absurd (true≢false (sym h ∙ s a b)), λ e. absurd (cc))
 ip_tells eq short long s l (V6 a) (V4 b) = (λ h. absurd (true≢false (sym h ∙ l a b)), λ e. absurd (cc))

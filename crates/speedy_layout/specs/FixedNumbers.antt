@@ -19,18 +19,23 @@ spelled_in F order = (F (plain_encoding order)).spells
 pub record IsFixed {V : Type 0} (size : ℕ) (F : Encoding → Format V) : Type 0 where
   pub has_bytes : 0 < size
   pub at_most : size ≤ 16
-  pub spells : (encoding : Encoding) (v : V) (bytes : List ℕ) → (F encoding).spells v bytes → spelled_in F encoding.order v bytes
-  pub writes : (encoding : Encoding) (v : V) (bytes : List ℕ) → spelled_in F encoding.order v bytes → (F encoding).writes v bytes
+  pub spells : (encoding : Encoding) (v : V) (bytes : List ℕ) → (F encoding).spells v bytes
+      → spelled_in F encoding.order v bytes
+  pub writes : (encoding : Encoding) (v : V) (bytes : List ℕ) → spelled_in F encoding.order v bytes
+      → (F encoding).writes v bytes
   pub length_is : (order : Endianness) (v : V) (bytes : List ℕ) → spelled_in F order v bytes → length bytes ≡ size
   -- no bytes are refused but for their number
   pub none_malformed : (encoding : Encoding) (bytes : List ℕ) → (F encoding).malformed bytes → ⊥
 
 -- any bytes of that size spell the number that is decoded of them
 abbrev pub Decodes : {A V : Type 0} → ℕ → (Encoding → Format V) → (A → V) → (Endianness → List ℕ → A) → Type 0
-Decodes size F seen decoded = (order : Endianness) (bytes : List ℕ) → length bytes ≡ size → AreBytes bytes → spelled_in F order (seen (decoded order bytes)) bytes
+Decodes size F seen decoded = (order : Endianness) (bytes : List ℕ) → length bytes ≡ size → AreBytes bytes
+    → spelled_in F order (seen (decoded order bytes)) bytes
 
 -- so many values have so many times their bytes
-pub each_length : {V : Type 0} {size : ℕ} {F : Encoding → Format V} → IsFixed size F → (order : Endianness) (vs : List V) (bytes : List ℕ) → Each (spelled_in F order) vs bytes → length bytes ≡ length vs * size
+pub each_length : {V : Type 0} {size : ℕ} {F : Encoding → Format V} → IsFixed size F
+    → (order : Endianness) (vs : List V) (bytes : List ℕ) → Each (spelled_in F order) vs bytes
+    → length bytes ≡ length vs * size
 each_length fixed order [] bytes h = ap length h ∙ omega arith
 each_length {size = size} fixed order (v ∷ vs) bytes h =
     let one = fixed.length_is order v h.front h.first_is in
@@ -43,7 +48,8 @@ each_length {size = size} fixed order (v ∷ vs) bytes h =
 pub few_bytes : {V : Type 0} {size : ℕ} {F : Encoding → Format V} → IsFixed size F → size < 2 ^ 32
 few_bytes fixed = omega (arith, fixed.at_most)
 
-pub size_of_fixed : {V : Type 0} {size : ℕ} {F : Encoding → Format V} → IsFixed size F → (encoding : Encoding) (v : V) (bytes : List ℕ) → (F encoding).spells v bytes → length bytes ≡ size
+pub size_of_fixed : {V : Type 0} {size : ℕ} {F : Encoding → Format V} → IsFixed size F
+    → (encoding : Encoding) (v : V) (bytes : List ℕ) → (F encoding).spells v bytes → length bytes ≡ size
 size_of_fixed fixed encoding v bytes h = fixed.length_is encoding.order v bytes (fixed.spells encoding v bytes h)
 
 byte_len-at_most : (w : Width) → byte_len w ≤ 16
@@ -81,6 +87,11 @@ signed_fixed w = record {
   none_malformed = λ _ _ h. h;
 }
 
-pub signed_decodes : (w : Width) → Decodes (byte_len w) (signed_number w) (λ (z : ℤ). z) (λ order bytes. cast_signed w (number order bytes))
+pub signed_decodes : (w : Width)
+    → Decodes (byte_len w) (signed_number w) (λ (z : ℤ). z) (λ order bytes. cast_signed w (number order bytes))
 unfolding signed_number
-signed_decodes w order bytes l are = SpellsSigned-cast_signed w order (number order bytes) bytes (record { width_is = l; are_bytes = are; value_is = refl })
+signed_decodes w order bytes l are = SpellsSigned-cast_signed w order (number order bytes) bytes (record {
+  width_is = l;
+  are_bytes = are;
+  value_is = refl;
+})

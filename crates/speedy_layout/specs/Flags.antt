@@ -86,7 +86,8 @@ branch L M false = M
 abbrev pub variant : {U V W : Type 0} → (U → (b : Bool) × Branch V W b) → Format Bool → Format V → Format W → Format U
 variant split tags L M = sequence split tags (either_asks L.asks M.asks) (branch L M)
 
-pub branch_asks : {V W : Type 0} (L : Format V) (M : Format W) (b : Bool) → AsksAtMost (branch L M b).asks (either_asks L.asks M.asks)
+pub branch_asks : {V W : Type 0} (L : Format V) (M : Format W) (b : Bool)
+    → AsksAtMost (branch L M b).asks (either_asks L.asks M.asks)
 branch_asks L M true = asks_left L.asks M.asks
 branch_asks L M false = asks_right L.asks M.asks
 

@@ -17,7 +17,11 @@ asks_nothing = record { lending = false; hashed = false; memory = false }
 
 -- what either of two asks
 abbrev pub either_asks : Asks → Asks → Asks
-either_asks a b = record { lending = a.lending || b.lending; hashed = a.hashed || b.hashed; memory = a.memory || b.memory }
+either_asks a b = record {
+  lending = a.lending || b.lending;
+  hashed = a.hashed || b.hashed;
+  memory = a.memory || b.memory;
+}
 
 -- The format of a type: a whole value is spelled by a whole list of bytes.
 pub record Format (V : Type 0) : Type 1 where
@@ -57,7 +61,8 @@ abbrev pub Each : {V : Type 0} → (V → List ℕ → Type 0) → List V → Li
 Each spells [] bytes = bytes ≡ []
 Each spells (v ∷ vs) bytes = Parts (spells v) (Each spells vs) bytes
 
--- a kind that a type may name: an end of input, a buffer that is too small, want of memory and a device's failure are no type's
+-- a kind that a type may name: an end of input, a buffer that is too small, want of memory and a device's failure are
+-- no type's
 abbrev pub IsOwnKind : ErrorKind → Type 0
 IsOwnKind kinds.UnexpectedEndOfInput = ⊥
 IsOwnKind kinds.UnexpectedEndOfOutputBuffer = ⊥

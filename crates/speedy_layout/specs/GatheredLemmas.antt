@@ -16,10 +16,12 @@ unfolding hashed_items
 items_of_list false encoding L = (refl, refl)
 items_of_list true encoding L = (refl, refl)
 
-module _ {E S : Type 0} (hashed : Bool) (encoding : Encoding) (stands : List E → S → Type 0) (written : List E → Type 0) (L : Format E) where
+module _ {E S : Type 0} (hashed : Bool) (encoding : Encoding) (stands : List E → S → Type 0) (written : List E → Type 0)
+    (L : Format E) where
   -- what is spelled is read from a list that stands for it and that is written, under a demand
   pub gathered_spelled : (s : S) (bytes : List ℕ) → (gathered hashed encoding stands written L).spells s bytes
-      → (items : List E) × (list encoding L).spells items bytes × stands items s × (IsTrue encoding.strict → written items)
+      → (items : List E) × (list encoding L).spells items bytes × stands items s
+      × (IsTrue encoding.strict → written items)
   unfolding coding
   gathered_spelled s bytes h = (
     h.code,
@@ -29,7 +31,8 @@ module _ {E S : Type 0} (hashed : Bool) (encoding : Encoding) (stands : List E �
   )
 
   -- a list that is written of a thing is a written form of it
-  pub gathered_writes : (items : List E) (s : S) (bytes : List ℕ) → (list encoding L).writes items bytes → stands items s → written items
+  pub gathered_writes : (items : List E) (s : S) (bytes : List ℕ) → (list encoding L).writes items bytes
+      → stands items s → written items
       → (gathered hashed encoding stands written L).writes s bytes
   unfolding coding
   gathered_writes items s bytes h k w = record {
@@ -39,21 +42,28 @@ module _ {E S : Type 0} (hashed : Bool) (encoding : Encoding) (stands : List E �
   }
 
 -- each form of a thing that has a spelling has one itself
-pub gathered_form : {E S : Type 0} {hashed : Bool} {stands : List E → S → Type 0} {written : List E → Type 0} {least : ℕ} {L : Format E} (encoding : Encoding)
+pub gathered_form : {E S : Type 0} {hashed : Bool} {stands : List E → S → Type 0} {written : List E → Type 0}
+    {least : ℕ} {L : Format E} (encoding : Encoding)
     → Laws encoding.strict least L → IsGathering hashed stands written
-    → (s : S) (bytes : List ℕ) → (gathered hashed encoding stands written L).spells s bytes → (items : List E) → stands items s
+    → (s : S) (bytes : List ℕ) → (gathered hashed encoding stands written L).spells s bytes → (items : List E)
+    → stands items s
     → written items → (b : List ℕ) × (list encoding L).spells items b
-gathered_form {hashed = hashed} {stands = stands} {written = written} {L = L} encoding laws is s bytes h items stands_for is_written =
+gathered_form {hashed = hashed} {stands = stands} {written = written} {L = L} encoding laws is s bytes h items
+    stands_for is_written =
     let x = gathered_spelled hashed encoding stands written L s bytes h in
-    form_spelled encoding laws is s bytes (record { code = x.0; code_is = x.1; stands = x.2 }) items stands_for is_written
+    form_spelled encoding laws is s bytes (record { code = x.0; code_is = x.1; stands = x.2 }) items
+    stands_for is_written
 
 -- and is written in just as many bytes as the thing
-pub gathered_form_length : {E S : Type 0} {hashed : Bool} {stands : List E → S → Type 0} {written : List E → Type 0} {least : ℕ} {L : Format E} (encoding : Encoding)
+pub gathered_form_length : {E S : Type 0} {hashed : Bool} {stands : List E → S → Type 0} {written : List E → Type 0}
+    {least : ℕ} {L : Format E} (encoding : Encoding)
     → Laws encoding.strict least L → IsGathering hashed stands written
-    → (s : S) (bytes : List ℕ) → (gathered hashed encoding stands written L).writes s bytes → (items : List E) → stands items s
+    → (s : S) (bytes : List ℕ) → (gathered hashed encoding stands written L).writes s bytes → (items : List E)
+    → stands items s
     → written items → (b : List ℕ) × (list encoding L).writes items b × (length b ≡ length bytes)
 unfolding coding
-gathered_form_length {hashed = hashed} {stands = stands} {written = written} {L = L} encoding laws is s bytes h items stands_for is_written =
+gathered_form_length {hashed = hashed} {stands = stands} {written = written} {L = L} encoding laws is s bytes h items
+    stands_for is_written =
     let lists = list_laws encoding laws in
     let x : (list encoding L).writes h.code bytes =
     subst (λ writes. writes h.code bytes) (items_of_list hashed encoding L).1 h.code_is in

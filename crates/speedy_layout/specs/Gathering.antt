@@ -1,4 +1,5 @@
--- What a list of items gathers to, where several lists may stand for one thing, as the lists of pairs that a map is read from.
+-- What a list of items gathers to, where several lists may stand for one thing, as the lists of pairs that a map is
+-- read from.
 use Rattle.std.specs.Prelude.{◌≡◌, ℕ, ◌+◌, ◌≤◌, List, [], ◌∷◌, ◌++◌, length, Bool, true, false, refl}
 use Rattle.std.proofs.Common.{sym, ◌∙◌, ap, subst, inl, inr, arith}
 use Rattle.std.proofs.lemmas.List.{length-append}
@@ -16,7 +17,8 @@ use Rattle.speedy_layout.specs.Members.{IsIn, AreDistinct, IsIn-left, IsIn-right
 
 -- What makes it lawful that lists stand for things, and that some lists are written. A list that stands for a thing and
 -- is written is a form of it.
-pub record IsGathering {E S : Type 0} (hashed : Bool) (stands : List E → S → Type 0) (written : List E → Type 0) : Type 0 where
+pub record IsGathering {E S : Type 0} (hashed : Bool) (stands : List E → S → Type 0)
+    (written : List E → Type 0) : Type 0 where
   -- a list stands for at most one thing
   pub one_thing : (xs : List E) (s t : S) → stands xs s → stands xs t → s ≡ t
   -- no item stands twice in a list that is written
@@ -24,7 +26,8 @@ pub record IsGathering {E S : Type 0} (hashed : Bool) (stands : List E → S →
   -- a form lies inside every list that stands for the same thing
   pub form_inside : (xs ys : List E) (s : S) → written xs → stands xs s → stands ys s → (e : E) → IsIn e xs → IsIn e ys
   -- a thing has one form at most, where it is not hashed
-  pub one_form : hashed ≡ false → (xs ys : List E) (s : S) → written xs → written ys → stands xs s → stands ys s → xs ≡ ys
+  pub one_form : hashed ≡ false → (xs ys : List E) (s : S) → written xs → written ys → stands xs s
+      → stands ys s → xs ≡ ys
   -- and where it is, things are the same whose forms have the same items
   pub one_hashed : hashed ≡ true → (xs ys : List E) (s t : S) → written xs → written ys → stands xs s → stands ys t
       → ((e : E) → IsIn e xs → IsIn e ys) → ((e : E) → IsIn e ys → IsIn e xs) → s ≡ t
@@ -52,7 +55,8 @@ items_of true encoding L = hashed_items (list encoding L)
 abbrev pub gathered : {E S : Type 0} → Bool → Encoding → (List E → S → Type 0) → (List E → Type 0) → Format E → Format S
 gathered hashed encoding stands written L = coding encoding (gathering stands written) (items_of hashed encoding L)
 
-pub hashed_items_laws : {V : Type 0} {strict : Bool} {least : ℕ} {F : Format V} → Laws strict least F → Laws strict least (hashed_items F)
+pub hashed_items_laws : {V : Type 0} {strict : Bool} {least : ℕ} {F : Format V} → Laws strict least F
+    → Laws strict least (hashed_items F)
 unfolding hashed_items
 hashed_items_laws {F = F} laws = Laws-asking (record F.asks { hashed = true }) (λ e. absurd (cc)) (omega arith) laws
 
@@ -74,8 +78,15 @@ record Within {V : Type 0} (spells : V → List ℕ → Type 0) (xs ys : List V)
   count : length xs ≤ length ys
 
 module _ {V : Type 0} (spells : V → List ℕ → Type 0) where
-  take_item : (v : V) (before after : List V) (bytes : List ℕ) → Each spells (before ++ v ∷ after) bytes → Taken spells v (before ++ after) bytes
-  take_item v [] after bytes h = record { item = h.front; item_is = h.first_is; rest = h.back; rest_is = h.second_is; size_is = ap length h.whole_is ∙ length-append h.front h.back }
+  take_item : (v : V) (before after : List V) (bytes : List ℕ) → Each spells (before ++ v ∷ after) bytes
+      → Taken spells v (before ++ after) bytes
+  take_item v [] after bytes h = record {
+    item = h.front;
+    item_is = h.first_is;
+    rest = h.back;
+    rest_is = h.second_is;
+    size_is = ap length h.whole_is ∙ length-append h.front h.back;
+  }
   take_item v (u ∷ before) after bytes h =
       let t = take_item v before after h.back h.second_is in
       let l = ap length h.whole_is ∙ length-append h.front h.back in
@@ -85,12 +96,19 @@ module _ {V : Type 0} (spells : V → List ℕ → Type 0) where
         item = t.item;
         item_is = t.item_is;
         rest = h.front ++ t.rest;
-        rest_is = record { front = h.front; back = t.rest; whole_is = refl; first_is = h.first_is; second_is = t.rest_is };
+        rest_is = record {
+          front = h.front;
+          back = t.rest;
+          whole_is = refl;
+          first_is = h.first_is;
+          second_is = t.rest_is;
+        };
         size_is = omega arith;
       }
 
   -- an item of others that are distinct from v stands beside v
-  beside : (v : V) (xs before after : List V) → (IsIn v xs → ⊥) → (u : V) → IsIn u xs → IsIn u (before ++ v ∷ after) → IsIn u (before ++ after)
+  beside : (v : V) (xs before after : List V) → (IsIn v xs → ⊥) → (u : V) → IsIn u xs → IsIn u (before ++ v ∷ after)
+      → IsIn u (before ++ after)
   beside v xs before after absent u h k =
       elim (IsIn-either u before (v ∷ after) k) [
         | inl x ↦ IsIn-left u before after x
@@ -98,9 +116,15 @@ module _ {V : Type 0} (spells : V → List ℕ → Type 0) where
       ]
 
   -- distinct items that lie inside a list are spelled in no more bytes than the list, and are no more
-  spelled_within : (xs ys : List V) (bytes : List ℕ) → AreDistinct xs → ((v : V) → IsIn v xs → IsIn v ys) → Each spells ys bytes
+  spelled_within : (xs ys : List V) (bytes : List ℕ) → AreDistinct xs → ((v : V) → IsIn v xs → IsIn v ys)
+      → Each spells ys bytes
       → Within spells xs ys bytes
-  spelled_within [] ys bytes d inside h = record { shorter = []; spelled = refl; size = omega arith; count = omega arith }
+  spelled_within [] ys bytes d inside h = record {
+    shorter = [];
+    spelled = refl;
+    size = omega arith;
+    count = omega arith;
+  }
   spelled_within (x ∷ xs) ys bytes d inside h =
       let a = IsIn-around x ys (inside x (inl refl)) in
       let t = take_item x a.before a.after bytes (subst (λ zs. Each spells zs bytes) a.whole_is h) in
@@ -116,7 +140,13 @@ module _ {V : Type 0} (spells : V → List ℕ → Type 0) where
       let q = length-append a.before a.after in
       record {
         shorter = t.item ++ w.shorter;
-        spelled = record { front = t.item; back = w.shorter; whole_is = refl; first_is = t.item_is; second_is = w.spelled };
+        spelled = record {
+          front = t.item;
+          back = w.shorter;
+          whole_is = refl;
+          first_is = t.item_is;
+          second_is = w.spelled;
+        };
         size = omega arith;
         count = omega arith;
       }
@@ -154,13 +184,16 @@ module _ {V : Type 0} {strict : Bool} {least : ℕ} {F : Format V} (laws : Laws 
 -- ---- the laws
 
 module _ {E S : Type 0} {hashed : Bool} {stands : List E → S → Type 0} {written : List E → Type 0}
-    {least : ℕ} {L : Format E} (encoding : Encoding) (laws : Laws encoding.strict least L) (is : IsGathering hashed stands written) where
+    {least : ℕ} {L : Format E} (encoding : Encoding) (laws : Laws encoding.strict least L)
+    (is : IsGathering hashed stands written) where
   -- each form of a thing that is spelled is spelled
-  pub form_spelled : (s : S) (bytes : List ℕ) → Coded (list encoding L).spells stands s bytes → (xs : List E) → stands xs s → written xs
+  pub form_spelled : (s : S) (bytes : List ℕ) → Coded (list encoding L).spells stands s bytes → (xs : List E)
+      → stands xs s → written xs
       → (b : List ℕ) × (list encoding L).spells xs b
   unfolding list sequence unsigned_number vector owned_content repeat
   form_spelled s bytes h xs stands_for is_written =
-      let w = spelled_within L.spells xs h.code h.code_is.back (is.form_distinct xs is_written) (is.form_inside xs h.code s is_written stands_for h.stands) h.code_is.second_is.1 in
+      let w = spelled_within L.spells xs h.code h.code_is.back (is.form_distinct xs is_written)
+      (is.form_inside xs h.code s is_written stands_for h.stands) h.code_is.second_is.1 in
       let below = SpellsNumber-below 4 encoding.order (length h.code) h.code_is.front h.code_is.first_is in
       let fewer = w.count in
       let count = digits encoding.order 4 (length xs) in (
@@ -189,7 +222,8 @@ module _ {E S : Type 0} {hashed : Bool} {stands : List E → S → Type 0} {writ
       → Coded (list encoding L).spells stands s d → length b ≤ length d
   unfolding list sequence unsigned_number vector owned_content repeat
   form_shortest s b d h k =
-      let w = spelled_within L.spells h.code k.code k.code_is.back (is.form_distinct h.code h.stands.1) (is.form_inside h.code k.code s h.stands.1 h.stands.0 k.stands) k.code_is.second_is.1 in
+      let w = spelled_within L.spells h.code k.code k.code_is.back (is.form_distinct h.code h.stands.1)
+      (is.form_inside h.code k.code s h.stands.1 h.stands.0 k.stands) k.code_is.second_is.1 in
       let shortest = each_shortest laws h.code h.code_is.back w.shorter h.code_is.second_is.1 w.spelled in
       let size = w.size in
       let x = h.code_is.first_is.width_is in

@@ -84,7 +84,8 @@ module _ {T A H : Type 0} {seen : T → A} {eq : T → T → Bool} (same_key : T
   )
 
   -- its items in their order are its form
-  pub index_set_items : (s : HashSet T H) → bag.IsUnique eq s → GathersToIndexSet (map seen s.keys) (map seen s.keys) × AreDistinct (map seen s.keys)
+  pub index_set_items : (s : HashSet T H) → bag.IsUnique eq s
+      → GathersToIndexSet (map seen s.keys) (map seen s.keys) × AreDistinct (map seen s.keys)
   index_set_items s h = let d = unique_seen same_key s.keys h in (own_index_set (map seen s.keys) d, d)
 
 -- ---- `IndexMap`
@@ -104,5 +105,8 @@ module _ {K V A B H : Type 0} {seen : K → A} {eq : K → K → Bool} (value : 
 
   -- its entries in their order are its form
   pub index_map_entries : (m : HashMap K V H) → hash.IsUnique eq m
-      → GathersToIndexMap (seen_pairs seen value m.entries) (seen_pairs seen value m.entries) × HasDistinctKeys (seen_pairs seen value m.entries)
-  index_map_entries m h = let d = unique_keys_seen seen value same_key m.entries h in (own_index_map (seen_pairs seen value m.entries) d, d)
+      → GathersToIndexMap (seen_pairs seen value m.entries) (seen_pairs seen value m.entries)
+      × HasDistinctKeys (seen_pairs seen value m.entries)
+  index_map_entries m h =
+      let d = unique_keys_seen seen value same_key m.entries h in
+      (own_index_map (seen_pairs seen value m.entries) d, d)

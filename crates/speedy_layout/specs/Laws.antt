@@ -14,7 +14,8 @@ Decided P = P ⊎ (P → ⊥)
 -- The laws of a format whose spellings have at least so many bytes, under a demand for the written form or none.
 pub record Laws {V : Type 0} (strict : Bool) (least : ℕ) (F : Format V) : Type 0 where
   -- one list of bytes spells at most one value, and no spelling begins another
-  pub decodes : (v w : V) (s t r q : List ℕ) → F.spells v s → F.spells w t → s ++ r ≡ t ++ q → (v ≡ w) × (s ≡ t) × (r ≡ q)
+  pub decodes : (v w : V) (s t r q : List ℕ) → F.spells v s → F.spells w t → s ++ r ≡ t ++ q
+      → (v ≡ w) × (s ≡ t) × (r ≡ q)
   -- whether two values that have spellings are the same is decided
   pub tells : (v w : V) (s t : List ℕ) → F.spells v s → F.spells w t → Decided (v ≡ w)
   -- what is written spells the value
@@ -63,7 +64,8 @@ same_bytes (b ∷ s) (c ∷ t) =
 -- the laws of a plain format whose values have one spelling each
 pub plain_laws : {V : Type 0} {strict : Bool} {least : ℕ} {spells : V → List ℕ → Type 0}
     → ((v w : V) (s t r q : List ℕ) → spells v s → spells w t → s ++ r ≡ t ++ q → (v ≡ w) × (s ≡ t) × (r ≡ q))
-    → ((v : V) (b : List ℕ) → spells v b → least ≤ length b) → ((v : V) (b c : List ℕ) → spells v b → spells v c → b ≡ c)
+    → ((v : V) (b : List ℕ) → spells v b → least ≤ length b)
+    → ((v : V) (b c : List ℕ) → spells v b → spells v c → b ≡ c)
     → Laws strict least (plain_format spells)
 plain_laws {spells = spells} decodes least_size one = record {
   decodes = decodes;
@@ -126,5 +128,6 @@ abbrev pub saturated_size : ℕ → ℕ
 saturated_size n = min n (2 ^ 64 - 1)
 
 -- and it is a least size too
-pub saturated_laws : {V : Type 0} {strict : Bool} {n : ℕ} {F : Format V} → Laws strict n F → Laws strict (saturated_size n) F
+pub saturated_laws : {V : Type 0} {strict : Bool} {n : ℕ} {F : Format V} → Laws strict n F
+    → Laws strict (saturated_size n) F
 saturated_laws {n = n} laws = Laws-less (min-le_left n (2 ^ 64 - 1)) laws

@@ -62,7 +62,8 @@ seconds_and_nanos = seconds_and_nanos_codec.format
 abbrev pub together : ℕ × ℕ → ℕ
 together p = p.0 * 1_000_000_000 + p.1
 
--- they mean the duration of so many nanoseconds, if one can be so long; it is written with less than a second of nanoseconds
+-- they mean the duration of so many nanoseconds, if one can be so long; it is written with less than a second of
+-- nanoseconds
 abbrev pub duration_code : Code (ℕ × ℕ) ℕ
 duration_code = record {
   means = λ p n. (n ≡ together p) × FitsDuration n;
@@ -72,7 +73,12 @@ duration_code = record {
 
 -- a second of nanoseconds is read, and not written
 pub duration_reads_wider : ReadsWider duration_code
-duration_reads_wider = record { code = (0, 1_000_000_000); value = 1_000_000_000; meant = (refl, omega arith); not_chosen = λ h. let less = h.2 in omega arith }
+duration_reads_wider = record {
+  code = (0, 1_000_000_000);
+  value = 1_000_000_000;
+  meant = (refl, omega arith);
+  not_chosen = λ h. let less = h.2 in omega arith;
+}
 
 pair_is : (p q : ℕ × ℕ) → p.0 ≡ q.0 → p.1 ≡ q.1 → p ≡ q
 pair_is p q h k = ap₂ (λ (a b : ℕ). let r : ℕ × ℕ = (a, b) in r) h k

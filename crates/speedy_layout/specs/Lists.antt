@@ -37,7 +37,8 @@ unfoldable pub list : {V : Type 0} → Encoding → Format V → Format (List V)
 list encoding F = counted_list (unsigned_number 4 encoding) F
 
 -- items after others
-pub each_append : {V : Type 0} (spells : V → List ℕ → Type 0) (vs ws : List V) (s t : List ℕ) → Each spells vs s → Each spells ws t → Each spells (vs ++ ws) (s ++ t)
+pub each_append : {V : Type 0} (spells : V → List ℕ → Type 0) (vs ws : List V) (s t : List ℕ) → Each spells vs s
+    → Each spells ws t → Each spells (vs ++ ws) (s ++ t)
 each_append spells [] ws s t h k = subst (λ b. Each spells ws b) (sym (ap (λ x. x ++ t) h)) k
 each_append spells (v ∷ vs) ws s t h k = record {
   front = h.front;
@@ -48,26 +49,37 @@ each_append spells (v ∷ vs) ws s t h k = record {
 }
 
 -- and one item
-pub each_more : {V : Type 0} (spells : V → List ℕ → Type 0) (vs : List V) (v : V) (s t : List ℕ) → Each spells vs s → spells v t → Each spells (vs ++ v ∷ []) (s ++ t)
-each_more spells vs v s t h k = each_append spells vs (v ∷ []) s t h (record { front = t; back = []; whole_is = sym (append-nil t); first_is = k; second_is = refl })
+pub each_more : {V : Type 0} (spells : V → List ℕ → Type 0) (vs : List V) (v : V) (s t : List ℕ) → Each spells vs s
+    → spells v t → Each spells (vs ++ v ∷ []) (s ++ t)
+each_more spells vs v s t h k = each_append spells vs (v ∷ []) s t h (record {
+  front = t;
+  back = [];
+  whole_is = sym (append-nil t);
+  first_is = k;
+  second_is = refl;
+})
 
 -- what is so of each item in one way is so in another
-pub each_as : {V : Type 0} {R S : V → List ℕ → Type 0} → ((v : V) (b : List ℕ) → R v b → S v b) → (vs : List V) (b : List ℕ) → Each R vs b → Each S vs b
+pub each_as : {V : Type 0} {R S : V → List ℕ → Type 0} → ((v : V) (b : List ℕ) → R v b → S v b)
+    → (vs : List V) (b : List ℕ) → Each R vs b → Each S vs b
 each_as f [] b h = h
 each_as f (v ∷ vs) b h = Parts-as (f v) (λ s k. each_as f vs s k) h
 
 module _ {V : Type 0} {strict : Bool} {least : ℕ} {F : Format V} (laws : Laws strict least F) where
   -- lists of one length decode item by item
-  pub each_decodes : (vs ws : List V) (s t r q : List ℕ) → length vs ≡ length ws → Each F.spells vs s → Each F.spells ws t → s ++ r ≡ t ++ q
+  pub each_decodes : (vs ws : List V) (s t r q : List ℕ) → length vs ≡ length ws → Each F.spells vs s
+      → Each F.spells ws t → s ++ r ≡ t ++ q
       → (vs ≡ ws) × (s ≡ t) × (r ≡ q)
   each_decodes [] [] s t r q l h k e = (refl, h ∙ sym k, ap (λ x. x ++ r) (sym h) ∙ (e ∙ ap (λ x. x ++ q) k))
   each_decodes [] (w ∷ ws) s t r q l h k e = absurd (let z : zero ≡ suc (length ws) = l in (cc))
   each_decodes (v ∷ vs) [] s t r q l h k e = absurd (let z : suc (length vs) ≡ zero = l in (cc))
   each_decodes (v ∷ vs) (w ∷ ws) s t r q l h k e =
       let joined = across s t r q h.front h.back k.front k.back h.whole_is k.whole_is e in
-      let first : (v ≡ w) × (h.front ≡ k.front) × (h.back ++ r ≡ k.back ++ q) = laws.decodes v w h.front k.front (h.back ++ r) (k.back ++ q) h.first_is k.first_is joined in
+      let first : (v ≡ w) × (h.front ≡ k.front) × (h.back ++ r ≡ k.back ++ q) =
+      laws.decodes v w h.front k.front (h.back ++ r) (k.back ++ q) h.first_is k.first_is joined in
       let tails : length vs ≡ length ws = omega (arith, l) in
-      let more : (vs ≡ ws) × (h.back ≡ k.back) × (r ≡ q) = each_decodes vs ws h.back k.back r q tails h.second_is k.second_is first.2 in (
+      let more : (vs ≡ ws) × (h.back ≡ k.back) × (r ≡ q) =
+      each_decodes vs ws h.back k.back r q tails h.second_is k.second_is first.2 in (
         let a = first.0 in let b = more.0 in (cc),
         h.whole_is ∙ (let a = first.1 in let b = more.1 in (cc)) ∙ sym k.whole_is,
         more.2,
@@ -112,11 +124,14 @@ module _ {V : Type 0} {strict : Bool} {least : ℕ} {F : Format V} (laws : Laws 
   each_has_written [] b h = ([], refl)
   each_has_written (v ∷ vs) b h =
       let first = laws.has_written v h.front h.first_is in
-      let more = each_has_written vs h.back h.second_is in
-      (first.0 ++ more.0, record { front = first.0; back = more.0; whole_is = refl; first_is = first.1; second_is = more.1 })
+      let more = each_has_written vs h.back h.second_is in (
+        first.0 ++ more.0,
+        record { front = first.0; back = more.0; whole_is = refl; first_is = first.1; second_is = more.1 },
+      )
 
   -- just one, where no item is hashed
-  pub each_one_written : F.asks.hashed ≡ false → (vs : List V) (b c : List ℕ) → Each F.writes vs b → Each F.writes vs c → b ≡ c
+  pub each_one_written : F.asks.hashed ≡ false → (vs : List V) (b c : List ℕ) → Each F.writes vs b
+      → Each F.writes vs c → b ≡ c
   each_one_written u [] b c h k = h ∙ sym k
   each_one_written u (v ∷ vs) b c h k =
       let first = laws.one_written u v h.front k.front h.first_is k.first_is in
@@ -177,6 +192,7 @@ abbrev pub list_codec : {V : Type 0} → Codec V → Codec (List V)
 list_codec item = record { least = 4; format = λ f. list f (item.format f); laws = λ f. list_laws f (item.laws f) }
 
 -- so many items are spelled
-pub vector_length : {V : Type 0} (n : ℕ) (F : Format V) (vs : List V) (bytes : List ℕ) → (vector n F).spells vs bytes → length vs ≡ n
+pub vector_length : {V : Type 0} (n : ℕ) (F : Format V) (vs : List V) (bytes : List ℕ) → (vector n F).spells vs bytes
+    → length vs ≡ n
 unfolding vector owned_content repeat
 vector_length n F vs bytes h = h.0

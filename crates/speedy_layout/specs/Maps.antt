@@ -8,7 +8,8 @@ use Rattle.speedy_layout.specs.Format.{Format, Each}
 use Rattle.speedy_layout.specs.Laws.{Laws, Codec, Decided}
 use Rattle.speedy_layout.specs.Sequences.{sequence}
 use Rattle.speedy_layout.specs.Tuples.{pair, pair_codec}
-use Rattle.speedy_layout.specs.Members.{IsIn, AreDistinct, Ascends, IsLast, InFirstOrder, IsIn-key, IsIn-pair, IsLast-in, IsIn-last, AreDistinct-keys, same_by_keys}
+use Rattle.speedy_layout.specs.Members.{IsIn, AreDistinct, Ascends, IsLast, InFirstOrder, IsIn-key, IsIn-pair}
+use Rattle.speedy_layout.specs.Members.{IsLast-in, IsIn-last, AreDistinct-keys, same_by_keys}
 use Rattle.speedy_layout.specs.Orders.{IsAsymmetric, same_ascending, own_first_order, same_first_order}
 use Rattle.speedy_layout.specs.SeenItems.{AreSeen, less_is_asymmetric}
 use Rattle.speedy_layout.specs.Gathering.{IsGathering, HasForms, gathered, gathered_codec}
@@ -39,9 +40,11 @@ GathersToTreeMap less items es = Ascends (by_key less) es × HasLasts items es
 -- seen of it has no order, so that the same map in another order is the same. Keys in the list that no key is seen as
 -- would be lost.
 abbrev pub GathersToHashMap : {K A V : Type 0} → (K → A) → List (A × V) → (K → Option V) → Type 0
-GathersToHashMap {K = K} {A = A} {V = V} seen items find = AreSeen seen (keys_of items) × ((k : K) (v : V) → (find k ≡ Some v) ↔ IsLast {K = A} {V = V} (seen k, v) items)
+GathersToHashMap {K = K} {A = A} {V = V} seen items find =
+    AreSeen seen (keys_of items) × ((k : K) (v : V) → (find k ≡ Some v) ↔ IsLast {K = A} {V = V} (seen k, v) items)
 
--- A map whose keys stand in the order of their first occurrences: key k has value v exactly if the last pair with k in the list is (k, v).
+-- A map whose keys stand in the order of their first occurrences: key k has value v exactly if the last pair with k in
+-- the list is (k, v).
 abbrev pub GathersToIndexMap : {K V : Type 0} → List (K × V) → List (K × V) → Type 0
 GathersToIndexMap items es = HasDistinctKeys es × HasLasts items es × InFirstOrder (keys_of items) (keys_of es)
 
@@ -53,7 +56,8 @@ tree_map encoding less L M = gathered false encoding (GathersToTreeMap less) (As
 abbrev pub hash_map : {K A V : Type 0} → Encoding → (K → A) → Format A → Format V → Format (K → Option V)
 hash_map encoding seen L M = gathered true encoding (GathersToHashMap seen) HasDistinctKeys (pair L M)
 
--- One whose keys stand in the order of their first occurrences is written in that order, which is told by each key standing once.
+-- One whose keys stand in the order of their first occurrences is written in that order, which is told by each key
+-- standing once.
 abbrev pub index_map : {K V : Type 0} → Encoding → Format K → Format V → Format (List (K × V))
 index_map encoding L M = gathered false encoding GathersToIndexMap HasDistinctKeys (pair L M)
 
@@ -69,7 +73,8 @@ module _ {K V : Type 0} where
   by_key_order order = λ e f. order e.0 f.0
 
   -- and ascend where these do
-  pub Ascends-by_key : (less : K → K → Type 0) (es : List (K × V)) → Ascends less (keys_of es) → Ascends (by_key less) es
+  pub Ascends-by_key : (less : K → K → Type 0) (es : List (K × V)) → Ascends less (keys_of es)
+      → Ascends (by_key less) es
   Ascends-by_key less [] h = tt
   Ascends-by_key less (e ∷ es) h = (λ f s. h.0 f.0 (IsIn-key f es s), Ascends-by_key less es h.1)
 
@@ -83,11 +88,13 @@ module _ {K V : Type 0} where
   )
 
   -- maps of one list have the same pairs
-  HasLasts-inside : (items es fs : List (K × V)) → HasLasts items es → HasLasts items fs → (e : K × V) → IsIn e es → IsIn e fs
+  HasLasts-inside : (items es fs : List (K × V)) → HasLasts items es → HasLasts items fs → (e : K × V)
+      → IsIn e es → IsIn e fs
   HasLasts-inside items es fs h k e s = (k e).1 ((h e).0 s)
 
   -- and the same keys
-  HasLasts-keys : (items es fs : List (K × V)) → HasLasts items es → HasLasts items fs → (k : K) → IsIn k (keys_of es) → IsIn k (keys_of fs)
+  HasLasts-keys : (items es fs : List (K × V)) → HasLasts items es → HasLasts items fs → (k : K) → IsIn k (keys_of es)
+      → IsIn k (keys_of fs)
   HasLasts-keys items es fs h k a s =
       let p = IsIn-pair a es s in
       subst (λ x. IsIn x (keys_of fs)) (sym p.1) (IsIn-key p.0 fs (HasLasts-inside items es fs h k p.0 p.2))
@@ -98,7 +105,8 @@ module _ {K V : Type 0} where
   own_tree_map order es h = (h, own_lasts es (Ascends-distinct_keys order es h))
 
   -- pairs with distinct keys that a list has are the last ones of each list of the same map
-  inside_lasts : (items others es : List (K × V)) → HasDistinctKeys items → HasLasts items es → HasLasts others es → (e : K × V)
+  inside_lasts : (items others es : List (K × V)) → HasDistinctKeys items → HasLasts items es
+      → HasLasts others es → (e : K × V)
       → IsIn e items → IsIn e others
   inside_lasts items others es d h k e s = IsLast-in e others ((k e).0 ((h e).1 (IsIn-last e items d s)))
 
@@ -108,11 +116,13 @@ module _ {K V : Type 0} where
     one_thing = one_map;
     form_distinct = λ items h. AreDistinct-keys items (Ascends-distinct_keys order items h);
     form_inside = λ items others es d h k. inside_lasts items others es (Ascends-distinct_keys order items d) h.1 k.1;
-    one_form = λ _ items others es d e h k. one_map items items es (own_tree_map order items d) h ∙ one_map others es others k (own_tree_map order others e);
+    one_form = λ _ items others es d e h k. one_map items items es (own_tree_map order items d) h
+        ∙ one_map others es others k (own_tree_map order others e);
     one_hashed = λ e. absurd (cc);
   } where
     one_map : (items es fs : List (K × V)) → GathersToTreeMap less items es → GathersToTreeMap less items fs → es ≡ fs
-    one_map items es fs h k = same_ascending (by_key_order order) es fs h.0 k.0 (HasLasts-inside items es fs h.1 k.1) (HasLasts-inside items fs es k.1 h.1)
+    one_map items es fs h k = same_ascending (by_key_order order) es fs h.0 k.0 (HasLasts-inside items es fs h.1 k.1)
+        (HasLasts-inside items fs es k.1 h.1)
 
   -- pairs with distinct keys stand for themselves
   pub own_index_map : (es : List (K × V)) → HasDistinctKeys es → GathersToIndexMap es es
@@ -123,12 +133,14 @@ module _ {K V : Type 0} where
     one_thing = one_map;
     form_distinct = AreDistinct-keys;
     form_inside = λ items others es d h k. inside_lasts items others es d h.1 k.1;
-    one_form = λ _ items others es d e h k. one_map items items es (own_index_map items d) h ∙ one_map others es others k (own_index_map others e);
+    one_form = λ _ items others es d e h k.
+        one_map items items es (own_index_map items d) h ∙ one_map others es others k (own_index_map others e);
     one_hashed = λ e. absurd (cc);
   } where
     one_map : (items es fs : List (K × V)) → GathersToIndexMap items es → GathersToIndexMap items fs → es ≡ fs
     one_map items es fs h k =
-        let same = same_first_order (keys_of items) (keys_of es) (keys_of fs) h.0 k.0 (HasLasts-keys items es fs h.1 k.1) (HasLasts-keys items fs es k.1 h.1) h.2 k.2 in
+        let same = same_first_order (keys_of items) (keys_of es) (keys_of fs) h.0 k.0
+        (HasLasts-keys items es fs h.1 k.1) (HasLasts-keys items fs es k.1 h.1) h.2 k.2 in
         same_by_keys es fs h.0 same (HasLasts-inside items es fs h.1 k.1)
 
 -- ---- hashed ones
@@ -206,7 +218,8 @@ module _ {K A V : Type 0} {seen : K → A} where
 
   pub hash_map_is : IsGathering true (GathersToHashMap {V = V} seen) HasDistinctKeys
   hash_map_is = record {
-    one_thing = λ items f g h k. λ i x. same_option (f x) (g x) (λ v. (λ s. (k.1 x v).1 ((h.1 x v).0 s), λ s. (h.1 x v).1 ((k.1 x v).0 s))) i;
+    one_thing = λ items f g h k.
+        λ i x. same_option (f x) (g x) (λ v. (λ s. (k.1 x v).1 ((h.1 x v).0 s), λ s. (h.1 x v).1 ((k.1 x v).0 s))) i;
     form_distinct = AreDistinct-keys;
     form_inside = λ items others f d h k e s.
         let x = h.0 e.0 (IsIn-key e items s) in

@@ -131,7 +131,8 @@ module _ {K V : Type 0} where
   AreDistinct-keys (f ∷ es) d = (λ h. d.0 (IsIn-key f es h), AreDistinct-keys es d.1)
 
   -- lists of the same pairs with the same distinct keys are the same
-  pub same_by_keys : (es fs : List (K × V)) → AreDistinct (keys_of es) → keys_of es ≡ keys_of fs → ((e : K × V) → IsIn e es → IsIn e fs) → es ≡ fs
+  pub same_by_keys : (es fs : List (K × V)) → AreDistinct (keys_of es) → keys_of es ≡ keys_of fs
+      → ((e : K × V) → IsIn e es → IsIn e fs) → es ≡ fs
   same_by_keys [] [] d same inside = refl
   same_by_keys [] (f ∷ fs) d same inside = absurd (let l = ap length same in omega (arith, l))
   same_by_keys (e ∷ es) [] d same inside = absurd (inside e (inl refl))
@@ -148,7 +149,8 @@ module _ {K V : Type 0} where
       same_by_keys es fs d.1 more
       (λ g h.
       elim (inside g (inr h)) [
-        | inl k ↦ absurd (d.0 (subst (λ x. IsIn x (keys_of es)) (ap (λ (p : K × V). p.0) k ∙ sym first) (IsIn-key g es h)))
+        | inl k ↦
+            absurd (d.0 (subst (λ x. IsIn x (keys_of es)) (ap (λ (p : K × V). p.0) k ∙ sym first) (IsIn-key g es h)))
         | inr k ↦ k
       ])
       in

@@ -32,7 +32,8 @@ same_fronts s t r q l e = (
   sym (drop_at s r (length s) refl) ∙ (ap (drop (length s)) e ∙ drop_at t q (length s) (sym l)),
 )
 
-pub unsigned_number_laws : (width : ℕ) (encoding : Encoding) → Laws encoding.strict width (unsigned_number width encoding)
+pub unsigned_number_laws : (width : ℕ) (encoding : Encoding)
+    → Laws encoding.strict width (unsigned_number width encoding)
 unfolding unsigned_number
 unsigned_number_laws width encoding =
     plain_laws
@@ -43,14 +44,18 @@ unsigned_number_laws width encoding =
     (λ v b c h k. SpellsNumber-same_bytes width encoding.order v b c h k)
 
 -- by the laws of their digits
-pub signed_number_laws : (w : Width) (encoding : Encoding) → Laws encoding.strict (byte_len w) (signed_number w encoding)
+pub signed_number_laws : (w : Width) (encoding : Encoding)
+    → Laws encoding.strict (byte_len w) (signed_number w encoding)
 unfolding signed_number unsigned_number
 signed_number_laws w encoding =
     let laws = unsigned_number_laws (byte_len w) encoding in
     plain_laws
     (λ y z s t r q h k e.
-    let same = laws.decodes (cast_unsigned w y) (cast_unsigned w z) s t r q h.digits k.digits e in
-    (SpellsSigned-same_value w encoding.order y z t (subst (SpellsSigned w encoding.order y) same.1 h) k, same.1, same.2))
+    let same = laws.decodes (cast_unsigned w y) (cast_unsigned w z) s t r q h.digits k.digits e in (
+      SpellsSigned-same_value w encoding.order y z t (subst (SpellsSigned w encoding.order y) same.1 h) k,
+      same.1,
+      same.2,
+    ))
     (λ z b h. laws.least_size (cast_unsigned w z) b h.digits)
     (λ z b c h k. SpellsNumber-same_bytes (byte_len w) encoding.order (cast_unsigned w z) b c h.digits k.digits)
 

@@ -53,11 +53,13 @@ module _ {X : Type 0} where
   -- what stands between others of distinct items stands not before itself
   absent_before : (x : X) (earlier later : List X) → AreDistinct (earlier ++ x ∷ later) → IsIn x earlier → ⊥
   absent_before x [] later d h = h
-  absent_before x (y ∷ earlier) later d (inl e) = d.0 (subst (λ z. IsIn z (earlier ++ x ∷ later)) e (IsIn-middle x earlier later))
+  absent_before x (y ∷ earlier) later d (inl e) =
+      d.0 (subst (λ z. IsIn z (earlier ++ x ∷ later)) e (IsIn-middle x earlier later))
   absent_before x (y ∷ earlier) later d (inr h) = absent_before x earlier later d.1 h
 
   -- of two items of one list either stands before the other, or they stand at one place
-  which_first : (x y : X) (before after front back : List X) → before ++ x ∷ after ≡ front ++ y ∷ back → (x ≡ y) ⊎ (IsIn x front ⊎ IsIn y before)
+  which_first : (x y : X) (before after front back : List X) → before ++ x ∷ after ≡ front ++ y ∷ back
+      → (x ≡ y) ⊎ (IsIn x front ⊎ IsIn y before)
   which_first x y [] after [] back e = inl (cc)
   which_first x y [] after (z ∷ front) back e = inr (inl (inl (cc)))
   which_first x y (z ∷ before) after [] back e = inr (inr (inl (cc)))
@@ -78,7 +80,8 @@ module _ {X : Type 0} where
 
   -- the same after the same beginning
   same_later : (items earlier xs ys : List X) → AreDistinct (earlier ++ xs) → AreDistinct (earlier ++ ys)
-      → ((x : X) → IsIn x (earlier ++ xs) → IsIn x (earlier ++ ys)) → ((x : X) → IsIn x (earlier ++ ys) → IsIn x (earlier ++ xs))
+      → ((x : X) → IsIn x (earlier ++ xs) → IsIn x (earlier ++ ys))
+      → ((x : X) → IsIn x (earlier ++ ys) → IsIn x (earlier ++ xs))
       → InFirstOrder items (earlier ++ xs) → InFirstOrder items (earlier ++ ys) → xs ≡ ys
   same_later items earlier [] [] d e there back h k = refl
   same_later items earlier [] (y ∷ ys) d e there back h k =
@@ -92,7 +95,8 @@ module _ {X : Type 0} where
       (k y (record { before = earlier; after = ys; whole_is = refl }))
       in
       let left : earlier ++ x ∷ xs ≡ (earlier ++ x ∷ []) ++ xs = sym (append_assoc earlier (x ∷ []) xs) in
-      let right : earlier ++ y ∷ ys ≡ (earlier ++ x ∷ []) ++ ys = ap (λ z. earlier ++ z ∷ ys) (sym first) ∙ sym (append_assoc earlier (x ∷ []) ys) in
+      let right : earlier ++ y ∷ ys ≡ (earlier ++ x ∷ []) ++ ys =
+      ap (λ z. earlier ++ z ∷ ys) (sym first) ∙ sym (append_assoc earlier (x ∷ []) ys) in
       let more : xs ≡ ys =
       same_later items (earlier ++ x ∷ []) xs ys (subst AreDistinct left d) (subst AreDistinct right e)
       (λ z s. subst (IsIn z) right (there z (subst (IsIn z) (sym left) s)))

@@ -58,7 +58,8 @@ less_is_asymmetric seen cmp a b h k = h.one_way k.higher k.lower k.higher_is k.l
 -- the equality by such an order tells apart what the keys' own does
 pub cmp_tells_apart : {K S : Type 0} {seen : K → S} {eq : K → K → Bool} (cmp : K → K → Ordering) → TellsApart eq seen
     → ((x y : K) → eq x y ≡ eq_by_cmp cmp x y) → TellsApart (eq_by_cmp cmp) seen
-cmp_tells_apart cmp same_key matches_eq x y = (λ h. (same_key x y).0 (matches_eq x y ∙ h), λ e. sym (matches_eq x y) ∙ (same_key x y).1 e)
+cmp_tells_apart cmp same_key matches_eq x y =
+    (λ h. (same_key x y).0 (matches_eq x y ∙ h), λ e. sym (matches_eq x y) ∙ (same_key x y).1 e)
 
 pub lt_is_less : (r : Ordering) → IsTrue (is_lt r) → r ≡ Less
 lt_is_less Less h = refl

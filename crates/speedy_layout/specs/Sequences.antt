@@ -11,8 +11,10 @@ pub record AsksAtMost (few many : Asks) : Type 0 where
   pub hashed : IsTrue few.hashed → IsTrue many.hashed
   pub memory : IsTrue few.memory → IsTrue many.memory
 
--- a value that is split into two parts: a spelling of the first, then one of the second in the format that the first chooses
-unfoldable pub sequence : {U V : Type 0} {W : U → Type 0} → (V → (u : U) × W u) → Format U → Asks → ((u : U) → Format (W u)) → Format V
+-- a value that is split into two parts: a spelling of the first, then one of the second in the format that the first
+-- chooses
+unfoldable pub sequence : {U V : Type 0} {W : U → Type 0} → (V → (u : U) × W u) → Format U → Asks
+    → ((u : U) → Format (W u)) → Format V
 sequence {U = U} split L asks M = record {
   spells = λ v. Parts (L.spells (split v).0) ((M (split v).0).spells (split v).1);
   writes = λ v. Parts (L.writes (split v).0) ((M (split v).0).writes (split v).1);
@@ -37,10 +39,18 @@ pub asks_nothing_more : {a : Asks} → AsksAtMost asks_nothing a
 asks_nothing_more = record { lending = λ t. absurd (cc); hashed = λ t. absurd (cc); memory = λ t. absurd (cc) }
 
 pub asks_left : (a b : Asks) → AsksAtMost a (either_asks a b)
-asks_left a b = record { lending = or_left a.lending b.lending; hashed = or_left a.hashed b.hashed; memory = or_left a.memory b.memory }
+asks_left a b = record {
+  lending = or_left a.lending b.lending;
+  hashed = or_left a.hashed b.hashed;
+  memory = or_left a.memory b.memory;
+}
 
 pub asks_right : (a b : Asks) → AsksAtMost b (either_asks a b)
-asks_right a b = record { lending = or_right a.lending b.lending; hashed = or_right a.hashed b.hashed; memory = or_right a.memory b.memory }
+asks_right a b = record {
+  lending = or_right a.lending b.lending;
+  hashed = or_right a.hashed b.hashed;
+  memory = or_right a.memory b.memory;
+}
 
 pub asks_memory : {a : Asks} → AsksAtMost a (record a { memory = true })
 asks_memory = record { lending = λ t. t; hashed = λ t. t; memory = λ _. refl }
@@ -49,7 +59,11 @@ pub asks_hashed : {a : Asks} → AsksAtMost a (record a { hashed = true })
 asks_hashed = record { lending = λ t. t; hashed = λ _. refl; memory = λ t. t }
 
 pub asks_after : {a b c : Asks} → AsksAtMost a b → AsksAtMost b c → AsksAtMost a c
-asks_after h k = record { lending = λ t. k.lending (h.lending t); hashed = λ t. k.hashed (h.hashed t); memory = λ t. k.memory (h.memory t) }
+asks_after h k = record {
+  lending = λ t. k.lending (h.lending t);
+  hashed = λ t. k.hashed (h.hashed t);
+  memory = λ t. k.memory (h.memory t);
+}
 
 neither : (a b : Bool) → (a || b) ≡ false → (a ≡ false) × (b ≡ false)
 neither true b h = absurd (cc)
@@ -61,7 +75,8 @@ not_asked false b f h = refl
 
 -- two lists of two parts, each followed by more, joined the other way round
 pub across : (s t r q a b c d : List ℕ) → s ≡ a ++ b → t ≡ c ++ d → s ++ r ≡ t ++ q → a ++ (b ++ r) ≡ c ++ (d ++ q)
-across s t r q a b c d h k e = sym (append_assoc a b r) ∙ (ap (λ x. x ++ r) (sym h) ∙ (e ∙ (ap (λ x. x ++ q) k ∙ append_assoc c d q)))
+across s t r q a b c d h k e =
+    sym (append_assoc a b r) ∙ (ap (λ x. x ++ r) (sym h) ∙ (e ∙ (ap (λ x. x ++ q) k ∙ append_assoc c d q)))
 
 -- two parts, each of them in other words
 pub Parts-as : {P R Q S : List ℕ → Type 0} {b : List ℕ} → ((s : List ℕ) → P s → R s) → ((s : List ℕ) → Q s → S s)
@@ -80,8 +95,11 @@ second_decodes : {U : Type 0} {W : U → Type 0} (M : (u : U) → Format (W u)) 
     → (u : U) → p.0 ≡ u → (w : W u) → (M u).spells w t
     → let whole : (u : U) × W u = (u, w) in (p ≡ whole) × (s ≡ t) × (r ≡ q)
 second_decodes {U = U} {W = W} M strict m more s t r q p h e u same =
-    subst (λ (u : U). (w : W u) → (M u).spells w t → let whole : (u : U) × W u = (u, w) in (p ≡ whole) × (s ≡ t) × (r ≡ q)) same
-    (λ w k. let d = (more p.0).decodes p.1 w s t r q h k e in (ap (λ (x : W p.0). let whole : (u : U) × W u = (p.0, x) in whole) d.0, d.1, d.2))
+    subst
+    (λ (u : U). (w : W u) → (M u).spells w t → let whole : (u : U) × W u = (u, w) in (p ≡ whole) × (s ≡ t) × (r ≡ q))
+    same
+    (λ w k. let d = (more p.0).decodes p.1 w s t r q h k e in
+    (ap (λ (x : W p.0). let whole : (u : U) × W u = (p.0, x) in whole) d.0, d.1, d.2))
 
 -- once the first parts are the same, it is decided whether the second parts are
 second_tells : {U : Type 0} {W : U → Type 0} (M : (u : U) → Format (W u)) (strict : Bool) (m : ℕ)
@@ -97,7 +115,8 @@ second_tells {U = U} {W = W} M strict m more s p h u same =
       | inr n ↦ inr (λ b g l. n (((more p.0).decodes p.1 w b b [] [] g l refl).0))
     ])
 
-module _ {U V : Type 0} {W : U → Type 0} {split : V → (u : U) × W u} {L : Format U} {asks : Asks} {M : (u : U) → Format (W u)} {strict : Bool} {n m : ℕ} where
+module _ {U V : Type 0} {W : U → Type 0} {split : V → (u : U) × W u} {L : Format U} {asks : Asks}
+    {M : (u : U) → Format (W u)} {strict : Bool} {n m : ℕ} where
   -- the laws of two parts, one after the other
   pub sequence_laws : Laws strict n L → ((u : U) → Laws strict m (M u)) → ((u : U) → AsksAtMost (M u).asks asks)
       → ((v w : V) → split v ≡ split w → v ≡ w) → Laws strict (n + m) (sequence split L asks M)
@@ -105,8 +124,10 @@ module _ {U V : Type 0} {W : U → Type 0} {split : V → (u : U) × W u} {L : F
   sequence_laws laws more within injective = record {
     decodes = λ v w s t r q h k e.
         let joined = across s t r q h.front h.back k.front k.back h.whole_is k.whole_is e in
-        let first = laws.decodes (split v).0 (split w).0 h.front k.front (h.back ++ r) (k.back ++ q) h.first_is k.first_is joined in
-        let second = second_decodes M strict m more h.back k.back r q (split v) h.second_is first.2 (split w).0 first.0 (split w).1 k.second_is in
+        let first =
+        laws.decodes (split v).0 (split w).0 h.front k.front (h.back ++ r) (k.back ++ q) h.first_is k.first_is joined in
+        let second = second_decodes M strict m more h.back k.back r q (split v) h.second_is first.2 (split w).0 first.0
+        (split w).1 k.second_is in
         (injective v w second.0, h.whole_is ∙ (let a = first.1 in let b = second.1 in (cc)) ∙ sym k.whole_is, second.2);
     tells = λ v w s t h k.
         elim (laws.tells (split v).0 (split w).0 h.front k.front h.first_is k.first_is) [
@@ -136,20 +157,29 @@ module _ {U V : Type 0} {W : U → Type 0} {split : V → (u : U) × W u} {L : F
         omega arith;
     has_written = λ v b h.
         let first = laws.has_written (split v).0 h.front h.first_is in
-        let second = (more (split v).0).has_written (split v).1 h.back h.second_is in
-        (first.0 ++ second.0, record { front = first.0; back = second.0; whole_is = refl; first_is = first.1; second_is = second.1 });
+        let second = (more (split v).0).has_written (split v).1 h.back h.second_is in (
+          first.0 ++ second.0,
+          record { front = first.0; back = second.0; whole_is = refl; first_is = first.1; second_is = second.1 },
+        );
     one_written = λ u v b c h k.
         let no = neither L.asks.hashed asks.hashed u in
         let first = laws.one_written no.0 (split v).0 h.front k.front h.first_is k.first_is in
-        let second = (more (split v).0).one_written (not_asked (M (split v).0).asks.hashed asks.hashed (within (split v).0).hashed no.1) (split v).1 h.back k.back h.second_is k.second_is in
+        let second = (more (split v).0).one_written
+        (not_asked (M (split v).0).asks.hashed asks.hashed (within (split v).0).hashed no.1) (split v).1 h.back k.back
+        h.second_is k.second_is in
         h.whole_is ∙ (cc) ∙ sym k.whole_is;
     malformed_unspelled = λ v front rest bad k.
-        let joined : front ++ rest ≡ k.front ++ (k.back ++ rest) = ap (λ x. x ++ rest) k.whole_is ∙ append_assoc k.front k.back rest in
+        let joined : front ++ rest ≡ k.front ++ (k.back ++ rest) =
+        ap (λ x. x ++ rest) k.whole_is ∙ append_assoc k.front k.back rest in
         elim bad [
-          | inl h ↦ laws.malformed_unspelled (split v).0 k.front (k.back ++ rest) (subst L.malformed joined h) k.first_is
+          | inl h ↦
+              laws.malformed_unspelled (split v).0 k.front (k.back ++ rest) (subst L.malformed joined h) k.first_is
           | inr h ↦
-              let first = laws.decodes h.0 (split v).0 h.1.front k.front h.1.back (k.back ++ rest) h.1.first_is k.first_is (sym h.1.whole_is ∙ joined) in
-              (more (split v).0).malformed_unspelled (split v).1 k.back rest (subst (λ (x : List ℕ). (M (split v).0).malformed x) first.2 (subst (λ (u : U). (M u).malformed h.1.back) first.0 h.1.second_is)) k.second_is
+              let first = laws.decodes h.0 (split v).0 h.1.front k.front h.1.back (k.back ++ rest) h.1.first_is
+              k.first_is (sym h.1.whole_is ∙ joined) in
+              (more (split v).0).malformed_unspelled (split v).1 k.back rest
+              (subst (λ (x : List ℕ). (M (split v).0).malformed x) first.2
+              (subst (λ (u : U). (M u).malformed h.1.back) first.0 h.1.second_is)) k.second_is
         ];
     names_own = λ kind named.
         elim named [

@@ -35,7 +35,8 @@ tree_set encoding less L = gathered false encoding (GathersToTreeSet less) (Asce
 abbrev pub hash_set : {T A : Type 0} → Encoding → (T → A) → Format A → Format (T → Bool)
 hash_set encoding seen L = gathered true encoding (GathersToHashSet seen) AreDistinct L
 
--- One whose items stand in the order of their first occurrences is written in that order, which is told by each item standing once.
+-- One whose items stand in the order of their first occurrences is written in that order, which is told by each item
+-- standing once.
 abbrev pub index_set : {T : Type 0} → Encoding → Format T → Format (List T)
 index_set encoding L = gathered false encoding GathersToIndexSet AreDistinct L
 
@@ -59,11 +60,13 @@ module _ {T : Type 0} where
     one_thing = one_set;
     form_distinct = Ascends-distinct order;
     form_inside = λ items others xs d h k x s. (k.1 x).0 ((h.1 x).1 s);
-    one_form = λ _ items others xs d e h k. one_set items items xs (own_tree_set less items d) h ∙ one_set others xs others k (own_tree_set less others e);
+    one_form = λ _ items others xs d e h k.
+        one_set items items xs (own_tree_set less items d) h ∙ one_set others xs others k (own_tree_set less others e);
     one_hashed = λ e. absurd (cc);
   } where
     one_set : (items xs ys : List T) → GathersToTreeSet less items xs → GathersToTreeSet less items ys → xs ≡ ys
-    one_set items xs ys h k = same_ascending order xs ys h.0 k.0 (HasItems-inside items xs ys h.1 k.1) (HasItems-inside items ys xs k.1 h.1)
+    one_set items xs ys h k =
+        same_ascending order xs ys h.0 k.0 (HasItems-inside items xs ys h.1 k.1) (HasItems-inside items ys xs k.1 h.1)
 
   -- distinct items stand for themselves
   pub own_index_set : (xs : List T) → AreDistinct xs → GathersToIndexSet xs xs
@@ -74,11 +77,13 @@ module _ {T : Type 0} where
     one_thing = one_set;
     form_distinct = λ items d. d;
     form_inside = λ items others xs d h k x s. (k.1 x).0 ((h.1 x).1 s);
-    one_form = λ _ items others xs d e h k. one_set items items xs (own_index_set items d) h ∙ one_set others xs others k (own_index_set others e);
+    one_form = λ _ items others xs d e h k.
+        one_set items items xs (own_index_set items d) h ∙ one_set others xs others k (own_index_set others e);
     one_hashed = λ e. absurd (cc);
   } where
     one_set : (items xs ys : List T) → GathersToIndexSet items xs → GathersToIndexSet items ys → xs ≡ ys
-    one_set items xs ys h k = same_first_order items xs ys h.0 k.0 (HasItems-inside items xs ys h.1 k.1) (HasItems-inside items ys xs k.1 h.1) h.2 k.2
+    one_set items xs ys h k = same_first_order items xs ys h.0 k.0 (HasItems-inside items xs ys h.1 k.1)
+        (HasItems-inside items ys xs k.1 h.1) h.2 k.2
 
 -- tests that hold of the same are the same
 same_test : (a b : Bool) → (IsTrue a ↔ IsTrue b) → a ≡ b
@@ -115,9 +120,11 @@ once laws (a ∷ xs) bytes h =
 module _ {T A : Type 0} {seen : T → A} where
   pub hash_set_is : IsGathering true (GathersToHashSet seen) AreDistinct
   hash_set_is = record {
-    one_thing = λ items f g h k. λ i x. same_test (f x) (g x) (λ s. (k.1 x).1 ((h.1 x).0 s), λ s. (h.1 x).1 ((k.1 x).0 s)) i;
+    one_thing =
+        λ items f g h k. λ i x. same_test (f x) (g x) (λ s. (k.1 x).1 ((h.1 x).0 s), λ s. (h.1 x).1 ((k.1 x).0 s)) i;
     form_distinct = λ items d. d;
-    form_inside = λ items others f d h k a s. let x = h.0 a s in subst (λ b. IsIn b others) x.1 ((k.1 x.0).0 ((h.1 x.0).1 (subst (λ b. IsIn b items) (sym x.1) s)));
+    form_inside = λ items others f d h k a s. let x = h.0 a s in
+        subst (λ b. IsIn b others) x.1 ((k.1 x.0).0 ((h.1 x.0).1 (subst (λ b. IsIn b items) (sym x.1) s)));
     one_form = λ e. absurd (cc);
     one_hashed = λ _ xs ys f g d e h k there back. λ i x. same_test (f x) (g x)
         (λ s. (k.1 x).1 (there (seen x) ((h.1 x).0 s)), λ s. (h.1 x).1 (back (seen x) ((k.1 x).0 s))) i;

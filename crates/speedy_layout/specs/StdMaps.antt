@@ -18,7 +18,8 @@ use Rattle.speedy_layout.specs.Equality.{TellsApart}
 use Rattle.speedy_layout.specs.Collections.{HasLast, HasLastValues, IsTreeMapOf, IsHashMapOf}
 use Rattle.speedy_layout.specs.SeenItems.{AreSeen, IsLess, less_is_asymmetric, cmp_tells_apart, item_seen}
 use Rattle.speedy_layout.specs.SeenItems.{items_are_seen, differs, unique_seen, sorted_ascend}
-use Rattle.speedy_layout.specs.Maps.{seen_pair, by_key, HasLasts, Ascends-distinct_keys, HasDistinctKeys, own_lasts, own_tree_map, GathersToTreeMap, GathersToHashMap, Ascends-by_key}
+use Rattle.speedy_layout.specs.Maps.{seen_pair, by_key, HasLasts, Ascends-distinct_keys, HasDistinctKeys, own_lasts}
+use Rattle.speedy_layout.specs.Maps.{own_tree_map, GathersToTreeMap, GathersToHashMap, Ascends-by_key}
 
 -- what is seen of pairs
 abbrev pub seen_pairs : {K V A B : Type 0} → (K → A) → (V → B) → List (K × V) → List (A × B)
@@ -62,14 +63,17 @@ module _ {K V A B : Type 0} (seen : K → A) (value : V → B) where
     lookup_seen q w (e ∷ es) d = by (lookup_seen q w es d.1) (eq q e.0) refl where
       by : ((option_map value (lookup (eq q) es) ≡ Some w) ↔ IsIn {X = A × B} (seen q, w) (seen_pairs seen value es))
           → (b : Bool) → eq q e.0 ≡ b
-          → (option_map value (cond b (Some e.1) (lookup (eq q) es)) ≡ Some w) ↔ IsIn {X = A × B} (seen q, w) (seen_pairs seen value (e ∷ es))
+          → (option_map value (cond b (Some e.1) (lookup (eq q) es)) ≡ Some w)
+          ↔ IsIn {X = A × B} (seen q, w) (seen_pairs seen value (e ∷ es))
       by rest true is =
           let same = (same_key q e.0).0 is in (
             λ h. let v : value e.1 ≡ w = cc in inl (λ i. (same i, sym v i)),
             λ h.
                 elim h [
                   | inl s ↦ ap (λ (p : A × B). Some p.1) (sym s)
-                  | inr s ↦ absurd (d.0 (subst (λ a. IsIn a (keys_of (seen_pairs seen value es))) same (IsIn-key (seen q, w) (seen_pairs seen value es) s)))
+                  | inr s ↦
+                      absurd (d.0 (subst (λ a. IsIn a (keys_of (seen_pairs seen value es))) same
+                      (IsIn-key (seen q, w) (seen_pairs seen value es) s)))
                 ],
           )
       by rest false is = (
@@ -170,7 +174,8 @@ module _ {K V A B H : Type 0} {seen : K → A} {eq : K → K → Bool} (value : 
 
   -- its entries in the order of iteration are a form of it
   pub hash_map_entries : (m : HashMap K V H) → hash.IsUnique eq m
-      → GathersToHashMap seen (seen_pairs seen value m.entries) (λ k. option_map value (hash.get eq m k)) × HasDistinctKeys (seen_pairs seen value m.entries)
+      → GathersToHashMap seen (seen_pairs seen value m.entries) (λ k. option_map value (hash.get eq m k))
+      × HasDistinctKeys (seen_pairs seen value m.entries)
   hash_map_entries m h =
       let d = unique_keys_seen seen value same_key m.entries h in
       let own = own_lasts (seen_pairs seen value m.entries) d in (
@@ -190,7 +195,8 @@ module _ {K V A B : Type 0} {seen : K → A} {cmp : K → K → Ordering} {eq : 
     (same_key : TellsApart eq seen) (total : IsTotalOrder cmp) (matches_eq : (x y : K)
     → eq x y ≡ eq_by_cmp cmp x y) where
   -- keys that ascend are seen to ascend
-  pub sorted_pairs_ascend : (es : List (K × V)) → IsStrictlySortedBy cmp (keys_of es) → Ascends (by_key (IsLess seen cmp)) (seen_pairs seen value es)
+  pub sorted_pairs_ascend : (es : List (K × V)) → IsStrictlySortedBy cmp (keys_of es)
+      → Ascends (by_key (IsLess seen cmp)) (seen_pairs seen value es)
   sorted_pairs_ascend es h =
       Ascends-by_key (IsLess seen cmp) (seen_pairs seen value es)
       (subst (λ ks. Ascends (IsLess seen cmp) ks) (sym (keys_seen seen value es))
@@ -209,7 +215,8 @@ module _ {K V A B : Type 0} {seen : K → A} {cmp : K → K → Ordering} {eq : 
 
   -- its entries in their order are its form
   pub tree_map_entries : (m : BTreeMap K V) → tree.IsOrdered cmp m
-      → GathersToTreeMap (IsLess seen cmp) (seen_pairs seen value m.entries) (seen_pairs seen value m.entries) × Ascends (by_key (IsLess seen cmp)) (seen_pairs seen value m.entries)
+      → GathersToTreeMap (IsLess seen cmp) (seen_pairs seen value m.entries) (seen_pairs seen value m.entries)
+      × Ascends (by_key (IsLess seen cmp)) (seen_pairs seen value m.entries)
   tree_map_entries m h =
       let ascends = sorted_pairs_ascend m.entries h in
       (own_tree_map (less_is_asymmetric seen cmp) (seen_pairs seen value m.entries) ascends, ascends)

@@ -1,4 +1,5 @@
--- Bytes and texts. A text is seen as the bytes of its characters in UTF-8, which determine the characters, and are determined by them.
+-- Bytes and texts. A text is seen as the bytes of its characters in UTF-8, which determine the characters, and are
+-- determined by them.
 use Rattle.std.specs.Prelude.{◌≡◌, ℕ, ◌+◌, List, [], ◌∷◌, ◌++◌, length, Bool, true, refl}
 use Rattle.std.proofs.Common.{sym, ◌∙◌, ap, arith}
 use Rattle.std.specs.Str.{IsUtf8}
@@ -30,7 +31,8 @@ IsExpected bytes _ = ⊥
 
 -- just these bytes; others of their number are refused
 unfoldable pub constant_bytes : Encoding → List ℕ → Format (List ℕ)
-constant_bytes encoding constant = coding encoding (exact_code (λ u v. (u ≡ v) × (v ≡ constant)) (IsExpected constant)) (raw_bytes (length constant))
+constant_bytes encoding constant =
+    coding encoding (exact_code (λ u v. (u ≡ v) × (v ≡ constant)) (IsExpected constant)) (raw_bytes (length constant))
 
 -- a text of so many bytes; others are refused
 unfoldable pub text_of_length : Encoding → ℕ → Format (List ℕ)
@@ -42,7 +44,8 @@ text_parts text = (length text, text)
 
 -- a number of bytes, which is spelled as a format of numbers says, and then a text of so many
 abbrev pub counted_text : Encoding → Format ℕ → Format (List ℕ)
-counted_text encoding count = sequence text_parts count (record asks_nothing { memory = true }) (text_of_length encoding)
+counted_text encoding count =
+    sequence text_parts count (record asks_nothing { memory = true }) (text_of_length encoding)
 
 -- README, `{length: u32, bytes: [u8]}`: the number of bytes in four digits, then the UTF-8 bytes
 unfoldable pub text : Encoding → Format (List ℕ)
@@ -52,7 +55,8 @@ pub raw_bytes_laws : {strict : Bool} (n : ℕ) → Laws strict n (raw_bytes n)
 unfolding raw_bytes
 raw_bytes_laws n =
     plain_laws
-    (λ v w s t r q h k e. let same = same_fronts s t r q (h.1 ∙ sym k.1) e in (h.0 ∙ (same.0 ∙ sym k.0), same.0, same.1))
+    (λ v w s t r q h k e. let same = same_fronts s t r q (h.1 ∙ sym k.1) e in
+    (h.0 ∙ (same.0 ∙ sym k.0), same.0, same.1))
     (λ v b h. let l = h.1 in omega arith)
     (λ v b c h k. sym h.0 ∙ k.0)
 
@@ -82,7 +86,8 @@ unfolding text_of_length
 text_of_length_laws encoding n =
     (owned_codec (subset_codec IsUtf8 kinds.InvalidUtf8 tt (raw_bytes_codec n))).laws encoding
 
-pub text_asks : (encoding : Encoding) (n : ℕ) → AsksAtMost (text_of_length encoding n).asks (record asks_nothing { memory = true })
+pub text_asks : (encoding : Encoding) (n : ℕ)
+    → AsksAtMost (text_of_length encoding n).asks (record asks_nothing { memory = true })
 unfolding text_of_length owned_content coding raw_bytes
 text_asks encoding n = asks_same
 
@@ -107,7 +112,13 @@ text_codec = record { least = 4; format = text; laws = text_laws }
 -- bytes are numbers of one digit each
 pub each_byte : (order : Endianness) (bytes : List ℕ) → AreBytes bytes → Each (SpellsNumber 1 order) bytes bytes
 each_byte order [] h = refl
-each_byte order (b ∷ bytes) h = record { front = b ∷ []; back = bytes; whole_is = refl; first_is = SpellsNumber-one_byte order b h.0; second_is = each_byte order bytes h.1 }
+each_byte order (b ∷ bytes) h = record {
+  front = b ∷ [];
+  back = bytes;
+  whole_is = refl;
+  first_is = SpellsNumber-one_byte order b h.0;
+  second_is = each_byte order bytes h.1;
+}
 
 -- and such numbers are the bytes that spell them
 pub each_byte_is : (order : Endianness) (vs bytes : List ℕ) → Each (SpellsNumber 1 order) vs bytes → vs ≡ bytes

@@ -6,7 +6,8 @@ use lib.Utf8.{encode, encodes, scalar, scalars}
 use Rattle.speedy_base.specs.Digits.{AreBytes}
 use Rattle.speedy_base.specs.DigitsLemmas.{AreBytes-append}
 
-either_bytes : (b : Bool) (xs ys : List ℕ) → (b ≡ true → AreBytes xs) → (b ≡ false → AreBytes ys) → AreBytes (cond b xs ys)
+either_bytes : (b : Bool) (xs ys : List ℕ) → (b ≡ true → AreBytes xs) → (b ≡ false → AreBytes ys)
+    → AreBytes (cond b xs ys)
 either_bytes true xs ys f g = f refl
 either_bytes false xs ys f g = g refl
 
@@ -16,7 +17,8 @@ unfolding encode
 AreBytes-encode c h =
     either_bytes (ltb c 128) _ _ (λ e. let l = ltb-true c 128 e in (omega arith, tt)) (λ _.
     either_bytes (ltb c 2048) _ _ (λ e. let l = ltb-true c 2048 e in (omega arith, (omega arith, tt))) (λ _.
-    either_bytes (ltb c 65536) _ _ (λ e. let l = ltb-true c 65536 e in (omega arith, (omega arith, (omega arith, tt)))) (λ _.
+    either_bytes (ltb c 65536) _ _
+    (λ e. let l = ltb-true c 65536 e in (omega arith, (omega arith, (omega arith, tt)))) (λ _.
     (omega arith, (omega arith, (omega arith, (omega arith, tt)))))))
 
 below_last : (c : ℕ) (b x y : Bool) → b ≡ ltb c 55296 → y ≡ ltb c 1114112 → cond b true (x && y) ≡ true → c < 1114112

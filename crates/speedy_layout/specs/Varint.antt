@@ -8,7 +8,8 @@ use Rattle.std.proofs.lemmas.Bool.{cases_lt}
 use Rattle.std.proofs.lemmas.Nat.{div_below, mod_below, mul-le, div-add-mod', same_from_place}
 use Rattle.speedy_base.specs.declared.endianness.Endianness.TheVariants.{LittleEndian}
 use Rattle.speedy_base.specs.Digits.{SpellsNumber, digits}
-use Rattle.speedy_base.specs.DigitsLemmas.{SpellsNumber-below, SpellsNumber-digits, SpellsNumber-one_byte, SpellsNumber-is_one_byte}
+use Rattle.speedy_base.specs.DigitsLemmas.{SpellsNumber-below, SpellsNumber-digits, SpellsNumber-one_byte}
+use Rattle.speedy_base.specs.DigitsLemmas.{SpellsNumber-is_one_byte}
 use Rattle.speedy_base.specs.Encoding.{Encoding}
 use Rattle.speedy_layout.specs.Format.{asks_nothing, Format}
 use Rattle.speedy_layout.specs.Laws.{Laws, Codec, Laws-less}
@@ -17,7 +18,8 @@ use Rattle.speedy_layout.specs.Codes.{Accepts-exact_means, Accepts-is, Accepts-m
 use Rattle.speedy_layout.specs.Numbers.{unsigned_number, unsigned_number_laws, unsigned_codec, WritesSmaller}
 use Rattle.speedy_layout.specs.Sequences.{AsksAtMost, asks_same, sequence, sequence_laws}
 
--- a first byte: so many leading one bits, and a low part below the first zero bit, which is 0 where no bit is left for it
+-- a first byte: so many leading one bits, and a low part below the first zero bit, which is 0 where no bit is left for
+-- it
 pub record IsFirstByte (ones low byte : ℕ) : Type 0 where
   pub at_most_eight : ones ≤ 8
   pub low_is_below : low < 2 ^ (7 - ones)
@@ -134,13 +136,22 @@ pow_above : (k : ℕ) → 0 < 256 ^ k
 pow_above k = one-le-pow k 256 (lit< tt)
 
 one_more : (k n : ℕ) → HasNoShorter k n → 2 ^ (7 * (k + 1)) ≤ n → HasNoShorter (k + 1) n
-one_more k n h m j l = elim (cases_lt j k) [ inl below ↦ h j below | inr above ↦ (let same : k ≡ j = omega arith in subst (λ (i : ℕ). 2 ^ (7 * (i + 1)) ≤ n) same m) ]
+one_more k n h m j l = elim (cases_lt j k) [
+  | inl below ↦ h j below
+  | inr above ↦ (let same : k ≡ j = omega arith in subst (λ (i : ℕ). 2 ^ (7 * (i + 1)) ≤ n) same m)
+]
 
 -- looked for from below
 fewest_from : (left k n : ℕ) → left + k ≡ 8 → HasNoShorter k n → n < 2 ^ 64 → (more : ℕ) × IsFewest more n
 fewest_from zero k n e no_shorter small =
-    let eight : 8 ≡ k = omega arith in
-    (k, record { at_most_eight = omega arith; enough = subst (λ (i : ℕ). n < 2 ^ (7 - i) * 256 ^ i) eight small; no_shorter = no_shorter })
+    let eight : 8 ≡ k = omega arith in (
+      k,
+      record {
+        at_most_eight = omega arith;
+        enough = subst (λ (i : ℕ). n < 2 ^ (7 - i) * 256 ^ i) eight small;
+        no_shorter = no_shorter;
+      },
+    )
 fewest_from (suc left) k n e no_shorter small =
     let bound = capacity k (omega arith) in
     elim (cases_lt n (2 ^ (7 * (k + 1)))) [
@@ -182,7 +193,8 @@ first_byte_is_code =
 abbrev pub first_byte : Codec (ℕ × ℕ)
 first_byte = coding_codec first_byte_code (unsigned_codec 1) (λ _. first_byte_is_code)
 
-pub prefixed_asks : (encoding : Encoding) (p : ℕ × ℕ) → AsksAtMost (unsigned_number p.0 (low_first encoding)).asks asks_nothing
+pub prefixed_asks : (encoding : Encoding) (p : ℕ × ℕ)
+    → AsksAtMost (unsigned_number p.0 (low_first encoding)).asks asks_nothing
 unfolding unsigned_number
 prefixed_asks encoding p = asks_same
 
@@ -212,7 +224,11 @@ prefixed_written encoding k low rest first tail h digits = record {
   front = first ∷ [];
   back = tail;
   whole_is = refl;
-  first_is = record { code = first; code_is = SpellsNumber-one_byte encoding.order first (StartsVarint-byte k first (low, h)); stands = h };
+  first_is = record {
+    code = first;
+    code_is = SpellsNumber-one_byte encoding.order first (StartsVarint-byte k first (low, h));
+    stands = h;
+  };
   second_is = digits;
 }
 
@@ -237,14 +253,17 @@ pub prefixed-is : (encoding : Encoding) (p : (ℕ × ℕ) × ℕ) (bytes : List 
 unfolding sequence coding unsigned_number
 prefixed-is encoding p bytes h =
     let first = h.first_is in
-    let is = Accepts-exact_means encoding.strict (λ (byte : ℕ) (p : ℕ × ℕ). IsFirstByte p.0 p.1 byte) (λ kind. ⊥) first.code p.0 first.stands in
+    let is = Accepts-exact_means encoding.strict (λ (byte : ℕ) (p : ℕ × ℕ). IsFirstByte p.0 p.1 byte) (λ kind. ⊥)
+    first.code p.0 first.stands in
     let small = SpellsNumber-below p.0.0 LittleEndian p.1 h.back h.second_is in
     let low = is.low_is_below in
-    let lows : (p.0.1 + 1) * 256 ^ p.0.0 ≤ 2 ^ (7 - p.0.0) * 256 ^ p.0.0 = mul-le (p.0.1 + 1) (256 ^ p.0.0) (2 ^ (7 - p.0.0)) (256 ^ p.0.0) (omega arith) (omega arith) in
+    let lows : (p.0.1 + 1) * 256 ^ p.0.0 ≤ 2 ^ (7 - p.0.0) * 256 ^ p.0.0 =
+    mul-le (p.0.1 + 1) (256 ^ p.0.0) (2 ^ (7 - p.0.0)) (256 ^ p.0.0) (omega arith) (omega arith) in
     record {
       first = first.code;
       tail = h.back;
-      whole_is = h.whole_is ∙ ap (λ x. x ++ h.back) (SpellsNumber-is_one_byte encoding.order first.code h.front first.code_is);
+      whole_is =
+          h.whole_is ∙ ap (λ x. x ++ h.back) (SpellsNumber-is_one_byte encoding.order first.code h.front first.code_is);
       width_is = h.second_is.width_is;
       first_is = is;
       holds = omega arith;
@@ -270,7 +289,8 @@ varint_is_code encoding = record {
   has_chosen = λ n bytes h.
       let is = prefixed-is encoding h.code bytes h.code_is in
       let below : n < 2 ^ (7 - h.code.0.0) * 256 ^ h.code.0.0 = let e = h.stands in let l = is.holds in omega arith in
-      let f = fewest_from 8 0 n refl (λ j l. absurd (omega arith)) (capacity-below_64 h.code.0.0 n is.first_is.at_most_eight below) in
+      let f = fewest_from 8 0 n refl (λ j l. absurd (omega arith))
+      (capacity-below_64 h.code.0.0 n is.first_is.at_most_eight below) in
       let k = f.0 in
       let low = div_below n (256 ^ k) (2 ^ (7 - k)) (pow_above k) f.1.enough in
       let first = (256 - 2 ^ (8 - k)) + n / 256 ^ k in
@@ -278,7 +298,11 @@ varint_is_code encoding = record {
         first ∷ tail,
         record {
           code = code_of n k;
-          code_is = prefixed-spelled encoding k (n / 256 ^ k) (n % 256 ^ k) first tail (record { at_most_eight = f.1.at_most_eight; low_is_below = low; byte_is = refl })
+          code_is = prefixed-spelled encoding k (n / 256 ^ k) (n % 256 ^ k) first tail (record {
+            at_most_eight = f.1.at_most_eight;
+            low_is_below = low;
+            byte_is = refl;
+          })
               (SpellsNumber-digits k LittleEndian (n % 256 ^ k) (mod_below n (256 ^ k) (pow_above k)));
           stands = (f.1, refl, refl);
         },
@@ -286,7 +310,10 @@ varint_is_code encoding = record {
   chosen_shortest = λ _ n b d h k.
       let own = prefixed-is encoding h.code b ((prefixed_digits.laws encoding).written_spells h.code b h.code_is) in
       let other = prefixed-is encoding k.code d k.code_is in
-      let below : n < 2 ^ (7 - k.code.0.0) * 256 ^ k.code.0.0 = let e = k.stands in let l = other.holds in omega arith in
+      let below : n < 2 ^ (7 - k.code.0.0) * 256 ^ k.code.0.0 =
+      let e = k.stands in
+      let l = other.holds in
+      omega arith in
       let fewest = IsFewest-least h.code.0.0 k.code.0.0 n h.stands.0 below in
       let l : length b ≡ suc (length own.tail) = ap length own.whole_is in
       let m : length d ≡ suc (length other.tail) = ap length other.whole_is in
@@ -344,8 +371,12 @@ pub varint-starts : (encoding : Encoding) (n : ℕ) (bytes : List ℕ) → (vari
     → (first : ℕ) × (tail : List ℕ) × (bytes ≡ first ∷ tail) × StartsVarint (length tail) first
 unfolding varint coding
 varint-starts encoding n bytes h =
-    let is = prefixed-is encoding h.code bytes h.code_is in
-    (is.first, is.tail, is.whole_is, (h.code.0.1, subst (λ (i : ℕ). IsFirstByte i h.code.0.1 is.first) (sym is.width_is) is.first_is))
+    let is = prefixed-is encoding h.code bytes h.code_is in (
+      is.first,
+      is.tail,
+      is.whole_is,
+      (h.code.0.1, subst (λ (i : ℕ). IsFirstByte i h.code.0.1 is.first) (sym is.width_is) is.first_is),
+    )
 
 -- a first byte and its digits are the code that is chosen for the number that they hold, where they are the fewest
 pub varint-chosen : {first : ℕ} {tail : List ℕ} (n : ℕ) → (parts : VarintParts first tail n) → IsFewest (length tail) n
@@ -353,7 +384,8 @@ pub varint-chosen : {first : ℕ} {tail : List ℕ} (n : ℕ) → (parts : Varin
 varint-chosen {tail = tail} n parts fewest =
     let power = 256 ^ length tail in
     let small = SpellsNumber-below (length tail) LittleEndian parts.rest tail parts.tail_is in
-    let same = same_from_place parts.low parts.rest (n / power) (n % power) power small (mod_below n power (pow_above (length tail))) (sym parts.value_is ∙ sym (div-add-mod' n power)) in
+    let same = same_from_place parts.low parts.rest (n / power) (n % power) power small
+    (mod_below n power (pow_above (length tail))) (sym parts.value_is ∙ sym (div-add-mod' n power)) in
     (fewest, same.0, same.1)
 
 -- so they are a spelling of it, under a demand for the written form too
@@ -363,5 +395,6 @@ unfolding varint coding
 varint-accepted encoding n first tail parts fewest = record {
   code = ((length tail, parts.low), parts.rest);
   code_is = prefixed-spelled encoding (length tail) parts.low parts.rest first tail parts.first_is parts.tail_is;
-  stands = Accepts-is encoding.strict varint_code ((length tail, parts.low), parts.rest) n parts.value_is (λ strict. varint-chosen n parts (fewest strict));
+  stands = Accepts-is encoding.strict varint_code ((length tail, parts.low), parts.rest) n parts.value_is
+      (λ strict. varint-chosen n parts (fewest strict));
 }

@@ -43,20 +43,24 @@ pub so_many_items : (n size : ℕ) → 0 < size → n * size / size ≡ n
 so_many_items n size some = mul-div_cancel n some
 
 -- bytes of so many items show so many
-pub length-shown_many : {A : Type 0} (decoded : List ℕ → A) (size n : ℕ) (bytes : List ℕ) → 0 < size → length bytes ≡ n * size
+pub length-shown_many : {A : Type 0} (decoded : List ℕ → A) (size n : ℕ) (bytes : List ℕ) → 0 < size
+    → length bytes ≡ n * size
     → length (shown_items decoded size bytes) ≡ n
-length-shown_many decoded size n bytes some l = length-shown_items decoded size bytes ∙ (ap (λ k. k / size) l ∙ so_many_items n size some)
+length-shown_many decoded size n bytes some l =
+    length-shown_items decoded size bytes ∙ (ap (λ k. k / size) l ∙ so_many_items n size some)
 
 module _ {A V : Type 0} (decoded : List ℕ → A) (size : ℕ)
     (seen : A → V) (spells : V → List ℕ → Type 0)
     (decodes : (b : List ℕ) → length b ≡ size → AreBytes b → spells (seen (decoded b)) b) where
-  each_decoded : (n : ℕ) (bytes : List ℕ) → length bytes ≡ n * size → AreBytes bytes → Each spells (map seen (decode_each decoded size n bytes)) bytes
+  each_decoded : (n : ℕ) (bytes : List ℕ) → length bytes ≡ n * size → AreBytes bytes
+      → Each spells (map seen (decode_each decoded size n bytes)) bytes
   each_decoded zero [] l are = refl
   each_decoded zero (b ∷ bytes) l are = absurd (omega arith)
   each_decoded (suc n) bytes l are =
       let enough : size ≤ length bytes = omega arith in
       let left = length-drop size bytes in
-      let parts = AreBytes-append_parts (take size bytes) (drop size bytes) (subst AreBytes (sym (take-append-drop size bytes)) are) in
+      let parts = AreBytes-append_parts (take size bytes) (drop size bytes)
+      (subst AreBytes (sym (take-append-drop size bytes)) are) in
       record {
         front = take size bytes;
         back = drop size bytes;
@@ -71,32 +75,40 @@ module _ {A V : Type 0} (decoded : List ℕ → A) (size : ℕ)
   unfolding shown_items
   shown_items_spelled n bytes some l are =
       let many : length bytes / size ≡ n = ap (λ k. k / size) l ∙ so_many_items n size some in
-      subst (λ k. Each spells (map seen (decode_each decoded size k bytes)) bytes) (sym many) (each_decoded n bytes l are)
+      subst (λ k. Each spells (map seen (decode_each decoded size k bytes)) bytes) (sym many)
+      (each_decoded n bytes l are)
 
 -- ---- bytes under each order
 
 -- a byte is the same number under each order
-byte_alike : (order : Endianness) (n : ℕ) (bytes : List ℕ) → SpellsNumber 1 LittleEndian n bytes → SpellsNumber 1 order n bytes
+byte_alike : (order : Endianness) (n : ℕ) (bytes : List ℕ) → SpellsNumber 1 LittleEndian n bytes
+    → SpellsNumber 1 order n bytes
 byte_alike order n [] h = let l = h.width_is in absurd (omega arith)
 byte_alike order n (b ∷ bytes) h =
     let is = SpellsNumber-is_one_byte LittleEndian n (b ∷ bytes) h in
     let below : n < 256 = (subst AreBytes is h.are_bytes).0 in
     subst (SpellsNumber 1 order n) (sym is) (SpellsNumber-one_byte order n below)
 
-pub byte_number_alike : (encoding : Encoding) (n : ℕ) (bytes : List ℕ) → (unsigned_number 1 (plain_encoding LittleEndian)).spells n bytes
+pub byte_number_alike : (encoding : Encoding) (n : ℕ) (bytes : List ℕ)
+    → (unsigned_number 1 (plain_encoding LittleEndian)).spells n bytes
     → (unsigned_number 1 encoding).spells n bytes
 unfolding unsigned_number
 byte_number_alike encoding n bytes h = byte_alike encoding.order n bytes h
 
-pub signed_byte_alike : (encoding : Encoding) (z : ℤ) (bytes : List ℕ) → (signed_number w8 (plain_encoding LittleEndian)).spells z bytes
+pub signed_byte_alike : (encoding : Encoding) (z : ℤ) (bytes : List ℕ)
+    → (signed_number w8 (plain_encoding LittleEndian)).spells z bytes
     → (signed_number w8 encoding).spells z bytes
 unfolding signed_number
-signed_byte_alike encoding z bytes h = record { range = h.range; digits = byte_alike encoding.order (cast_unsigned w8 z) bytes h.digits }
+signed_byte_alike encoding z bytes h = record {
+  range = h.range;
+  digits = byte_alike encoding.order (cast_unsigned w8 z) bytes h.digits;
+}
 
 -- ---- for readers of views
 
 -- items of one size have together so many bytes
-pub each_one_size : {V : Type 0} {R : V → List ℕ → Type 0} {size : ℕ} → ((v : V) (bytes : List ℕ) → R v bytes → length bytes ≡ size)
+pub each_one_size : {V : Type 0} {R : V → List ℕ → Type 0} {size : ℕ}
+    → ((v : V) (bytes : List ℕ) → R v bytes → length bytes ≡ size)
     → (vs : List V) (bytes : List ℕ) → Each R vs bytes → length bytes ≡ length vs * size
 each_one_size one [] bytes h = let none = ap length h in omega arith
 each_one_size one (v ∷ vs) bytes h =

@@ -27,8 +27,8 @@ pub struct Case<const TAG: usize, T>(pub T);
 
 /// A value of one of the cases `A`, or of one of the cases `B`.
 ///
-/// An enum of your own has the layout of cases in such a tree, behind a tag: `Prefixed<u32, Either<A, B>>`. Of two cases
-/// with one tag the first counts: a value of the second has no encoding.
+/// An enum of your own has the layout of cases in such a tree, behind a tag: `Prefixed<u32, Either<A, B>>`. Of two
+/// cases with one tag the first counts: a value of the second has no encoding.
 #[derive(Debug, PartialEq, Drop)]
 pub enum Either<A, B> {
     Left(A),

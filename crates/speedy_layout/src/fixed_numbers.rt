@@ -3,7 +3,8 @@ ghost use Rattle.std.specs.Prelude.{◌≡◌, ◌*◌, ◌++◌, ℕ, List, len
 ghost use Rattle.std.specs.Int.{w8, w16, w32, w64, w128, cast_signed};
 ghost use Rattle.speedy_base.specs.declared.endianness.Endianness.{Endianness as Order};
 ghost use Rattle.speedy_base.specs.Digits.{AreBytes, number};
-ghost use Rattle.speedy_layout.specs.FixedNumbers.{spelled_in, IsFixed, Decodes, unsigned_fixed, unsigned_decodes, signed_fixed, signed_decodes};
+ghost use Rattle.speedy_layout.specs.FixedNumbers.{spelled_in, IsFixed, Decodes, unsigned_fixed, unsigned_decodes};
+ghost use Rattle.speedy_layout.specs.FixedNumbers.{signed_fixed, signed_decodes};
 ghost use Rattle.speedy_layout.specs.Format.{Each};
 
 use crate::layout::Layout;

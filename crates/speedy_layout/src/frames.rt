@@ -7,8 +7,8 @@ use crate::prefixed::Told;
 /// The message of a protocol: a value behind the number of its bytes, which it fills.
 ///
 /// `Prefixed<u16, Framed<T>>` is the number of bytes of the value's encoding as a `u16`, and then that encoding. Bytes
-/// that the value does not fill, or that are too few for it, are the error `OutOfRangeLength`. A frame that is cut is an
-/// end of input.
+/// that the value does not fill, or that are too few for it, are the error `OutOfRangeLength`. A frame that is cut is
+/// an end of input.
 #[derive(Debug, PartialEq, Drop)]
 pub struct Framed<T>(pub T);
 

@@ -1,7 +1,8 @@
 //! The layout of numbers that are not 0.
 ghost use Rattle.std.specs.Prelude.{ℕ, ℤ};
 ghost use Rattle.std.specs.Int.{w8, w16, w32, w64};
-ghost use Rattle.std.specs.Int.NonZero.{non_zero_u8_get, non_zero_u16_get, non_zero_u32_get, non_zero_u64_get, non_zero_i8_get, non_zero_i16_get, non_zero_i32_get, non_zero_i64_get};
+ghost use Rattle.std.specs.Int.NonZero.{non_zero_u8_get, non_zero_u16_get, non_zero_u32_get, non_zero_u64_get};
+ghost use Rattle.std.specs.Int.NonZero.{non_zero_i8_get, non_zero_i16_get, non_zero_i32_get, non_zero_i64_get};
 ghost use Rattle.speedy_layout.specs.Codecs.{non_zero_codec, signed_non_zero_codec};
 
 use crate::layout::Layout;

@@ -82,7 +82,8 @@ impl<
 > Layout for (T0, T1, T2, T3, T4, T5, T6, T7) {
     ghost Seen = { ⟦<(T0, (T1, T2, T3, T4, T5, T6, T7)) as Layout>⟧.Seen };
 
-    ghost seen = { λ t. ⟦<(T0, (T1, T2, T3, T4, T5, T6, T7)) as Layout>⟧.seen (t.0, (t.1, t.2, t.3, t.4, t.5, t.6, t.7)) };
+    ghost seen = { λ t.
+        ⟦<(T0, (T1, T2, T3, T4, T5, T6, T7)) as Layout>⟧.seen (t.0, (t.1, t.2, t.3, t.4, t.5, t.6, t.7)) };
 
     ghost layout = { ⟦<(T0, (T1, T2, T3, T4, T5, T6, T7)) as Layout>⟧.layout };
 }
@@ -100,7 +101,8 @@ impl<
 > Layout for (T0, T1, T2, T3, T4, T5, T6, T7, T8) {
     ghost Seen = { ⟦<(T0, (T1, T2, T3, T4, T5, T6, T7, T8)) as Layout>⟧.Seen };
 
-    ghost seen = { λ t. ⟦<(T0, (T1, T2, T3, T4, T5, T6, T7, T8)) as Layout>⟧.seen (t.0, (t.1, t.2, t.3, t.4, t.5, t.6, t.7, t.8)) };
+    ghost seen = { λ t.
+        ⟦<(T0, (T1, T2, T3, T4, T5, T6, T7, T8)) as Layout>⟧.seen (t.0, (t.1, t.2, t.3, t.4, t.5, t.6, t.7, t.8)) };
 
     ghost layout = { ⟦<(T0, (T1, T2, T3, T4, T5, T6, T7, T8)) as Layout>⟧.layout };
 }
@@ -119,7 +121,8 @@ impl<
 > Layout for (T0, T1, T2, T3, T4, T5, T6, T7, T8, T9) {
     ghost Seen = { ⟦<(T0, (T1, T2, T3, T4, T5, T6, T7, T8, T9)) as Layout>⟧.Seen };
 
-    ghost seen = { λ t. ⟦<(T0, (T1, T2, T3, T4, T5, T6, T7, T8, T9)) as Layout>⟧.seen (t.0, (t.1, t.2, t.3, t.4, t.5, t.6, t.7, t.8, t.9)) };
+    ghost seen = { λ t. ⟦<(T0, (T1, T2, T3, T4, T5, T6, T7, T8, T9)) as Layout>⟧.seen
+        (t.0, (t.1, t.2, t.3, t.4, t.5, t.6, t.7, t.8, t.9)) };
 
     ghost layout = { ⟦<(T0, (T1, T2, T3, T4, T5, T6, T7, T8, T9)) as Layout>⟧.layout };
 }
@@ -139,7 +142,8 @@ impl<
 > Layout for (T0, T1, T2, T3, T4, T5, T6, T7, T8, T9, T10) {
     ghost Seen = { ⟦<(T0, (T1, T2, T3, T4, T5, T6, T7, T8, T9, T10)) as Layout>⟧.Seen };
 
-    ghost seen = { λ t. ⟦<(T0, (T1, T2, T3, T4, T5, T6, T7, T8, T9, T10)) as Layout>⟧.seen (t.0, (t.1, t.2, t.3, t.4, t.5, t.6, t.7, t.8, t.9, t.10)) };
+    ghost seen = { λ t. ⟦<(T0, (T1, T2, T3, T4, T5, T6, T7, T8, T9, T10)) as Layout>⟧.seen
+        (t.0, (t.1, t.2, t.3, t.4, t.5, t.6, t.7, t.8, t.9, t.10)) };
 
     ghost layout = { ⟦<(T0, (T1, T2, T3, T4, T5, T6, T7, T8, T9, T10)) as Layout>⟧.layout };
 }

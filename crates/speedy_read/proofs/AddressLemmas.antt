@@ -11,6 +11,7 @@ pub ip_address_composes : (encoding : Encoding)
     → Composes (address_tag.format encoding) (branch (address 16 encoding) (address 4 encoding)) (ip_address encoding)
     ip_join
 ip_address_composes encoding = variant_composes ip_parts back where
-  back : (b : Bool) (w : Branch (List ℕ) (List ℕ) b) → let whole : (b : Bool) × Branch (List ℕ) (List ℕ) b = (b, w) in ip_parts (ip_join b w) ≡ whole
+  back : (b : Bool) (w : Branch (List ℕ) (List ℕ) b) → let whole : (b : Bool) × Branch (List ℕ) (List ℕ) b = (b, w) in
+      ip_parts (ip_join b w) ≡ whole
   back true w = refl
   back false w = refl

@@ -17,7 +17,8 @@ use Rattle.speedy_read.specs.Reading.{ReaderState, Reads}
 use Rattle.speedy_read.proofs.ChunkLemmas.{each_stands, each_sized}
 
 -- the bytes of one array more are taken
-pub one_taken : (width i n rest left : ℕ) → rest + i * width ≡ n * width → left + width ≡ rest → left + (i + 1) * width ≡ n * width
+pub one_taken : (width i n rest left : ℕ) → rest + i * width ≡ n * width → left + width ≡ rest
+    → left + (i + 1) * width ≡ n * width
 one_taken width i n rest left is cut =
     let next : i + 1 ≡ suc i = omega arith in
     let turned : suc i * width ≡ width + i * width = omega arith in
@@ -25,39 +26,52 @@ one_taken width i n rest left is cut =
     omega (arith, same, turned, is, cut)
 
 -- they lie behind those before
-pub taken_behind : (digits done rest some more : List ℕ) (width : ℕ) → digits ≡ done ++ rest → some ≡ take width rest → more ≡ drop width rest → digits ≡ (done ++ some) ++ more
+pub taken_behind : (digits done rest some more : List ℕ) (width : ℕ) → digits ≡ done ++ rest → some ≡ take width rest
+    → more ≡ drop width rest → digits ≡ (done ++ some) ++ more
 taken_behind digits done rest some more width is front back =
     is ∙ (ap (λ b. done ++ b) (sym (take-append-drop width rest) ∙ (cc)) ∙ sym (append_assoc done some more))
 
-module _ {V : Type 0} {F : Encoding → Format V} {least width : ℕ} (laws : (encoding : Encoding) → Laws encoding.strict least (F encoding)) (fixed : IsFixed width F) (m : ℕ) where
+module _ {V : Type 0} {F : Encoding → Format V} {least width : ℕ}
+    (laws : (encoding : Encoding) → Laws encoding.strict least (F encoding)) (fixed : IsFixed width F) (m : ℕ) where
   -- what spells arrays in the order of an encoding spells them in it
-  arrays_stand : (encoding : Encoding) {order : Endianness} → order ≡ encoding.order → (vss : List (List V)) (bytes : List ℕ)
+  arrays_stand : (encoding : Encoding) {order : Endianness} → order ≡ encoding.order
+      → (vss : List (List V)) (bytes : List ℕ)
       → Each (spelled_in (λ e. vector m (F e)) order) vss bytes → Each (vector m (F encoding)).spells vss bytes
   unfolding vector owned_content repeat
-  arrays_stand encoding same = each_as (λ vs b h. (h.0, each_stands laws fixed encoding vs b (subst (λ (o : Endianness). Each (spelled_in F o) vs b) same h.1)))
+  arrays_stand encoding same = each_as (λ vs b h. (
+    h.0,
+    each_stands laws fixed encoding vs b (subst (λ (o : Endianness). Each (spelled_in F o) vs b) same h.1),
+  ))
 
   -- arrays that the bytes spell which were read
-  pub arrays_read : {E : Type 0} {gives : Error → E → Type 0} {eof : E → Bool} {A B : Type 0} {shown : A → List ℕ} {seen : B → List (List V)} {x : A} {y : B} {old new : ReaderState}
-      (encoding : Encoding) {order : Endianness} (n size : ℕ) → order ≡ encoding.order → length (seen y) ≡ n → Each (spelled_in (λ e. vector m (F e)) order) (seen y) (shown x)
-      → Reads gives eof shown (raw_bytes size) (Ok x) old new → Reads gives eof seen (vector n (vector m (F encoding))) (Ok y) old new
+  pub arrays_read : {E : Type 0} {gives : Error → E → Type 0} {eof : E → Bool} {A B : Type 0} {shown : A → List ℕ}
+      {seen : B → List (List V)} {x : A} {y : B} {old new : ReaderState}
+      (encoding : Encoding) {order : Endianness} (n size : ℕ) → order ≡ encoding.order → length (seen y) ≡ n
+      → Each (spelled_in (λ e. vector m (F e)) order) (seen y) (shown x)
+      → Reads gives eof shown (raw_bytes size) (Ok x) old new
+      → Reads gives eof seen (vector n (vector m (F encoding))) (Ok y) old new
   unfolding raw_bytes vector owned_content repeat
   arrays_read {shown = shown} {seen = seen} {x = x} {y = y} encoding n size same whole taken read =
       let stand = arrays_stand encoding same (seen y) (shown x) taken in
-      got_covered (λ s h. (whole, subst (λ (b : List ℕ). Each (vector m (F encoding)).spells (seen y) b) h.0 stand)) read
+      got_covered
+      (λ s h. (whole, subst (λ (b : List ℕ). Each (vector m (F encoding)).spells (seen y) b) h.0 stand)) read
 
   module _ {size : ℕ} (is : size ≡ m * width) where
     -- so many arrays have so many times the bytes of one
-    arrays_sized : (encoding : Encoding) (vss : List (List V)) (bytes : List ℕ) → Each (vector m (F encoding)).spells vss bytes → length bytes ≡ length vss * size
+    arrays_sized : (encoding : Encoding) (vss : List (List V)) (bytes : List ℕ)
+        → Each (vector m (F encoding)).spells vss bytes → length bytes ≡ length vss * size
     unfolding vector owned_content repeat
     arrays_sized encoding [] bytes h = ap length h ∙ omega arith
     arrays_sized encoding (vs ∷ vss) bytes h =
-        let one = each_sized laws fixed encoding vs h.front h.first_is.1 ∙ (ap (λ n. n * width) h.first_is.0 ∙ sym is) in
+        let one =
+        each_sized laws fixed encoding vs h.front h.first_is.1 ∙ (ap (λ n. n * width) h.first_is.0 ∙ sym is) in
         let more = arrays_sized encoding vss h.back h.second_is in
         let l = ap length h.whole_is ∙ length-append h.front h.back in
         omega (arith, one, more, l)
 
     -- so many arrays are read where so many times their bytes are
-    pub arrays_cover : (n : ℕ) {all : ℕ} → all ≡ n * size → (encoding : Encoding) → Covers (raw_bytes all) (vector n (vector m (F encoding)))
+    pub arrays_cover : (n : ℕ) {all : ℕ} → all ≡ n * size → (encoding : Encoding)
+        → Covers (raw_bytes all) (vector n (vector m (F encoding)))
     unfolding raw_bytes vector owned_content repeat
     arrays_cover n all_is encoding = record {
       under = λ vss s h. (s, (refl, arrays_sized encoding vss s h.1 ∙ (ap (λ k. k * size) h.0 ∙ sym all_is)));

@@ -19,63 +19,121 @@ use Rattle.speedy_read.specs.Buffers.{memory_state, copied_state}
 use Rattle.speedy_read.specs.WaysOfReading.{RefusesBufferIf, AnswersBufferIf}
 
 -- a front was taken
-pub Kept-rest : {lends : Bool} {targets : List GName} {bytes rest : List ℕ} {encoding : Encoding} (front : List ℕ) → bytes ≡ front ++ rest → Kept (memory_state lends targets bytes encoding) (memory_state lends targets rest encoding)
-Kept-rest front is = record { fixed = refl; encoding = refl; tidy = λ t. t; faults = omega arith; tail = λ _. (front, is) }
+pub Kept-rest : {lends : Bool} {targets : List GName} {bytes rest : List ℕ} {encoding : Encoding} (front : List ℕ)
+    → bytes ≡ front ++ rest
+    → Kept (memory_state lends targets bytes encoding) (memory_state lends targets rest encoding)
+Kept-rest front is = record {
+  fixed = refl;
+  encoding = refl;
+  tidy = λ t. t;
+  faults = omega arith;
+  tail = λ _. (front, is);
+}
 
 -- where no byte is taken, all are left
-none_taken : (n : ℕ) {lends : Bool} {targets : List GName} {bytes : List ℕ} {encoding : Encoding} → n ≤ length bytes → take n bytes ≡ [] → memory_state lends targets (drop n bytes) encoding ≡ memory_state lends targets bytes encoding
+none_taken : (n : ℕ) {lends : Bool} {targets : List GName} {bytes : List ℕ} {encoding : Encoding} → n ≤ length bytes
+    → take n bytes ≡ [] → memory_state lends targets (drop n bytes) encoding ≡ memory_state lends targets bytes encoding
 none_taken n {lends = lends} {targets = targets} {bytes = bytes} {encoding = encoding} l none =
     let zero : n ≡ 0 = omega (arith, length-take-le n bytes l, ap length none) in
     ap (λ (m : ℕ). memory_state lends targets (drop m bytes) encoding) zero
 
-module _ {E : Type 0} {gives : Error → E → Type 0} {eof : E → Bool} {A : Type 0} {n : ℕ} {lends : Bool} {targets : List GName} {bytes : List ℕ} {encoding : Encoding} where
+module _ {E : Type 0} {gives : Error → E → Type 0} {eof : E → Bool} {A : Type 0} {n : ℕ} {lends : Bool}
+    {targets : List GName} {bytes : List ℕ} {encoding : Encoding} where
   -- the bytes are there
-  pub bytes_read : {seen : A → List ℕ} {x : A} → n ≤ length bytes → seen x ≡ take n bytes → Reads gives eof seen (raw_bytes n) (Ok x) (memory_state lends targets bytes encoding) (memory_state lends targets (drop n bytes) encoding)
+  pub bytes_read : {seen : A → List ℕ} {x : A} → n ≤ length bytes → seen x ≡ take n bytes
+      → Reads gives eof seen (raw_bytes n) (Ok x) (memory_state lends targets bytes encoding)
+      (memory_state lends targets (drop n bytes) encoding)
   unfolding raw_bytes
   bytes_read l e = record {
     kept = Kept-rest (take n bytes) (sym (take-append-drop n bytes));
-    answer = record { front = take n bytes; front_is = (e, length-take-le n bytes l); taken = λ _. sym (take-append-drop n bytes); no_fault = refl; untouched = λ none. none_taken n l none };
+    answer = record {
+      front = take n bytes;
+      front_is = (e, length-take-le n bytes l);
+      taken = λ _. sym (take-append-drop n bytes);
+      no_fault = refl;
+      untouched = λ none. none_taken n l none;
+    };
   }
 
-  pub bytes_skipped : {seen : A → Unit {0}} {x : A} → n ≤ length bytes → Reads gives eof seen (any_bytes n) (Ok x) (memory_state lends targets bytes encoding) (memory_state lends targets (drop n bytes) encoding)
+  pub bytes_skipped : {seen : A → Unit {0}} {x : A} → n ≤ length bytes
+      → Reads gives eof seen (any_bytes n) (Ok x) (memory_state lends targets bytes encoding)
+      (memory_state lends targets (drop n bytes) encoding)
   unfolding any_bytes
   bytes_skipped l = record {
     kept = Kept-rest (take n bytes) (sym (take-append-drop n bytes));
-    answer = record { front = take n bytes; front_is = length-take-le n bytes l; taken = λ _. sym (take-append-drop n bytes); no_fault = refl; untouched = λ none. none_taken n l none };
+    answer = record {
+      front = take n bytes;
+      front_is = length-take-le n bytes l;
+      taken = λ _. sym (take-append-drop n bytes);
+      no_fault = refl;
+      untouched = λ none. none_taken n l none;
+    };
   }
 
-  pub bytes_peeked : {seen : A → List ℕ} {x : A} → n ≤ length bytes → seen x ≡ take n bytes → Peeks gives eof seen (raw_bytes n) (Ok x) (memory_state lends targets bytes encoding) (memory_state lends targets bytes encoding)
+  pub bytes_peeked : {seen : A → List ℕ} {x : A} → n ≤ length bytes → seen x ≡ take n bytes
+      → Peeks gives eof seen (raw_bytes n) (Ok x) (memory_state lends targets bytes encoding)
+      (memory_state lends targets bytes encoding)
   unfolding raw_bytes
   bytes_peeked l e = record {
     kept = KeptByPeek-same;
-    answer = record { front = take n bytes; rest = drop n bytes; front_is = (e, length-take-le n bytes l); stands = λ _. sym (take-append-drop n bytes); no_fault = refl };
+    answer = record {
+      front = take n bytes;
+      rest = drop n bytes;
+      front_is = (e, length-take-le n bytes l);
+      stands = λ _. sym (take-append-drop n bytes);
+      no_fault = refl;
+    };
   }
 
   -- and were cut off
-  pub cut_read : {seen : A → List ℕ} {x : A} {front rest : List ℕ} → IsSplitAt bytes n front rest → seen x ≡ front → Reads gives eof seen (raw_bytes n) (Ok x) (memory_state lends targets bytes encoding) (memory_state lends targets rest encoding)
+  pub cut_read : {seen : A → List ℕ} {x : A} {front rest : List ℕ} → IsSplitAt bytes n front rest → seen x ≡ front
+      → Reads gives eof seen (raw_bytes n) (Ok x) (memory_state lends targets bytes encoding)
+      (memory_state lends targets rest encoding)
   cut_read cut same = rw cut.2 (bytes_read cut.0 (same ∙ cut.1))
 
-  pub cut_skipped : {seen : A → Unit {0}} {x : A} {front rest : List ℕ} → IsSplitAt bytes n front rest → Reads gives eof seen (any_bytes n) (Ok x) (memory_state lends targets bytes encoding) (memory_state lends targets rest encoding)
+  pub cut_skipped : {seen : A → Unit {0}} {x : A} {front rest : List ℕ} → IsSplitAt bytes n front rest
+      → Reads gives eof seen (any_bytes n) (Ok x) (memory_state lends targets bytes encoding)
+      (memory_state lends targets rest encoding)
   cut_skipped cut = rw cut.2 (bytes_skipped cut.0)
 
-  pub cut_peeked : {seen : A → List ℕ} {x : A} {front rest : List ℕ} → IsSplitAt bytes n front rest → seen x ≡ front → Peeks gives eof seen (raw_bytes n) (Ok x) (memory_state lends targets bytes encoding) (memory_state lends targets bytes encoding)
+  pub cut_peeked : {seen : A → List ℕ} {x : A} {front rest : List ℕ} → IsSplitAt bytes n front rest → seen x ≡ front
+      → Peeks gives eof seen (raw_bytes n) (Ok x) (memory_state lends targets bytes encoding)
+      (memory_state lends targets bytes encoding)
   cut_peeked cut same = bytes_peeked cut.0 (same ∙ cut.1)
 
   -- the bytes are not there
-  pub bytes_missed : {seen : A → List ℕ} {e : E} → length bytes < n → IsEnd gives eof false e → Reads gives eof seen (raw_bytes n) (Err e) (memory_state lends targets bytes encoding) (memory_state lends targets bytes encoding)
+  pub bytes_missed : {seen : A → List ℕ} {e : E} → length bytes < n → IsEnd gives eof false e
+      → Reads gives eof seen (raw_bytes n) (Err e) (memory_state lends targets bytes encoding)
+      (memory_state lends targets bytes encoding)
   unfolding raw_bytes
-  bytes_missed l ended = record { kept = Kept-same; answer = inr (ends_early refl n (λ v s h. let k = h.1 in omega arith) (λ _ bad. bad) ended (λ _ _. l)) }
+  bytes_missed l ended = record {
+    kept = Kept-same;
+    answer = inr (ends_early refl n (λ v s h. let k = h.1 in omega arith) (λ _ bad. bad) ended (λ _ _. l));
+  }
 
-  pub bytes_not_skipped : {seen : A → Unit {0}} {e : E} → length bytes < n → IsEnd gives eof false e → Reads gives eof seen (any_bytes n) (Err e) (memory_state lends targets bytes encoding) (memory_state lends targets bytes encoding)
+  pub bytes_not_skipped : {seen : A → Unit {0}} {e : E} → length bytes < n → IsEnd gives eof false e
+      → Reads gives eof seen (any_bytes n) (Err e) (memory_state lends targets bytes encoding)
+      (memory_state lends targets bytes encoding)
   unfolding any_bytes
-  bytes_not_skipped l ended = record { kept = Kept-same; answer = inr (ends_early refl n (λ v s h. omega arith) (λ _ bad. bad) ended (λ _ _. l)) }
+  bytes_not_skipped l ended = record {
+    kept = Kept-same;
+    answer = inr (ends_early refl n (λ v s h. omega arith) (λ _ bad. bad) ended (λ _ _. l));
+  }
 
-  pub bytes_not_peeked : {seen : A → List ℕ} {e : E} → length bytes < n → IsEnd gives eof false e → Peeks gives eof seen (raw_bytes n) (Err e) (memory_state lends targets bytes encoding) (memory_state lends targets bytes encoding)
+  pub bytes_not_peeked : {seen : A → List ℕ} {e : E} → length bytes < n → IsEnd gives eof false e
+      → Peeks gives eof seen (raw_bytes n) (Err e) (memory_state lends targets bytes encoding)
+      (memory_state lends targets bytes encoding)
   unfolding raw_bytes
-  bytes_not_peeked l ended = record { kept = KeptByPeek-same; answer = inr (inr (ends_early refl n (λ v s h. let k = h.1 in omega arith) (λ _ bad. bad) ended (λ _ _. l))) }
+  bytes_not_peeked l ended = record {
+    kept = KeptByPeek-same;
+    answer = inr (inr (ends_early refl n (λ v s h. let k = h.1 in omega arith) (λ _ bad. bad) ended (λ _ _. l)));
+  }
 
 -- bytes that are lent until the next use are not there
-pub bytes_not_lent : {A E : Type 0} {n : ℕ} {lends : Bool} {targets : List GName} {bytes : List ℕ} {encoding : Encoding} {seen : A → List ℕ} {e : E} → length bytes < n → Reads ends_alone (λ _. true) seen (raw_bytes n) (Err e) (memory_state lends targets bytes encoding) (memory_state lends targets bytes encoding)
+pub bytes_not_lent : {A E : Type 0} {n : ℕ} {lends : Bool} {targets : List GName} {bytes : List ℕ} {encoding : Encoding}
+    {seen : A → List ℕ} {e : E} → length bytes < n
+    → Reads ends_alone (λ _. true) seen (raw_bytes n) (Err e) (memory_state lends targets bytes encoding)
+    (memory_state lends targets bytes encoding)
 bytes_not_lent {E = E} {e = e} l = bytes_missed l (input_ended (ends_alone {E = E}) (λ _. true) false e refl refl)
 
 -- ---- forms

@@ -1,8 +1,10 @@
 -- Bytes that are read or skipped a chunk at a time.
-use Rattle.std.specs.Prelude.{◌≡◌, ℕ, ◌+◌, ◌-◌, ◌<◌, ◌≤◌, List, [], ◌++◌, length, take, drop, replicate, Bool, false, Ok, Err, Result, IsErrAnd, OnOk, is_err, refl}
+use Rattle.std.specs.Prelude.{◌≡◌, ℕ, ◌+◌, ◌-◌, ◌<◌, ◌≤◌, List, [], ◌++◌, length, take, drop, replicate, Bool, false}
+use Rattle.std.specs.Prelude.{Ok, Err, Result, IsErrAnd, OnOk, is_err, refl}
 use Rattle.std.proofs.Common.{sym, ◌∙◌, ap, ap₂, subst, arith, inl, inr}
 use Rattle.std.proofs.lemmas.Bool.{cases_lt}
-use Rattle.std.proofs.lemmas.List.{append-nil, drop_all, length-append, length-drop, length-take-le, length-replicate, take_all, take_at, take-append-drop}
+use Rattle.std.proofs.lemmas.List.{append-nil, drop_all, length-append, length-drop, length-take-le, length-replicate}
+use Rattle.std.proofs.lemmas.List.{take_all, take_at, take-append-drop}
 use borrow.Rule.Slice.PartMut.{put_mid, post_of}
 use Rattle.std.proofs.Math.Seq.{take-append_seam}
 use Rattle.speedy_base.specs.declared.error.Error.{Error}
@@ -15,7 +17,8 @@ use Rattle.speedy_layout.specs.Owned.{owned_content}
 use Rattle.speedy_layout.specs.Texts.{raw_bytes, any_bytes, each_byte, each_byte_is}
 use Rattle.speedy_layout.specs.Sequences.{asks_memory, asks_same}
 use Rattle.speedy_read.specs.Reading.{ReaderState, Reads, Unspelled}
-use Rattle.speedy_read.specs.ReadingLemmas.{Kept-after, IsTold-after, part_refused, Got-as, ReadSoFar, more_so_far, all_so_far, Reads-passed}
+use Rattle.speedy_read.specs.ReadingLemmas.{Kept-after, IsTold-after, part_refused, Got-as, ReadSoFar, more_so_far}
+use Rattle.speedy_read.specs.ReadingLemmas.{all_so_far, Reads-passed}
 use Rattle.speedy_read.specs.Codes.{Covers, refused_covered}
 
 -- the front of a chunk that was filled
@@ -23,21 +26,25 @@ pub front_of : (n : ℕ) (xs ys : List ℕ) → length xs ≡ n → take n (xs +
 front_of n xs ys e = subst (λ (m : ℕ). take m (xs ++ ys) ≡ xs) e (take-append_seam xs ys)
 
 -- what lies behind a list
-pub behind : (bytes zeros slice : List ℕ) (start : ℕ) → slice ≡ bytes ++ zeros → start ≡ length bytes → length (take (length slice - start) (drop start slice)) ≡ length zeros
+pub behind : (bytes zeros slice : List ℕ) (start : ℕ) → slice ≡ bytes ++ zeros → start ≡ length bytes
+    → length (take (length slice - start) (drop start slice)) ≡ length zeros
 behind bytes zeros slice start is at =
     let whole : length slice ≡ length bytes + length zeros = ap length is ∙ length-append bytes zeros in
     let left = length-drop start slice in
     length-take-le (length slice - start) (drop start slice) (omega (arith, left)) ∙ omega (arith, whole, at)
 
 -- what is put behind a list, where zeros stood, in a slice of a vector of so many items
-pub filled_behind : (bytes zeros items slice output : List ℕ) (start len : ℕ) → items ≡ bytes ++ zeros → slice ≡ items → start ≡ length bytes → length slice ≡ len → length output ≡ length zeros
-    → let put : List ℕ = put_mid start (length slice - start) slice output in take len (put ++ drop (length put) items) ≡ bytes ++ output
+pub filled_behind : (bytes zeros items slice output : List ℕ) (start len : ℕ) → items ≡ bytes ++ zeros → slice ≡ items
+    → start ≡ length bytes → length slice ≡ len → length output ≡ length zeros
+    → let put : List ℕ = put_mid start (length slice - start) slice output in
+    take len (put ++ drop (length put) items) ≡ bytes ++ output
 filled_behind bytes zeros items slice output start len is same at all sized =
     let here : slice ≡ bytes ++ zeros = same ∙ is in
     let put = put_mid start (length slice - start) slice output in
     let whole : length slice ≡ length bytes + length zeros = ap length here ∙ length-append bytes zeros in
     let front : take start slice ≡ bytes = ap (take start) here ∙ take_at bytes zeros start (sym at) in
-    let nothing : post_of start (length slice - start) slice ≡ [] = drop_all (length slice - start) (drop start slice) (omega (arith, length-drop start slice)) in
+    let nothing : post_of start (length slice - start) slice ≡ [] =
+    drop_all (length slice - start) (drop start slice) (omega (arith, length-drop start slice)) in
     let put_is : put ≡ bytes ++ output = ap₂ ◌++◌ front (ap (λ l. output ++ l) nothing ∙ append-nil output) in
     let long : length put ≡ len = ap length put_is ∙ (length-append bytes output ∙ omega (arith, sized, whole, all)) in
     let rest : drop (length put) items ≡ [] = drop_all (length put) items (omega (arith, long, all, ap length same)) in
@@ -66,26 +73,33 @@ any_bytes_cover n encoding = record {
   asks = asks_memory;
 }
 
-short_of : {E : Type 0} {gives : Error → E → Type 0} {eof : E → Bool} {e : E} (size : ℕ) (bytes : List ℕ) → Unspelled gives eof (raw_bytes size) e bytes → length bytes < size
+short_of : {E : Type 0} {gives : Error → E → Type 0} {eof : E → Bool} {e : E} (size : ℕ) (bytes : List ℕ)
+    → Unspelled gives eof (raw_bytes size) e bytes → length bytes < size
 unfolding raw_bytes
 short_of size bytes un =
     elim (cases_lt (length bytes) size) [
       | inl h ↦ h
-      | inr h ↦ absurd (un.no_front (take size bytes) (take size bytes) (drop size bytes) (sym (take-append-drop size bytes)) (refl, length-take-le size bytes h))
+      | inr h ↦
+          absurd (un.no_front (take size bytes) (take size bytes) (drop size bytes) (sym (take-append-drop size bytes))
+          (refl, length-take-le size bytes h))
     ]
 
-module _ {E : Type 0} {gives : Error → E → Type 0} {eof : E → Bool} {old mid new : ReaderState} {A : Type 0} {seen : A → List ℕ} (size : ℕ) where
+module _ {E : Type 0} {gives : Error → E → Type 0} {eof : E → Bool} {old mid new : ReaderState} {A : Type 0}
+    {seen : A → List ℕ} (size : ℕ) where
   -- a chunk more was taken
-  pub more_skipped : {x : A} (count all : ℕ) → SkippedSoFar count old mid → Reads gives eof seen (raw_bytes size) (Ok x) mid new → count + size ≡ all → SkippedSoFar all old new
+  pub more_skipped : {x : A} (count all : ℕ) → SkippedSoFar count old mid
+      → Reads gives eof seen (raw_bytes size) (Ok x) mid new → count + size ≡ all → SkippedSoFar all old new
   unfolding raw_bytes
   more_skipped count all so_far read is = more_so_far so_far read (λ s t h k. length-append s t ∙ (ap₂ ◌+◌ h k.1 ∙ is))
 
-  pub more_bytes : {x : A} (bytes all : List ℕ) → BytesSoFar bytes old mid → Reads gives eof seen (raw_bytes size) (Ok x) mid new → all ≡ bytes ++ seen x → BytesSoFar all old new
+  pub more_bytes : {x : A} (bytes all : List ℕ) → BytesSoFar bytes old mid
+      → Reads gives eof seen (raw_bytes size) (Ok x) mid new → all ≡ bytes ++ seen x → BytesSoFar all old new
   unfolding raw_bytes
   more_bytes bytes all so_far read is = more_so_far so_far read (λ s t h k. ap₂ ◌++◌ h (sym k.0) ∙ sym is)
 
   -- a chunk was refused
-  pub chunk_refused : {B : Type 0} {seen' : B → Unit {0}} {e : E} {result : Result B E} {total : ℕ} (count : ℕ) → count + size ≤ total → SkippedSoFar count old mid → IsErrAnd result (λ x. x ≡ e)
+  pub chunk_refused : {B : Type 0} {seen' : B → Unit {0}} {e : E} {result : Result B E} {total : ℕ} (count : ℕ)
+      → count + size ≤ total → SkippedSoFar count old mid → IsErrAnd result (λ x. x ≡ e)
       → Reads gives eof seen (raw_bytes size) (Err e) mid new → Reads gives eof seen' (any_bytes total) result old new
   unfolding raw_bytes any_bytes
   chunk_refused {e = e} {total = total} count within so_far passed read = Reads-passed passed (record {
@@ -94,42 +108,71 @@ module _ {E : Type 0} {gives : Error → E → Type 0} {eof : E → Bool} {old m
         (λ told because.
         let un = because (IsTold-after so_far.kept (λ t. t) told) in
         let short = short_of size mid.to_come un in
-        let sizes : length old.to_come ≡ count + length mid.to_come = ap length (so_far.got.taken told.tells) ∙ (length-append so_far.got.front mid.to_come ∙ ap (λ n. n + length mid.to_come) so_far.got.front_is) in
+        let sizes : length old.to_come ≡ count + length mid.to_come =
+        ap length (so_far.got.taken told.tells)
+        ∙ (length-append so_far.got.front mid.to_come ∙ ap (λ n. n + length mid.to_come) so_far.got.front_is) in
         record {
-          no_front = λ v front rest is l. let m = ap length is ∙ length-append front rest in let s = short in let k = sizes in absurd (omega arith);
+          no_front = λ v front rest is l. let m = ap length is ∙ length-append front rest in let s = short in
+              let k = sizes in absurd (omega arith);
           too_short = λ v more l.
               let missing = replicate (size - length mid.to_come) 0 in
-              un.too_short (mid.to_come ++ missing) missing (refl, length-append mid.to_come missing ∙ (ap (λ n. length mid.to_come + n) (length-replicate (size - length mid.to_come) 0) ∙ omega (arith, short)));
+              un.too_short (mid.to_come ++ missing) missing (
+                refl,
+                length-append mid.to_come missing
+                    ∙ (ap (λ n. length mid.to_come + n) (length-replicate (size - length mid.to_come) 0)
+                    ∙ omega (arith, short)),
+              );
           malformed = λ bad. absurd bad;
         })
         read.answer;
   })
 
-  pub bytes_refused : {B : Type 0} {seen' : B → List ℕ} {e : E} {result : Result B E} {total : ℕ} (encoding : Encoding) (count : ℕ) (bytes : List ℕ) → length bytes ≡ count → count + size ≤ total → BytesSoFar bytes old mid → IsErrAnd result (λ x. x ≡ e)
-      → Reads gives eof seen (raw_bytes size) (Err e) mid new → Reads gives eof seen' (vector total (unsigned_number 1 encoding)) result old new
+  pub bytes_refused : {B : Type 0} {seen' : B → List ℕ} {e : E} {result : Result B E} {total : ℕ} (encoding : Encoding)
+      (count : ℕ) (bytes : List ℕ) → length bytes ≡ count → count + size ≤ total → BytesSoFar bytes old mid
+      → IsErrAnd result (λ x. x ≡ e)
+      → Reads gives eof seen (raw_bytes size) (Err e) mid new
+      → Reads gives eof seen' (vector total (unsigned_number 1 encoding)) result old new
   bytes_refused {total = total} encoding count bytes l within so_far passed read =
-      let skipped : SkippedSoFar count old mid = record { kept = so_far.kept; got = Got-as (λ s h. ap length h ∙ l) so_far.got } in
-      refused_covered (any_bytes_cover total encoding) passed (chunk_refused {seen' = λ (u : Unit {0}). u} count within skipped refl read)
+      let skipped : SkippedSoFar count old mid = record {
+        kept = so_far.kept;
+        got = Got-as (λ s h. ap length h ∙ l) so_far.got;
+      } in
+      refused_covered (any_bytes_cover total encoding) passed
+      (chunk_refused {seen' = λ (u : Unit {0}). u} count within skipped refl read)
 
 module _ {E : Type 0} {gives : Error → E → Type 0} {eof : E → Bool} {B : Type 0} {old new : ReaderState} where
   -- all were taken
-  pub all_skipped : {seen' : B → Unit {0}} {x : B} {count : ℕ} → SkippedSoFar count old new → Reads gives eof seen' (any_bytes count) (Ok x) old new
+  pub all_skipped : {seen' : B → Unit {0}} {x : B} {count : ℕ} → SkippedSoFar count old new
+      → Reads gives eof seen' (any_bytes count) (Ok x) old new
   unfolding any_bytes
   all_skipped so_far = all_so_far so_far (λ s h. h)
 
-  pub all_bytes : {seen' : B → List ℕ} {y : B} {n : ℕ} (encoding : Encoding) → BytesSoFar (seen' y) old new → length (seen' y) ≡ n → AreBytes (seen' y) → Reads gives eof seen' (vector n (unsigned_number 1 encoding)) (Ok y) old new
+  pub all_bytes : {seen' : B → List ℕ} {y : B} {n : ℕ} (encoding : Encoding) → BytesSoFar (seen' y) old new
+      → length (seen' y) ≡ n → AreBytes (seen' y)
+      → Reads gives eof seen' (vector n (unsigned_number 1 encoding)) (Ok y) old new
   unfolding vector owned_content repeat unsigned_number
   all_bytes {seen' = seen'} {y = y} encoding so_far l are =
-      all_so_far so_far (λ s h. (l, subst (λ (x : List ℕ). Each (SpellsNumber 1 encoding.order) (seen' y) x) (sym h) (each_byte encoding.order (seen' y) are)))
+      all_so_far so_far (λ s h. (
+        l,
+        subst (λ (x : List ℕ). Each (SpellsNumber 1 encoding.order) (seen' y) x) (sym h)
+            (each_byte encoding.order (seen' y) are),
+      ))
 
 -- so many bytes are read where any are, so many
 any_cover_raw : (n : ℕ) → Covers (any_bytes n) (raw_bytes n)
 unfolding any_bytes raw_bytes
-any_cover_raw n = record { under = λ v s h. (tt, h.1); names = λ kind h. absurd h; malformed = λ bytes are h. absurd h; asks = asks_same }
+any_cover_raw n = record {
+  under = λ v s h. (tt, h.1);
+  names = λ kind h. absurd h;
+  malformed = λ bytes are h. absurd h;
+  asks = asks_same;
+}
 
 -- some bytes were read, and then the others of so many
-pub rest_read : {E : Type 0} {gives : Error → E → Type 0} {eof : E → Bool} {A : Type 0} {seen seen' : A → List ℕ} {old mid new : ReaderState} (size total : ℕ) (front : List ℕ) (result : Result A E)
-    → BytesSoFar front old mid → length front + size ≡ total → ((x : A) → seen' x ≡ front ++ seen x) → Reads gives eof seen (raw_bytes size) result mid new → Reads gives eof seen' (raw_bytes total) result old new
+pub rest_read : {E : Type 0} {gives : Error → E → Type 0} {eof : E → Bool} {A : Type 0} {seen seen' : A → List ℕ}
+    {old mid new : ReaderState} (size total : ℕ) (front : List ℕ) (result : Result A E)
+    → BytesSoFar front old mid → length front + size ≡ total → ((x : A) → seen' x ≡ front ++ seen x)
+    → Reads gives eof seen (raw_bytes size) result mid new → Reads gives eof seen' (raw_bytes total) result old new
 unfolding raw_bytes
 rest_read {seen' = seen'} size total front (Ok x) so_far sized same read =
     all_so_far
@@ -137,5 +180,9 @@ rest_read {seen' = seen'} size total front (Ok x) so_far sized same read =
     (λ s t h k. (same x ∙ ap₂ ◌++◌ (sym h) k.0, length-append s t ∙ (ap₂ ◌+◌ (ap length h) k.1 ∙ sized))))
     (λ s h. h)
 rest_read size total front (Err e) so_far sized same read =
-    let skipped : SkippedSoFar (length front) _ _ = record { kept = so_far.kept; got = Got-as (λ s h. ap length h) so_far.got } in
-    refused_covered (any_cover_raw total) refl (chunk_refused size {seen' = λ (u : Unit {0}). u} (length front) (omega (arith, sized)) skipped refl read)
+    let skipped : SkippedSoFar (length front) _ _ = record {
+      kept = so_far.kept;
+      got = Got-as (λ s h. ap length h) so_far.got;
+    } in
+    refused_covered (any_cover_raw total) refl
+    (chunk_refused size {seen' = λ (u : Unit {0}). u} (length front) (omega (arith, sized)) skipped refl read)

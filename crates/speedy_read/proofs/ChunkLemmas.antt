@@ -1,5 +1,6 @@
 -- Numbers that are read by chunks of their digits, or at once of bytes that are lent.
-use Rattle.std.specs.Prelude.{◌≡◌, ℕ, zero, suc, ◌+◌, ◌-◌, ◌*◌, ◌/◌, ◌^◌, ◌<◌, ◌≤◌, List, ◌++◌, length, map, take, Bool, true, Option, Some, None, Result, Ok, Err, IsErrAnd, refl}
+use Rattle.std.specs.Prelude.{◌≡◌, ℕ, zero, suc, ◌+◌, ◌-◌, ◌*◌, ◌/◌, ◌^◌, ◌<◌, ◌≤◌, List, ◌++◌, length, map, take, Bool}
+use Rattle.std.specs.Prelude.{true, Option, Some, None, Result, Ok, Err, IsErrAnd, refl}
 use Rattle.std.proofs.Common.{sym, ◌∙◌, ap, subst, subst₂, arith, inl, inr}
 use Rattle.std.proofs.Math.Nat.{le-div_iff_mul-le}
 use Rattle.std.proofs.lemmas.Bool.{cases_lt}
@@ -51,20 +52,28 @@ within_all width (suc k) (suc n) l = let less = within_all width k n (omega arit
 chunk_within : (width m k n size : ℕ) → m + k ≤ n → size ≡ k * width → m * width + size ≤ n * width
 chunk_within width zero k n size l is = let less = within_all width k n (omega (arith, l)) in omega (arith, less, is)
 chunk_within width (suc m) k zero size l is = absurd (omega (arith, l))
-chunk_within width (suc m) k (suc n) size l is = let less = chunk_within width m k n size (omega (arith, l)) is in omega (arith, less)
+chunk_within width (suc m) k (suc n) size l is =
+    let less = chunk_within width m k n size (omega (arith, l)) is in
+    omega (arith, less)
 
 -- and in the room for it
-pub chunk_fits : {width some size size' room room' : ℕ} → 0 < width → some ≤ room / size → size ≡ width → size' ≡ width → room' ≡ room → some * size' ≤ room'
+pub chunk_fits : {width some size size' room room' : ℕ} → 0 < width → some ≤ room / size → size ≡ width → size' ≡ width
+    → room' ≡ room → some * size' ≤ room'
 chunk_fits {some = some} positive within is is' same =
-    subst₂ (λ (s r : ℕ). some * s ≤ r) (is ∙ sym is') (sym same) ((le-div_iff_mul-le (subst (λ (w : ℕ). 0 < w) (sym is) positive)).0 within)
+    subst₂ (λ (s r : ℕ). some * s ≤ r) (is ∙ sym is') (sym same)
+    ((le-div_iff_mul-le (subst (λ (w : ℕ). 0 < w) (sym is) positive)).0 within)
 
-module _ {V : Type 0} {F : Encoding → Format V} {least width : ℕ} (laws : (encoding : Encoding) → Laws encoding.strict least (F encoding)) (fixed : IsFixed width F) where
+module _ {V : Type 0} {F : Encoding → Format V} {least width : ℕ}
+    (laws : (encoding : Encoding) → Laws encoding.strict least (F encoding)) (fixed : IsFixed width F) where
   -- digits spell the values
-  pub each_stands : (encoding : Encoding) (vs : List V) (bytes : List ℕ) → Each (spelled_in F encoding.order) vs bytes → Each (F encoding).spells vs bytes
+  pub each_stands : (encoding : Encoding) (vs : List V) (bytes : List ℕ) → Each (spelled_in F encoding.order) vs bytes
+      → Each (F encoding).spells vs bytes
   each_stands encoding = each_as (λ v b h. (laws encoding).written_spells v b (fixed.writes encoding v b h))
 
-  pub each_sized : (encoding : Encoding) (vs : List V) (bytes : List ℕ) → Each (F encoding).spells vs bytes → length bytes ≡ length vs * width
-  each_sized encoding vs bytes h = each_length fixed encoding.order vs bytes (each_as (fixed.spells encoding) vs bytes h)
+  pub each_sized : (encoding : Encoding) (vs : List V) (bytes : List ℕ) → Each (F encoding).spells vs bytes
+      → length bytes ≡ length vs * width
+  each_sized encoding vs bytes h =
+      each_length fixed encoding.order vs bytes (each_as (fixed.spells encoding) vs bytes h)
 
   -- so many values are read where so many times their bytes are
   fixed_covers : (n : ℕ) (encoding : Encoding) → Covers (any_bytes (n * width)) (vector n (F encoding))
@@ -76,37 +85,59 @@ module _ {V : Type 0} {F : Encoding → Format V} {least width : ℕ} (laws : (e
     asks = asks_nothing_more;
   }
 
-  module _ {E : Type 0} {gives : Error → E → Type 0} {eof : E → Bool} {old mid new : ReaderState} (encoding : Encoding) {B A : Type 0} {shown : B → List ℕ} (seen : A → V) (n : ℕ) where
+  module _ {E : Type 0} {gives : Error → E → Type 0} {eof : E → Bool} {old mid new : ReaderState} (encoding : Encoding)
+      {B A : Type 0} {shown : B → List ℕ} (seen : A → V) (n : ℕ) where
     -- numbers more were read
-    pub more_numbers : {x : B} {order : Endianness} (xs more : List A) (size : ℕ) → order ≡ encoding.order → ReadSoFar (Each (F encoding).spells (map seen xs)) old mid → Reads gives eof shown (raw_bytes size) (Ok x) mid new
-        → Each (spelled_in F order) (map seen more) (shown x) → ReadSoFar (Each (F encoding).spells (map seen (xs ++ more))) old new
+    pub more_numbers : {x : B} {order : Endianness} (xs more : List A) (size : ℕ) → order ≡ encoding.order
+        → ReadSoFar (Each (F encoding).spells (map seen xs)) old mid
+        → Reads gives eof shown (raw_bytes size) (Ok x) mid new
+        → Each (spelled_in F order) (map seen more) (shown x)
+        → ReadSoFar (Each (F encoding).spells (map seen (xs ++ more))) old new
     unfolding raw_bytes
     more_numbers {x = x} xs more size same so_far read digits =
         let S = (F encoding).spells in
-        let stands : Each S (map seen more) (shown x) = each_stands encoding (map seen more) (shown x) (subst (λ (o : Endianness). Each (spelled_in F o) (map seen more) (shown x)) same digits) in
+        let stands : Each S (map seen more) (shown x) =
+        each_stands encoding (map seen more) (shown x)
+        (subst (λ (o : Endianness). Each (spelled_in F o) (map seen more) (shown x)) same digits) in
         more_so_far so_far read (λ s t h k.
-        subst (λ (vs : List V). Each S vs (s ++ t)) (sym (map-append seen xs more)) (each_append S (map seen xs) (map seen more) s t h (subst (λ (b : List ℕ). Each S (map seen more) b) k.0 stands)))
+        subst (λ (vs : List V). Each S vs (s ++ t)) (sym (map-append seen xs more))
+        (each_append S (map seen xs) (map seen more) s t h
+        (subst (λ (b : List ℕ). Each S (map seen more) b) k.0 stands)))
 
     -- where a chunk is refused, all are
-    pub numbers_refused : {C : Type 0} {seen' : C → List V} {e : E} {result : Result C E} (xs : List A) (some : ℕ) {size : ℕ} → length xs + some ≤ n → size ≡ some * width → ReadSoFar (Each (F encoding).spells (map seen xs)) old mid → IsErrAnd result (λ x. x ≡ e)
-        → Reads gives eof shown (raw_bytes size) (Err e) mid new → Reads gives eof seen' (vector n (F encoding)) result old new
+    pub numbers_refused : {C : Type 0} {seen' : C → List V} {e : E} {result : Result C E} (xs : List A) (some : ℕ)
+        {size : ℕ} → length xs + some ≤ n → size ≡ some * width
+        → ReadSoFar (Each (F encoding).spells (map seen xs)) old mid → IsErrAnd result (λ x. x ≡ e)
+        → Reads gives eof shown (raw_bytes size) (Err e) mid new
+        → Reads gives eof seen' (vector n (F encoding)) result old new
     numbers_refused xs some {size} within sized so_far passed read =
         let count = length xs * width in
-        let skipped : SkippedSoFar count old mid = record { kept = so_far.kept; got = Got-as (λ s h. each_sized encoding (map seen xs) s h ∙ ap (λ m. m * width) (length-map xs seen)) so_far.got } in
-        refused_covered (fixed_covers n encoding) passed (chunk_refused size {seen' = λ (u : Unit {0}). u} count (chunk_within width (length xs) some n size within sized) skipped refl read)
+        let skipped : SkippedSoFar count old mid = record {
+          kept = so_far.kept;
+          got = Got-as
+              (λ s h. each_sized encoding (map seen xs) s h ∙ ap (λ m. m * width) (length-map xs seen)) so_far.got;
+        } in
+        refused_covered (fixed_covers n encoding) passed
+        (chunk_refused size {seen' = λ (u : Unit {0}). u} count
+        (chunk_within width (length xs) some n size within sized) skipped refl read)
 
 -- so many numbers were appended as their bytes were
 module _ {V A : Type 0} {F : Encoding → Format V} {width : ℕ} (fixed : IsFixed width F) (seen : A → V) where
-  pub count_of_digits : (order : Endianness) (more : List A) (bytes : List ℕ) (n : ℕ) → Each (spelled_in F order) (map seen more) bytes → length bytes ≡ n * width → length more ≡ n
+  pub count_of_digits : (order : Endianness) (more : List A) (bytes : List ℕ) (n : ℕ)
+      → Each (spelled_in F order) (map seen more) bytes → length bytes ≡ n * width → length more ≡ n
   count_of_digits order more bytes n h l =
-      same_count fixed.has_bytes (length more) n (ap (λ m. m * width) (sym (length-map more seen)) ∙ (sym (each_length fixed order (map seen more) bytes h) ∙ l))
+      same_count fixed.has_bytes (length more) n
+      (ap (λ m. m * width) (sym (length-map more seen)) ∙ (sym (each_length fixed order (map seen more) bytes h) ∙ l))
 
 -- what is put behind the first values
-pub put_behind : {A : Type 0} (xs new : List A) (at some : ℕ) → at ≤ length xs → length new ≡ some → take (at + some) (put_mid at (at + some - at) xs new) ≡ take at xs ++ new
+pub put_behind : {A : Type 0} (xs new : List A) (at some : ℕ) → at ≤ length xs → length new ≡ some
+    → take (at + some) (put_mid at (at + some - at) xs new) ≡ take at xs ++ new
 put_behind xs new at some within sized =
     let rest = post_of at (at + some - at) xs in
-    let whole : length (take at xs ++ new) ≡ at + some = length-append (take at xs) new ∙ (let l = length-take-le at xs within in omega (arith, l, sized)) in
-    ap (take (at + some)) (sym (append_assoc (take at xs) new rest)) ∙ take_at (take at xs ++ new) rest (at + some) whole
+    let whole : length (take at xs ++ new) ≡ at + some =
+    length-append (take at xs) new ∙ (let l = length-take-le at xs within in omega (arith, l, sized)) in
+    ap (take (at + some)) (sym (append_assoc (take at xs) new rest))
+    ∙ take_at (take at xs ++ new) rest (at + some) whole
 
 -- ---- bytes that are lent until the reader is used again
 
@@ -115,41 +146,58 @@ never_of_a_device : {X : Type 0} (error : StdIoError) (x : X) → IsNamed ends_a
 never_of_a_device error x named = subst (IsIoErrorOf error) (ap (λ (e : Error). e.kind) named.2) named.1
 
 never_memory : error_of kinds.OutOfMemory ≡ error_of kinds.UnexpectedEndOfInput → ⊥
-never_memory same = let kind : kinds.OutOfMemory ≡ kinds.UnexpectedEndOfInput = ap (λ (e : Error). e.kind) same in absurd (cc)
+never_memory same =
+    let kind : kinds.OutOfMemory ≡ kinds.UnexpectedEndOfInput = ap (λ (e : Error). e.kind) same in
+    absurd (cc)
 
 -- what was lent
-pub lent_is : {X A : Type 0} {shown : A → List ℕ} (size : ℕ) {old new : ReaderState} {lent : Option (Result A X)} {read : Result A X} (result : Result A X) → lent ≡ Some read → read ≡ result → LendsUntilUsed shown size lent old new
+pub lent_is : {X A : Type 0} {shown : A → List ℕ} (size : ℕ) {old new : ReaderState} {lent : Option (Result A X)}
+    {read : Result A X} (result : Result A X) → lent ≡ Some read → read ≡ result
+    → LendsUntilUsed shown size lent old new
     → Reads (ends_alone {E = X}) (λ _. true) shown (raw_bytes size) result old new
 lent_is {X = X} {A = A} {shown = shown} size {old = old} {new = new} result is same h =
-    subst (λ (r : Result A X). Reads (ends_alone {E = X}) (λ _. true) shown (raw_bytes size) r old new) same (subst (λ (o : Option (Result A X)). LendsUntilUsed shown size o old new) is h)
+    subst (λ (r : Result A X). Reads (ends_alone {E = X}) (λ _. true) shown (raw_bytes size) r old new) same
+    (subst (λ (o : Option (Result A X)). LendsUntilUsed shown size o old new) is h)
 
 -- where nothing was lent, the reader is as it was
-pub none_lent : {X A : Type 0} (shown : A → List ℕ) (size : ℕ) {old new : ReaderState} {lent : Option (Result A X)} → lent ≡ None → LendsUntilUsed shown size lent old new → new ≡ old
-none_lent {X = X} {A = A} shown size {old = old} {new = new} is h = subst (λ (o : Option (Result A X)). LendsUntilUsed shown size o old new) is h
+pub none_lent : {X A : Type 0} (shown : A → List ℕ) (size : ℕ) {old new : ReaderState} {lent : Option (Result A X)}
+    → lent ≡ None → LendsUntilUsed shown size lent old new → new ≡ old
+none_lent {X = X} {A = A} shown size {old = old} {new = new} is h =
+    subst (λ (o : Option (Result A X)). LendsUntilUsed shown size o old new) is h
 
 -- so many bytes were lent
-pub lent_length : {X A : Type 0} {shown : A → List ℕ} (size : ℕ) {old new : ReaderState} {x : A} → Reads (ends_alone {E = X}) (λ _. true) shown (raw_bytes size) (Ok x) old new → length (shown x) ≡ size
+pub lent_length : {X A : Type 0} {shown : A → List ℕ} (size : ℕ) {old new : ReaderState} {x : A}
+    → Reads (ends_alone {E = X}) (λ _. true) shown (raw_bytes size) (Ok x) old new → length (shown x) ≡ size
 unfolding raw_bytes
 lent_length size r = ap length r.answer.front_is.0 ∙ r.answer.front_is.1
 
-module _ {E X A : Type 0} {gives : Error → E → Type 0} {eof : E → Bool} {shown : A → List ℕ} (size : ℕ) {old new : ReaderState} where
+module _ {E X A : Type 0} {gives : Error → E → Type 0} {eof : E → Bool} {shown : A → List ℕ} (size : ℕ)
+    {old new : ReaderState} where
   -- what was lent was read
-  pub lent_read : {x : A} → Reads (ends_alone {E = X}) (λ _. true) shown (raw_bytes size) (Ok x) old new → Reads gives eof shown (raw_bytes size) (Ok x) old new
+  pub lent_read : {x : A} → Reads (ends_alone {E = X}) (λ _. true) shown (raw_bytes size) (Ok x) old new
+      → Reads gives eof shown (raw_bytes size) (Ok x) old new
   lent_read r = record { kept = r.kept; answer = r.answer }
 
   -- and where it ended, the read is refused as ended
-  pub lent_refused : {x : X} {e : E} → IsEnd gives eof old.fixed.ends_by_device e → Reads ends_alone (λ _. true) shown (raw_bytes size) (Err x) old new → Reads gives eof shown (raw_bytes size) (Err e) old new
+  pub lent_refused : {x : X} {e : E} → IsEnd gives eof old.fixed.ends_by_device e
+      → Reads ends_alone (λ _. true) shown (raw_bytes size) (Err x) old new
+      → Reads gives eof shown (raw_bytes size) (Err e) old new
   unfolding raw_bytes
   lent_refused {x = x} ended r = record {
     kept = r.kept;
     answer =
         elim r.answer [
           | inl (inl h) ↦ absurd (never_memory h.0)
-          | inl (inr h) ↦ inl (inr (h.0, λ tells. let failed = h.1 tells in absurd (never_of_a_device failed.0 x failed.2)))
+          | inl (inr h) ↦
+              inl (inr (h.0, λ tells. let failed = h.1 tells in absurd (never_of_a_device failed.0 x failed.2)))
           | inr h ↦ inr (record {
             no_fault = h.no_fault;
             kind = inl ended;
-            because = λ told. let un = h.because told in record { no_front = un.no_front; too_short = λ _ _ _. ended.1; malformed = λ bad. absurd bad };
+            because = λ told. let un = h.because told in record {
+              no_front = un.no_front;
+              too_short = λ _ _ _. ended.1;
+              malformed = λ bad. absurd bad;
+            };
           })
         ];
   }

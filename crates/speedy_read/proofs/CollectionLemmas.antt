@@ -1,5 +1,6 @@
 -- Reads of items make reads of what they gather to.
-use Rattle.std.specs.Prelude.{◌≡◌, ℕ, ◌+◌, ◌≤◌, ◌<◌, List, [], ◌∷◌, ◌++◌, length, map, Bool, true, false, IsTrue, Result, Ok, Err, OnOk, is_err, IsErrAnd, refl}
+use Rattle.std.specs.Prelude.{◌≡◌, ℕ, ◌+◌, ◌≤◌, ◌<◌, List, [], ◌∷◌, ◌++◌, length, map, Bool, true, false, IsTrue}
+use Rattle.std.specs.Prelude.{Result, Ok, Err, OnOk, is_err, IsErrAnd, refl}
 use Rattle.std.proofs.Common.{sym, ◌∙◌, ap, subst, arith, inl, inr}
 use Rattle.std.proofs.lemmas.List.{map-append, append_assoc, append-nil, length-append, length-map}
 use Rattle.speedy_base.specs.declared.error.ErrorKind.TheVariants as kinds
@@ -22,7 +23,8 @@ use Rattle.speedy_read.specs.Collections.{Gatherer, GotItems, NotWritten, Collec
 use Rattle.speedy_read.proofs.ListLemmas.{item_more, refused_item, list_composes}
 
 -- from old to mid so many items were read, which gather to the collection
-pub record GatheredSoFar {T F V : Type 0} (g : Gatherer T F V) (L : Format V) (n : ℕ) (whole : F) (old mid : ReaderState) : Type 0 where
+pub record GatheredSoFar {T F V : Type 0} (g : Gatherer T F V) (L : Format V) (n : ℕ) (whole : F)
+    (old mid : ReaderState) : Type 0 where
   pub kept : Kept old mid
   pub so_far : GotItems g L n whole old mid
 
@@ -36,22 +38,41 @@ module _ {T F V : Type 0} {g : Gatherer T F V} {L : Format V} {old : ReaderState
     so_far = record { items = []; count_is = refl; got = Got-nothing refl; gathered = h; written = λ _. k };
   }
 
-  read_so_far : {n : ℕ} {whole : F} {mid : ReaderState} (h : GatheredSoFar g L n whole old mid) → ReadSoFar (Each L.spells (map g.seen h.so_far.items)) old mid
+  read_so_far : {n : ℕ} {whole : F} {mid : ReaderState} (h : GatheredSoFar g L n whole old mid)
+      → ReadSoFar (Each L.spells (map g.seen h.so_far.items)) old mid
   read_so_far h = record { kept = h.kept; got = h.so_far.got }
 
-  module _ {E : Type 0} {gives : Error → E → Type 0} {eof : E → Bool} {whole : F} {n : ℕ} {mid new : ReaderState} (h : GatheredSoFar g L n whole old mid) where
+  module _ {E : Type 0} {gives : Error → E → Type 0} {eof : E → Bool} {whole : F} {n : ℕ} {mid new : ReaderState}
+      (h : GatheredSoFar g L n whole old mid) where
     -- an item more was read
-    more_read : {x : T} → Reads gives eof g.seen L (Ok x) mid new → ReadSoFar (Each L.spells (map g.seen (h.so_far.items ++ x ∷ []))) old new
-    more_read {x = x} r = item_more L (map g.seen h.so_far.items) (read_so_far h) r (map-append g.seen h.so_far.items (x ∷ []))
+    more_read : {x : T} → Reads gives eof g.seen L (Ok x) mid new
+        → ReadSoFar (Each L.spells (map g.seen (h.so_far.items ++ x ∷ []))) old new
+    more_read {x = x} r =
+        item_more L (map g.seen h.so_far.items) (read_so_far h) r (map-append g.seen h.so_far.items (x ∷ []))
 
     -- and added
-    pub one_gathered : {x : T} {next : F} → Reads gives eof g.seen L (Ok x) mid new → g.gathers (h.so_far.items ++ x ∷ []) next → (IsTrue old.encoding.strict → g.are_written (h.so_far.items ++ x ∷ [])) → GatheredSoFar g L (n + 1) next old new
+    pub one_gathered : {x : T} {next : F} → Reads gives eof g.seen L (Ok x) mid new
+        → g.gathers (h.so_far.items ++ x ∷ []) next
+        → (IsTrue old.encoding.strict → g.are_written (h.so_far.items ++ x ∷ []))
+        → GatheredSoFar g L (n + 1) next old new
     one_gathered {x = x} r gathered written =
         let read = more_read r in
-        record { kept = read.kept; so_far = record { items = h.so_far.items ++ x ∷ []; count_is = length_pushed h.so_far.items x n h.so_far.count_is; got = read.got; gathered = gathered; written = written } }
+        record {
+          kept = read.kept;
+          so_far = record {
+            items = h.so_far.items ++ x ∷ [];
+            count_is = length_pushed h.so_far.items x n h.so_far.count_is;
+            got = read.got;
+            gathered = gathered;
+            written = written;
+          };
+        }
 
     -- or refused, since it is written of no collection behind the others
-    pub item_not_written : {all : ℕ} {x : T} {next : F} {e : E} → n < all → IsTrue old.encoding.strict → Reads gives eof g.seen L (Ok x) mid new → g.gathers (h.so_far.items ++ x ∷ []) next → (g.are_written (h.so_far.items ++ x ∷ []) → ⊥) → gives (error_of kinds.NotWrittenForm) e → Collects g L all gives eof (Err e) old new
+    pub item_not_written : {all : ℕ} {x : T} {next : F} {e : E} → n < all → IsTrue old.encoding.strict
+        → Reads gives eof g.seen L (Ok x) mid new → g.gathers (h.so_far.items ++ x ∷ []) next
+        → (g.are_written (h.so_far.items ++ x ∷ []) → ⊥) → gives (error_of kinds.NotWrittenForm) e
+        → Collects g L all gives eof (Err e) old new
     item_not_written {x = x} {next = next} less strict r gathered not_written given =
         let read = more_read r in
         record {
@@ -63,7 +84,13 @@ module _ {T F V : Type 0} {g : Gatherer T F V} {L : Format V} {old : ReaderState
               whole = next;
               demanded = strict;
               at_most = let l = length_pushed h.so_far.items x n h.so_far.count_is in omega arith;
-              ahead = record { front = read.got.front; rest = new.to_come; front_is = read.got.front_is; stands = read.got.taken; no_fault = read.got.no_fault };
+              ahead = record {
+                front = read.got.front;
+                rest = new.to_come;
+                front_is = read.got.front_is;
+                stands = read.got.taken;
+                no_fault = read.got.no_fault;
+              };
               gathered = gathered;
               not_written = not_written;
             },
@@ -71,12 +98,15 @@ module _ {T F V : Type 0} {g : Gatherer T F V} {L : Format V} {old : ReaderState
         }
 
     -- where the next item is refused, the collection is
-    pub next_refused : {strict : Bool} {least : ℕ} → Laws strict least L → {all : ℕ} {e : E} {result : Result F E} → n < all → IsErrAnd result (λ x. x ≡ e) → Reads gives eof g.seen L (Err e) mid new → Collects g L all gives eof result old new
+    pub next_refused : {strict : Bool} {least : ℕ} → Laws strict least L → {all : ℕ} {e : E} {result : Result F E}
+        → n < all → IsErrAnd result (λ x. x ≡ e) → Reads gives eof g.seen L (Err e) mid new
+        → Collects g L all gives eof result old new
     unfolding vector owned_content
     next_refused laws {all = all} {e = e} {result = result} less passed r =
         let l = length-map h.so_far.items g.seen in
         let m = h.so_far.count_is in
-        let refused : Reads gives eof (λ (vs : List V). vs) (vector all L) (Err e) old new = refused_item laws all (map g.seen h.so_far.items) (omega arith) (read_so_far h) refl r in
+        let refused : Reads gives eof (λ (vs : List V). vs) (vector all L) (Err e) old new =
+        refused_item laws all (map g.seen h.so_far.items) (omega arith) (read_so_far h) refl r in
         subst (λ (x : Result F E). Collects g L all gives eof x old new) (passed_on result e passed)
         (record { kept = refused.kept; answer = elim refused.answer [ inl x ↦ inl x | inr x ↦ inr (inl x) ] })
 
@@ -86,16 +116,22 @@ on_success (Ok x) h p = p
 on_success (Err e) h p = absurd (cc)
 
 -- want of memory for an item
-pub room_refused : {T F V : Type 0} {g : Gatherer T F V} {L : Format V} {E : Type 0} {gives : Error → E → Type 0} {eof : E → Bool} {old new : ReaderState} {e : E} (all : ℕ) → Kept old new → new.faults ≡ old.faults → gives (error_of kinds.OutOfMemory) e → Collects g L all gives eof (Err e) old new
+pub room_refused : {T F V : Type 0} {g : Gatherer T F V} {L : Format V} {E : Type 0} {gives : Error → E → Type 0}
+    {eof : E → Bool} {old new : ReaderState} {e : E} (all : ℕ) → Kept old new → new.faults ≡ old.faults
+    → gives (error_of kinds.OutOfMemory) e → Collects g L all gives eof (Err e) old new
 room_refused all kept clean given = record { kept = kept; answer = inl (inl (given, inl refl, clean)) }
 
 -- all items were gathered
-pub all_gathered : {T F V : Type 0} {g : Gatherer T F V} {L : Format V} {E : Type 0} {gives : Error → E → Type 0} {eof : E → Bool} {n : ℕ} {whole : F} {old new : ReaderState} → GatheredSoFar g L n whole old new → Collects g L n gives eof (Ok whole) old new
+pub all_gathered : {T F V : Type 0} {g : Gatherer T F V} {L : Format V} {E : Type 0} {gives : Error → E → Type 0}
+    {eof : E → Bool} {n : ℕ} {whole : F} {old new : ReaderState} → GatheredSoFar g L n whole old new
+    → Collects g L n gives eof (Ok whole) old new
 all_gathered h = record { kept = h.kept; answer = h.so_far }
 
 -- all items were read, and gathered at once
-pub gathered_at_once : {A T F V : Type 0} {g : Gatherer T F V} {L : Format V} {E : Type 0} {gives : Error → E → Type 0} {eof : E → Bool} {n : ℕ} (items : A → List T) {all : A} {whole : F} {old new : ReaderState}
-    → Reads gives eof (λ x. map g.seen (items x)) (vector n L) (Ok all) old new → g.gathers (items all) whole → (IsTrue old.encoding.strict → g.are_written (items all)) → Collects g L n gives eof (Ok whole) old new
+pub gathered_at_once : {A T F V : Type 0} {g : Gatherer T F V} {L : Format V} {E : Type 0} {gives : Error → E → Type 0}
+    {eof : E → Bool} {n : ℕ} (items : A → List T) {all : A} {whole : F} {old new : ReaderState}
+    → Reads gives eof (λ x. map g.seen (items x)) (vector n L) (Ok all) old new → g.gathers (items all) whole
+    → (IsTrue old.encoding.strict → g.are_written (items all)) → Collects g L n gives eof (Ok whole) old new
 unfolding vector owned_content repeat
 gathered_at_once {g = g} items {all = all} r gathered written =
     let got = r.answer in
@@ -115,11 +151,15 @@ gathered_at_once {g = g} items {all = all} r gathered written =
 -- what the items gather to is what the code says of what is seen of them
 pub record IsCodeOf {T F V S : Type 0} (g : Gatherer T F V) (c : Code (List V) S) (seen' : F → S) : Type 0 where
   pub meant : (items : List T) (whole : F) → g.gathers items whole → c.means (map g.seen items) (seen' whole)
-  pub chosen : (items : List T) (whole : F) → g.gathers items whole → g.are_written items → c.chosen (map g.seen items) (seen' whole)
-  pub first_chosen : (items : List T) (more : List V) (s : S) → c.chosen (map g.seen items ++ more) s → g.are_written items
+  pub chosen : (items : List T) (whole : F) → g.gathers items whole → g.are_written items
+      → c.chosen (map g.seen items) (seen' whole)
+  pub first_chosen : (items : List T) (more : List V) (s : S) → c.chosen (map g.seen items ++ more) s
+      → g.are_written items
 
 -- where more items are spelled than others, which stand at the same place, they begin with these
-each_begins : {V : Type 0} {strict : Bool} {least : ℕ} {L : Format V} → Laws strict least L → (vs ws : List V) (s t r q : List ℕ) → length vs ≤ length ws → Each L.spells vs s → Each L.spells ws t → s ++ r ≡ t ++ q → (more : List V) × (ws ≡ vs ++ more)
+each_begins : {V : Type 0} {strict : Bool} {least : ℕ} {L : Format V} → Laws strict least L
+    → (vs ws : List V) (s t r q : List ℕ) → length vs ≤ length ws → Each L.spells vs s → Each L.spells ws t
+    → s ++ r ≡ t ++ q → (more : List V) × (ws ≡ vs ++ more)
 each_begins laws [] ws s t r q l h k e = (ws, refl)
 each_begins laws (v ∷ vs) [] s t r q l h k e = absurd (omega arith)
 each_begins laws (v ∷ vs) (w ∷ ws) s t r q l h k e =
@@ -128,36 +168,52 @@ each_begins laws (v ∷ vs) (w ∷ ws) s t r q l h k e =
     let rest = each_begins laws vs ws h.back k.back r q (omega arith) h.second_is k.second_is first.2 in
     (rest.0, let a = first.0 in let b = rest.1 in (cc))
 
-module _ {T F V S : Type 0} {g : Gatherer T F V} {c : Code (List V) S} {seen' : F → S} (is : IsCodeOf g c seen') {L : Format V} {n : ℕ} {old : ReaderState} {new : ReaderState} (h : NotWritten g L n old new) where
+module _ {T F V S : Type 0} {g : Gatherer T F V} {c : Code (List V) S} {seen' : F → S} (is : IsCodeOf g c seen')
+    {L : Format V} {n : ℕ} {old : ReaderState} {new : ReaderState} (h : NotWritten g L n old new) where
   wider : ReadsWider c
   wider = record {
     code = map g.seen h.items;
     value = seen' h.whole;
     meant = is.meant h.items h.whole h.gathered;
-    not_chosen = λ k. h.not_written (is.first_chosen h.items [] (seen' h.whole) (subst (λ (vs : List V). c.chosen vs (seen' h.whole)) (sym (append-nil (map g.seen h.items))) k));
+    not_chosen = λ k. h.not_written (is.first_chosen h.items [] (seen' h.whole)
+        (subst (λ (vs : List V). c.chosen vs (seen' h.whole)) (sym (append-nil (map g.seen h.items))) k));
   }
 
   -- what is spelled where such items stand is written of no collection
-  none_chosen : {strict : Bool} {least : ℕ} → Laws strict least L → (vs : List V) (s : S) (front rest bytes more : List ℕ) → length vs ≡ n → Each L.spells vs front → bytes ++ more ≡ front ++ rest → bytes ≡ h.ahead.front ++ h.ahead.rest → c.chosen vs s → ⊥
+  none_chosen : {strict : Bool} {least : ℕ} → Laws strict least L
+      → (vs : List V) (s : S) (front rest bytes more : List ℕ) → length vs ≡ n → Each L.spells vs front
+      → bytes ++ more ≡ front ++ rest → bytes ≡ h.ahead.front ++ h.ahead.rest → c.chosen vs s → ⊥
   none_chosen laws vs s front rest bytes more count spelled is_whole stands chosen =
-      let fewer : length (map g.seen h.items) ≤ length vs = let l = length-map h.items g.seen in let m = h.at_most in omega arith in
+      let fewer : length (map g.seen h.items) ≤ length vs =
+      let l = length-map h.items g.seen in
+      let m = h.at_most in
+      omega arith in
       let joined = sym (append_assoc h.ahead.front h.ahead.rest more) ∙ (ap (λ x. x ++ more) (sym stands) ∙ is_whole) in
-      let begins = each_begins laws (map g.seen h.items) vs h.ahead.front front (h.ahead.rest ++ more) rest fewer h.ahead.front_is spelled joined in
+      let begins = each_begins laws (map g.seen h.items) vs h.ahead.front front (h.ahead.rest ++ more) rest fewer
+      h.ahead.front_is spelled joined in
       h.not_written (is.first_chosen h.items begins.0 s (subst (λ (vs : List V). c.chosen vs s) begins.1 chosen))
 
-  not_written_unspelled : {E : Type 0} {gives : Error → E → Type 0} {eof : E → Bool} {least : ℕ} {e : E} → Laws old.encoding.strict least L → gives (error_of kinds.NotWrittenForm) e → IsTrue old.fixed.tells → Unspelled gives eof (coding old.encoding c (vector n L)) e old.to_come
+  not_written_unspelled : {E : Type 0} {gives : Error → E → Type 0} {eof : E → Bool} {least : ℕ} {e : E}
+      → Laws old.encoding.strict least L → gives (error_of kinds.NotWrittenForm) e → IsTrue old.fixed.tells
+      → Unspelled gives eof (coding old.encoding c (vector n L)) e old.to_come
   unfolding coding vector owned_content repeat
   not_written_unspelled laws given tells = record {
     no_front = λ v front rest whole k.
-        none_chosen laws k.code v front rest old.to_come [] k.code_is.0 k.code_is.1 (append-nil old.to_come ∙ whole) (h.ahead.stands tells) (Accepts-demanded old.encoding.strict c k.code v h.demanded k.stands);
+        none_chosen laws k.code v front rest old.to_come [] k.code_is.0 k.code_is.1 (append-nil old.to_come ∙ whole)
+        (h.ahead.stands tells) (Accepts-demanded old.encoding.strict c k.code v h.demanded k.stands);
     too_short = λ v more k.
-        absurd (none_chosen laws k.code v (old.to_come ++ more) [] old.to_come more k.code_is.0 k.code_is.1 (sym (append-nil (old.to_come ++ more))) (h.ahead.stands tells) (Accepts-demanded old.encoding.strict c k.code v h.demanded k.stands));
+        absurd (none_chosen laws k.code v (old.to_come ++ more) [] old.to_come more k.code_is.0 k.code_is.1
+        (sym (append-nil (old.to_come ++ more))) (h.ahead.stands tells)
+        (Accepts-demanded old.encoding.strict c k.code v h.demanded k.stands));
     malformed = λ _. (kinds.NotWrittenForm, inr (inr (h.demanded, refl, wider)), given);
   }
 
 -- so items that are read and gathered are a value of the code that is read
-pub collected_read : {T F V S : Type 0} {g : Gatherer T F V} {c : Code (List V) S} {seen' : F → S} {L : Format V} {n : ℕ} {E : Type 0} {gives : Error → E → Type 0} {eof : E → Bool} {result : Result F E} {old new : ReaderState} {least : ℕ} → Laws old.encoding.strict least L → IsCodeOf g c seen'
-    → Collects g L n gives eof result old new → Reads gives eof seen' (coding old.encoding c (vector n L)) result old new
+pub collected_read : {T F V S : Type 0} {g : Gatherer T F V} {c : Code (List V) S} {seen' : F → S} {L : Format V}
+    {n : ℕ} {E : Type 0} {gives : Error → E → Type 0} {eof : E → Bool} {result : Result F E} {old new : ReaderState}
+    {least : ℕ} → Laws old.encoding.strict least L → IsCodeOf g c seen'
+    → Collects g L n gives eof result old new
+    → Reads gives eof seen' (coding old.encoding c (vector n L)) result old new
 unfolding coding vector owned_content repeat
 collected_read {g = g} {c = c} {seen' = seen'} {L = L} {n = n} {result = Ok whole} {old = old} laws is r =
     let h = r.answer in
@@ -167,15 +223,20 @@ collected_read {g = g} {c = c} {seen' = seen'} {L = L} {n = n} {result = Ok whol
           (λ s k. record {
             code = map g.seen h.items;
             code_is = (length-map h.items g.seen ∙ h.count_is, k);
-            stands = Accepts-is old.encoding.strict c (map g.seen h.items) (seen' whole) (is.meant h.items whole h.gathered) (λ strict. is.chosen h.items whole h.gathered (h.written strict));
+            stands = Accepts-is old.encoding.strict c (map g.seen h.items) (seen' whole)
+                (is.meant h.items whole h.gathered) (λ strict. is.chosen h.items whole h.gathered (h.written strict));
           }) h.got;
     }
-collected_read {V = V} {g = g} {c = c} {L = L} {n = n} {gives = gives} {eof = eof} {result = Err e} {old = old} {new = new} laws is r =
+collected_read {V = V} {g = g} {c = c} {L = L} {n = n} {gives = gives} {eof = eof} {result = Err e} {old = old}
+    {new = new} laws is r =
     elim r.answer [
       | inl x ↦ record { kept = r.kept; answer = inl x }
       | inr x ↦ elim x [
         | inl y ↦
-            let items : Reads gives eof (λ (vs : List V). vs) (vector n L) (Err e) old new = record { kept = r.kept; answer = inr y } in
+            let items : Reads gives eof (λ (vs : List V). vs) (vector n L) (Err e) old new = record {
+              kept = r.kept;
+              answer = inr y;
+            } in
             code_refused old.encoding c refl items
         | inr y ↦ record {
           kept = r.kept;
@@ -196,7 +257,11 @@ unfolding coding list sequence
 coded_list_composes L encoding c =
     let parts = list_composes L encoding in
     record {
-      joins = λ n s a b h k. record { code = k.code; code_is = parts.joins n k.code a b h k.code_is; stands = k.stands };
+      joins = λ n s a b h k. record {
+        code = k.code;
+        code_is = parts.joins n k.code a b h k.code_is;
+        stands = k.stands;
+      };
       splits = λ s bytes h. (
         length h.code,
         s,
@@ -217,9 +282,17 @@ coded_list_composes L encoding c =
                   record {
                     front = list_is.front;
                     back = list_is.back ++ x.rest;
-                    whole_is = x.whole_is ∙ (ap (λ s. s ++ x.rest) list_is.whole_is ∙ append_assoc list_is.front list_is.back x.rest);
+                    whole_is = x.whole_is
+                        ∙ (ap (λ s. s ++ x.rest) list_is.whole_is ∙ append_assoc list_is.front list_is.back x.rest);
                     first_is = list_is.first_is;
-                    second_is = inr (record { code = x.code; front = list_is.back; rest = x.rest; whole_is = refl; code_is = list_is.second_is; nothing = x.nothing });
+                    second_is = inr (record {
+                      code = x.code;
+                      front = list_is.back;
+                      rest = x.rest;
+                      whole_is = refl;
+                      code_is = list_is.second_is;
+                      nothing = x.nothing;
+                    });
                   },
                 )
           ];
@@ -246,8 +319,11 @@ gathered_composes true L encoding c =
     }
 
 -- what stands for what it gathers to, and is written so, is the code of it
-pub gatherer_code : {T F V S : Type 0} {g : Gatherer T F V} {stands : List V → S → Type 0} {written : List V → Type 0} {seen' : F → S} → ((items : List T) (whole : F) → g.gathers items whole → stands (map g.seen items) (seen' whole))
-    → ((items : List T) → g.are_written items → written (map g.seen items)) → ((items : List T) → written (map g.seen items) → g.are_written items) → ((xs ys : List V) → written (xs ++ ys) → written xs) → IsCodeOf g (gathering stands written) seen'
+pub gatherer_code : {T F V S : Type 0} {g : Gatherer T F V} {stands : List V → S → Type 0} {written : List V → Type 0}
+    {seen' : F → S} → ((items : List T) (whole : F) → g.gathers items whole → stands (map g.seen items) (seen' whole))
+    → ((items : List T) → g.are_written items → written (map g.seen items))
+    → ((items : List T) → written (map g.seen items) → g.are_written items)
+    → ((xs ys : List V) → written (xs ++ ys) → written xs) → IsCodeOf g (gathering stands written) seen'
 gatherer_code {g = g} stands to from first = record {
   meant = stands;
   chosen = λ items whole h w. (stands items whole h, to items w);

@@ -1,5 +1,6 @@
 -- Flags that are read as bytes are.
-use Rattle.std.specs.Prelude.{◌≡◌, ℕ, suc, List, [], ◌∷◌, length, map, Bool, false, not, nat_eq, Result, Ok, Err, MatchResult, IsErrAnd, refl}
+use Rattle.std.specs.Prelude.{◌≡◌, ℕ, suc, List, [], ◌∷◌, length, map, Bool, false, not, nat_eq, Result, Ok, Err}
+use Rattle.std.specs.Prelude.{MatchResult, IsErrAnd, refl}
 use Rattle.std.proofs.Common.{◌∙◌, sym, ap, subst, inl}
 use Rattle.std.proofs.lemmas.List.{length-map}
 use Rattle.speedy_base.specs.declared.error.ErrorKind.TheVariants as kinds
@@ -22,24 +23,39 @@ use Rattle.speedy_read.specs.Reading.{ReaderState, Reads}
 use Rattle.speedy_read.proofs.ListLemmas.{refused_room}
 
 -- where no written form is demanded, each byte is a flag
-each_flag : (encoding : Encoding) → encoding.strict ≡ false → (bytes : List ℕ) → AreBytes bytes → Each (flag encoding).spells (map (λ n. not (nat_eq n 0)) bytes) bytes
+each_flag : (encoding : Encoding) → encoding.strict ≡ false → (bytes : List ℕ) → AreBytes bytes
+    → Each (flag encoding).spells (map (λ n. not (nat_eq n 0)) bytes) bytes
 unfolding coding unsigned_number
 each_flag encoding plain [] are = refl
 each_flag encoding plain (b ∷ bytes) are = record {
   front = b ∷ [];
   back = bytes;
   whole_is = refl;
-  first_is = record { code = b; code_is = SpellsNumber-one_byte encoding.order b are.0; stands = Accepts-is encoding.strict flag_code b (not (nat_eq b 0)) (number_is_flag b) (λ strict. absurd (cc)) };
+  first_is = record {
+    code = b;
+    code_is = SpellsNumber-one_byte encoding.order b are.0;
+    stands = Accepts-is encoding.strict flag_code b (not (nat_eq b 0)) (number_is_flag b) (λ strict. absurd (cc));
+  };
   second_is = each_flag encoding plain bytes are.1;
 }
 
 -- and flags are spelled by bytes alone
-flag_bytes : (encoding : Encoding) (flags : List Bool) (s : List ℕ) → Each (flag encoding).spells flags s → (codes : List ℕ) × (length codes ≡ length flags) × Each (SpellsNumber 1 encoding.order) codes s
+flag_bytes : (encoding : Encoding) (flags : List Bool) (s : List ℕ) → Each (flag encoding).spells flags s
+    → (codes : List ℕ) × (length codes ≡ length flags) × Each (SpellsNumber 1 encoding.order) codes s
 unfolding coding unsigned_number
 flag_bytes encoding [] s h = ([], refl, h)
 flag_bytes encoding (b ∷ flags) s h =
-    let more = flag_bytes encoding flags h.back h.second_is in
-    (h.first_is.code ∷ more.0, ap suc more.1, record { front = h.front; back = h.back; whole_is = h.whole_is; first_is = h.first_is.code_is; second_is = more.2 })
+    let more = flag_bytes encoding flags h.back h.second_is in (
+      h.first_is.code ∷ more.0,
+      ap suc more.1,
+      record {
+        front = h.front;
+        back = h.back;
+        whole_is = h.whole_is;
+        first_is = h.first_is.code_is;
+        second_is = more.2;
+      },
+    )
 
 flags_cover : (n : ℕ) (encoding : Encoding) → Covers (vector n (unsigned_number 1 encoding)) (vector n (flag encoding))
 unfolding vector owned_content repeat coding unsigned_number
@@ -50,19 +66,26 @@ flags_cover n encoding = record {
   asks = asks_same;
 }
 
-module _ {E : Type 0} {gives : Error → E → Type 0} {eof : E → Bool} (encoding : Encoding) {A B : Type 0} {seen : A → List ℕ} {seen' : B → List Bool} {old new : ReaderState} (n : ℕ) where
+module _ {E : Type 0} {gives : Error → E → Type 0} {eof : E → Bool} (encoding : Encoding) {A B : Type 0}
+    {seen : A → List ℕ} {seen' : B → List Bool} {old new : ReaderState} (n : ℕ) where
   -- where no bytes are read, no flags are
-  pub flags_refused : {e : E} {result : Result B E} → IsErrAnd result (λ x. x ≡ e) → Reads gives eof seen (vector n (unsigned_number 1 encoding)) (Err e) old new → Reads gives eof seen' (vector n (flag encoding)) result old new
+  pub flags_refused : {e : E} {result : Result B E} → IsErrAnd result (λ x. x ≡ e)
+      → Reads gives eof seen (vector n (unsigned_number 1 encoding)) (Err e) old new
+      → Reads gives eof seen' (vector n (flag encoding)) result old new
   flags_refused passed r = refused_covered (flags_cover n encoding) passed r
 
   -- the flags that bytes are, or want of memory for them
-  pub flags_answered : encoding.strict ≡ false → {x : A} (result : Result B E) → MatchResult result (λ y. seen' y ≡ map (λ m. not (nat_eq m 0)) (seen x)) (gives (error_of kinds.OutOfMemory)) → AreBytes (seen x)
-      → Reads gives eof seen (vector n (unsigned_number 1 encoding)) (Ok x) old new → Reads gives eof seen' (vector n (flag encoding)) result old new
+  pub flags_answered : encoding.strict ≡ false → {x : A} (result : Result B E)
+      → MatchResult result (λ y. seen' y ≡ map (λ m. not (nat_eq m 0)) (seen x)) (gives (error_of kinds.OutOfMemory))
+      → AreBytes (seen x)
+      → Reads gives eof seen (vector n (unsigned_number 1 encoding)) (Ok x) old new
+      → Reads gives eof seen' (vector n (flag encoding)) result old new
   unfolding vector owned_content repeat unsigned_number
   flags_answered plain {x = x} (Ok y) h are r =
       got_covered (λ s bytes. (
         ap length h ∙ (length-map (seen x) (λ m. not (nat_eq m 0)) ∙ bytes.0),
         subst (λ (flags : List Bool). Each (flag encoding).spells flags s) (sym h)
-            (subst (λ (t : List ℕ). Each (flag encoding).spells (map (λ m. not (nat_eq m 0)) (seen x)) t) (each_byte_is encoding.order (seen x) s bytes.1) (each_flag encoding plain (seen x) are)),
+            (subst (λ (t : List ℕ). Each (flag encoding).spells (map (λ m. not (nat_eq m 0)) (seen x)) t)
+            (each_byte_is encoding.order (seen x) s bytes.1) (each_flag encoding plain (seen x) are)),
       )) r
   flags_answered plain (Err e) h are r = refused_room n (flag encoding) e r.kept r.answer.no_fault refl h

@@ -22,7 +22,8 @@ use Rattle.speedy_read.specs.Reading.{ReaderState, Kept, Reads, ShowsNothing}
 use Rattle.speedy_read.specs.ReadingLemmas.{Kept-same}
 use Rattle.speedy_read.specs.Counted.{counted_text_composes, counted_list_composes}
 use Rattle.speedy_read.specs.Sequences.{Composes}
-use Rattle.speedy_read.specs.Codes.{Covers, refused_covered, got_covered, codes_cover, exact_code_read, code_means_nothing}
+use Rattle.speedy_read.specs.Codes.{Covers, refused_covered, got_covered, codes_cover, exact_code_read}
+use Rattle.speedy_read.specs.Codes.{code_means_nothing}
 use Rattle.speedy_read.proofs.OwnedLemmas.{owned_read}
 use Rattle.speedy_read.proofs.ListLemmas.{list_composes}
 
@@ -36,7 +37,9 @@ pub slices_show : ShowsNothing {A = Bor (List ℕ)} (λ b. b.now) → ⊥
 slices_show nothing = let none = nothing (record { ref_ptr = (0, 0); now = 0 ∷ [] }) in absurd (cc)
 
 -- where a sequence is read, the borrowed one is too
-pub borrowed_composes : {U V : Type 0} {W : U → Type 0} {L : Format U} {M : (u : U) → Format (W u)} {N : Format V} {join : (u : U) → W u → V} → L.asks.memory ≡ false → Composes L M N join → Composes L (λ u. borrowed_content (M u)) (borrowed_content N) join
+pub borrowed_composes : {U V : Type 0} {W : U → Type 0} {L : Format U} {M : (u : U) → Format (W u)} {N : Format V}
+    {join : (u : U) → W u → V} → L.asks.memory ≡ false → Composes L M N join
+    → Composes L (λ u. borrowed_content (M u)) (borrowed_content N) join
 unfolding borrowed_content
 borrowed_composes none c = record {
   joins = c.joins;
@@ -49,7 +52,8 @@ borrowed_composes none c = record {
 }
 
 -- what covers another format covers it where both are borrowed
-pub borrowed_covers : {U V : Type 0} {L : Format U} {N : Format V} → Covers L N → Covers (borrowed_content L) (borrowed_content N)
+pub borrowed_covers : {U V : Type 0} {L : Format U} {N : Format V} → Covers L N
+    → Covers (borrowed_content L) (borrowed_content N)
 unfolding borrowed_content
 borrowed_covers c = record {
   under = c.under;
@@ -68,7 +72,9 @@ content_covers none = record {
 }
 
 -- where so many items of one size are spelled, there are the bytes of so many
-pub bytes_cover_items : {V : Type 0} (size : ℕ) (F : Format V) → ((v : V) (bytes : List ℕ) → F.spells v bytes → length bytes ≡ size) → (n : ℕ) {all : ℕ} → n * size ≡ all → Covers (raw_bytes all) (repeat n F)
+pub bytes_cover_items : {V : Type 0} (size : ℕ) (F : Format V)
+    → ((v : V) (bytes : List ℕ) → F.spells v bytes → length bytes ≡ size) → (n : ℕ) {all : ℕ} → n * size ≡ all
+    → Covers (raw_bytes all) (repeat n F)
 unfolding raw_bytes repeat
 bytes_cover_items size F one n whole = record {
   under = λ vs s h. (s, (refl, each_one_size one vs s h.1 ∙ (ap (λ m. m * size) h.0 ∙ whole)));
@@ -81,19 +87,26 @@ bytes_cover : (n : ℕ) (encoding : Encoding) → Covers (raw_bytes n) (repeat n
 unfolding unsigned_number
 bytes_cover n encoding = bytes_cover_items 1 _ (λ v bytes h. h.width_is) n (omega arith)
 
-bytes_spell_items : (n : ℕ) (encoding : Encoding) (bytes : List ℕ) → AreBytes bytes → (s : List ℕ) → (raw_bytes n).spells bytes s → (repeat n (unsigned_number 1 encoding)).spells bytes s
+bytes_spell_items : (n : ℕ) (encoding : Encoding) (bytes : List ℕ) → AreBytes bytes → (s : List ℕ)
+    → (raw_bytes n).spells bytes s → (repeat n (unsigned_number 1 encoding)).spells bytes s
 unfolding raw_bytes repeat unsigned_number
-bytes_spell_items n encoding bytes are s h = (ap length h.0 ∙ h.1, subst (λ (t : List ℕ). Each (SpellsNumber 1 encoding.order) bytes t) h.0 (each_byte encoding.order bytes are))
+bytes_spell_items n encoding bytes are s h = (
+  ap length h.0 ∙ h.1,
+  subst (λ (t : List ℕ). Each (SpellsNumber 1 encoding.order) bytes t) h.0 (each_byte encoding.order bytes are),
+)
 
 module _ {E : Type 0} {gives : Error → E → Type 0} {eof : E → Bool} {old new : ReaderState} where
   -- what takes no memory is read where it is borrowed
-  pub borrowed_read : {V : Type 0} (L : Format V) {A : Type 0} {seen' : A → V} {result : Result A E} → L.asks.memory ≡ false → Reads gives eof seen' L result old new → Reads gives eof seen' (borrowed_content L) result old new
+  pub borrowed_read : {V : Type 0} (L : Format V) {A : Type 0} {seen' : A → V} {result : Result A E}
+      → L.asks.memory ≡ false → Reads gives eof seen' L result old new
+      → Reads gives eof seen' (borrowed_content L) result old new
   unfolding borrowed_content
   borrowed_read L {result = Ok x} none r = got_covered (λ s h. h) r
   borrowed_read L {result = Err e} none r = refused_covered (content_covers none) refl r
 
   -- what is borrowed is refused as `Unsized` where nothing is lent
-  pub not_lent : {V : Type 0} (L : Format V) {A : Type 0} {seen' : A → V} {e : E} → (IsTrue old.fixed.lends → ⊥) → new ≡ old → gives (error_of kinds.Unsized) e → Reads gives eof seen' (borrowed_content L) (Err e) old new
+  pub not_lent : {V : Type 0} (L : Format V) {A : Type 0} {seen' : A → V} {e : E} → (IsTrue old.fixed.lends → ⊥)
+      → new ≡ old → gives (error_of kinds.Unsized) e → Reads gives eof seen' (borrowed_content L) (Err e) old new
   unfolding borrowed_content
   not_lent L nothing same g = record {
     kept = subst (λ (s : ReaderState). Kept old s) (sym same) Kept-same;
@@ -105,37 +118,55 @@ module _ {E : Type 0} {gives : Error → E → Type 0} {eof : E → Bool} {old n
   }
 
   -- so many were lent
-  pub lent_length : {A : Type 0} {shows : A → List ℕ} {n : ℕ} {x : A} → Reads gives eof shows (borrowed_content (raw_bytes n)) (Ok x) old new → length (shows x) ≡ n
+  pub lent_length : {A : Type 0} {shows : A → List ℕ} {n : ℕ} {x : A}
+      → Reads gives eof shows (borrowed_content (raw_bytes n)) (Ok x) old new → length (shows x) ≡ n
   unfolding borrowed_content raw_bytes
   lent_length r = let is = r.answer.front_is in ap length is.0 ∙ is.1
 
   module _ {A : Type 0} {shows : A → List ℕ} (n : ℕ) (encoding : Encoding) where
     -- lent bytes are items of one byte each
-    pub items_lent : {result : Result A E} → IfOk result (λ x. AreBytes (shows x)) → Reads gives eof shows (borrowed_content (raw_bytes n)) result old new → Reads gives eof shows (borrowed_content (vector n (unsigned_number 1 encoding))) result old new
+    pub items_lent : {result : Result A E} → IfOk result (λ x. AreBytes (shows x))
+        → Reads gives eof shows (borrowed_content (raw_bytes n)) result old new
+        → Reads gives eof shows (borrowed_content (vector n (unsigned_number 1 encoding))) result old new
     unfolding borrowed_content vector owned_content
     items_lent {result = Ok x} are r = got_covered (bytes_spell_items n encoding (shows x) are) r
     items_lent {result = Err e} are r = refused_covered (borrowed_covers (bytes_cover n encoding)) refl r
 
     -- as they are of a vector, which a cow may borrow
-    pub cow_lent : {result : Result A E} → IfOk result (λ x. AreBytes (shows x)) → Reads gives eof shows (raw_bytes n) result old new → Reads gives eof shows (vector n (unsigned_number 1 encoding)) result old new
+    pub cow_lent : {result : Result A E} → IfOk result (λ x. AreBytes (shows x))
+        → Reads gives eof shows (raw_bytes n) result old new
+        → Reads gives eof shows (vector n (unsigned_number 1 encoding)) result old new
     unfolding vector
     cow_lent {result = Ok x} are r = owned_read (got_covered (bytes_spell_items n encoding (shows x) are) r)
     cow_lent {result = Err e} are r = owned_read (refused_covered (bytes_cover n encoding) refl r)
 
     module _ {B : Type 0} {seen' : B → List ℕ} where
       -- lent bytes that are refused are no text
-      pub text_not_lent : {e : E} {result : Result B E} → IsErrAnd result (λ x. x ≡ e) → Reads gives eof shows (borrowed_content (raw_bytes n)) (Err e) old new → Reads gives eof seen' (borrowed_content (text_of_length encoding n)) result old new
+      pub text_not_lent : {e : E} {result : Result B E} → IsErrAnd result (λ x. x ≡ e)
+          → Reads gives eof shows (borrowed_content (raw_bytes n)) (Err e) old new
+          → Reads gives eof seen' (borrowed_content (text_of_length encoding n)) result old new
       unfolding borrowed_content text_of_length owned_content
-      text_not_lent passed r = refused_covered (borrowed_covers (codes_cover encoding (subset_code IsUtf8 kinds.InvalidUtf8))) passed r
+      text_not_lent passed r =
+          refused_covered (borrowed_covers (codes_cover encoding (subset_code IsUtf8 kinds.InvalidUtf8))) passed r
 
-      text_decided : {x : A} {r : Result B E} → MatchResult r (λ t. (seen' t ≡ shows x) × IsUtf8 (shows x)) (λ e. gives (error_of kinds.InvalidUtf8) e × (IsUtf8 (shows x) → ⊥)) → Reads gives eof shows (raw_bytes n) (Ok x) old new → Reads gives eof seen' (subset encoding IsUtf8 kinds.InvalidUtf8 (raw_bytes n)) r old new
+      text_decided : {x : A} {r : Result B E}
+          → MatchResult r (λ t. (seen' t ≡ shows x) × IsUtf8 (shows x))
+          (λ e. gives (error_of kinds.InvalidUtf8) e × (IsUtf8 (shows x) → ⊥))
+          → Reads gives eof shows (raw_bytes n) (Ok x) old new
+          → Reads gives eof seen' (subset encoding IsUtf8 kinds.InvalidUtf8 (raw_bytes n)) r old new
       text_decided {r = Ok t} h read = exact_code_read _ _ _ (sym h.0, subst IsUtf8 (sym h.0) h.1) read
-      text_decided {r = Err e} h read = code_means_nothing _ _ (raw_bytes_laws n) (λ _ h. h) (λ v k. h.1 (subst IsUtf8 (sym k.0) k.1)) (kinds.InvalidUtf8, refl, h.0) read
+      text_decided {r = Err e} h read = code_means_nothing _ _ (raw_bytes_laws n) (λ _ h. h)
+          (λ v k. h.1 (subst IsUtf8 (sym k.0) k.1)) (kinds.InvalidUtf8, refl, h.0) read
 
       -- those that are answered are one, or are refused as none
-      pub text_lent : {x : A} {r : Result B E} → MatchResult r (λ t. (seen' t ≡ shows x) × IsUtf8 (shows x)) (λ e. gives (error_of kinds.InvalidUtf8) e × (IsUtf8 (shows x) → ⊥)) → Reads gives eof shows (borrowed_content (raw_bytes n)) (Ok x) old new → Reads gives eof seen' (borrowed_content (text_of_length encoding n)) r old new
+      pub text_lent : {x : A} {r : Result B E}
+          → MatchResult r (λ t. (seen' t ≡ shows x) × IsUtf8 (shows x))
+          (λ e. gives (error_of kinds.InvalidUtf8) e × (IsUtf8 (shows x) → ⊥))
+          → Reads gives eof shows (borrowed_content (raw_bytes n)) (Ok x) old new
+          → Reads gives eof seen' (borrowed_content (text_of_length encoding n)) r old new
       unfolding borrowed_content text_of_length owned_content raw_bytes coding
-      text_lent h read = borrowed_read (subset encoding IsUtf8 kinds.InvalidUtf8 (raw_bytes n)) refl (text_decided h (got_covered (λ s h. h) read))
+      text_lent h read = borrowed_read (subset encoding IsUtf8 kinds.InvalidUtf8 (raw_bytes n)) refl
+          (text_decided h (got_covered (λ s h. h) read))
 
 -- ---- sequences of a count and what is borrowed
 
@@ -143,13 +174,15 @@ pub str_composes : (numbers : Numbers) (f : Encoding)
     → Composes (numbers.codec.format f) (λ n. borrowed_content (text_of_length f n))
     (borrowed_content (counted_text f (numbers.codec.format f))) (λ n t. t)
 str_composes numbers f =
-    borrowed_composes (ap (λ (a : Asks). a.memory) (numbers.none_asked f)) (counted_text_composes f (numbers.codec.format f))
+    borrowed_composes (ap (λ (a : Asks). a.memory) (numbers.none_asked f))
+    (counted_text_composes f (numbers.codec.format f))
 
 pub borrowed_items_compose : {V : Type 0} (numbers : Numbers) (F : Format V) (f : Encoding)
     → Composes (numbers.codec.format f) (λ n. borrowed_content (vector n F))
     (borrowed_content (counted_list (numbers.codec.format f) F)) (λ n vs. vs)
 borrowed_items_compose numbers F f =
-    borrowed_composes (ap (λ (a : Asks). a.memory) (numbers.none_asked f)) (counted_list_composes (numbers.codec.format f) F)
+    borrowed_composes (ap (λ (a : Asks). a.memory) (numbers.none_asked f))
+    (counted_list_composes (numbers.codec.format f) F)
 
 pub borrowed_list_composes : {V : Type 0} (F : Format V) (encoding : Encoding)
     → Composes (unsigned_number 4 encoding) (λ n. borrowed_content (vector n F)) (borrowed_content (list encoding F))

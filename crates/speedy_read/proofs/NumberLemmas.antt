@@ -27,10 +27,14 @@ bytes_cover_digits width encoding = record {
 }
 
 -- two numbers are read as the bytes of both
-bytes_cover_two : (m n : ℕ) (encoding : Encoding) → Covers (raw_bytes (m + n)) (pair (unsigned_number m encoding) (unsigned_number n encoding))
+bytes_cover_two : (m n : ℕ) (encoding : Encoding)
+    → Covers (raw_bytes (m + n)) (pair (unsigned_number m encoding) (unsigned_number n encoding))
 unfolding raw_bytes unsigned_number sequence
 bytes_cover_two m n encoding = record {
-  under = λ v s h. (s, (refl, ap length h.whole_is ∙ length-append h.front h.back ∙ ap₂ ◌+◌ h.first_is.width_is h.second_is.width_is));
+  under = λ v s h. (
+    s,
+    (refl, ap length h.whole_is ∙ length-append h.front h.back ∙ ap₂ ◌+◌ h.first_is.width_is h.second_is.width_is),
+  );
   names = λ kind h. absurd h;
   malformed = λ bytes _ h.
       elim h [
@@ -40,24 +44,37 @@ bytes_cover_two m n encoding = record {
   asks = asks_same;
 }
 
-two_stand : (m n : ℕ) (encoding : Encoding) (a b : ℕ) (front back bytes s : List ℕ) → SpellsNumber m encoding.order a front → SpellsNumber n encoding.order b back → bytes ≡ front ++ back → (raw_bytes (m + n)).spells bytes s → (pair (unsigned_number m encoding) (unsigned_number n encoding)).spells (a, b) s
+two_stand : (m n : ℕ) (encoding : Encoding) (a b : ℕ) (front back bytes s : List ℕ)
+    → SpellsNumber m encoding.order a front → SpellsNumber n encoding.order b back → bytes ≡ front ++ back
+    → (raw_bytes (m + n)).spells bytes s
+    → (pair (unsigned_number m encoding) (unsigned_number n encoding)).spells (a, b) s
 unfolding raw_bytes unsigned_number sequence
-two_stand m n encoding a b front back bytes s first second whole h = record { front = front; back = back; whole_is = sym h.0 ∙ whole; first_is = first; second_is = second }
+two_stand m n encoding a b front back bytes s first second whole h = record {
+  front = front;
+  back = back;
+  whole_is = sym h.0 ∙ whole;
+  first_is = first;
+  second_is = second;
+}
 
 module _ {E : Type 0} {gives : Error → E → Type 0} {eof : E → Bool} {old new : ReaderState} where
   -- where the bytes of two numbers are refused, both numbers are
-  pub two_refused : (m n : ℕ) {A B : Type 0} {seen : A → List ℕ} {seen' : B → ℕ × ℕ} {e : E} {result : Result B E} → IsErrAnd result (λ x. x ≡ e) → Reads gives eof seen (raw_bytes (m + n)) (Err e) old new
+  pub two_refused : (m n : ℕ) {A B : Type 0} {seen : A → List ℕ} {seen' : B → ℕ × ℕ} {e : E} {result : Result B E}
+      → IsErrAnd result (λ x. x ≡ e) → Reads gives eof seen (raw_bytes (m + n)) (Err e) old new
       → Reads gives eof seen' (pair (unsigned_number m old.encoding) (unsigned_number n old.encoding)) result old new
   two_refused m n passed r = refused_covered (bytes_cover_two m n old.encoding) passed r
 
   -- the numbers that the front and the back of the bytes spell in the order that the reader has after them
-  pub two_read : {m n a b : ℕ} {order : Endianness} {bytes : List ℕ} (front back : List ℕ) {A : Type 0} {x : A} → Reads gives eof (λ _. bytes) (raw_bytes (m + n)) (Ok x) old new → order ≡ new.encoding.order
+  pub two_read : {m n a b : ℕ} {order : Endianness} {bytes : List ℕ} (front back : List ℕ) {A : Type 0} {x : A}
+      → Reads gives eof (λ _. bytes) (raw_bytes (m + n)) (Ok x) old new → order ≡ new.encoding.order
       → bytes ≡ front ++ back → SpellsNumber m order a front → SpellsNumber n order b back
-      → Reads gives eof (λ p. p) (pair (unsigned_number m old.encoding) (unsigned_number n old.encoding)) (Ok (a, b)) old new
+      → Reads gives eof (λ p. p) (pair (unsigned_number m old.encoding) (unsigned_number n old.encoding))
+      (Ok (a, b)) old new
   two_read {m = m} {n = n} {a = a} {b = b} {bytes = bytes} front back r is whole first second =
       let same = is ∙ ap (λ (encoding : Encoding). encoding.order) r.kept.encoding in
       got_covered
-      (λ s h. two_stand m n old.encoding a b front back bytes s (subst (λ (o : Endianness). SpellsNumber m o a front) same first) (subst (λ (o : Endianness). SpellsNumber n o b back) same second) whole h) r
+      (λ s h. two_stand m n old.encoding a b front back bytes s (subst (λ (o : Endianness). SpellsNumber m o a front)
+      same first) (subst (λ (o : Endianness). SpellsNumber n o b back) same second) whole h) r
 
 -- Numbers of a fixed size are read and peeked as their digits.
 module _ {V : Type 0} {F : Encoding → Format V} {least width : ℕ}

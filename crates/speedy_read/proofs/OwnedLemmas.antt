@@ -12,15 +12,24 @@ use Rattle.speedy_read.specs.Codes.{Covers, refused_covered, got_covered}
 
 owned_covers : {V : Type 0} {L : Format V} → Covers L (owned_content L)
 unfolding owned_content
-owned_covers = record { under = λ v s h. (v, h); names = λ kind h. h; malformed = λ bytes _ h. inl h; asks = asks_memory }
+owned_covers = record {
+  under = λ v s h. (v, h);
+  names = λ kind h. h;
+  malformed = λ bytes _ h. inl h;
+  asks = asks_memory;
+}
 
 -- what is owned is read as its content
-pub owned_read : {E : Type 0} {gives : Error → E → Type 0} {eof : E → Bool} {V : Type 0} {L : Format V} {old new : ReaderState} {A : Type 0} {seen' : A → V} {result : Result A E} → Reads gives eof seen' L result old new → Reads gives eof seen' (owned_content L) result old new
+pub owned_read : {E : Type 0} {gives : Error → E → Type 0} {eof : E → Bool} {V : Type 0} {L : Format V}
+    {old new : ReaderState} {A : Type 0} {seen' : A → V} {result : Result A E} → Reads gives eof seen' L result old new
+    → Reads gives eof seen' (owned_content L) result old new
 unfolding owned_content
 owned_read {result = Ok x} r = got_covered (λ s h. h) r
 owned_read {result = Err e} r = refused_covered owned_covers refl r
 
 -- want of memory for it
-pub memory_refused : {E : Type 0} {gives : Error → E → Type 0} {eof : E → Bool} {V : Type 0} (L : Format V) {old new : ReaderState} {A : Type 0} {seen' : A → V} {e : E} → Kept old new → new.faults ≡ old.faults → gives (error_of kinds.OutOfMemory) e → Reads gives eof seen' (owned_content L) (Err e) old new
+pub memory_refused : {E : Type 0} {gives : Error → E → Type 0} {eof : E → Bool} {V : Type 0} (L : Format V)
+    {old new : ReaderState} {A : Type 0} {seen' : A → V} {e : E} → Kept old new → new.faults ≡ old.faults
+    → gives (error_of kinds.OutOfMemory) e → Reads gives eof seen' (owned_content L) (Err e) old new
 unfolding owned_content
 memory_refused L k clean g = record { kept = k; answer = inl (inl (g, inl refl, clean)) }

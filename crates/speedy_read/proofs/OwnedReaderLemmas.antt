@@ -9,36 +9,82 @@ use Rattle.speedy_read.specs.Buffers.{held_kind, held_state}
 
 module _ (name : GName) {old new : ReaderState} where
   held_kept : Kept old new → Kept (held_state name old) (held_state name new)
-  held_kept k = record { fixed = ap (λ (kind : ReaderKind). held_kind name kind) k.fixed; encoding = k.encoding; tidy = k.tidy; faults = k.faults; tail = k.tail }
+  held_kept k = record {
+    fixed = ap (λ (kind : ReaderKind). held_kind name kind) k.fixed;
+    encoding = k.encoding;
+    tidy = k.tidy;
+    faults = k.faults;
+    tail = k.tail;
+  }
 
   held_kept_by_peek : KeptByPeek old new → KeptByPeek (held_state name old) (held_state name new)
-  held_kept_by_peek k = record { fixed = ap (λ (kind : ReaderKind). held_kind name kind) k.fixed; encoding = k.encoding; faults = k.faults; to_come = k.to_come }
+  held_kept_by_peek k = record {
+    fixed = ap (λ (kind : ReaderKind). held_kind name kind) k.fixed;
+    encoding = k.encoding;
+    faults = k.faults;
+    to_come = k.to_come;
+  }
 
   held_got : {spelled : List ℕ → Type 0} → Got spelled old new → Got spelled (held_state name old) (held_state name new)
-  held_got g = record { front = g.front; front_is = g.front_is; taken = g.taken; no_fault = g.no_fault; untouched = λ none. ap (λ (s : ReaderState). held_state name s) (g.untouched none) }
+  held_got g = record {
+    front = g.front;
+    front_is = g.front_is;
+    taken = g.taken;
+    no_fault = g.no_fault;
+    untouched = λ none. ap (λ (s : ReaderState). held_state name s) (g.untouched none);
+  }
 
   module _ {E : Type 0} {gives : Error → E → Type 0} {eof : E → Bool} {A V : Type 0} {seen : A → V} {L : Format V} where
     -- what reads see of a reader is the same whether it is held or not
-    pub held_reads : {result : Result A E} → Reads gives eof seen L result old new → Reads gives eof seen L result (held_state name old) (held_state name new)
+    pub held_reads : {result : Result A E} → Reads gives eof seen L result old new
+        → Reads gives eof seen L result (held_state name old) (held_state name new)
     held_reads {result = Ok x} r = record { kept = held_kept r.kept; answer = held_got r.answer }
     held_reads {result = Err e} r = record {
       kept = held_kept r.kept;
       answer =
           elim r.answer [
             | inl x ↦ inl x
-            | inr k ↦ inr (record { no_fault = k.no_fault; kind = k.kind; because = λ told. k.because (record { tells = told.tells; are_bytes = told.are_bytes; fit = told.fit; lends = told.lends }) })
+            | inr k ↦ inr (record {
+              no_fault = k.no_fault;
+              kind = k.kind;
+              because = λ told. k.because (record {
+                tells = told.tells;
+                are_bytes = told.are_bytes;
+                fit = told.fit;
+                lends = told.lends;
+              });
+            })
           ];
     }
 
-    pub held_peeks : {result : Result A E} → Peeks gives eof seen L result old new → Peeks gives eof seen L result (held_state name old) (held_state name new)
-    held_peeks {result = Ok x} r = record { kept = held_kept_by_peek r.kept; answer = record { front = r.answer.front; rest = r.answer.rest; front_is = r.answer.front_is; stands = r.answer.stands; no_fault = r.answer.no_fault } }
+    pub held_peeks : {result : Result A E} → Peeks gives eof seen L result old new
+        → Peeks gives eof seen L result (held_state name old) (held_state name new)
+    held_peeks {result = Ok x} r = record {
+      kept = held_kept_by_peek r.kept;
+      answer = record {
+        front = r.answer.front;
+        rest = r.answer.rest;
+        front_is = r.answer.front_is;
+        stands = r.answer.stands;
+        no_fault = r.answer.no_fault;
+      };
+    }
     held_peeks {result = Err e} r = record {
       kept = held_kept_by_peek r.kept;
       answer =
           elim r.answer [
             | inl x ↦ inl x
             | inr (inl x) ↦ inr (inl x)
-            | inr (inr k) ↦ inr (inr (record { no_fault = k.no_fault; kind = k.kind; because = λ told. k.because (record { tells = told.tells; are_bytes = told.are_bytes; fit = told.fit; lends = told.lends }) }))
+            | inr (inr k) ↦ inr (inr (record {
+              no_fault = k.no_fault;
+              kind = k.kind;
+              because = λ told. k.because (record {
+                tells = told.tells;
+                are_bytes = told.are_bytes;
+                fit = told.fit;
+                lends = told.lends;
+              });
+            }))
           ];
     }
 
@@ -88,6 +134,8 @@ module _ {name after : GName} {old new : ReaderState} where
     }
 
 -- and lent alike, until the reader is used again
-pub held_lends : {A E : Type 0} (shows : A → List ℕ) (n : ℕ) (name : GName) (lent : Option (Result A E)) (old new : ReaderState) → LendsUntilUsed shows n lent old new → LendsUntilUsed shows n lent (held_state name old) (held_state name new)
+pub held_lends : {A E : Type 0} (shows : A → List ℕ) (n : ℕ) (name : GName) (lent : Option (Result A E))
+    (old new : ReaderState) → LendsUntilUsed shows n lent old new
+    → LendsUntilUsed shows n lent (held_state name old) (held_state name new)
 held_lends shows n name None old new same = ap (λ (s : ReaderState). held_state name s) same
 held_lends shows n name (Some result) old new read = held_reads name read

@@ -1,5 +1,6 @@
 -- What was written is what is read, by the laws of the layout.
-use Rattle.std.specs.Prelude.{◌≡◌, ℕ, ◌+◌, ◌*◌, ◌≤◌, List, [], ◌∷◌, ◌++◌, length, Bool, false, IsTrue, ◌⊎◌, Result, Ok, Err, refl}
+use Rattle.std.specs.Prelude.{◌≡◌, ℕ, ◌+◌, ◌*◌, ◌≤◌, List, [], ◌∷◌, ◌++◌, length, Bool, false, IsTrue, ◌⊎◌, Result, Ok}
+use Rattle.std.specs.Prelude.{Err, refl}
 use Rattle.std.proofs.Common.{sym, ◌∙◌, ap, subst, arith, inl, inr}
 use Rattle.std.proofs.lemmas.Bool.{true≢false}
 use Rattle.std.proofs.lemmas.List.{length-append, append-nil}
@@ -17,7 +18,8 @@ use Rattle.speedy_layout.specs.Owned.{owned_content}
 use Rattle.speedy_read.specs.Buffers.{bytes_state}
 use Rattle.speedy_read.specs.Reading.{ReaderState, IsTold, refusing_kinds, Excused, Refused, Reads}
 use Rattle.speedy_read.specs.WaysOfReading.{RefusesBufferIf, AnswersBufferIf, AnswersStreamIn}
-use Rattle.speedy_read.specs.RoundTrip.{AnswersWritten, ReadsWritten, ReadsWrittenFirst, StreamsWritten, WrittenIsAnswered, WrittenIsRead, WrittenIsStreamed, WrittenItemsAreRead}
+use Rattle.speedy_read.specs.RoundTrip.{AnswersWritten, ReadsWritten, ReadsWrittenFirst, StreamsWritten}
+use Rattle.speedy_read.specs.RoundTrip.{WrittenIsAnswered, WrittenIsRead, WrittenIsStreamed, WrittenItemsAreRead}
 use Rattle.speedy_read.specs.StreamModel.{most_held}
 
 -- an unbuffered read leaves nothing that was read ahead
@@ -26,13 +28,16 @@ nothing_ahead [] few = refl
 nothing_ahead (x ∷ ahead) few = absurd (omega arith)
 
 module _ {E A V : Type 0} (gives : Error → E → Type 0) (eof : E → Bool) (seen : A → V) (least : ℕ) where
-  module _ (L : Format V) {strict : Bool} (laws : Laws strict least L) (v : V) (bytes rest : List ℕ) (written : L.writes v bytes) where
+  module _ (L : Format V) {strict : Bool} (laws : Laws strict least L) (v : V) (bytes rest : List ℕ)
+      (written : L.writes v bytes) where
     front_answered : (result : Result A E) (count : ℕ) (buffer : List ℕ) → buffer ≡ bytes ++ rest
         → AnswersBufferIf gives eof (Unit {0}) L.names seen least L result count buffer
         → AnswersWritten gives seen L v (length bytes) result count
     front_answered (Ok x) count buffer e a =
         let k = a.value in
-        let one : (seen x ≡ v) × (k.front ≡ bytes) × (k.rest ≡ rest) = laws.decodes (seen x) v k.front bytes k.rest rest k.front_is (laws.written_spells v bytes written) (sym k.whole_is ∙ e) in
+        let one : (seen x ≡ v) × (k.front ≡ bytes) × (k.rest ≡ rest) =
+        laws.decodes (seen x) v k.front bytes k.rest rest k.front_is (laws.written_spells v bytes written)
+        (sym k.whole_is ∙ e) in
         record { same = one.0; counted = k.count_is ∙ ap length one.1; refused = tt; asks_memory = tt }
     front_answered (Err x) count buffer e a =
         let size = laws.least_size v bytes (laws.written_spells v bytes written) in
@@ -49,12 +54,17 @@ module _ {E A V : Type 0} (gives : Error → E → Type 0) (eof : E → Bool) (s
         → Reads gives eof seen L result old new → ReadsWritten gives seen L v rest result old new
     read_back (Ok x) old new told e a =
         let k = a.answer in
-        let one : (seen x ≡ v) × (k.front ≡ bytes) × (new.to_come ≡ rest) = laws.decodes (seen x) v k.front bytes new.to_come rest k.front_is (laws.written_spells v bytes written) (sym (k.taken told) ∙ e) in
+        let one : (seen x ≡ v) × (k.front ≡ bytes) × (new.to_come ≡ rest) =
+        laws.decodes (seen x) v k.front bytes new.to_come rest k.front_is (laws.written_spells v bytes written)
+        (sym (k.taken told) ∙ e) in
         record { same = one.0; rest_is = one.2; refused = λ _. tt }
-    read_back (Err x) old new told e a = record { same = tt; rest_is = tt; refused = λ known. refusal known a.answer } where
-      refusal : IsTold L old → Excused gives L.asks.memory x old new ⊎ Refused gives eof L x old new → Excused gives L.asks.memory x old new
-      refusal known (inl m) = m
-      refusal known (inr r) = absurd ((r.because known).no_front v bytes rest e (laws.written_spells v bytes written))
+    read_back (Err x) old new told e a =
+        record { same = tt; rest_is = tt; refused = λ known. refusal known a.answer } where
+          refusal : IsTold L old → Excused gives L.asks.memory x old new ⊎ Refused gives eof L x old new
+              → Excused gives L.asks.memory x old new
+          refusal known (inl m) = m
+          refusal known (inr r) =
+              absurd ((r.because known).no_front v bytes rest e (laws.written_spells v bytes written))
 
     -- a reader of bytes in memory has no failed calls
     first_read : (result : Result A E) (old : ReaderState) (buffer left : List ℕ) (at after : Encoding)
@@ -64,7 +74,12 @@ module _ {E A V : Type 0} (gives : Error → E → Type 0) (eof : E → Bool) (s
     first_read (Err x) old buffer left at after s r = record {
       same = tt;
       rest_is = tt;
-      refused = λ bytes fit. want (r.refused (subst (IsTold L) (sym s) (record { tells = refl; are_bytes = AreBytes-slice buffer bytes; fit = fit; lends = λ _. refl })));
+      refused = λ bytes fit. want (r.refused (subst (IsTold L) (sym s) (record {
+        tells = refl;
+        are_bytes = AreBytes-slice buffer bytes;
+        fit = fit;
+        lends = λ _. refl;
+      })));
     } where
       want : Excused gives L.asks.memory x old (bytes_state left after) → gives (error_of kinds.OutOfMemory) x
       want (inl h) = h.0
@@ -77,11 +92,14 @@ module _ {E A V : Type 0} (gives : Error → E → Type 0) (eof : E → Bool) (s
         → StreamsWritten gives seen L v buffers rest result old new
     streamed buffers (Ok x) old new told e a =
         let k = a.value in
-        let one : (seen x ≡ v) × (k.front ≡ bytes) × (k.ahead ++ new.to_come ≡ rest) = laws.decodes (seen x) v k.front bytes (k.ahead ++ new.to_come) rest k.front_is (laws.written_spells v bytes written) (sym (k.taken told) ∙ e) in
+        let one : (seen x ≡ v) × (k.front ≡ bytes) × (k.ahead ++ new.to_come ≡ rest) =
+        laws.decodes (seen x) v k.front bytes (k.ahead ++ new.to_come) rest k.front_is
+        (laws.written_spells v bytes written) (sym (k.taken told) ∙ e) in
         record {
           same = one.0;
           rest_is = λ unbuffered.
-              let few : length k.ahead ≤ most_held false = subst (λ (b : Bool). length k.ahead ≤ most_held b) unbuffered k.at_most in
+              let few : length k.ahead ≤ most_held false =
+              subst (λ (b : Bool). length k.ahead ≤ most_held b) unbuffered k.at_most in
               ap (λ (l : List ℕ). l ++ new.to_come) (sym (nothing_ahead k.ahead few)) ∙ one.2;
           ahead = (k.ahead, k.at_most, sym one.2);
           no_fault = k.no_fault;
@@ -96,7 +114,8 @@ module _ {E A V : Type 0} (gives : Error → E → Type 0) (eof : E → Bool) (s
           elim a.refused [
             | inl want ↦ inl want
             | inr (inl failed) ↦ inr failed
-            | inr (inr h) ↦ absurd ((h.because told are fit lends).no_front v bytes rest e (laws.written_spells v bytes written))
+            | inr (inr h) ↦
+                absurd ((h.because told are fit lends).no_front v bytes rest e (laws.written_spells v bytes written))
           ];
     }
 

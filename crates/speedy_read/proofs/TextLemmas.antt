@@ -20,7 +20,8 @@ use Rattle.speedy_read.specs.Codes.{Covers, got_covered, exact_code_read, code_m
 use Rattle.speedy_read.proofs.OwnedLemmas.{owned_read}
 
 -- a text is read as its bytes
-pub bytes_cover_text : (n : ℕ) (encoding : Encoding) → Covers (vector n (unsigned_number 1 encoding)) (text_of_length encoding n)
+pub bytes_cover_text : (n : ℕ) (encoding : Encoding)
+    → Covers (vector n (unsigned_number 1 encoding)) (text_of_length encoding n)
 unfolding vector owned_content repeat unsigned_number text_of_length coding raw_bytes
 bytes_cover_text n encoding = record {
   under = λ v s h.
@@ -31,20 +32,40 @@ bytes_cover_text n encoding = record {
   malformed = λ bytes are h.
       elim h [
         | inl x ↦ absurd x
-        | inr x ↦ inr (x.front, x.front, x.rest, x.whole_is, (x.code_is.1, each_byte encoding.order x.front (AreBytes-append_parts x.front x.rest (subst AreBytes x.whole_is are)).0))
+        | inr x ↦ inr (
+          x.front,
+          x.front,
+          x.rest,
+          x.whole_is,
+          (
+            x.code_is.1,
+            each_byte encoding.order x.front (AreBytes-append_parts x.front x.rest (subst AreBytes x.whole_is are)).0,
+          ),
+        )
       ];
   asks = asks_same;
 }
 
 -- bytes that were read are a text, or are refused as none
-pub text_decides : {E A B : Type 0} {gives : Error → E → Type 0} {eof : E → Bool} {seen : A → List ℕ} {x : A} {seen' : B → List ℕ} (n : ℕ) (encoding : Encoding) {r : Result B E} {old new : ReaderState} {bytes : List ℕ} → seen x ≡ bytes
-    → MatchResult r (λ t. (seen' t ≡ bytes) × IsUtf8 bytes) (λ e. gives (error_of kinds.InvalidUtf8) e × (IsUtf8 bytes → ⊥)) → Reads gives eof seen (vector n (unsigned_number 1 encoding)) (Ok x) old new → Reads gives eof seen' (text_of_length encoding n) r old new
+pub text_decides : {E A B : Type 0} {gives : Error → E → Type 0} {eof : E → Bool} {seen : A → List ℕ} {x : A}
+    {seen' : B → List ℕ} (n : ℕ) (encoding : Encoding) {r : Result B E} {old new : ReaderState} {bytes : List ℕ}
+    → seen x ≡ bytes
+    → MatchResult r (λ t. (seen' t ≡ bytes) × IsUtf8 bytes)
+    (λ e. gives (error_of kinds.InvalidUtf8) e × (IsUtf8 bytes → ⊥))
+    → Reads gives eof seen (vector n (unsigned_number 1 encoding)) (Ok x) old new
+    → Reads gives eof seen' (text_of_length encoding n) r old new
 unfolding vector owned_content repeat unsigned_number text_of_length raw_bytes
-text_decides {E = E} {B = B} {gives = gives} {eof = eof} {seen = seen} {x = x} {seen' = seen'} n encoding {r = r} {old = old} {new = new} {bytes = bytes} same h read =
+text_decides {E = E} {B = B} {gives = gives} {eof = eof} {seen = seen} {x = x} {seen' = seen'} n encoding {r = r}
+    {old = old} {new = new} {bytes = bytes} same h read =
     owned_read (decided r h) where
       raw : Reads gives eof seen (raw_bytes n) (Ok x) old new
-      raw = got_covered (λ s k. let is = each_byte_is encoding.order (seen x) s k.1 in (is, ap length (sym is) ∙ k.0)) read
+      raw = got_covered
+          (λ s k. let is = each_byte_is encoding.order (seen x) s k.1 in (is, ap length (sym is) ∙ k.0)) read
 
-      decided : (r : Result B E) → MatchResult r (λ t. (seen' t ≡ bytes) × IsUtf8 bytes) (λ e. gives (error_of kinds.InvalidUtf8) e × (IsUtf8 bytes → ⊥)) → Reads gives eof seen' (subset encoding IsUtf8 kinds.InvalidUtf8 (raw_bytes n)) r old new
+      decided : (r : Result B E)
+          → MatchResult r (λ t. (seen' t ≡ bytes) × IsUtf8 bytes)
+          (λ e. gives (error_of kinds.InvalidUtf8) e × (IsUtf8 bytes → ⊥))
+          → Reads gives eof seen' (subset encoding IsUtf8 kinds.InvalidUtf8 (raw_bytes n)) r old new
       decided (Ok t) h = exact_code_read _ _ _ (same ∙ sym h.0, subst IsUtf8 (sym h.0) h.1) raw
-      decided (Err e) h = code_means_nothing _ _ (raw_bytes_laws n) (λ _ h. h) (λ v k. h.1 (subst IsUtf8 (sym k.0 ∙ same) k.1)) (kinds.InvalidUtf8, refl, h.0) raw
+      decided (Err e) h = code_means_nothing _ _ (raw_bytes_laws n) (λ _ h. h)
+          (λ v k. h.1 (subst IsUtf8 (sym k.0 ∙ same) k.1)) (kinds.InvalidUtf8, refl, h.0) raw

@@ -1,5 +1,6 @@
 -- What a clean read until the end answers is decided by the bytes.
-use Rattle.std.specs.Prelude.{◌≡◌, ◌≢◌, ℕ, ◌<◌, ◌≤◌, List, [], ◌∷◌, ◌++◌, length, map, Bool, IsTrue, ◌⊎◌, Result, Ok, Err, MatchResult, refl}
+use Rattle.std.specs.Prelude.{◌≡◌, ◌≢◌, ℕ, ◌<◌, ◌≤◌, List, [], ◌∷◌, ◌++◌, length, map, Bool, IsTrue, ◌⊎◌, Result, Ok}
+use Rattle.std.specs.Prelude.{Err, MatchResult, refl}
 use Rattle.std.proofs.Common.{sym, ◌∙◌, ap, subst, arith, inl, inr}
 use Rattle.std.proofs.lemmas.Bool.{true≢false, cases_lt}
 use Rattle.std.proofs.lemmas.List.{append_assoc, append-nil, length-append, length-map}
@@ -16,27 +17,38 @@ use Rattle.speedy_read.proofs.ListLemmas.{next_item}
 
 module _ {V : Type 0} {strict : Bool} {least : ℕ} {L : Format V} (laws : Laws strict least L) where
   -- a front of a longer spelling begins with none
-  no_front_of_front : (v w : V) (front more s rest : List ℕ) → L.spells v (front ++ more) → more ≢ [] → front ≡ s ++ rest → L.spells w s → ⊥
+  no_front_of_front : (v w : V) (front more s rest : List ℕ) → L.spells v (front ++ more) → more ≢ []
+      → front ≡ s ++ rest → L.spells w s → ⊥
   no_front_of_front v w front [] s rest h some is k = some refl
   no_front_of_front v w front (x ∷ more) s rest h some is k =
       let all : List ℕ = x ∷ more in
-      let joined : s ++ (rest ++ all) ≡ (front ++ all) ++ [] = sym (append_assoc s rest all) ∙ (ap (λ b. b ++ all) (sym is) ∙ sym (append-nil (front ++ all))) in
+      let joined : s ++ (rest ++ all) ≡ (front ++ all) ++ [] =
+      sym (append_assoc s rest all) ∙ (ap (λ b. b ++ all) (sym is) ∙ sym (append-nil (front ++ all))) in
       let same = laws.decodes w v s (front ++ all) (rest ++ all) [] k h joined in
       let a = ap length same.1 ∙ length-append front all in
       let b = ap length is ∙ length-append s rest in
       omega arith
 
-  module _ {old : ReaderState} (vs : List V) (bytes tail : List ℕ) (are : Each L.spells vs bytes) (whole_is : old.to_come ≡ bytes ++ tail) where
+  module _ {old : ReaderState} (vs : List V) (bytes tail : List ℕ) (are : Each L.spells vs bytes)
+      (whole_is : old.to_come ≡ bytes ++ tail) where
     -- where fewer values stand in front, one more stands behind them
-    fewer_in_front : (us : List V) (b : Begin L us old) → IsTrue old.fixed.tells → length us < length vs → (w : V) × (front rest : List ℕ) × (b.rest ≡ front ++ rest) × L.spells w front
-    fewer_in_front us b told l = next_item laws us vs b.front bytes b.rest tail l b.front_is are (sym (b.stands told) ∙ whole_is)
+    fewer_in_front : (us : List V) (b : Begin L us old) → IsTrue old.fixed.tells → length us < length vs
+        → (w : V) × (front rest : List ℕ) × (b.rest ≡ front ++ rest) × L.spells w front
+    fewer_in_front us b told l =
+        next_item laws us vs b.front bytes b.rest tail l b.front_is are (sym (b.stands told) ∙ whole_is)
 
     -- where more do, one stands in the tail
-    more_in_front : (us : List V) (b : Begin L us old) → IsTrue old.fixed.tells → length vs < length us → (w : V) × (front rest : List ℕ) × (tail ≡ front ++ rest) × L.spells w front
-    more_in_front us b told l = next_item laws vs us bytes b.front tail b.rest l are b.front_is (sym whole_is ∙ b.stands told)
+    more_in_front : (us : List V) (b : Begin L us old) → IsTrue old.fixed.tells → length vs < length us
+        → (w : V) × (front rest : List ℕ) × (tail ≡ front ++ rest) × L.spells w front
+    more_in_front us b told l =
+        next_item laws vs us bytes b.front tail b.rest l are b.front_is (sym whole_is ∙ b.stands told)
 
-    as_many : (us : List V) (b : Begin L us old) → IsTrue old.fixed.tells → length us ≡ length vs → (us ≡ vs) × (b.rest ≡ tail)
-    as_many us b told l = let same = each_decodes laws us vs b.front bytes b.rest tail l b.front_is are (sym (b.stands told) ∙ whole_is) in (same.0, same.2)
+    as_many : (us : List V) (b : Begin L us old) → IsTrue old.fixed.tells → length us ≡ length vs
+        → (us ≡ vs) × (b.rest ≡ tail)
+    as_many us b told l =
+        let same =
+        each_decodes laws us vs b.front bytes b.rest tail l b.front_is are (sym (b.stands told) ∙ whole_is) in
+        (same.0, same.2)
 
   -- where all is lent that a type borrows, it is refused with a kind that it names
   lent_kind : {E : Type 0} (gives : Error → E → Type 0) {e : E} {old : ReaderState}
@@ -45,9 +57,13 @@ module _ {V : Type 0} {strict : Bool} {least : ℕ} {L : Format V} (laws : Laws 
   lent_kind gives (kind, inl named, given) told = (kind, named, given)
   lent_kind gives (kind, inr unlent, given) told = absurd (true≢false (sym (told.lends unlent.0) ∙ unlent.1))
 
-  module _ {E T F : Type 0} {gives : Error → E → Type 0} {eof : E → Bool} {seen : T → V} {gathers : List T → F → Type 0} {greatest : ℕ} {old new : ReaderState} (vs : List V) (bytes tail : List ℕ) (are : Each L.spells vs bytes) (whole_is : old.to_come ≡ bytes ++ tail) where
-    pub cut_is_read : (v : V) (more : List ℕ) {result : Result F E} → L.spells v (tail ++ more) → more ≢ [] → length vs ≤ greatest → CleanUntilEnd gives eof seen gathers L greatest result old new
-        → MatchResult result (λ whole. (items : List T) × (map seen items ≡ vs) × gathers items whole) (gives (error_of kinds.OutOfMemory))
+  module _ {E T F : Type 0} {gives : Error → E → Type 0} {eof : E → Bool} {seen : T → V} {gathers : List T → F → Type 0}
+      {greatest : ℕ} {old new : ReaderState} (vs : List V) (bytes tail : List ℕ) (are : Each L.spells vs bytes)
+      (whole_is : old.to_come ≡ bytes ++ tail) where
+    pub cut_is_read : (v : V) (more : List ℕ) {result : Result F E} → L.spells v (tail ++ more) → more ≢ []
+        → length vs ≤ greatest → CleanUntilEnd gives eof seen gathers L greatest result old new
+        → MatchResult result (λ whole. (items : List T) × (map seen items ≡ vs) × gathers items whole)
+        (gives (error_of kinds.OutOfMemory))
     cut_is_read v more {result = Ok whole} spelled some within c =
         let got = c.read.answer in
         let us = map seen got.items in
@@ -56,10 +72,18 @@ module _ {V : Type 0} {strict : Bool} {least : ℕ} {L : Format V} (laws : Laws 
           | inl x ↦
               let ends = x.1 c.told in
               elim (cases_lt (length us) (length vs)) [
-                | inl l ↦ (let w = fewer_in_front vs bytes tail are whole_is us got.begin c.told.tells l in absurd (ends.no_front w.0 w.1 w.2 w.3 w.4))
+                | inl l ↦
+                    (let w = fewer_in_front vs bytes tail are whole_is us got.begin c.told.tells l in
+                    absurd (ends.no_front w.0 w.1 w.2 w.3 w.4))
                 | inr l ↦ elim (cases_lt (length vs) (length us)) [
-                  | inl m ↦ (let w = more_in_front vs bytes tail are whole_is us got.begin c.told.tells m in absurd (no_front_of_front v w.0 tail more w.1 w.2 spelled some w.3 w.4))
-                  | inr m ↦ (got.items, (as_many vs bytes tail are whole_is us got.begin c.told.tells (omega arith)).0, got.gathered)
+                  | inl m ↦
+                      (let w = more_in_front vs bytes tail are whole_is us got.begin c.told.tells m in
+                      absurd (no_front_of_front v w.0 tail more w.1 w.2 spelled some w.3 w.4))
+                  | inr m ↦ (
+                    got.items,
+                    (as_many vs bytes tail are whole_is us got.begin c.told.tells (omega arith)).0,
+                    got.gathered,
+                  )
                 ]
               ]
         ]
@@ -69,18 +93,24 @@ module _ {V : Type 0} {strict : Bool} {least : ℕ} {L : Format V} (laws : Laws 
           | inr x ↦ elim x [
             | inl y ↦
                 let l = length-map y.items seen in
-                let w = more_in_front vs bytes tail are whole_is (map seen y.items) y.begin c.told.tells (let m = y.more in omega arith) in
+                let w = more_in_front vs bytes tail are whole_is (map seen y.items) y.begin c.told.tells
+                (let m = y.more in omega arith) in
                 absurd (no_front_of_front v w.0 tail more w.1 w.2 spelled some w.3 w.4)
             | inr y ↦
                 let us = map seen y.items in
                 let un = y.because c.told in
                 elim (cases_lt (length us) (length vs)) [
-                  | inl l ↦ (let w = fewer_in_front vs bytes tail are whole_is us y.begin c.told.tells l in absurd (un.no_front w.0 w.1 w.2 w.3 w.4))
+                  | inl l ↦
+                      (let w = fewer_in_front vs bytes tail are whole_is us y.begin c.told.tells l in
+                      absurd (un.no_front w.0 w.1 w.2 w.3 w.4))
                   | inr l ↦ elim (cases_lt (length vs) (length us)) [
-                    | inl m ↦ (let w = more_in_front vs bytes tail are whole_is us y.begin c.told.tells m in absurd (no_front_of_front v w.0 tail more w.1 w.2 spelled some w.3 w.4))
+                    | inl m ↦
+                        (let w = more_in_front vs bytes tail are whole_is us y.begin c.told.tells m in
+                        absurd (no_front_of_front v w.0 tail more w.1 w.2 spelled some w.3 w.4))
                     | inr m ↦
                         let rest_is = (as_many vs bytes tail are whole_is us y.begin c.told.tells (omega arith)).1 in
-                        let ends = un.too_short v more (subst (λ (b : List ℕ). L.spells v (b ++ more)) (sym rest_is) spelled) in
+                        let ends =
+                        un.too_short v more (subst (λ (b : List ℕ). L.spells v (b ++ more)) (sym rest_is) spelled) in
                         let no_end = y.no_end in
                         absurd (cc)
                   ]
@@ -88,8 +118,10 @@ module _ {V : Type 0} {strict : Bool} {least : ℕ} {L : Format V} (laws : Laws 
           ]
         ]
 
-    pub too_many_refused : {result : Result F E} → greatest < length vs → CleanUntilEnd gives eof seen gathers L greatest result old new
-        → MatchResult result (λ _. ⊥) (λ e. gives (error_of kinds.OutOfRangeLength) e ⊎ gives (error_of kinds.OutOfMemory) e)
+    pub too_many_refused : {result : Result F E} → greatest < length vs
+        → CleanUntilEnd gives eof seen gathers L greatest result old new
+        → MatchResult result (λ _. ⊥)
+        (λ e. gives (error_of kinds.OutOfRangeLength) e ⊎ gives (error_of kinds.OutOfMemory) e)
     too_many_refused {result = Ok whole} past c =
         let got = c.read.answer in
         let l = length-map got.items seen in
@@ -97,7 +129,8 @@ module _ {V : Type 0} {strict : Bool} {least : ℕ} {L : Format V} (laws : Laws 
           | inr x ↦ c.clean x.2.0
           | inl x ↦
               let ends = x.1 c.told in
-              let w = fewer_in_front vs bytes tail are whole_is (map seen got.items) got.begin c.told.tells (let m = got.at_most in omega arith) in
+              let w = fewer_in_front vs bytes tail are whole_is (map seen got.items) got.begin c.told.tells
+              (let m = got.at_most in omega arith) in
               ends.no_front w.0 w.1 w.2 w.3 w.4
         ]
     too_many_refused {result = Err e} past c =
@@ -108,12 +141,14 @@ module _ {V : Type 0} {strict : Bool} {least : ℕ} {L : Format V} (laws : Laws 
             | inr y ↦
                 let l = length-map y.items seen in
                 let un = y.because c.told in
-                let w = fewer_in_front vs bytes tail are whole_is (map seen y.items) y.begin c.told.tells (let m = y.at_most in omega arith) in
+                let w = fewer_in_front vs bytes tail are whole_is (map seen y.items) y.begin c.told.tells
+                (let m = y.at_most in omega arith) in
                 absurd (un.no_front w.0 w.1 w.2 w.3 w.4)
           ]
         ]
 
-    pub fault_refused : {result : Result F E} → L.malformed tail → length vs ≤ greatest → CleanUntilEnd gives eof seen gathers L greatest result old new
+    pub fault_refused : {result : Result F E} → L.malformed tail → length vs ≤ greatest
+        → CleanUntilEnd gives eof seen gathers L greatest result old new
         → MatchResult result (λ _. ⊥) (λ e. IsNamed gives L.names e ⊎ gives (error_of kinds.OutOfMemory) e)
     fault_refused {result = Ok whole} bad within c =
         let got = c.read.answer in
@@ -123,10 +158,16 @@ module _ {V : Type 0} {strict : Bool} {least : ℕ} {L : Format V} (laws : Laws 
           | inl x ↦
               let ends = x.1 c.told in
               elim (cases_lt (length us) (length vs)) [
-                | inl l ↦ (let w = fewer_in_front vs bytes tail are whole_is us got.begin c.told.tells l in ends.no_front w.0 w.1 w.2 w.3 w.4)
+                | inl l ↦
+                    (let w = fewer_in_front vs bytes tail are whole_is us got.begin c.told.tells l in
+                    ends.no_front w.0 w.1 w.2 w.3 w.4)
                 | inr l ↦ elim (cases_lt (length vs) (length us)) [
-                  | inl m ↦ (let w = more_in_front vs bytes tail are whole_is us got.begin c.told.tells m in laws.malformed_unspelled w.0 w.1 w.2 (subst L.malformed w.3 bad) w.4)
-                  | inr m ↦ ends.not_malformed (subst L.malformed (sym (as_many vs bytes tail are whole_is us got.begin c.told.tells (omega arith)).1) bad)
+                  | inl m ↦
+                      (let w = more_in_front vs bytes tail are whole_is us got.begin c.told.tells m in
+                      laws.malformed_unspelled w.0 w.1 w.2 (subst L.malformed w.3 bad) w.4)
+                  | inr m ↦
+                      ends.not_malformed (subst L.malformed
+                      (sym (as_many vs bytes tail are whole_is us got.begin c.told.tells (omega arith)).1) bad)
                 ]
               ]
         ]
@@ -136,7 +177,8 @@ module _ {V : Type 0} {strict : Bool} {least : ℕ} {L : Format V} (laws : Laws 
           | inr x ↦ elim x [
             | inl y ↦
                 let l = length-map y.items seen in
-                let w = more_in_front vs bytes tail are whole_is (map seen y.items) y.begin c.told.tells (let m = y.more in omega arith) in
+                let w = more_in_front vs bytes tail are whole_is (map seen y.items) y.begin c.told.tells
+                (let m = y.more in omega arith) in
                 absurd (laws.malformed_unspelled w.0 w.1 w.2 (subst L.malformed w.3 bad) w.4)
             | inr y ↦ inl (lent_kind gives y.kind c.told)
           ]

@@ -1,5 +1,6 @@
 -- Reads of lent bytes make reads of views.
-use Rattle.std.specs.Prelude.{◌≡◌, ℕ, ◌+◌, ◌-◌, ◌*◌, ◌<◌, ◌≤◌, ◌^◌, List, ◌++◌, length, replicate, map, Bool, Ok, Err, Result, IsErrAnd, refl}
+use Rattle.std.specs.Prelude.{◌≡◌, ℕ, ◌+◌, ◌-◌, ◌*◌, ◌<◌, ◌≤◌, ◌^◌, List, ◌++◌, length, replicate, map, Bool, Ok, Err}
+use Rattle.std.specs.Prelude.{Result, IsErrAnd, refl}
 use Rattle.std.proofs.Common.{sym, ◌∙◌, ap, subst, inr, arith}
 use Rattle.std.proofs.lemmas.List.{length-append, length-map, length-replicate}
 use Rattle.speedy_base.specs.declared.error.Error.{Error}
@@ -15,38 +16,58 @@ use Rattle.speedy_read.specs.Codes.{refused_covered, got_covered}
 use Rattle.speedy_read.proofs.LentLemmas.{borrowed_covers, bytes_cover_items}
 
 -- items of one size
-module _ {V : Type 0} (size : ℕ) (F : Format V) (one : (v : V) (bytes : List ℕ) → F.spells v bytes → length bytes ≡ size) (n : ℕ) where
-  module _ {E : Type 0} {gives : Error → E → Type 0} {eof : E → Bool} {old new : ReaderState} {X Y : Type 0} {shows : X → List ℕ} {seen' : Y → List V} where
+module _ {V : Type 0} (size : ℕ) (F : Format V)
+    (one : (v : V) (bytes : List ℕ) → F.spells v bytes → length bytes ≡ size) (n : ℕ) where
+  module _ {E : Type 0} {gives : Error → E → Type 0} {eof : E → Bool} {old new : ReaderState} {X Y : Type 0}
+      {shows : X → List ℕ} {seen' : Y → List V} where
     -- lent bytes that are refused are no items
-    pub view_not_lent : {e : E} {result : Result Y E} → IsErrAnd result (λ x. x ≡ e) → Reads gives eof shows (borrowed_content (raw_bytes (n * size))) (Err e) old new → Reads gives eof seen' (borrowed_content (vector n F)) result old new
+    pub view_not_lent : {e : E} {result : Result Y E} → IsErrAnd result (λ x. x ≡ e)
+        → Reads gives eof shows (borrowed_content (raw_bytes (n * size))) (Err e) old new
+        → Reads gives eof seen' (borrowed_content (vector n F)) result old new
     unfolding borrowed_content vector owned_content
     view_not_lent passed r = refused_covered (borrowed_covers (bytes_cover_items size F one n refl)) passed r
 
     -- those that are answered are the items that they show, if any bytes of that size spell one
-    pub view_lent : {A : Type 0} (decoded : List ℕ → A) (seen : A → V) → 0 < size → ((bytes : List ℕ) → length bytes ≡ size → AreBytes bytes → F.spells (seen (decoded bytes)) bytes)
-        → {x : X} {y : Y} → seen' y ≡ map seen (shown_items decoded size (shows x)) → AreBytes (shows x) → Reads gives eof shows (borrowed_content (raw_bytes (n * size))) (Ok x) old new → Reads gives eof seen' (borrowed_content (vector n F)) (Ok y) old new
+    pub view_lent : {A : Type 0} (decoded : List ℕ → A) (seen : A → V) → 0 < size
+        → ((bytes : List ℕ) → length bytes ≡ size → AreBytes bytes → F.spells (seen (decoded bytes)) bytes)
+        → {x : X} {y : Y} → seen' y ≡ map seen (shown_items decoded size (shows x)) → AreBytes (shows x)
+        → Reads gives eof shows (borrowed_content (raw_bytes (n * size))) (Ok x) old new
+        → Reads gives eof seen' (borrowed_content (vector n F)) (Ok y) old new
     unfolding raw_bytes borrowed_content vector owned_content repeat
     view_lent decoded seen some decodes {x = x} {y = y} same are r =
         got_covered
         (λ s h.
         let whole = ap length h.0 ∙ h.1 in
         let items = map seen (shown_items decoded size (shows x)) in
-        let many : length items ≡ n = length-map (shown_items decoded size (shows x)) seen ∙ length-shown_many decoded size n (shows x) some whole in
-        let spelled : Each F.spells items (shows x) = shown_items_spelled decoded size seen F.spells decodes n (shows x) some whole are in
-        subst (λ (vs : List V). (length vs ≡ n) × Each F.spells vs s) (sym same) (many, subst (λ (t : List ℕ). Each F.spells items t) h.0 spelled))
+        let many : length items ≡ n =
+        length-map (shown_items decoded size (shows x)) seen ∙ length-shown_many decoded size n (shows x) some whole in
+        let spelled : Each F.spells items (shows x) =
+        shown_items_spelled decoded size seen F.spells decodes n (shows x) some whole are in
+        subst (λ (vs : List V). (length vs ≡ n) × Each F.spells vs s) (sym same) (
+          many,
+          subst (λ (t : List ℕ). Each F.spells items t) h.0 spelled,
+        ))
         r
 
   -- no input has more bytes than can be counted
-  module _ {E : Type 0} {gives : Error → E → Type 0} {eof : E → Bool} {old new : ReaderState} {X Y : Type 0} {shows : X → List ℕ} {seen' : Y → List V} (many : 2 ^ 64 ≤ n * size) where
-    pub more_than_all : (k : ℕ) {x : X} {e : E} → IsEnd gives eof old.fixed.ends_by_device e → Reads gives eof shows (borrowed_content (raw_bytes k)) (Ok x) old new → Reads gives eof seen' (borrowed_content (vector n F)) (Err e) old new
+  module _ {E : Type 0} {gives : Error → E → Type 0} {eof : E → Bool} {old new : ReaderState} {X Y : Type 0}
+      {shows : X → List ℕ} {seen' : Y → List V} (many : 2 ^ 64 ≤ n * size) where
+    pub more_than_all : (k : ℕ) {x : X} {e : E} → IsEnd gives eof old.fixed.ends_by_device e
+        → Reads gives eof shows (borrowed_content (raw_bytes k)) (Ok x) old new
+        → Reads gives eof seen' (borrowed_content (vector n F)) (Err e) old new
     unfolding borrowed_content vector owned_content repeat
     more_than_all k ended r = record {
       kept = r.kept;
-      answer = inr (ends_early r.answer.no_fault (n * size) (λ vs s h. let l = each_one_size one vs s h.1 ∙ ap (λ m. m * size) h.0 in omega arith) (λ _ bad. bad) ended (λ _ fit. omega arith));
+      answer =
+          inr (ends_early r.answer.no_fault (n * size)
+          (λ vs s h. let l = each_one_size one vs s h.1 ∙ ap (λ m. m * size) h.0 in omega arith) (λ _ bad. bad) ended
+          (λ _ fit. omega arith));
     }
 
     -- so where as many as can be counted are refused, the items are
-    pub all_refused : {e : E} {result : Result Y E} → IsErrAnd result (λ x. x ≡ e) → Reads gives eof shows (borrowed_content (raw_bytes (2 ^ 64 - 1))) (Err e) old new → Reads gives eof seen' (borrowed_content (vector n F)) result old new
+    pub all_refused : {e : E} {result : Result Y E} → IsErrAnd result (λ x. x ≡ e)
+        → Reads gives eof shows (borrowed_content (raw_bytes (2 ^ 64 - 1))) (Err e) old new
+        → Reads gives eof seen' (borrowed_content (vector n F)) result old new
     unfolding raw_bytes borrowed_content vector owned_content repeat
     all_refused passed r = Reads-passed passed (record {
       kept = r.kept;
@@ -62,7 +83,12 @@ module _ {V : Type 0} (size : ℕ) (F : Format V) (one : (v : V) (bytes : List �
                 absurd (omega arith);
             too_short = λ vs more sp.
                 let fit = told.fit in
-                un.too_short (old.to_come ++ missing) missing (refl, length-append old.to_come missing ∙ (ap (λ m. length old.to_come + m) (length-replicate (2 ^ 64 - 1 - length old.to_come) 0) ∙ omega arith));
+                un.too_short (old.to_come ++ missing) missing (
+                  refl,
+                  length-append old.to_come missing
+                      ∙ (ap (λ m. length old.to_come + m) (length-replicate (2 ^ 64 - 1 - length old.to_come) 0)
+                      ∙ omega arith),
+                );
             malformed = λ bad. absurd bad;
           })
           r.answer;

@@ -8,7 +8,8 @@ use Rattle.speedy_layout.specs.Format.{Format, Each}
 use Rattle.speedy_layout.specs.Lists.{vector}
 use Rattle.speedy_read.specs.Reading.{ReaderState, Kept, Got, Ahead, Excused, Refused}
 
--- items of a type, what is seen of each, what they gather to, and the lists of them that are written of what they gather to
+-- items of a type, what is seen of each, what they gather to, and the lists of them that are written of what they
+-- gather to
 pub record Gatherer (T F V : Type 0) : Type 1 where
   pub seen : T → V
   pub gathers : List T → F → Type 0
@@ -39,10 +40,12 @@ module _ {T F V : Type 0} (g : Gatherer T F V) (L : Format V) (n : ℕ) where
   -- A read of so many items and what they gather to. What is answered is gathered of items that a front of the bytes to
   -- come spells, and just that front is taken. A clean refusal means that no front spells so many items, or none that
   -- are written of a collection where that is demanded.
-  pub record Collects {E : Type 0} (gives : Error → E → Type 0) (eof : E → Bool) (result : Result F E) (old new : ReaderState) : Type 0 where
+  pub record Collects {E : Type 0} (gives : Error → E → Type 0) (eof : E → Bool) (result : Result F E)
+      (old new : ReaderState) : Type 0 where
     pub kept : Kept old new
     pub answer : MatchResult result (λ whole. GotItems whole old new)
-        (λ e. Excused gives true e old new ⊎ (Refused gives eof (vector n L) e old new ⊎ (gives (error_of kinds.NotWrittenForm) e × NotWritten old new)))
+        (λ e. Excused gives true e old new
+        ⊎ (Refused gives eof (vector n L) e old new ⊎ (gives (error_of kinds.NotWrittenForm) e × NotWritten old new)))
 
 -- the word of contracts: a read of so many of a codec's values and what they gather to, from a reader that reads see so
 abbrev pub CollectsValues : {E S T F V : Type 0} → Errors E → (S → ReaderState) → Gatherer T F V → Codec V → ℕ

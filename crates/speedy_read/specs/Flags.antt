@@ -5,7 +5,8 @@ use Rattle.std.proofs.lemmas.Bool.Decides.{eqb_tells}
 use Rattle.speedy_base.specs.declared.error.Error.{Error}
 use Rattle.speedy_base.specs.Encoding.{Encoding}
 use Rattle.speedy_layout.specs.Format.{Format}
-use Rattle.speedy_layout.specs.Flags.{flag, IsFlag, written_flag, Branch, branch, branch_asks, variant, option, option_parts, option_join, alternative, alternative_parts, alternative_join}
+use Rattle.speedy_layout.specs.Flags.{flag, IsFlag, written_flag, Branch, branch, branch_asks, variant, option}
+use Rattle.speedy_layout.specs.Flags.{option_parts, option_join, alternative, alternative_parts, alternative_join}
 use Rattle.speedy_layout.specs.Tuples.{unit}
 use Rattle.speedy_read.specs.Reading.{ReaderState, Reads}
 use Rattle.speedy_read.specs.ReadingLemmas.{Kept-same, Got-nothing}
@@ -33,14 +34,18 @@ not_written_flag n true l h = omega arith
 not_written_flag n false l h = omega arith
 
 -- a variant is read as its tag, and then the value of the format that the tag chooses
-pub variant_composes : {U V W : Type 0} (split : U → (b : Bool) × Branch V W b) {join : (b : Bool) → Branch V W b → U} {tags : Format Bool} {L : Format V} {M : Format W}
-    → ((b : Bool) (w : Branch V W b) → let whole : (b : Bool) × Branch V W b = (b, w) in split (join b w) ≡ whole) → Composes tags (branch L M) (variant split tags L M) join
+pub variant_composes : {U V W : Type 0} (split : U → (b : Bool) × Branch V W b) {join : (b : Bool) → Branch V W b → U}
+    {tags : Format Bool} {L : Format V} {M : Format W}
+    → ((b : Bool) (w : Branch V W b) → let whole : (b : Bool) × Branch V W b = (b, w) in split (join b w) ≡ whole)
+    → Composes tags (branch L M) (variant split tags L M) join
 variant_composes split {L = L} {M = M} back = sequence_composes split (branch_asks L M) (λ b w s h. back b w)
 
 -- a value that may be absent is read as a flag, and then the value where the flag is true
-pub option_composes : (encoding : Encoding) {V : Type 0} {L : Format V} → Composes (flag encoding) (branch L unit) (option encoding L) option_join
+pub option_composes : (encoding : Encoding) {V : Type 0} {L : Format V}
+    → Composes (flag encoding) (branch L unit) (option encoding L) option_join
 option_composes encoding {V = V} = variant_composes option_parts back where
-  back : (b : Bool) (w : Branch V (Unit {0}) b) → let whole : (b : Bool) × Branch V (Unit {0}) b = (b, w) in option_parts (option_join b w) ≡ whole
+  back : (b : Bool) (w : Branch V (Unit {0}) b) → let whole : (b : Bool) × Branch V (Unit {0}) b = (b, w) in
+      option_parts (option_join b w) ≡ whole
   back true w = refl
   back false w = refl
 
@@ -48,12 +53,14 @@ option_composes encoding {V = V} = variant_composes option_parts back where
 pub alternative_composes : (encoding : Encoding) {V W : Type 0} {L : Format V} {M : Format W}
     → Composes (flag encoding) (branch L M) (alternative encoding L M) alternative_join
 alternative_composes encoding {V = V} {W = W} = variant_composes alternative_parts back where
-  back : (b : Bool) (w : Branch V W b) → let whole : (b : Bool) × Branch V W b = (b, w) in alternative_parts (alternative_join b w) ≡ whole
+  back : (b : Bool) (w : Branch V W b) → let whole : (b : Bool) × Branch V W b = (b, w) in
+      alternative_parts (alternative_join b w) ≡ whole
   back true w = refl
   back false w = refl
 
 -- no bytes are read
-pub unit_read : {E : Type 0} {gives : Error → E → Type 0} {eof : E → Bool} {A : Type 0} {seen : A → Unit {0}} {x : A} {old : ReaderState}
+pub unit_read : {E : Type 0} {gives : Error → E → Type 0} {eof : E → Bool} {A : Type 0} {seen : A → Unit {0}} {x : A}
+    {old : ReaderState}
     → Reads gives eof seen unit (Ok x) old old
 unfolding unit
 unit_read = record { kept = Kept-same; answer = Got-nothing refl }

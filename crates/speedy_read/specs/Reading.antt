@@ -1,5 +1,6 @@
 -- What a read does.
-use Rattle.std.specs.Prelude.{◌≡◌, ℕ, ℤ, ◌≤◌, ◌<◌, ◌-◌, ◌^◌, List, [], ◌++◌, length, Bool, true, false, IsTrue, ◌⊎◌, ◌↔◌, Option, Some, MatchOption, Result, MatchResult, IsErrAnd}
+use Rattle.std.specs.Prelude.{◌≡◌, ℕ, ℤ, ◌≤◌, ◌<◌, ◌-◌, ◌^◌, List, [], ◌++◌, length, Bool, true, false, IsTrue, ◌⊎◌}
+use Rattle.std.specs.Prelude.{◌↔◌, Option, Some, MatchOption, Result, MatchResult, IsErrAnd}
 use Rattle.std.specs.Borrow.{GName}
 use Rattle.std.specs.Int.{Width}
 use Rattle.speedy_base.specs.declared.error.ErrorKind.{ErrorKind}
@@ -131,14 +132,18 @@ module _ {E : Type 0} (gives : Error → E → Type 0) (eof : E → Bool) where
 
   -- A read of a format's values. A value that is answered is spelled by a front of the bytes to come, and just that
   -- front is taken. A clean refusal means that no front spells any value.
-  pub record Reads {A V : Type 0} (seen : A → V) (L : Format V) (result : Result A E) (old new : ReaderState) : Type 0 where
+  pub record Reads {A V : Type 0} (seen : A → V) (L : Format V) (result : Result A E)
+      (old new : ReaderState) : Type 0 where
     pub kept : Kept old new
-    pub answer : MatchResult result (λ x. Got (L.spells (seen x)) old new) (λ e. Excused gives L.asks.memory e old new ⊎ Refused L e old new)
+    pub answer : MatchResult result (λ x. Got (L.spells (seen x)) old new)
+        (λ e. Excused gives L.asks.memory e old new ⊎ Refused L e old new)
 
   -- A peek of a format's values: as the read, but nothing is taken, and it may want memory where the read does not.
-  pub record Peeks {A V : Type 0} (seen : A → V) (L : Format V) (result : Result A E) (old new : ReaderState) : Type 0 where
+  pub record Peeks {A V : Type 0} (seen : A → V) (L : Format V) (result : Result A E)
+      (old new : ReaderState) : Type 0 where
     pub kept : KeptByPeek old new
-    pub answer : MatchResult result (λ x. Ahead (L.spells (seen x)) old new) (λ e. PeekWants gives e old new ⊎ (Excused gives L.asks.memory e old new ⊎ Refused L e old new))
+    pub answer : MatchResult result (λ x. Ahead (L.spells (seen x)) old new)
+        (λ e. PeekWants gives e old new ⊎ (Excused gives L.asks.memory e old new ⊎ Refused L e old new))
 
 -- what a reader says of the number of bytes to come is right
 abbrev pub IsRight : Option Bool → ReaderState → ℕ → Type 0
@@ -162,7 +167,8 @@ ends_alone error _ = error ≡ error_of kinds.UnexpectedEndOfInput
 -- What a read answers that lends bytes until the reader is used again: as a read of so many bytes, refused by the one
 -- error that says that they ended; or nothing is lent, and none is taken.
 abbrev pub LendsUntilUsed : {A E : Type 0} → (A → List ℕ) → ℕ → Option (Result A E) → ReaderState → ReaderState → Type 0
-LendsUntilUsed shows n lent old new = MatchOption lent (new ≡ old) (λ result. Reads ends_alone (λ _. true) shows (raw_bytes n) result old new)
+LendsUntilUsed shows n lent old new =
+    MatchOption lent (new ≡ old) (λ result. Reads ends_alone (λ _. true) shows (raw_bytes n) result old new)
 
 -- ---- the words of contracts
 

@@ -1,5 +1,6 @@
 -- What holds of reads and of the states of readers.
-use Rattle.std.specs.Prelude.{◌≡◌, ℕ, ◌≤◌, ◌<◌, ◌-◌, ◌^◌, List, [], ◌∷◌, ◌++◌, length, Bool, IsTrue, ◌⊎◌, Result, Ok, Err, IsErrAnd, refl}
+use Rattle.std.specs.Prelude.{◌≡◌, ℕ, ◌≤◌, ◌<◌, ◌-◌, ◌^◌, List, [], ◌∷◌, ◌++◌, length, Bool, IsTrue, ◌⊎◌, Result, Ok}
+use Rattle.std.specs.Prelude.{Err, IsErrAnd, refl}
 use Rattle.std.proofs.Common.{sym, ◌∙◌, ap, subst, arith, inl, inr}
 use Rattle.std.proofs.lemmas.List.{append_assoc, length-append}
 use Rattle.speedy_base.specs.declared.error.ErrorKind.{ErrorKind}
@@ -33,8 +34,10 @@ Kept-after {c = c} h k = record {
   faults = let x = h.faults in let y = k.faults in omega arith;
   tail = λ told.
       let first = h.tail told in
-      let second = k.tail (tells_still h.fixed told) in
-      (first.0 ++ second.0, first.1 ∙ (ap (λ x. first.0 ++ x) second.1 ∙ sym (append_assoc first.0 second.0 c.to_come)));
+      let second = k.tail (tells_still h.fixed told) in (
+        first.0 ++ second.0,
+        first.1 ∙ (ap (λ x. first.0 ++ x) second.1 ∙ sym (append_assoc first.0 second.0 c.to_come)),
+      );
 }
 
 -- the same of peeks
@@ -54,14 +57,26 @@ pub IsTold-after : {U V : Type 0} {N : Format V} {M : Format U} {old mid : Reade
     → (IsTrue M.asks.lending → IsTrue N.asks.lending) → IsTold N old → IsTold M mid
 IsTold-after {mid = mid} k needs told = record {
   tells = tells_still k.fixed told.tells;
-  are_bytes = let t = k.tail told.tells in (AreBytes-append_parts t.0 mid.to_come (subst AreBytes t.1 told.are_bytes)).1;
-  fit = let t = k.tail told.tells in let l = ap length t.1 ∙ length-append t.0 mid.to_come in let f = told.fit in omega arith;
+  are_bytes =
+      let t = k.tail told.tells in
+      (AreBytes-append_parts t.0 mid.to_come (subst AreBytes t.1 told.are_bytes)).1;
+  fit =
+      let t = k.tail told.tells in
+      let l = ap length t.1 ∙ length-append t.0 mid.to_come in
+      let f = told.fit in
+      omega arith;
   lends = λ need. subst (λ (kind : ReaderKind). IsTrue kind.lends) (sym k.fixed) (told.lends (needs need));
 }
 
-pub IsTold-part : {U V : Type 0} {N : Format V} {M : Format U} {old : ReaderState} → (IsTrue M.asks.lending → IsTrue N.asks.lending)
+pub IsTold-part : {U V : Type 0} {N : Format V} {M : Format U} {old : ReaderState}
+    → (IsTrue M.asks.lending → IsTrue N.asks.lending)
     → IsTold N old → IsTold M old
-IsTold-part needs told = record { tells = told.tells; are_bytes = told.are_bytes; fit = told.fit; lends = λ need. told.lends (needs need) }
+IsTold-part needs told = record {
+  tells = told.tells;
+  are_bytes = told.are_bytes;
+  fit = told.fit;
+  lends = λ need. told.lends (needs need);
+}
 
 -- of two fronts of one list, one is a front of the other
 pub fronts_nest : (a b c d : List ℕ) → a ++ b ≡ c ++ d → ((r : List ℕ) × (c ≡ a ++ r)) ⊎ ((r : List ℕ) × (a ≡ c ++ r))
@@ -92,10 +107,13 @@ pub input_ended : {E : Type 0} (gives : Error → E → Type 0) (eof : E → Boo
 input_ended gives eof by_device e g h = ((kinds.UnexpectedEndOfInput, tt, g), h)
 
 -- what excuses a part that is read from `mid` on, before which no call failed, excuses the whole
-pub excused_after : {E : Type 0} (gives : Error → E → Type 0) (takes more : Bool) (e : E) (old mid new : ReaderState) → mid.fixed ≡ old.fixed
-    → mid.faults ≡ old.faults → (IsTrue takes → IsTrue more) → Excused gives takes e mid new → Excused gives more e old new
+pub excused_after : {E : Type 0} (gives : Error → E → Type 0) (takes more : Bool) (e : E) (old mid new : ReaderState)
+    → mid.fixed ≡ old.fixed
+    → mid.faults ≡ old.faults → (IsTrue takes → IsTrue more) → Excused gives takes e mid new
+    → Excused gives more e old new
 excused_after gives takes more e old mid new same clean f (inl (g, inl t, none)) = inl (g, inl (f t), none ∙ clean)
-excused_after gives takes more e old mid new same clean f (inl (g, inr t, none)) = inl (g, inr (subst (λ (kind : ReaderKind). IsTrue kind.asks_memory) same t), none ∙ clean)
+excused_after gives takes more e old mid new same clean f (inl (g, inr t, none)) =
+    inl (g, inr (subst (λ (kind : ReaderKind). IsTrue kind.asks_memory) same t), none ∙ clean)
 excused_after gives takes more e old mid new same clean f (inr h) =
     inr (fault_after gives old.fixed.tells_faults e old.faults mid.faults new.faults clean
     (subst (λ (kind : ReaderKind). IsOfFault gives kind.tells_faults e mid.faults new.faults) same h))
@@ -108,12 +126,14 @@ refusing_more L N same lends names kind (inl h) = inl (names kind h)
 refusing_more L N same lends names kind (inr h) = inr (lends h.0, sym same ∙ h.1, h.2)
 
 -- a part L that is refused from `mid` on refuses the whole N, where what L says of the bytes says it of N
-pub part_refused : {E : Type 0} {gives : Error → E → Type 0} {eof : E → Bool} {U V : Type 0} {L : Format U} {N : Format V} {e : E} {old mid : ReaderState} (new : ReaderState)
+pub part_refused : {E : Type 0} {gives : Error → E → Type 0} {eof : E → Bool} {U V : Type 0} {L : Format U}
+    {N : Format V} {e : E} {old mid : ReaderState} (new : ReaderState)
     → mid.fixed ≡ old.fixed → mid.faults ≡ old.faults
     → (IsTrue L.asks.memory → IsTrue N.asks.memory) → (IsTrue L.asks.lending → IsTrue N.asks.lending)
     → ((kind : ErrorKind) → L.names kind → N.names kind)
     → (IsTold N old → (IsTold L mid → Unspelled gives eof L e mid.to_come) → Unspelled gives eof N e old.to_come)
-    → Excused gives L.asks.memory e mid new ⊎ Refused gives eof L e mid new → Excused gives N.asks.memory e old new ⊎ Refused gives eof N e old new
+    → Excused gives L.asks.memory e mid new ⊎ Refused gives eof L e mid new
+    → Excused gives N.asks.memory e old new ⊎ Refused gives eof N e old new
 part_refused {gives = gives} {L = L} {N = N} {e = e} {old = old} {mid = mid} new same clean takes lends names un
     (inl x) =
     inl (excused_after gives L.asks.memory N.asks.memory e old mid new same clean takes x)
@@ -131,15 +151,18 @@ part_refused {gives = gives} {eof = eof} {L = L} {N = N} {e = e} {old = old} {mi
     })
 
 -- an input that ended before the least size of a format that refuses nothing itself, and no call of the device failed
-pub ends_early : {E : Type 0} {gives : Error → E → Type 0} {eof : E → Bool} {V : Type 0} {L : Format V} {e : E} {old new : ReaderState}
+pub ends_early : {E : Type 0} {gives : Error → E → Type 0} {eof : E → Bool} {V : Type 0} {L : Format V} {e : E}
+    {old new : ReaderState}
     → new.faults ≡ old.faults → (least : ℕ) → ((v : V) (s : List ℕ) → L.spells v s → least ≤ length s)
     → ((bytes : List ℕ) → L.malformed bytes → ⊥) → IsEnd gives eof old.fixed.ends_by_device e
-    → (IsTrue old.fixed.tells → length old.to_come < 2 ^ 64 - 1 → length old.to_come < least) → Refused gives eof L e old new
+    → (IsTrue old.fixed.tells → length old.to_come < 2 ^ 64 - 1 → length old.to_come < least)
+    → Refused gives eof L e old new
 ends_early clean least size none ended fewer = record {
   no_fault = clean;
   kind = inl ended;
   because = λ told. record {
-    no_front = λ v front rest is h. let k = size v front h in let l = ap length is ∙ length-append front rest in let f = fewer told.tells told.fit in absurd (omega arith);
+    no_front = λ v front rest is h. let k = size v front h in let l = ap length is ∙ length-append front rest in
+        let f = fewer told.tells told.fit in absurd (omega arith);
     too_short = λ _ _ _. ended.1;
     malformed = λ bad. absurd (none _ bad);
   };
@@ -155,10 +178,22 @@ no_parts (x ∷ a) b h = absurd (cc)
 module _ {spelled other : List ℕ → Type 0} {old new : ReaderState} (f : (s : List ℕ) → spelled s → other s) where
   -- what was taken is spelled otherwise too
   pub Got-as : Got spelled old new → Got other old new
-  Got-as g = record { front = g.front; front_is = f g.front g.front_is; taken = g.taken; no_fault = g.no_fault; untouched = g.untouched }
+  Got-as g = record {
+    front = g.front;
+    front_is = f g.front g.front_is;
+    taken = g.taken;
+    no_fault = g.no_fault;
+    untouched = g.untouched;
+  }
 
   pub Ahead-as : Ahead spelled old new → Ahead other old new
-  Ahead-as g = record { front = g.front; rest = g.rest; front_is = f g.front g.front_is; stands = g.stands; no_fault = g.no_fault }
+  Ahead-as g = record {
+    front = g.front;
+    rest = g.rest;
+    front_is = f g.front g.front_is;
+    stands = g.stands;
+    no_fault = g.no_fault;
+  }
 
 -- one front was taken after the other
 pub Got-after : {spelled next more : List ℕ → Type 0} {old mid new : ReaderState} → Kept old mid
@@ -166,7 +201,8 @@ pub Got-after : {spelled next more : List ℕ → Type 0} {old mid new : ReaderS
 Got-after {new = new} kept f g k = record {
   front = g.front ++ k.front;
   front_is = f g.front k.front g.front_is k.front_is;
-  taken = λ told. g.taken told ∙ (ap (λ s. g.front ++ s) (k.taken (tells_still kept.fixed told)) ∙ sym (append_assoc g.front k.front new.to_come));
+  taken = λ told. g.taken told ∙ (ap (λ s. g.front ++ s) (k.taken (tells_still kept.fixed told))
+      ∙ sym (append_assoc g.front k.front new.to_come));
   no_fault = k.no_fault ∙ g.no_fault;
   untouched = λ none. let parts = no_parts g.front k.front none in k.untouched parts.1 ∙ g.untouched parts.0;
 }
@@ -185,25 +221,33 @@ pub record ReadSoFar (spelled : List ℕ → Type 0) (old new : ReaderState) : T
 pub none_so_far : {spelled : List ℕ → Type 0} {old : ReaderState} → spelled [] → ReadSoFar spelled old old
 none_so_far h = record { kept = Kept-same; got = Got-nothing h }
 
-module _ {E : Type 0} {gives : Error → E → Type 0} {eof : E → Bool} {A V : Type 0} {seen : A → V} {x : A} {L : Format V} {spelled : List ℕ → Type 0} where
+module _ {E : Type 0} {gives : Error → E → Type 0} {eof : E → Bool} {A V : Type 0} {seen : A → V} {x : A} {L : Format V}
+    {spelled : List ℕ → Type 0} where
   -- and a value more
-  pub more_so_far : {more : List ℕ → Type 0} {old mid new : ReaderState} → ReadSoFar spelled old mid → Reads gives eof seen L (Ok x) mid new
+  pub more_so_far : {more : List ℕ → Type 0} {old mid new : ReaderState} → ReadSoFar spelled old mid
+      → Reads gives eof seen L (Ok x) mid new
       → ((s t : List ℕ) → spelled s → L.spells (seen x) t → more (s ++ t)) → ReadSoFar more old new
   more_so_far h r f = record { kept = Kept-after h.kept r.kept; got = Got-after h.kept f h.got r.answer }
 
   -- the front is a value
-  pub all_so_far : {old new : ReaderState} → ReadSoFar spelled old new → ((s : List ℕ) → spelled s → L.spells (seen x) s)
+  pub all_so_far : {old new : ReaderState} → ReadSoFar spelled old new
+      → ((s : List ℕ) → spelled s → L.spells (seen x) s)
       → Reads gives eof seen L (Ok x) old new
   all_so_far h f = record { kept = h.kept; answer = Got-as f h.got }
 
 -- ---- another value of the same format
 
-module _ {E : Type 0} {gives : Error → E → Type 0} {eof : E → Bool} {A B V : Type 0} {seen : A → V} {seen' : B → V} {L : Format V} {old new : ReaderState} where
+module _ {E : Type 0} {gives : Error → E → Type 0} {eof : E → Bool} {A B V : Type 0} {seen : A → V} {seen' : B → V}
+    {L : Format V} {old new : ReaderState} where
   -- what was refused as one value is refused as another
   pub refused_as : {e : E} {result : Result B E} → IsErrAnd result (λ x. x ≡ e) → Reads gives eof seen L (Err e) old new
       → Reads gives eof seen' L result old new
   refused_as passed r = Reads-passed passed (record { kept = r.kept; answer = r.answer })
 
   -- and answered, where the same is seen of it
-  pub got_as : {x : A} {y : B} → seen' y ≡ seen x → Reads gives eof seen L (Ok x) old new → Reads gives eof seen' L (Ok y) old new
-  got_as same r = record { kept = r.kept; answer = Got-as (λ s h. subst (λ (v : V). L.spells v s) (sym same) h) r.answer }
+  pub got_as : {x : A} {y : B} → seen' y ≡ seen x → Reads gives eof seen L (Ok x) old new
+      → Reads gives eof seen' L (Ok y) old new
+  got_as same r = record {
+    kept = r.kept;
+    answer = Got-as (λ s h. subst (λ (v : V). L.spells v s) (sym same) h) r.answer;
+  }

@@ -1,5 +1,6 @@
 -- What was written is what is read.
-use Rattle.std.specs.Prelude.{◌≡◌, ℕ, ◌-◌, ◌^◌, ◌<◌, ◌≤◌, ◌⊎◌, List, ◌++◌, length, Bool, false, IsTrue, Result, IfOk, OnOk, IfErr, OnErr}
+use Rattle.std.specs.Prelude.{◌≡◌, ℕ, ◌-◌, ◌^◌, ◌<◌, ◌≤◌, ◌⊎◌, List, ◌++◌, length, Bool, false, IsTrue, Result, IfOk}
+use Rattle.std.specs.Prelude.{OnOk, IfErr, OnErr}
 use Rattle.std.proofs.Common.{Fits, w8, get_or}
 use Rattle.speedy_base.specs.declared.error.Error.{Error}
 use Rattle.speedy_base.specs.declared.error.ErrorKind.TheVariants as kinds
@@ -18,7 +19,8 @@ use Rattle.speedy_read.specs.StreamModel.{most_held}
 
 -- What a function that reads from a buffer answers where a written form of so many bytes stands at the front: the value
 -- that was written, and the number of those bytes. It is refused only for want of memory.
-pub record AnswersWritten {E A V : Type 0} (gives : Error → E → Type 0) (seen : A → V) (L : Format V) (v : V) (size : ℕ) (result : Result A E) (count : ℕ) : Type 0 where
+pub record AnswersWritten {E A V : Type 0} (gives : Error → E → Type 0) (seen : A → V) (L : Format V) (v : V) (size : ℕ)
+    (result : Result A E) (count : ℕ) : Type 0 where
   pub same : IfOk result (λ x. seen x ≡ v)
   pub counted : OnOk result (count ≡ size)
   pub refused : IfErr result (gives (error_of kinds.OutOfMemory))
@@ -35,10 +37,12 @@ pub record ReadsWritten {E A V : Type 0} (gives : Error → E → Type 0) (seen 
 
 -- What a read answers that is the first one from a reader of a buffer: as above, with these bytes left. It is refused
 -- only for want of memory, since a slice has bytes and fewer than `usize::MAX` of them.
-pub record ReadsWrittenFirst {E A V : Type 0} (gives : Error → E → Type 0) (seen : A → V) (v : V) (rest buffer : List ℕ) (result : Result A E) (left : List ℕ) : Type 0 where
+pub record ReadsWrittenFirst {E A V : Type 0} (gives : Error → E → Type 0) (seen : A → V) (v : V) (rest buffer : List ℕ)
+    (result : Result A E) (left : List ℕ) : Type 0 where
   pub same : IfOk result (λ x. seen x ≡ v)
   pub rest_is : OnOk result (left ≡ rest)
-  pub refused : ((i : ℕ) → Fits w8 (get_or buffer i 0)) → length buffer < 2 ^ 64 - 1 → IfErr result (gives (error_of kinds.OutOfMemory))
+  pub refused : ((i : ℕ) → Fits w8 (get_or buffer i 0)) → length buffer < 2 ^ 64 - 1
+      → IfErr result (gives (error_of kinds.OutOfMemory))
 
 -- What a function that reads from a source answers where a written form and then the rest are to come: the value that
 -- was written, and the rest is still to come, but for what was read ahead of it. It is refused only for want of memory
@@ -51,13 +55,15 @@ pub record StreamsWritten {E A V : Type 0} (gives : Error → E → Type 0) (see
   pub ahead : OnOk result ((ahead : List ℕ) × (length ahead ≤ most_held buffers) × (rest ≡ ahead ++ new.to_come))
   pub no_fault : OnOk result (new.faults ≡ old.faults)
   pub refused : AreBytes old.to_come → length old.to_come < 2 ^ 64 - 1 → L.asks.lending ≡ false
-      → IfErr result (λ e. WantsMemory gives L.asks.memory buffers e old new ⊎ IsOfFailedCall gives e old.faults new.faults)
+      → IfErr result
+      (λ e. WantsMemory gives L.asks.memory buffers e old new ⊎ IsOfFailedCall gives e old.faults new.faults)
 
 module _ {E A : Type 0} (errors : Errors E) where
   -- the law of the functions that read from a buffer
   pub record WrittenIsAnswered {V : Type 0} (seen : A → V) (codec : Codec V) : Type 0 where
     -- what was written to the front of a buffer
-    pub front : {encoding : Encoding} {v : V} {bytes : List ℕ} (rest : List ℕ) {buffer : List ℕ} {result : Result A E} {count : ℕ}
+    pub front : {encoding : Encoding} {v : V} {bytes : List ℕ} (rest : List ℕ) {buffer : List ℕ}
+        {result : Result A E} {count : ℕ}
         → (codec.format encoding).writes v bytes → buffer ≡ bytes ++ rest
         → AnswersBuffer errors seen codec encoding result count buffer
         → AnswersWritten errors.from_gives seen (codec.format encoding) v (length bytes) result count
@@ -71,11 +77,13 @@ module _ {E A : Type 0} (errors : Errors E) where
   pub record WrittenIsRead {V : Type 0} (seen : A → V) (format : Encoding → Format V) : Type 0 where
     -- from any reader that tells its bytes
     pub told : {encoding : Encoding} {v : V} {bytes rest : List ℕ} {result : Result A E} {old new : ReaderState}
-        → (format encoding).writes v bytes → IsTrue old.fixed.tells → old.encoding ≡ encoding → old.to_come ≡ bytes ++ rest
+        → (format encoding).writes v bytes → IsTrue old.fixed.tells → old.encoding ≡ encoding
+        → old.to_come ≡ bytes ++ rest
         → Reads errors.from_gives errors.eof seen (format old.encoding) result old new
         → ReadsWritten errors.from_gives seen (format encoding) v rest result old new
     -- from a reader of bytes in memory that has just been made
-    pub made : {encoding at after : Encoding} {v : V} {bytes rest buffer left : List ℕ} {result : Result A E} {old : ReaderState}
+    pub made : {encoding at after : Encoding} {v : V} {bytes rest buffer left : List ℕ} {result : Result A E}
+        {old : ReaderState}
         → (format encoding).writes v bytes → buffer ≡ bytes ++ rest → old ≡ bytes_state buffer at → at ≡ encoding
         → Reads errors.from_gives errors.eof seen (format old.encoding) result old (bytes_state left after)
         → ReadsWrittenFirst errors.from_gives seen v rest buffer result left
@@ -91,18 +99,22 @@ module _ {E A : Type 0} (errors : Errors E) where
   -- the law of reads of items by their number
   pub record WrittenItemsAreRead {V : Type 0} (seen : A → List V) (format : Encoding → Format V) : Type 0 where
     -- from any reader that tells its bytes
-    pub told : {encoding : Encoding} {vs : List V} (bytes : List ℕ) {rest : List ℕ} {n : ℕ} {result : Result A E} {old new : ReaderState}
+    pub told : {encoding : Encoding} {vs : List V} (bytes : List ℕ) {rest : List ℕ} {n : ℕ} {result : Result A E}
+        {old new : ReaderState}
         → Each (format encoding).writes vs bytes → n ≡ length vs → IsTrue old.fixed.tells → old.encoding ≡ encoding
         → old.to_come ≡ bytes ++ rest
         → Reads errors.from_gives errors.eof seen (vector n (format old.encoding)) result old new
         → ReadsWritten errors.from_gives seen (vector n (format encoding)) vs rest result old new
     -- from a reader of bytes in memory that has just been made
-    pub made : {encoding at after : Encoding} {vs : List V} (bytes : List ℕ) {rest buffer left : List ℕ} {n : ℕ} {result : Result A E} {old : ReaderState}
-        → Each (format encoding).writes vs bytes → n ≡ length vs → buffer ≡ bytes ++ rest → old ≡ bytes_state buffer at → at ≡ encoding
+    pub made : {encoding at after : Encoding} {vs : List V} (bytes : List ℕ) {rest buffer left : List ℕ} {n : ℕ}
+        {result : Result A E} {old : ReaderState}
+        → Each (format encoding).writes vs bytes → n ≡ length vs → buffer ≡ bytes ++ rest → old ≡ bytes_state buffer at
+        → at ≡ encoding
         → Reads errors.from_gives errors.eof seen (vector n (format old.encoding)) result old (bytes_state left after)
         → ReadsWrittenFirst errors.from_gives seen vs rest buffer result left
 
-  -- The law of the functions that copy from a buffer: where the type borrows nothing, they answer as those do that lend it.
+  -- The law of the functions that copy from a buffer: where the type borrows nothing, they answer as those do that lend
+  -- it.
   abbrev pub CopiedIsAnswered : {V : Type 0} → (A → V) → Codec V → Type 0
   CopiedIsAnswered seen codec = (encoding : Encoding) → (codec.format encoding).asks.lending ≡ false
       → (result : Result A E) (count : ℕ) (bytes : List ℕ)

@@ -10,22 +10,28 @@ use Rattle.speedy_layout.specs.Laws.{Laws}
 use Rattle.speedy_layout.specs.Sequences.{AsksAtMost, asks_same, asks_left, asks_right, asks_after, sequence}
 use Rattle.speedy_layout.specs.Tuples.{pair}
 use Rattle.speedy_read.specs.Reading.{ReaderState, Unspelled, Reads, Peeks}
-use Rattle.speedy_read.specs.ReadingLemmas.{Kept-after, IsTold-after, IsTold-part, fronts_nest, Reads-passed, part_refused, more_so_far, all_so_far}
+use Rattle.speedy_read.specs.ReadingLemmas.{Kept-after, IsTold-after, IsTold-part, fronts_nest, Reads-passed}
+use Rattle.speedy_read.specs.ReadingLemmas.{part_refused, more_so_far, all_so_far}
 
 -- a value of N is one of L and then one of M, which may depend on it
-pub record Composes {U V : Type 0} {W : U → Type 0} (L : Format U) (M : (u : U) → Format (W u)) (N : Format V) (join : (u : U) → W u → V) : Type 0 where
+pub record Composes {U V : Type 0} {W : U → Type 0} (L : Format U) (M : (u : U) → Format (W u)) (N : Format V)
+    (join : (u : U) → W u → V) : Type 0 where
   pub joins : (u : U) (w : W u) (s t : List ℕ) → L.spells u s → (M u).spells w t → N.spells (join u w) (s ++ t)
   pub splits : (v : V) (s : List ℕ) → N.spells v s → (u : U) × (w : W u) × Parts (L.spells u) ((M u).spells w) s
   pub names_first : (kind : ErrorKind) → L.names kind → N.names kind
   pub names_second : (u : U) (kind : ErrorKind) → (M u).names kind → N.names kind
-  pub malformed : (bytes : List ℕ) → N.malformed bytes → L.malformed bytes ⊎ ((u : U) × Parts (L.spells u) ((M u).malformed) bytes)
+  pub malformed : (bytes : List ℕ) → N.malformed bytes
+      → L.malformed bytes ⊎ ((u : U) × Parts (L.spells u) ((M u).malformed) bytes)
   pub asks_first : AsksAtMost L.asks N.asks
   pub asks_second : (u : U) → AsksAtMost (M u).asks N.asks
 
--- a sequence is read as its first part and then its second; what is joined splits again where the second part is spelled
-pub sequence_composes : {U V : Type 0} {W : U → Type 0} (split : V → (u : U) × W u) {join : (u : U) → W u → V} {L : Format U} {asks : Asks} {M : (u : U) → Format (W u)}
+-- a sequence is read as its first part and then its second; what is joined splits again where the second part is
+-- spelled
+pub sequence_composes : {U V : Type 0} {W : U → Type 0} (split : V → (u : U) × W u) {join : (u : U) → W u → V}
+    {L : Format U} {asks : Asks} {M : (u : U) → Format (W u)}
     → ((u : U) → AsksAtMost (M u).asks asks)
-    → ((u : U) (w : W u) (s : List ℕ) → (M u).spells w s → let whole : (u : U) × W u = (u, w) in split (join u w) ≡ whole) → Composes L M (sequence split L asks M) join
+    → ((u : U) (w : W u) (s : List ℕ) → (M u).spells w s → let whole : (u : U) × W u = (u, w) in
+    split (join u w) ≡ whole) → Composes L M (sequence split L asks M) join
 unfolding sequence
 sequence_composes {U = U} {W = W} split {L = L} {asks = asks} {M = M} within back = record {
   joins = λ u w s t h k.
@@ -45,12 +51,14 @@ pub pair_composes : {U W : Type 0} {L : Format U} {M : Format W} → Composes L 
 pair_composes = sequence_composes (λ p. p) (λ _. asks_same) (λ u w s h. refl)
 
 module _ {U V : Type 0} {W : U → Type 0} {L : Format U} {M : (u : U) → Format (W u)} {N : Format V}
-    {join : (u : U) → W u → V} (c : Composes L M N join) {E : Type 0} {gives : Error → E → Type 0} {eof : E → Bool} where
+    {join : (u : U) → W u → V} (c : Composes L M N join) {E : Type 0} {gives : Error → E → Type 0}
+    {eof : E → Bool} where
   unspelled_first : {e : E} {bytes : List ℕ} → Unspelled gives eof L e bytes → Unspelled gives eof N e bytes
   unspelled_first {e = e} {bytes = bytes} un = record {
     no_front = λ v front rest is sp.
         let parts = c.splits v front sp in
-        un.no_front parts.0 parts.2.front (parts.2.back ++ rest) (is ∙ (ap (λ x. x ++ rest) parts.2.whole_is ∙ append_assoc parts.2.front parts.2.back rest)) parts.2.first_is;
+        un.no_front parts.0 parts.2.front (parts.2.back ++ rest)
+        (is ∙ (ap (λ x. x ++ rest) parts.2.whole_is ∙ append_assoc parts.2.front parts.2.back rest)) parts.2.first_is;
     too_short = λ v more sp.
         let parts = c.splits v (bytes ++ more) sp in
         elim (fronts_nest bytes more parts.2.front parts.2.back parts.2.whole_is) [
@@ -65,7 +73,8 @@ module _ {U V : Type 0} {W : U → Type 0} {L : Format U} {M : (u : U) → Forma
   }
 
   -- where the first part is refused, the whole is
-  pub refused_first : {A B : Type 0} {seen : A → U} {seen' : B → V} {e : E} {result : Result B E} {old new : ReaderState}
+  pub refused_first : {A B : Type 0} {seen : A → U} {seen' : B → V} {e : E} {result : Result B E}
+      {old new : ReaderState}
       → IsErrAnd result (λ x. x ≡ e) → Reads gives eof seen L (Err e) old new → Reads gives eof seen' N result old new
   refused_first {new = new} passed r = Reads-passed passed (record {
     kept = r.kept;
@@ -84,31 +93,39 @@ module _ {U V : Type 0} {W : U → Type 0} {L : Format U} {M : (u : U) → Forma
     ];
   }
 
-  unspelled_second : {strict : Bool} {least : ℕ} → Laws strict least L → (u : U) {e : E} (front rest : List ℕ) → L.spells u front
+  unspelled_second : {strict : Bool} {least : ℕ} → Laws strict least L → (u : U) {e : E} (front rest : List ℕ)
+      → L.spells u front
       → Unspelled gives eof (M u) e rest → Unspelled gives eof N e (front ++ rest)
   unspelled_second laws u {e = e} front rest first un = record {
     no_front = λ v whole tail is sp.
         let parts = c.splits v whole sp in
-        let same = laws.decodes u parts.0 front parts.2.front rest (parts.2.back ++ tail) first parts.2.first_is (is ∙ (ap (λ x. x ++ tail) parts.2.whole_is ∙ append_assoc parts.2.front parts.2.back tail)) in
-        let second = subst (λ (x : U). (w : W x) × (M x).spells w parts.2.back) (sym same.0) (parts.1, parts.2.second_is) in
+        let same = laws.decodes u parts.0 front parts.2.front rest (parts.2.back ++ tail) first parts.2.first_is
+        (is ∙ (ap (λ x. x ++ tail) parts.2.whole_is ∙ append_assoc parts.2.front parts.2.back tail)) in
+        let second =
+        subst (λ (x : U). (w : W x) × (M x).spells w parts.2.back) (sym same.0) (parts.1, parts.2.second_is) in
         un.no_front second.0 parts.2.back tail same.2 second.1;
     too_short = λ v more sp.
         let parts = c.splits v ((front ++ rest) ++ more) sp in
-        let same = laws.decodes u parts.0 front parts.2.front (rest ++ more) parts.2.back first parts.2.first_is (sym (append_assoc front rest more) ∙ parts.2.whole_is) in
-        let second = subst (λ (x : U). (w : W x) × (M x).spells w parts.2.back) (sym same.0) (parts.1, parts.2.second_is) in
+        let same = laws.decodes u parts.0 front parts.2.front (rest ++ more) parts.2.back first parts.2.first_is
+        (sym (append_assoc front rest more) ∙ parts.2.whole_is) in
+        let second =
+        subst (λ (x : U). (w : W x) × (M x).spells w parts.2.back) (sym same.0) (parts.1, parts.2.second_is) in
         un.too_short second.0 more (subst (λ (x : List ℕ). (M u).spells second.0 x) (sym same.2) second.1);
     malformed = λ bad.
         elim (c.malformed (front ++ rest) bad) [
           | inl h ↦ absurd (laws.malformed_unspelled u front rest h first)
           | inr h ↦
               let same = laws.decodes u h.0 front h.1.front rest h.1.back first h.1.first_is h.1.whole_is in
-              IsNamed-more gives e (c.names_second u) (un.malformed (subst (λ (x : List ℕ). (M u).malformed x) (sym same.2) (subst (λ (x : U). (M x).malformed h.1.back) (sym same.0) h.1.second_is)))
+              IsNamed-more gives e (c.names_second u)
+              (un.malformed (subst (λ (x : List ℕ). (M u).malformed x) (sym same.2)
+              (subst (λ (x : U). (M x).malformed h.1.back) (sym same.0) h.1.second_is)))
         ];
   }
 
   -- where the second part is refused, the whole is
   pub refused_second : {strict : Bool} {least : ℕ} → Laws strict least L
-      → {A B D : Type 0} {first : D → U} {x : D} {seen : A → W (first x)} {seen' : B → V} {e : E} {result : Result B E} {old mid new : ReaderState}
+      → {A B D : Type 0} {first : D → U} {x : D} {seen : A → W (first x)} {seen' : B → V} {e : E} {result : Result B E}
+      {old mid new : ReaderState}
       → Reads gives eof first L (Ok x) old mid → IsErrAnd result (λ x. x ≡ e)
       → Reads gives eof seen (M (first x)) (Err e) mid new → Reads gives eof seen' N result old new
   refused_second laws {first = first} {x = x} {e = e} {mid = mid} {new = new} h passed k = Reads-passed passed (record {
@@ -117,22 +134,30 @@ module _ {U V : Type 0} {W : U → Type 0} {L : Format U} {M : (u : U) → Forma
         (c.asks_second (first x)).lending (c.names_second (first x))
         (λ told un.
         subst (λ (bytes : List ℕ). Unspelled gives eof N e bytes) (sym (h.answer.taken told.tells))
-        (unspelled_second laws (first x) h.answer.front mid.to_come h.answer.front_is (un (IsTold-after h.kept (c.asks_second (first x)).lending told))))
+        (unspelled_second laws (first x) h.answer.front mid.to_come h.answer.front_is
+        (un (IsTold-after h.kept (c.asks_second (first x)).lending told))))
         k.answer;
   })
 
   -- both parts are read
-  pub got_both : {A B D : Type 0} {first : D → U} {x : D} {seen : A → W (first x)} {y : A} {seen' : B → V} {z : B} {old mid new : ReaderState}
-      → Reads gives eof first L (Ok x) old mid → Reads gives eof seen (M (first x)) (Ok y) mid new → seen' z ≡ join (first x) (seen y)
+  pub got_both : {A B D : Type 0} {first : D → U} {x : D} {seen : A → W (first x)} {y : A} {seen' : B → V} {z : B}
+      {old mid new : ReaderState}
+      → Reads gives eof first L (Ok x) old mid → Reads gives eof seen (M (first x)) (Ok y) mid new
+      → seen' z ≡ join (first x) (seen y)
       → Reads gives eof seen' N (Ok z) old new
   got_both {first = first} {x = x} {seen = seen} {y = y} h k e =
-      all_so_far (more_so_far {more = N.spells (join (first x) (seen y))} (record { kept = h.kept; got = h.answer }) k (c.joins (first x) (seen y)))
+      all_so_far (more_so_far {more = N.spells (join (first x) (seen y))} (record {
+        kept = h.kept;
+        got = h.answer;
+      }) k (c.joins (first x) (seen y)))
       (λ s sp. subst (λ (v : V). N.spells v s) (sym e) sp)
 
   -- the second part decides
   pub second_decides : {strict : Bool} {least : ℕ} → Laws strict least L
-      → {A D : Type 0} {first : D → U} {x : D} {seen : A → W (first x)} {seen' : A → V} {r : Result A E} {old mid new : ReaderState}
-      → Reads gives eof first L (Ok x) old mid → Reads gives eof seen (M (first x)) r mid new → ((y : A) → seen' y ≡ join (first x) (seen y))
+      → {A D : Type 0} {first : D → U} {x : D} {seen : A → W (first x)} {seen' : A → V} {r : Result A E}
+      {old mid new : ReaderState}
+      → Reads gives eof first L (Ok x) old mid → Reads gives eof seen (M (first x)) r mid new
+      → ((y : A) → seen' y ≡ join (first x) (seen y))
       → Reads gives eof seen' N r old new
   second_decides laws {r = Ok y} h k same = got_both h k (same y)
   second_decides laws {r = Err e} h k same = refused_second laws h refl k

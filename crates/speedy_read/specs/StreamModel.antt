@@ -7,7 +7,8 @@ use Rattle.speedy_base.specs.Ring.{Ring}
 use Rattle.speedy_read.specs.Reading.{ReaderKind, ReaderState}
 use Rattle.speedy_read.specs.declared.stream_reader.StreamReader.{StreamReader}
 
--- the context that a reader holds, the source that it borrows, the bytes that it keeps of it, and whether it reads ahead
+-- the context that a reader holds, the source that it borrows, the bytes that it keeps of it, and whether it reads
+-- ahead
 pub record StreamModel (S C : Type 0) : Type 0 where
   pub context : C
   pub source_name : GName
@@ -16,7 +17,13 @@ pub record StreamModel (S C : Type 0) : Type 0 where
   pub is_buffering : Bool
 
 abbrev pub stream_model : {S C : Type 0} → StreamReader S C → StreamModel S C
-stream_model r = record { context = r.context; source_name = r.source.ghost_name; source = r.source.now; ring = r.ring; is_buffering = r.is_buffering }
+stream_model r = record {
+  context = r.context;
+  source_name = r.source.ghost_name;
+  source = r.source.now;
+  ring = r.ring;
+  is_buffering = r.is_buffering;
+}
 
 -- how many bytes a new reader has room for, and how many it may hold after a read: 8,191, or none
 abbrev pub first_capacity : Bool → ℕ
@@ -28,7 +35,8 @@ most_held is_buffering = first_capacity is_buffering - 1
 
 -- the ring has not grown, and holds no more than a read may leave
 abbrev pub is_tidy : Ring → Bool → Bool
-is_tidy ring is_buffering = nat_eq ring.capacity (first_capacity is_buffering) && nat_le (length ring.bytes) (most_held is_buffering)
+is_tidy ring is_buffering =
+    nat_eq ring.capacity (first_capacity is_buffering) && nat_le (length ring.bytes) (most_held is_buffering)
 
 -- a reader of a source, which it holds under this name: it lends nothing, its reads ask for no memory, but
 -- its peeks may, and it may end as its source does
@@ -56,4 +64,5 @@ ring_state name source ring is_buffering encoding = record {
 }
 
 abbrev pub stream_state : {S C : Type 0} → (S → SourceState) → (C → Encoding) → StreamReader S C → ReaderState
-stream_state source encoding r = ring_state r.source.ghost_name (source r.source.now) r.ring r.is_buffering (encoding r.context)
+stream_state source encoding r =
+    ring_state r.source.ghost_name (source r.source.now) r.ring r.is_buffering (encoding r.context)

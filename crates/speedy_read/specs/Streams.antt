@@ -1,5 +1,6 @@
 -- What is done with a source of bytes.
-use Rattle.std.specs.Prelude.{◌≡◌, ℕ, ◌≤◌, ◌<◌, max, List, [], ◌++◌, length, Bool, false, IsTrue, ◌⊎◌, Result, IsOk, IfOk, OnOk, IfErr, OnErr}
+use Rattle.std.specs.Prelude.{◌≡◌, ℕ, ◌≤◌, ◌<◌, max, List, [], ◌++◌, length, Bool, false, IsTrue, ◌⊎◌, Result, IsOk}
+use Rattle.std.specs.Prelude.{IfOk, OnOk, IfErr, OnErr}
 use Rattle.std.specs.declared.io.Error.{Error as StdIoError}
 use Rattle.speedy_base.specs.Device.{SourceState, SourceKept}
 use Rattle.speedy_base.specs.FailedCalls.{OneFailed, IsOfFailedCall}
@@ -24,7 +25,8 @@ pub record FillsList (output : List ℕ) (result : Result Bool StdIoError) (old 
   pub fault : IfErr result (λ error. OneFailed error old.faults new.faults)
 
 -- Pulling until a ring holds so many bytes, and whether it does. What was pulled lies behind what the ring held.
-pub record FillsRing (count : ℕ) (ahead : Bool) (result : Result Bool StdIoError) (held keeps : Ring) (old new : SourceState) : Type 0 where
+pub record FillsRing (count : ℕ) (ahead : Bool) (result : Result Bool StdIoError) (held keeps : Ring)
+    (old new : SourceState) : Type 0 where
   pub kept : SourceKept old new
   pub no_fault : OnOk result (new.faults ≡ old.faults)
   pub capacity : keeps.capacity ≡ held.capacity
@@ -33,7 +35,8 @@ pub record FillsRing (count : ℕ) (ahead : Bool) (result : Result Bool StdIoErr
   pub untouched : count ≤ length held.bytes → IsOk result × (keeps ≡ held) × (new ≡ old)
   -- no more is pulled than lacks, unless it is ahead
   pub exact : ahead ≡ false → length keeps.bytes ≤ max (length held.bytes) count
-  pub enough : IfOk result (λ enough. IsTrue enough → (count ≤ length keeps.bytes) × (length keeps.bytes ≤ keeps.capacity))
+  pub enough : IfOk result
+      (λ enough. IsTrue enough → (count ≤ length keeps.bytes) × (length keeps.bytes ≤ keeps.capacity))
   -- it does not where the source ended before
   pub short : IfOk result (λ enough. enough ≡ false → length keeps.bytes < count)
   pub ended : IfOk result (λ enough. enough ≡ false → IsTrue old.tells → new.to_come ≡ [])
@@ -43,7 +46,8 @@ pub record FillsRing (count : ℕ) (ahead : Bool) (result : Result Bool StdIoErr
 module _ {E : Type 0} (gives : Error → E → Type 0) (eof : E → Bool) where
   -- Filling the ring of a reader until it holds so many bytes. Nothing is taken. It is refused by a failed call, as
   -- what that answered, or where fewer bytes are to come.
-  pub record Fills {A : Type 0} (count : ℕ) (result : Result A E) (held keeps : Ring) (old new : ReaderState) : Type 0 where
+  pub record Fills {A : Type 0} (count : ℕ) (result : Result A E) (held keeps : Ring)
+      (old new : ReaderState) : Type 0 where
     pub kept : KeptByPeek old new
     pub capacity : keeps.capacity ≡ held.capacity
     pub untouched : count ≤ length held.bytes → IsOk result × (new ≡ old)
@@ -51,4 +55,5 @@ module _ {E : Type 0} (gives : Error → E → Type 0) (eof : E → Bool) where
     pub enough : OnOk result ((count ≤ length keeps.bytes) × (length keeps.bytes ≤ keeps.capacity))
     pub no_fault : OnOk result (new.faults ≡ old.faults)
     pub short : OnErr result (length keeps.bytes < count)
-    pub why : IfErr result (λ e. IsOfFailedCall gives e old.faults new.faults ⊎ Refused gives eof (raw_bytes count) e old new)
+    pub why : IfErr result
+        (λ e. IsOfFailedCall gives e old.faults new.faults ⊎ Refused gives eof (raw_bytes count) e old new)

@@ -1,5 +1,6 @@
 -- Reads of items until the bytes end.
-use Rattle.std.specs.Prelude.{◌≡◌, ◌≢◌, ℕ, ◌+◌, ◌≤◌, ◌<◌, List, [], ◌++◌, length, map, Bool, true, false, IsTrue, ◌⊎◌, Option, MatchOption, Result, Err, Ok, IfOk, MatchResult}
+use Rattle.std.specs.Prelude.{◌≡◌, ◌≢◌, ℕ, ◌+◌, ◌≤◌, ◌<◌, List, [], ◌++◌, length, map, Bool, true, false, IsTrue, ◌⊎◌}
+use Rattle.std.specs.Prelude.{Option, MatchOption, Result, Err, Ok, IfOk, MatchResult}
 use Rattle.std.proofs.Common.{sym, ◌∙◌, subst}
 use Rattle.speedy_base.specs.declared.error.ErrorKind.TheVariants as kinds
 use Rattle.speedy_base.specs.declared.error.Error.{Error}
@@ -64,11 +65,12 @@ module _ {E : Type 0} (gives : Error → E → Type 0) (eof : E → Bool) where
       -- nothing in front of the rest is still to come
       pub taken : IsTrue old.fixed.tells → (lost : List ℕ) × (begin.rest ≡ lost ++ new.to_come)
 
-    -- A read of items until the bytes end, of at most so many. What is answered is gathered of all items in front of the
-    -- end.
+    -- A read of items until the bytes end, of at most so many. What is answered is gathered of all items in front of
+    -- the end.
     pub record ReadsUntilEnd (result : Result F E) (old new : ReaderState) : Type 0 where
       pub kept : Kept old new
-      pub answer : MatchResult result (λ whole. GotUntilEnd whole old new) (λ e. RefusesUntilEnd seen L greatest e old new)
+      pub answer : MatchResult result (λ whole. GotUntilEnd whole old new)
+          (λ e. RefusesUntilEnd seen L greatest e old new)
 
   module _ {T F V : Type 0} (seen : T → V) (gathers : List T → F → Type 0) (L : Format V) where
     -- a read until the end, in which no call of the device failed, from a reader that tells its bytes
@@ -100,23 +102,28 @@ module _ {E : Type 0} (errors : Errors E) where
         (λ e. (errors.eof e ≡ false) × ReadsValue errors state seen codec (refused e) old new)
 
   -- What a clean read until the end answers is decided by the bytes. It may want memory in place of any other answer.
-  pub record UntilEndIsDecided {T F V : Type 0} (seen : T → V) (gathers : List T → F → Type 0) (format : Encoding → Format V) : Type 0 where
+  pub record UntilEndIsDecided {T F V : Type 0} (seen : T → V) (gathers : List T → F → Type 0)
+      (format : Encoding → Format V) : Type 0 where
     -- at most so many values and then some first bytes of one, or none: the values
-    pub cut : {encoding : Encoding} (vs : List V) (v : V) (bytes front more : List ℕ) {greatest : ℕ} {result : Result F E} {old new : ReaderState}
-        → Each (format encoding).spells vs bytes → (format encoding).spells v (front ++ more) → more ≢ [] → length vs ≤ greatest
+    pub cut : {encoding : Encoding} (vs : List V) (v : V) (bytes front more : List ℕ) {greatest : ℕ}
+        {result : Result F E} {old new : ReaderState}
+        → Each (format encoding).spells vs bytes → (format encoding).spells v (front ++ more) → more ≢ []
+        → length vs ≤ greatest
         → old.to_come ≡ bytes ++ front
         → CleanUntilEnd errors.from_gives errors.eof seen gathers (format encoding) greatest result old new
         → MatchResult result (λ whole. (items : List T) × (map seen items ≡ vs) × gathers items whole)
         (errors.from_gives (error_of kinds.OutOfMemory))
     -- more values than so many: a refusal
-    pub too_many : {encoding : Encoding} (vs : List V) (bytes rest : List ℕ) {greatest : ℕ} {result : Result F E} {old new : ReaderState}
+    pub too_many : {encoding : Encoding} (vs : List V) (bytes rest : List ℕ) {greatest : ℕ} {result : Result F E}
+        {old new : ReaderState}
         → Each (format encoding).spells vs bytes → greatest < length vs
         → old.to_come ≡ bytes ++ rest
         → CleanUntilEnd errors.from_gives errors.eof seen gathers (format encoding) greatest result old new
         → MatchResult result (λ _. ⊥)
         (λ e. errors.from_gives (error_of kinds.OutOfRangeLength) e ⊎ errors.from_gives (error_of kinds.OutOfMemory) e)
     -- at most so many values and then what the type refuses: a refusal that it names
-    pub at_fault : {encoding : Encoding} (vs : List V) (bytes rest : List ℕ) {greatest : ℕ} {result : Result F E} {old new : ReaderState}
+    pub at_fault : {encoding : Encoding} (vs : List V) (bytes rest : List ℕ) {greatest : ℕ} {result : Result F E}
+        {old new : ReaderState}
         → Each (format encoding).spells vs bytes → (format encoding).malformed rest → length vs ≤ greatest
         → old.to_come ≡ bytes ++ rest
         → CleanUntilEnd errors.from_gives errors.eof seen gathers (format encoding) greatest result old new
@@ -124,10 +131,17 @@ module _ {E : Type 0} (errors : Errors E) where
         (λ e. IsNamed errors.from_gives (format encoding).names e ⊎ errors.from_gives (error_of kinds.OutOfMemory) e)
 
 -- what is answered stands at the front of bytes in memory
-pub front_until_end : {E T F V : Type 0} {gives : Error → E → Type 0} {eof : E → Bool} {seen : T → V} (shown : F → List T) {L : Format V} {greatest : ℕ} {result : Result F E} {old new : ReaderState} {bytes : List ℕ}
-    → IsTrue old.fixed.tells → old.to_come ≡ bytes → ReadsUntilEnd gives eof seen (λ items whole. shown whole ≡ items) L greatest result old new
-    → IfOk result (λ whole. (front : List ℕ) × (rest : List ℕ) × Each L.spells (map seen (shown whole)) front × (bytes ≡ front ++ rest))
+pub front_until_end : {E T F V : Type 0} {gives : Error → E → Type 0} {eof : E → Bool} {seen : T → V}
+    (shown : F → List T) {L : Format V} {greatest : ℕ} {result : Result F E} {old new : ReaderState} {bytes : List ℕ}
+    → IsTrue old.fixed.tells → old.to_come ≡ bytes
+    → ReadsUntilEnd gives eof seen (λ items whole. shown whole ≡ items) L greatest result old new
+    → IfOk result (λ whole. (front : List ℕ) × (rest : List ℕ) × Each L.spells (map seen (shown whole)) front
+    × (bytes ≡ front ++ rest))
 front_until_end {seen = seen} shown {L = L} {result = Ok whole} tells is r =
-    let got = r.answer in
-    (got.begin.front, got.begin.rest, subst (λ (items : List _). Each L.spells (map seen items) got.begin.front) (sym got.gathered) got.begin.front_is, sym is ∙ got.begin.stands tells)
+    let got = r.answer in (
+      got.begin.front,
+      got.begin.rest,
+      subst (λ (items : List _). Each L.spells (map seen items) got.begin.front) (sym got.gathered) got.begin.front_is,
+      sym is ∙ got.begin.stands tells,
+    )
 front_until_end shown {result = Err e} tells is r = tt

@@ -1,5 +1,6 @@
 -- What the ways of reading answer.
-use Rattle.std.specs.Prelude.{◌≡◌, ℕ, ◌≤◌, ◌<◌, ◌-◌, ◌^◌, List, [], ◌++◌, length, Bool, true, false, IsTrue, ◌⊎◌, Result, MatchResult, IfOk, IfErr, IsErrAnd}
+use Rattle.std.specs.Prelude.{◌≡◌, ℕ, ◌≤◌, ◌<◌, ◌-◌, ◌^◌, List, [], ◌++◌, length, Bool, true, false, IsTrue, ◌⊎◌}
+use Rattle.std.specs.Prelude.{Result, MatchResult, IfOk, IfErr, IsErrAnd}
 use Rattle.std.specs.declared.io.Error.{Error as StdIoError}
 use Rattle.speedy_base.specs.Device.{SourceState, SourceKept}
 use Rattle.speedy_base.specs.Digits.{AreBytes}
@@ -36,7 +37,8 @@ pub record TookFront (spelled : List ℕ → Type 0) (most : ℕ) (old new : Sou
   pub untouched : front ≡ [] → new ≡ old
 
 -- want of memory, for a value that asks for it or, before the source is called, for what is read ahead
-pub record WantsMemory {E : Type 0} (gives : Error → E → Type 0) (takes buffers : Bool) (e : E) (old new : SourceState) : Type 0 where
+pub record WantsMemory {E : Type 0} (gives : Error → E → Type 0) (takes buffers : Bool) (e : E)
+    (old new : SourceState) : Type 0 where
   pub given : gives (error_of kinds.OutOfMemory) e
   pub of : IsTrue takes ⊎ (IsTrue buffers × (new ≡ old))
   pub no_fault : new.faults ≡ old.faults
@@ -55,7 +57,8 @@ module _ {E : Type 0} (gives : Error → E → Type 0) (eof : E → Bool) where
   pub record AnswersBufferIf {A V : Type 0} (holds : Type 0) (names : ErrorKind → Type 0)
       (seen : A → V) (least : ℕ) (L : Format V)
       (result : Result A E) (count : ℕ) (bytes : List ℕ) : Type 0 where
-    pub too_small : length bytes < least → IsErrAnd result (λ e. gives (error_of (kinds.InputBufferIsTooSmall (length bytes) least)) e) × (count ≡ 0)
+    pub too_small : length bytes < least
+        → IsErrAnd result (λ e. gives (error_of (kinds.InputBufferIsTooSmall (length bytes) least)) e) × (count ≡ 0)
     pub value : IfOk result (λ x. Counts (L.spells (seen x)) count bytes)
     pub refused : least ≤ length bytes
         → IfErr result (λ e. (gives (error_of kinds.OutOfMemory) e × IsTrue L.asks.memory)
@@ -77,7 +80,9 @@ module _ {E : Type 0} (gives : Error → E → Type 0) (eof : E → Bool) where
     pub kept : SourceKept old new
     pub tail : LeavesTail old new
     pub value : IfOk result (λ x. TookFront (L.spells (seen x)) (most_held buffers) old new)
-    pub refused : IfErr result (λ e. WantsMemory gives L.asks.memory buffers e old new ⊎ (IsOfFailedCall gives e old.faults new.faults ⊎ RefusesStream L e old new))
+    pub refused : IfErr result
+        (λ e. WantsMemory gives L.asks.memory buffers e old new
+        ⊎ (IsOfFailedCall gives e old.faults new.faults ⊎ RefusesStream L e old new))
 
   -- What a function that reads from a file answers: a value that is answered is spelled by some bytes, and a refusal is
   -- what some failed call answered, want of memory, an end, or of a kind that the type names. No contract sees the

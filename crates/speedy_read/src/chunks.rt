@@ -1,5 +1,6 @@
 //! Numbers, bytes and flags in bulk: a chunk at a time, into room that grows in bounded steps.
-ghost use Rattle.std.specs.Prelude.{◌≡◌, ◌+◌, ◌-◌, ◌*◌, ◌<◌, ◌≤◌, List, length, map, false, not, nat_eq, IfOk, IsSome, MatchOption, MatchResult};
+ghost use Rattle.std.specs.Prelude.{◌≡◌, ◌+◌, ◌-◌, ◌*◌, ◌<◌, ◌≤◌, List, length, map, false, not, nat_eq, IfOk, IsSome};
+ghost use Rattle.std.specs.Prelude.{MatchOption, MatchResult};
 ghost use Rattle.speedy_base.specs.Digits.{AreBytes};
 ghost use Rattle.speedy_base.specs.Error.{error_of};
 ghost use Rattle.speedy_layout.specs.Codecs.{unsigned_codec, flag_codec, vector_codec};

@@ -33,8 +33,8 @@ pub trait Strategy<L: AsSlice<u8> + Drop, C: Context, T: ReadFrom<L, C>> {
         ensures { ReadsValue C.Error.IsEof R.state (λ many. map T.seen (many_items W.shown many))
             (vector_codec length T.layout) result reader.old reader.new };
 
-    /// Reads as many values as there are places, into these, without a vector. `None` where that cannot be: then nothing
-    /// is read.
+    /// Reads as many values as there are places, into these, without a vector. `None` where that cannot be: then
+    /// nothing is read.
     fn read_places<P: Places<L, C, T>, R: LendingReader<L, C>>(
         reader: &mut R,
     ) -> Option<Result<P, C::Error>>
@@ -55,7 +55,8 @@ pub trait Strategy<L: AsSlice<u8> + Drop, C: Context, T: ReadFrom<L, C>> {
 
 /// Reads each value by itself, which serves any type.
 ///
-/// It names the context, since a type that owns memory gets no proof of an impl whose strategy names no parameter of it.
+/// It names the context, since a type that owns memory gets no proof of an impl whose strategy names no parameter of
+/// it.
 pub struct ItemByItem<C> {
     _context: PhantomData<C>,
 }
@@ -172,8 +173,8 @@ pub trait ReadMany<L: AsSlice<u8> + Drop, C: Context>: ReadFrom<L, C> {
 
     /// Reads `length` values, one after another, and gathers them.
     ///
-    /// Where only canonical encodings are read, items that no collection is written as are the error `NotWrittenForm`: a
-    /// key that was there before, and in ordered ones one that does not come after it.
+    /// Where only canonical encodings are read, items that no collection is written as are the error `NotWrittenForm`:
+    /// a key that was there before, and in ordered ones one that does not come after it.
     final fn collect_many<F: FromItems<Self>, R: LendingReader<L, C>>(
         reader: &mut R,
         length: usize,

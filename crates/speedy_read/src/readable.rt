@@ -24,16 +24,16 @@ use std::path::AsPath;
 
 /// Types that can be read. `L` is what the reader lends.
 ///
-/// Most types are read whatever is lent; types that borrow are read where `L` is `&'a [u8]`. Types implement this trait,
-/// and users name them by [`Readable`].
+/// Most types are read whatever is lent; types that borrow are read where `L` is `&'a [u8]`. Types implement this
+/// trait, and users name them by [`Readable`].
 pub trait ReadFrom<L: AsSlice<u8> + Drop, C: Context>: Layout + Sized + Drop {
     /// How several of its values are read: [`ItemByItem`](crate::many::ItemByItem) for a type of one's own.
     type Strategy;
 
     /// Reads a value.
     ///
-    /// A value that is answered is encoded by a prefix of the bytes to come, and just that prefix is taken. An error that
-    /// is neither out of memory nor of a failed call means that no prefix encodes any value.
+    /// A value that is answered is encoded by a prefix of the bytes to come, and just that prefix is taken. An error
+    /// that is neither out of memory nor of a failed call means that no prefix encodes any value.
     fn read_from<R: LendingReader<L, C>>(reader: &mut R) -> Result<Self, C::Error>
         ensures { ReadsValue C.Error.IsEof R.state Self.seen Self.layout
             result reader.old reader.new };
@@ -210,8 +210,8 @@ pub trait Readable<'a, C: Context>: ReadMany<&'a [u8], C> {
         read_stream(alloc, context, source, false)
     }
 
-    /// Decodes a value from the next bytes of the source, in little endian. It takes at most 8,191 bytes more, which are
-    /// lost: it is for sources of one value.
+    /// Decodes a value from the next bytes of the source, in little endian. It takes at most 8,191 bytes more, which
+    /// are lost: it is for sources of one value.
     ///
     /// Nothing is borrowed: a type that borrows is the error `Unsized`. An end of the source is `UnexpectedEndOfInput`
     /// or, in a read of 8,192 bytes and more, an `IoError` of kind `UnexpectedEof`.

@@ -1,5 +1,6 @@
 //! Readers: where values are read from, and the reads that each has.
-ghost use Rattle.std.specs.Prelude.{◌≡◌, ℕ, ◌<◌, ◌≤◌, ◌*◌, ◌-◌, ◌^◌, ◌⊎◌, ◌↔◌, IsTrue, slice_index, List, length, length as count, map, Bool, Option, Some, false, IsOk, IsErrAnd};
+ghost use Rattle.std.specs.Prelude.{◌≡◌, ℕ, ◌<◌, ◌≤◌, ◌*◌, ◌-◌, ◌^◌, ◌⊎◌, ◌↔◌, IsTrue, slice_index, List, length};
+ghost use Rattle.std.specs.Prelude.{length as count, map, Bool, Option, Some, false, IsOk, IsErrAnd};
 ghost use Rattle.std.specs.Borrow.{sem, Lends};
 ghost use Rattle.std.specs.Global.{Vec};
 ghost use Rattle.std.specs.Io.BufRead.{Rests};
@@ -75,8 +76,8 @@ pub trait LendingReader<L: AsSlice<u8> + Drop, C: Context> {
         ensures says { result ≡ can_read self.now size }
         ensures right { IsRight result (state self.now) size };
 
-    /// Whether at least `size` bytes are to come that the reader need not hold, since its source says so. This body says
-    /// nothing of the kind.
+    /// Whether at least `size` bytes are to come that the reader need not hold, since its source says so. This body
+    /// says nothing of the kind.
     #[inline(always)]
     fn expects_at_least(&self, _size: usize) -> bool
         ensures { IsTrue result → Expects (state self.now) _size }
@@ -358,15 +359,16 @@ pub trait LendingReader<L: AsSlice<u8> + Drop, C: Context> {
 
     /// The next `length` values, into a vector.
     ///
-    /// It is an error before any item where fewer bytes are to come than so many items have at least, if the reader says
-    /// so, and where that many bytes are past `usize::MAX`.
+    /// It is an error before any item where fewer bytes are to come than so many items have at least, if the reader
+    /// says so, and where that many bytes are past `usize::MAX`.
     #[inline(always)]
     final fn read_vec<T: ReadMany<L, C>>(&mut self, length: usize) -> Result<Vec<T>, C::Error>
     where
         Self: Sized,
         ensures reads { ReadsValue C.Error.IsEof state (λ v. map T.seen v.items)
             (vector_codec length T.layout) result self.old self.new }
-        ensures early { ((2 ^ 64 ≤ T.layout.least * length) ⊎ (can_read self.old (T.layout.least * length) ≡ Some false))
+        ensures early { ((2 ^ 64 ≤ T.layout.least * length)
+            ⊎ (can_read self.old (T.layout.least * length) ≡ Some false))
             → IsErrAnd result (λ e. C.Error.from_gives (error_of ErrorKind.UnexpectedEndOfInput) e)
             × (self.new ≡ self.old) }
     {
@@ -376,8 +378,8 @@ pub trait LendingReader<L: AsSlice<u8> + Drop, C: Context> {
         T::read_many(self, length)
     }
 
-    /// The next `length` values, into a cow or what else they go into: bytes are borrowed where the reader lends, and all
-    /// else is owned.
+    /// The next `length` values, into a cow or what else they go into: bytes are borrowed where the reader lends, and
+    /// all else is owned.
     ///
     /// It is an error before any item where [`read_vec`](Self::read_vec) is.
     #[inline]
@@ -389,7 +391,8 @@ pub trait LendingReader<L: AsSlice<u8> + Drop, C: Context> {
         Self: Sized,
         ensures reads { ReadsValue C.Error.IsEof state (λ w. map T.seen (W.shown w))
             (vector_codec length T.layout) result self.old self.new }
-        ensures early { ((2 ^ 64 ≤ T.layout.least * length) ⊎ (can_read self.old (T.layout.least * length) ≡ Some false))
+        ensures early { ((2 ^ 64 ≤ T.layout.least * length)
+            ⊎ (can_read self.old (T.layout.least * length) ≡ Some false))
             → IsErrAnd result (λ e. C.Error.from_gives (error_of ErrorKind.UnexpectedEndOfInput) e)
             × (self.new ≡ self.old) }
     {
@@ -432,8 +435,8 @@ pub trait LendingReader<L: AsSlice<u8> + Drop, C: Context> {
     /// The values until the bytes end, into a vector.
     ///
     /// Values are read until one fails with an error that says that the input ended (`is_eof`): that is the end, and no
-    /// error. A value cut short at the end is left out; every other error is the answer. One value more than are allowed
-    /// is the error `OutOfRangeLength`. A device whose failed call answers `UnexpectedEof` ends the values too.
+    /// error. A value cut short at the end is left out; every other error is the answer. One value more than are
+    /// allowed is the error `OutOfRangeLength`. A device whose failed call answers `UnexpectedEof` ends the values too.
     #[inline]
     final fn read_vec_until_eof<T: ReadFrom<L, C>>(
         &mut self,
@@ -448,7 +451,8 @@ pub trait LendingReader<L: AsSlice<u8> + Drop, C: Context> {
         gather_until_end::<Vec<T>, T, L, C, Self>(self, greatest)
     }
 
-    /// As [`read_vec_until_eof`](Self::read_vec_until_eof), into a cow or what else the values go into, which owns them.
+    /// As [`read_vec_until_eof`](Self::read_vec_until_eof), into a cow or what else the values go into, which owns
+    /// them.
     #[inline]
     final fn read_cow_until_eof<W: FromLent<L, T>, T: ReadFrom<L, C>>(
         &mut self,
@@ -463,8 +467,8 @@ pub trait LendingReader<L: AsSlice<u8> + Drop, C: Context> {
         Ok(W::from_values(self.read_vec_until_eof(greatest)?))
     }
 
-    /// As [`read_vec_until_eof`](Self::read_vec_until_eof), gathered to a collection. Those that are read are counted, not
-    /// those that differ.
+    /// As [`read_vec_until_eof`](Self::read_vec_until_eof), gathered to a collection. Those that are read are counted,
+    /// not those that differ.
     #[inline]
     final fn read_collection_until_eof<F: FromItems<T>, T: ReadFrom<L, C>>(
         &mut self,

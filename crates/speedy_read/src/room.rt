@@ -1,5 +1,7 @@
 //! Room for what is read: how much memory is asked for, and when.
-ghost use Rattle.std.specs.Prelude.{◌≡◌, ◌+◌, ◌-◌, ◌*◌, ◌^◌, ◌<◌, ◌≤◌, ◌⊎◌, min, ◌++◌, ◌∷◌, [], ℕ, List, Some, length as count_of, vec_len, vec_capacity, map, replicate, true, IsTrue, IfOk, IsOk, OnOk, MatchResult};
+ghost use Rattle.std.specs.Prelude.{◌≡◌, ◌+◌, ◌-◌, ◌*◌, ◌^◌, ◌<◌, ◌≤◌, ◌⊎◌, min, ◌++◌, ◌∷◌, [], ℕ, List, Some};
+ghost use Rattle.std.specs.Prelude.{length as count_of, vec_len, vec_capacity, map, replicate, true, IsTrue, IfOk};
+ghost use Rattle.std.specs.Prelude.{IsOk, OnOk, MatchResult};
 ghost use Rattle.speedy_base.specs.Error.{error_of};
 ghost use Rattle.speedy_layout.specs.FixedNumbers.{spelled_in};
 ghost use Rattle.speedy_layout.specs.Format.{Each};
@@ -16,8 +18,8 @@ use std::convert::AsSlice;
 /// How many items room is asked for at a time where nobody says that the items are there.
 pub(crate) const STEP: usize = 1024;
 
-/// The chunk of digits that numbers are read through, in bytes: no less than the ring of a new buffered reader holds, so
-/// that the source fills it without a copy in the ring.
+/// The chunk of digits that numbers are read through, in bytes: no less than the ring of a new buffered reader holds,
+/// so that the source fills it without a copy in the ring.
 pub(crate) const CHUNK: usize = 8192;
 
 /// The chunk for fewer numbers, in bytes: the long one takes longer to make than they take to read.

@@ -1,5 +1,6 @@
 //! The reader of a source.
-ghost use Rattle.std.specs.Prelude.{◌≡◌, ◌≤◌, ◌<◌, [], ◌++◌, length, max, false, true, IsTrue, nat_le, if◌then◌else◌, Some, None, IfOk, IsOk, refl};
+ghost use Rattle.std.specs.Prelude.{◌≡◌, ◌≤◌, ◌<◌, [], ◌++◌, length, max, false, true, IsTrue, nat_le, if◌then◌else◌};
+ghost use Rattle.std.specs.Prelude.{Some, None, IfOk, IsOk, refl};
 ghost use Rattle.std.specs.Borrow.{sem, Lends};
 ghost use Rattle.std.specs.Io.BufRead.{Rests};
 ghost use Rattle.speedy_base.specs.Error.{IsNamed};
@@ -30,9 +31,9 @@ const BUFFERED_CAPACITY: usize = 8192;
 /// reads. An unbuffered one asks for just what is read. Only a peek may hold more, and ask for memory. Nothing is lent,
 /// so a value that borrows is the error `Unsized`.
 ///
-/// The error of a failed call of the source is answered, and the call is not tried again. An end that is met while bytes
-/// are gathered for a read is `UnexpectedEndOfInput`. One that is met while they go straight to the output, as in all
-/// reads of an unbuffered reader, is an `IoError` of kind `UnexpectedEof`.
+/// The error of a failed call of the source is answered, and the call is not tried again. An end that is met while
+/// bytes are gathered for a read is `UnexpectedEndOfInput`. One that is met while they go straight to the output, as in
+/// all reads of an unbuffered reader, is an `IoError` of kind `UnexpectedEof`.
 #[derive(Drop)]
 pub struct StreamReader<'s, S, C> {
     context: C,
@@ -211,8 +212,8 @@ impl<'s, S: Source, C: Context> StreamReader<'s, S, C> {
         }
     }
 
-    // Reads some bytes straight from the source, by one call as a rule: nothing is held of it. It stands inline, so what
-    // is rare in it is called.
+    // Reads some bytes straight from the source, by one call as a rule: nothing is held of it. It stands inline, so
+    // what is rare in it is called.
     #[inline(always)]
     fn read_straight(&mut self, output: &mut [u8]) -> Result<(), C::Error>
         requires nothing_held { self.old.ring.bytes ≡ [] }
@@ -313,7 +314,8 @@ impl<'s, 'b, C: Context, S: Source> LendingReader<&'b [u8], C> for StreamReader<
         self.read_more(output)
     }
 
-    /// Fills the output with the next bytes, and takes none. What is not held yet is pulled into the ring, which may grow.
+    /// Fills the output with the next bytes, and takes none. What is not held yet is pulled into the ring, which may
+    /// grow.
     fn peek_bytes(&mut self, output: &mut [u8]) -> Result<(), C::Error>
         ensures peeks { let reader = ⟦<StreamReader<'s, S, C> as LendingReader<&'b [u8], C>>⟧ in
             PeeksInto C.Error.IsEof reader.state output.old output.new result self.old self.new }

@@ -16,7 +16,8 @@ module _ {A V : Type 0} (seen : A → V) (least : ℕ) (L : Format V) (e : Error
   its_kind : {names : ErrorKind → Type 0} → IsNamed (λ (x : Error) (y : Error). y ≡ x) names e → names (kind_of e)
   its_kind {names = names} h = subst names (sym (ap kind_of h.2)) h.1
 
-  named_kind : IsEnd (λ (x : Error) (y : Error). y ≡ x) is_eof_error false e ⊎ IsNamed (λ (x : Error) (y : Error). y ≡ x) L.names e → EndsInput false (kind_of e) ⊎ L.names (kind_of e)
+  named_kind : IsEnd (λ (x : Error) (y : Error). y ≡ x) is_eof_error false e
+      ⊎ IsNamed (λ (x : Error) (y : Error). y ≡ x) L.names e → EndsInput false (kind_of e) ⊎ L.names (kind_of e)
   named_kind (inl h) = inl (its_kind h.0)
   named_kind (inr h) = inr (its_kind h)
 

@@ -14,7 +14,8 @@ no_space_in [] rest h = h.0 refl
 no_space_in (b ∷ field) rest h = no_space_in field rest h.1
 
 -- a text splits at its first space in one way
-pub one_split : (f g r q : List ℕ) → IsFreeOf space f → IsFreeOf space g → f ++ space ∷ r ≡ g ++ space ∷ q → (f ≡ g) × (r ≡ q)
+pub one_split : (f g r q : List ℕ) → IsFreeOf space f → IsFreeOf space g → f ++ space ∷ r ≡ g ++ space ∷ q
+    → (f ≡ g) × (r ≡ q)
 one_split [] [] r q h k e = (refl, (cc))
 one_split [] (b ∷ g) r q h k e = absurd (k.0 (cc))
 one_split (a ∷ f) [] r q h k e = absurd (h.0 (cc))
@@ -34,21 +35,29 @@ order_no_space orders.StrictBigEndian = (omega arith, (omega arith, (omega arith
 no_space : (text : List ℕ) → IsTrue (has_no_space text) → IsFreeOf space text
 no_space [] h = tt
 no_space (b ∷ text) h = go (b == space) refl h (no_space text) where
-  go : (e : Bool) → (b == space) ≡ e → IsTrue (not e && has_no_space text) → (IsTrue (has_no_space text) → IsFreeOf space text) → IsFreeOf space (b ∷ text)
+  go : (e : Bool) → (b == space) ≡ e → IsTrue (not e && has_no_space text)
+      → (IsTrue (has_no_space text) → IsFreeOf space text) → IsFreeOf space (b ∷ text)
   go true p h more = absurd (cc)
-  go false p h more = (λ same. absurd (let q : (space == space) ≡ false = subst (λ (x : ℕ). (x == space) ≡ false) same p in (cc)), more h)
+  go false p h more = (
+    λ same. absurd (let q : (space == space) ≡ false = subst (λ (x : ℕ). (x == space) ≡ false) same p in (cc)),
+    more h,
+  )
 
 pub name_no_space : (name : TypeName) → IsFreeOf space (name_text name)
 name_no_space name = no_space (named name).text (named name).no_space
 
 -- a line of the form splits at its spaces
-pub line_splits : (line f g hex : List ℕ) (order : LineOrder) (name : TypeName) (bytes : List ℕ) → IsFreeOf space f → IsFreeOf space g → line ≡ f ++ space ∷ (g ++ space ∷ hex) → IsLine line order name bytes → (f ≡ order_text order) × (g ≡ name_text name) × IsHex hex bytes
+pub line_splits : (line f g hex : List ℕ) (order : LineOrder) (name : TypeName) (bytes : List ℕ) → IsFreeOf space f
+    → IsFreeOf space g → line ≡ f ++ space ∷ (g ++ space ∷ hex) → IsLine line order name bytes
+    → (f ≡ order_text order) × (g ≡ name_text name) × IsHex hex bytes
 line_splits line f g hex order name bytes h k e is =
-    let first = one_split f (order_text order) (g ++ space ∷ hex) (name_text name ++ space ∷ is.hex) h (order_no_space order) (sym e ∙ is.line_is) in
+    let first = one_split f (order_text order) (g ++ space ∷ hex) (name_text name ++ space ∷ is.hex) h
+    (order_no_space order) (sym e ∙ is.line_is) in
     let second = one_split g (name_text name) hex is.hex k (name_no_space name) first.1 in
     (first.0, second.0, subst (λ (x : List ℕ). IsHex x bytes) (sym second.1) is.hex_is)
 
 pub bad_without_second_space : (line f rest : List ℕ) → SplitsAt space line f rest → IsFreeOf space rest → IsBad line
 bad_without_second_space line f rest s h = λ order name bytes is.
-    let first = one_split f (order_text order) rest (name_text name ++ space ∷ is.hex) s.front_is (order_no_space order) (sym s.text_is ∙ is.line_is) in
+    let first = one_split f (order_text order) rest (name_text name ++ space ∷ is.hex) s.front_is (order_no_space order)
+    (sym s.text_is ∙ is.line_is) in
     no_space_in (name_text name) is.hex (subst (IsFreeOf space) first.1 h)

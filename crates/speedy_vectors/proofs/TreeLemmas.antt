@@ -14,15 +14,18 @@ use Rattle.speedy_vectors.specs.declared.tree.Tree.{Tree, out-Tree, the_lemmas}
 use Rattle.speedy_vectors.specs.declared.tree.Tree.TheViews.{roll-Tree}
 
 -- a node is read as its value and then its children
-pub tree_composes : (encoding : Encoding) (F : Format Rose) → Composes (unsigned_number 1 encoding) (λ _. list encoding F) (tree_step encoding F) whole
+pub tree_composes : (encoding : Encoding) (F : Format Rose)
+    → Composes (unsigned_number 1 encoding) (λ _. list encoding F) (tree_step encoding F) whole
 tree_composes encoding F = sequence_composes parts (λ _. asks_same) (λ value children s h. apart value children)
 
 -- what is seen of a tree that is made
-pub view_made : (value : ℕ) (children : Vec Tree Global) → view (roll-Tree (record { value = value; children = children })) ≡ whole value (map view children.items)
+pub view_made : (value : ℕ) (children : Vec Tree Global)
+    → view (roll-Tree (record { value = value; children = children })) ≡ whole value (map view children.items)
 view_made value children = search (rules, the_lemmas)
 
 -- and of one that is there
-pub view_parts : (t : Tree) → let both : ℕ × List Rose = ((out-Tree t).value, map view (out-Tree t).children.items) in parts (view t) ≡ both
+pub view_parts : (t : Tree) → let both : ℕ × List Rose = ((out-Tree t).value, map view (out-Tree t).children.items) in
+    parts (view t) ≡ both
 view_parts t = ap parts seen ∙ apart (out-Tree t).value (map view (out-Tree t).children.items) where
   seen : view t ≡ whole (out-Tree t).value (map view (out-Tree t).children.items)
   seen = search (rules, the_lemmas)

@@ -1,5 +1,6 @@
 -- What a line is answered.
-use Rattle.std.specs.Prelude.{◌≡◌, ℕ, ◌<◌, ◌≤◌, List, [], ◌∷◌, ◌++◌, ◌⊎◌, length, Option, None, Some, false, IsTrue, codes}
+use Rattle.std.specs.Prelude.{◌≡◌, ℕ, ◌<◌, ◌≤◌, List, [], ◌∷◌, ◌++◌, ◌⊎◌, length, Option, None, Some, false, IsTrue}
+use Rattle.std.specs.Prelude.{codes}
 use Rattle.std.specs.Fmt.{decimal}
 use Rattle.hex.specs.Hex.{encode_lower}
 use Rattle.speedy.specs.declared.error.ErrorKind.{ErrorKind}
@@ -28,8 +29,10 @@ kind_name kinds.OutOfRangeLength = codes "OutOfRangeLength"
 kind_name kinds.OutOfRangeUsize = codes "OutOfRangeUsize"
 kind_name kinds.UnexpectedEndOfInput = codes "UnexpectedEndOfInput"
 kind_name kinds.UnexpectedEndOfOutputBuffer = codes "UnexpectedEndOfOutputBuffer"
-kind_name (kinds.InputBufferIsTooSmall actual expected) = codes "InputBufferIsTooSmall " ++ (decimal actual ++ (codes " " ++ decimal expected))
-kind_name (kinds.OutputBufferIsTooSmall actual expected) = codes "OutputBufferIsTooSmall " ++ (decimal actual ++ (codes " " ++ decimal expected))
+kind_name (kinds.InputBufferIsTooSmall actual expected) =
+    codes "InputBufferIsTooSmall " ++ (decimal actual ++ (codes " " ++ decimal expected))
+kind_name (kinds.OutputBufferIsTooSmall actual expected) =
+    codes "OutputBufferIsTooSmall " ++ (decimal actual ++ (codes " " ++ decimal expected))
 kind_name (kinds.LengthIsNotTheSameAsLengthAttribute field) = codes "LengthIsNotTheSameAsLengthAttribute"
 kind_name (kinds.ExpectedConstant constant) = codes "ExpectedConstant"
 kind_name kinds.Unsized = codes "Unsized"

@@ -54,7 +54,13 @@ pub record Named : Type 1 where
   pub format : Encoding → Format Seen
 
 abbrev by : {V : Type 0} → (text : List ℕ) → IsTrue (has_no_space text) → ℕ → (Encoding → Format V) → Named
-by {V = V} text no_space least format = record { text = text; no_space = no_space; Seen = V; least = least; format = format }
+by {V = V} text no_space least format = record {
+  text = text;
+  no_space = no_space;
+  Seen = V;
+  least = least;
+  format = format;
+}
 
 -- numbers in their order
 abbrev LessNumber : ℕ → ℕ → Type 0
@@ -66,7 +72,8 @@ LessText = IsLess (string_bytes {Z = Global}) string_cmp
 
 -- numbers of one, two and four bytes
 abbrev three_numbers : Encoding → Format (ℕ × (ℕ × ℕ))
-three_numbers encoding = pair (unsigned_number 1 encoding) (pair (unsigned_number 2 encoding) (unsigned_number 4 encoding))
+three_numbers encoding =
+    pair (unsigned_number 1 encoding) (pair (unsigned_number 2 encoding) (unsigned_number 4 encoding))
 
 -- each type of the program, by family
 abbrev pub named_number : NumberName → Named
@@ -98,41 +105,59 @@ named_leaf leaf_names.Ip = by (codes "ip") refl 5 ip_address
 named_leaf leaf_names.Duration = by (codes "duration") refl 12 duration
 
 abbrev pub named_composed : ComposedName → Named
-named_composed composed_names.OptU16 = by (codes "opt_u16") refl 1 (λ encoding. option encoding (unsigned_number 2 encoding))
-named_composed composed_names.ResU16U8 = by (codes "res_u16_u8") refl 1 (λ encoding. alternative encoding (unsigned_number 2 encoding) (unsigned_number 1 encoding))
-named_composed composed_names.RangeU16 = by (codes "range_u16") refl 4 (λ encoding. pair (unsigned_number 2 encoding) (unsigned_number 2 encoding))
-named_composed composed_names.RangeInclU16 = by (codes "range_incl_u16") refl 4 (λ encoding. pair (unsigned_number 2 encoding) (unsigned_number 2 encoding))
+named_composed composed_names.OptU16 =
+    by (codes "opt_u16") refl 1 (λ encoding. option encoding (unsigned_number 2 encoding))
+named_composed composed_names.ResU16U8 = by (codes "res_u16_u8") refl 1
+    (λ encoding. alternative encoding (unsigned_number 2 encoding) (unsigned_number 1 encoding))
+named_composed composed_names.RangeU16 =
+    by (codes "range_u16") refl 4 (λ encoding. pair (unsigned_number 2 encoding) (unsigned_number 2 encoding))
+named_composed composed_names.RangeInclU16 =
+    by (codes "range_incl_u16") refl 4 (λ encoding. pair (unsigned_number 2 encoding) (unsigned_number 2 encoding))
 named_composed composed_names.TupleU8U16U32 = by (codes "tuple_u8_u16_u32") refl 7 three_numbers
-named_composed composed_names.ArrayU16x4 = by (codes "array_u16_4") refl 8 (λ encoding. vector 4 (unsigned_number 2 encoding))
-named_composed composed_names.BoxU16 = by (codes "box_u16") refl 2 (λ encoding. owned_content (unsigned_number 2 encoding))
+named_composed composed_names.ArrayU16x4 =
+    by (codes "array_u16_4") refl 8 (λ encoding. vector 4 (unsigned_number 2 encoding))
+named_composed composed_names.BoxU16 =
+    by (codes "box_u16") refl 2 (λ encoding. owned_content (unsigned_number 2 encoding))
 
 abbrev pub named_list : ListName → Named
 named_list list_names.String = by (codes "string") refl 4 text
 named_list list_names.BoxedStr = by (codes "boxed_str") refl 4 text
 named_list list_names.VecU8 = by (codes "vec_u8") refl 4 (λ encoding. list encoding (unsigned_number 1 encoding))
 named_list list_names.VecU16 = by (codes "vec_u16") refl 4 (λ encoding. list encoding (unsigned_number 2 encoding))
-named_list list_names.BoxedSliceU16 = by (codes "boxed_u16") refl 4 (λ encoding. list encoding (unsigned_number 2 encoding))
-named_list list_names.SmallVecU16x4 = by (codes "small_vec_u16_4") refl 4 (λ encoding. list encoding (unsigned_number 2 encoding))
+named_list list_names.BoxedSliceU16 =
+    by (codes "boxed_u16") refl 4 (λ encoding. list encoding (unsigned_number 2 encoding))
+named_list list_names.SmallVecU16x4 =
+    by (codes "small_vec_u16_4") refl 4 (λ encoding. list encoding (unsigned_number 2 encoding))
 named_list list_names.VecChar = by (codes "vec_char") refl 4 (λ encoding. list encoding (character encoding))
 named_list list_names.VecUnit = by (codes "vec_unit") refl 4 (λ encoding. list encoding unit)
-named_list list_names.VecOptString = by (codes "vec_opt_string") refl 4 (λ encoding. list encoding (option encoding (text encoding)))
+named_list list_names.VecOptString =
+    by (codes "vec_opt_string") refl 4 (λ encoding. list encoding (option encoding (text encoding)))
 
 abbrev pub named_gathered : GatheredName → Named
-named_gathered gathered_names.SetU16 = by (codes "set_u16") refl 4 (λ encoding. tree_set encoding LessNumber (unsigned_number 2 encoding))
-named_gathered gathered_names.MapU8U8 = by (codes "map_u8_u8") refl 4 (λ encoding. tree_map encoding LessNumber (unsigned_number 1 encoding) (unsigned_number 1 encoding))
-named_gathered gathered_names.MapStringVecU16 = by (codes "map_string_vec_u16") refl 4 (λ encoding. tree_map encoding LessText (text encoding) (list encoding (unsigned_number 2 encoding)))
-named_gathered gathered_names.IndexSetU16 = by (codes "index_set_u16") refl 4 (λ encoding. index_set encoding (unsigned_number 2 encoding))
-named_gathered gathered_names.IndexMapU8U8 = by (codes "index_map_u8_u8") refl 4 (λ encoding. index_map encoding (unsigned_number 1 encoding) (unsigned_number 1 encoding))
+named_gathered gathered_names.SetU16 =
+    by (codes "set_u16") refl 4 (λ encoding. tree_set encoding LessNumber (unsigned_number 2 encoding))
+named_gathered gathered_names.MapU8U8 = by (codes "map_u8_u8") refl 4
+    (λ encoding. tree_map encoding LessNumber (unsigned_number 1 encoding) (unsigned_number 1 encoding))
+named_gathered gathered_names.MapStringVecU16 = by (codes "map_string_vec_u16") refl 4
+    (λ encoding. tree_map encoding LessText (text encoding) (list encoding (unsigned_number 2 encoding)))
+named_gathered gathered_names.IndexSetU16 =
+    by (codes "index_set_u16") refl 4 (λ encoding. index_set encoding (unsigned_number 2 encoding))
+named_gathered gathered_names.IndexMapU8U8 = by (codes "index_map_u8_u8") refl 4
+    (λ encoding. index_map encoding (unsigned_number 1 encoding) (unsigned_number 1 encoding))
 
 abbrev pub named_lent : LentName → Named
 named_lent lent_names.CowStr = by (codes "cow_str") refl 4 text
 named_lent lent_names.CowU8 = by (codes "cow_u8") refl 4 (λ encoding. list encoding (unsigned_number 1 encoding))
 named_lent lent_names.CowU16 = by (codes "cow_u16") refl 4 (λ encoding. list encoding (unsigned_number 2 encoding))
 named_lent lent_names.StrRef = by (codes "str_ref") refl 4 (λ encoding. borrowed_content (text encoding))
-named_lent lent_names.BytesRef = by (codes "bytes_ref") refl 4 (λ encoding. borrowed_content (list encoding (unsigned_number 1 encoding)))
-named_lent lent_names.BytesRef4 = by (codes "bytes_ref_4") refl 4 (λ encoding. borrowed_content (vector 4 (unsigned_number 1 encoding)))
-named_lent lent_names.ViewI8 = by (codes "view_i8") refl 4 (λ encoding. borrowed_content (list encoding (signed_number w8 encoding)))
-named_lent lent_names.ArrayViewI8x4 = by (codes "array_view_i8_4") refl 4 (λ encoding. borrowed_content (vector 4 (signed_number w8 encoding)))
+named_lent lent_names.BytesRef =
+    by (codes "bytes_ref") refl 4 (λ encoding. borrowed_content (list encoding (unsigned_number 1 encoding)))
+named_lent lent_names.BytesRef4 =
+    by (codes "bytes_ref_4") refl 4 (λ encoding. borrowed_content (vector 4 (unsigned_number 1 encoding)))
+named_lent lent_names.ViewI8 =
+    by (codes "view_i8") refl 4 (λ encoding. borrowed_content (list encoding (signed_number w8 encoding)))
+named_lent lent_names.ArrayViewI8x4 =
+    by (codes "array_view_i8_4") refl 4 (λ encoding. borrowed_content (vector 4 (signed_number w8 encoding)))
 
 -- nothing behind the tag 0, 1 or 2
 abbrev three_cases : Choices (Unit {0} ⊎ (Unit {0} ⊎ Unit {0}))
@@ -145,10 +170,13 @@ cases_of_numbers =
     either_case (one_case 0 unit_codec) (either_case (one_case 1 numbers) (one_case 2 numbers))
 
 abbrev pub named_own : OwnName → Named
-named_own own_names.Frame = by (codes "frame") refl 4 (λ encoding. pair (constant_bytes encoding (codes "SP")) (pair (counted_list (varint encoding) (varint encoding)) (counted_text encoding (unsigned_number 1 encoding))))
+named_own own_names.Frame = by (codes "frame") refl 4 (λ encoding. pair (constant_bytes encoding (codes "SP"))
+    (pair (counted_list (varint encoding) (varint encoding)) (counted_text encoding (unsigned_number 1 encoding))))
 named_own own_names.Enum = by (codes "enum") refl 4 (tagged (unsigned_number 4) three_cases)
 named_own own_names.DerivedEnum = by (codes "derived_enum") refl 4 (tagged (unsigned_number 4) cases_of_numbers)
-named_own own_names.Record = by (codes "record") refl 24 (λ encoding. pair (unsigned_number 8 encoding) (pair (text encoding) (pair (list encoding (unsigned_number 1 encoding)) (pair (list encoding (signed_number w64 encoding)) (tagged (unsigned_number 4) three_cases encoding)))))
+named_own own_names.Record = by (codes "record") refl 24 (λ encoding. pair (unsigned_number 8 encoding)
+    (pair (text encoding) (pair (list encoding (unsigned_number 1 encoding))
+    (pair (list encoding (signed_number w64 encoding)) (tagged (unsigned_number 4) three_cases encoding)))))
 named_own own_names.Tree = by (codes "tree") refl 5 tree_format
 
 abbrev pub named : TypeName → Named

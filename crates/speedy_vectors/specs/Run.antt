@@ -1,5 +1,6 @@
 -- What the program does with a whole input.
-use Rattle.std.specs.Prelude.{◌≡◌, ◌==◌, if◌then◌else◌, ℕ, ◌-◌, ◌^◌, ◌≤◌, List, [], ◌∷◌, ◌++◌, ◌⊎◌, length, IsTrue, Result, OnOk, OnErr, IfErr}
+use Rattle.std.specs.Prelude.{◌≡◌, ◌==◌, if◌then◌else◌, ℕ, ◌-◌, ◌^◌, ◌≤◌, List, [], ◌∷◌, ◌++◌, ◌⊎◌, length, IsTrue}
+use Rattle.std.specs.Prelude.{Result, OnOk, OnErr, IfErr}
 use Rattle.speedy.specs.declared.error.Error.{Error}
 use Rattle.speedy.specs.declared.error.ErrorKind.TheVariants as kinds
 use Rattle.speedy.specs.Error.{error_of}
@@ -50,10 +51,12 @@ itself error e = e ≡ error
 
 -- one call of the sink failed, and the error is what it answered; or none did, and there was no memory
 abbrev pub IsSinkFailure : Error → SinkState → SinkState → Type 0
-IsSinkFailure e old new = IsOfFailedCall itself e old.faults new.faults ⊎ ((new.faults ≡ old.faults) × (e ≡ error_of kinds.OutOfMemory))
+IsSinkFailure e old new =
+    IsOfFailedCall itself e old.faults new.faults ⊎ ((new.faults ≡ old.faults) × (e ≡ error_of kinds.OutOfMemory))
 
 -- all but the lines that are left were answered, or some were and why not more
-pub record Answering {T : Type 0} (result : Result T Error) (lines left : List (List ℕ)) (old new : SinkState) : Type 0 where
+pub record Answering {T : Type 0} (result : Result T Error) (lines left : List (List ℕ))
+    (old new : SinkState) : Type 0 where
   pub kept : SinkKept old new
   pub no_fault : OnOk result (new.faults ≡ old.faults)
   pub all : OnOk result (Answered lines left old new)
@@ -70,10 +73,12 @@ abbrev pub IsRunFailure : Error → SourceState → SourceState → SinkState �
 IsRunFailure e input input_after output output_after =
     (IsOfFailedCall itself e input.faults input_after.faults × (output_after.faults ≡ output.faults))
     ⊎ ((IsOfFailedCall itself e output.faults output_after.faults × (input_after.faults ≡ input.faults))
-    ⊎ ((input_after.faults ≡ input.faults) × (output_after.faults ≡ output.faults) × ((e ≡ error_of kinds.OutOfMemory) ⊎ IsTooLong e input)))
+    ⊎ ((input_after.faults ≡ input.faults) × (output_after.faults ≡ output.faults)
+    × ((e ≡ error_of kinds.OutOfMemory) ⊎ IsTooLong e input)))
 
 -- a whole input, from the states of the devices before to those after
-pub record Runs {T : Type 0} (result : Result T Error) (input input_after : SourceState) (output output_after : SinkState) : Type 0 where
+pub record Runs {T : Type 0} (result : Result T Error) (input input_after : SourceState)
+    (output output_after : SinkState) : Type 0 where
   pub kept : SourceKept input input_after × SinkKept output output_after
   -- no failed call is passed over
   pub no_fault : OnOk result ((input_after.faults ≡ input.faults) × (output_after.faults ≡ output.faults))

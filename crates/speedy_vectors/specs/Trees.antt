@@ -85,12 +85,15 @@ joined : (r : Rose) → whole (parts r).0 (parts r).1 ≡ r
 joined (node value children) = ap (node value) (forest_back children)
 
 -- a node that is put together comes apart again
-pub apart : (value : ℕ) (children : List Rose) → let both : ℕ × List Rose = (value, children) in parts (whole value children) ≡ both
+pub apart : (value : ℕ) (children : List Rose) → let both : ℕ × List Rose = (value, children) in
+    parts (whole value children) ≡ both
 apart value children = ap (λ (rs : List Rose). let both : ℕ × List Rose = (value, rs) in both) (trees_back children)
 
-pub tree_step_laws : (encoding : Encoding) (F : Format Rose) → Laws encoding.strict 5 F → Laws encoding.strict 5 (tree_step encoding F)
+pub tree_step_laws : (encoding : Encoding) (F : Format Rose) → Laws encoding.strict 5 F
+    → Laws encoding.strict 5 (tree_step encoding F)
 tree_step_laws encoding F laws =
-    sequence_laws {n = 1} {m = 4} (unsigned_number_laws 1 encoding) (λ _. list_laws encoding laws) (λ _. asks_same) (told_apart parts whole joined)
+    sequence_laws {n = 1} {m = 4} (unsigned_number_laws 1 encoding) (λ _. list_laws encoding laws) (λ _. asks_same)
+    (told_apart parts whole joined)
 
 pub tree_laws : (n : ℕ) (encoding : Encoding) → Laws encoding.strict 5 (tree_levels n encoding)
 tree_laws n encoding = levels_laws kinds.OutOfRangeLength tt (tree_step encoding) (tree_step_laws encoding) n

@@ -2,7 +2,8 @@
 ghost use Rattle.std.specs.Prelude.{◌≡◌, ◌++◌, IfOk, MatchResult};
 ghost use Rattle.std.specs.String.{string_bytes};
 ghost use Rattle.speedy.specs.Error.{error_of};
-ghost use Rattle.speedy_vectors.specs.Answer.{hex_of, kind_name, sizes_text, ok_text, refused_text, AnswersAs, AnswersBytes, AnswersLine};
+ghost use Rattle.speedy_vectors.specs.Answer.{hex_of, kind_name, sizes_text, ok_text, refused_text, AnswersAs};
+ghost use Rattle.speedy_vectors.specs.Answer.{AnswersBytes, AnswersLine};
 ghost use Rattle.speedy_vectors.specs.Line.{encoding_of};
 ghost use Rattle.speedy_vectors.specs.Names.{named};
 

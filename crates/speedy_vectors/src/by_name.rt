@@ -1,7 +1,8 @@
 //! What bytes are answered by the name of a type: one function for each family of names.
 ghost use Rattle.std.specs.Prelude.{IfOk};
 ghost use Rattle.speedy_vectors.specs.Answer.{AnswersAs};
-ghost use Rattle.speedy_vectors.specs.Names.{named, named_number, named_leaf, named_composed, named_list, named_gathered, named_lent, named_own};
+ghost use Rattle.speedy_vectors.specs.Names.{named, named_number, named_leaf, named_composed, named_list};
+ghost use Rattle.speedy_vectors.specs.Names.{named_gathered, named_lent, named_own};
 
 use crate::answer::answer_as;
 use crate::enums::{DerivedEnum, Enum};

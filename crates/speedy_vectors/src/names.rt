@@ -9,7 +9,8 @@ ghost use Rattle.speedy_vectors.specs.declared.names.LentName.{LentName};
 ghost use Rattle.speedy_vectors.specs.declared.names.OwnName.{OwnName};
 ghost use Rattle.speedy_vectors.specs.declared.names.TypeName.{TypeName};
 ghost use Rattle.speedy_vectors.specs.Line.{name_text};
-ghost use Rattle.speedy_vectors.specs.Names.{named_number, named_leaf, named_composed, named_list, named_gathered, named_lent, named_own};
+ghost use Rattle.speedy_vectors.specs.Names.{named_number, named_leaf, named_composed, named_list, named_gathered};
+ghost use Rattle.speedy_vectors.specs.Names.{named_lent, named_own};
 
 /// The types that the program knows.
 #[derive(Clone, Copy)]
@@ -181,8 +182,8 @@ pub enum OwnName {
     Tree,
 }
 
-// A table of each family: the name on a line, the variant, and the type. The row of its bytes is in `specs/Names.antt`. It
-// is handed to a macro, behind what that macro is given.
+// A table of each family: the name on a line, the variant, and the type. The row of its bytes is in `specs/Names.antt`.
+// It is handed to a macro, behind what that macro is given.
 macro_rules! for_each_number {
     ($do:ident $($given:tt)*) => {
         $do! {

@@ -1,4 +1,5 @@
-//! A number as a type of one's own, which is read and written item by item: what bulk reads and writes are compared with.
+//! A number as a type of one's own, which is read and written item by item: what bulk reads and writes are compared
+//! with.
 ghost use Rattle.std.specs.Prelude.{ℕ};
 
 use speedy::{Context, ItemByItem, Layout, LendingReader, ReadFrom, Writable, Writer};

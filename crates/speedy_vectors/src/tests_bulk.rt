@@ -85,8 +85,8 @@ fn assert_streamed(
     assert_numbers(rt, &mut reader, numbers);
 }
 
-/// Asserts that so many numbers are written as the plain items are, and that what is read of the bytes by each reader is
-/// the same.
+/// Asserts that so many numbers are written as the plain items are, and that what is read of the bytes by each reader
+/// is the same.
 fn assert_alike(rt: &impl Abort, alloc: Global, order: Endianness, count: usize) {
     let (numbers, plain) = make_both(rt, alloc, count);
     let bytes = write_alike(rt, alloc, order, &numbers, &plain);

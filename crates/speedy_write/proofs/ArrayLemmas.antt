@@ -1,5 +1,6 @@
 -- The items of several arrays are written as these are, one after the other.
-use Rattle.std.specs.Prelude.{◌≡◌, ℕ, suc, List, [], ◌∷◌, length, map, flat_map, All, Option, None, Some, MatchOption, Result, refl}
+use Rattle.std.specs.Prelude.{◌≡◌, ℕ, suc, List, [], ◌∷◌, length, map, flat_map, All, Option, None, Some, MatchOption}
+use Rattle.std.specs.Prelude.{Result, refl}
 use Rattle.std.proofs.Common.{sym, ◌∙◌, subst, arith}
 use Rattle.std.proofs.lemmas.List.{length-map, map-append}
 use Rattle.speedy_base.specs.declared.error.Error.{Error}
@@ -28,13 +29,15 @@ module _ {A V : Type 0} (R : V → List ℕ → Type 0) (seen : A → V) (n : �
       (subst (λ (vs : List V). Each R vs b) (map-append seen x (flat_map (λ y. y) xs)) h))
 
   -- and the other way round
-  items_of : (arrays : List (List A)) (b : List ℕ) → Each OfItems (map (map seen) arrays) b → Each R (map seen (flat_map (λ x. x) arrays)) b
+  items_of : (arrays : List (List A)) (b : List ℕ) → Each OfItems (map (map seen) arrays) b
+      → Each R (map seen (flat_map (λ x. x) arrays)) b
   items_of [] b h = h
   items_of (x ∷ xs) b h =
       subst (λ (vs : List V). Each R vs b) (sym (map-append seen x (flat_map (λ y. y) xs)))
       (Each-append R (map seen x) (map seen (flat_map (λ y. y) xs)) b (Parts-as (λ s k. k.1) (items_of xs) h))
 
-module _ {E : Type 0} (gives : Error → E → Type 0) {A V : Type 0} (F : Encoding → Format V) (seen : A → V) {n : ℕ} (arrays : List (List A))
+module _ {E : Type 0} (gives : Error → E → Type 0) {A V : Type 0} (F : Encoding → Format V) (seen : A → V) {n : ℕ}
+    (arrays : List (List A))
     (old new : WriterState) (appended : List ℕ → Type 0) where
   arrays_written : (result : Result (Unit {0}) E) → All (λ array. length array ≡ n) arrays
       → WritesEach gives F seen (flat_map (λ x. x) arrays) result old new appended
@@ -45,13 +48,15 @@ module _ {E : Type 0} (gives : Error → E → Type 0) {A V : Type 0} (F : Encod
       let spells = (F old.encoding).spells in
       let all = length-map (flat_map (λ x. x) arrays) seen in
       Writes-as (λ _ k. k) (λ b h. (length-map arrays (map seen), arrays_of writes seen n arrays whole b h.1))
-      (λ b h. (b, (all, items_of writes seen n arrays b h.1), refl)) (λ b h. (b, (all, items_of spells seen n arrays b h.1))) w
+      (λ b h. (b, (all, items_of writes seen n arrays b h.1), refl))
+      (λ b h. (b, (all, items_of spells seen n arrays b h.1))) w
 
   -- where the items were written together, so were the arrays
   pub bulk_written : (written : Option (Result (Unit {0}) E)) (unchanged : Type 0) (items : List A)
       → All (λ array. length array ≡ n) arrays → items ≡ flat_map (λ x. x) arrays
       → MatchOption written unchanged (λ result. WritesEach gives F seen items result old new appended)
-      → MatchOption written unchanged (λ result. WritesEach gives (λ encoding. vector n (F encoding)) (map seen) arrays result old new appended)
+      → MatchOption written unchanged
+      (λ result. WritesEach gives (λ encoding. vector n (F encoding)) (map seen) arrays result old new appended)
   bulk_written None unchanged items whole same h = h
   bulk_written (Some result) unchanged items whole same h =
       arrays_written result whole (subst (λ xs. WritesEach gives F seen xs result old new appended) same h)

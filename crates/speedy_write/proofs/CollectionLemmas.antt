@@ -1,5 +1,6 @@
 -- The items of a collection are written one after the other, and make a write of the collection.
-use Rattle.std.specs.Prelude.{◌≡◌, ℕ, List, [], ◌∷◌, ◌++◌, length, map, Bool, true, false, Option, Some, None, Result, Ok, Err, MatchResult, IsErrAnd, refl}
+use Rattle.std.specs.Prelude.{◌≡◌, ℕ, List, [], ◌∷◌, ◌++◌, length, map, Bool, true, false, Option, Some, None, Result}
+use Rattle.std.specs.Prelude.{Ok, Err, MatchResult, IsErrAnd, refl}
 use Rattle.std.proofs.Common.{sym, ap, subst}
 use Rattle.std.proofs.iter.Next.{Yields-more}
 use Rattle.std.proofs.iter.Yields.{gives_left, gives_Drains, listed}
@@ -26,16 +27,30 @@ use Rattle.speedy_write.proofs.ListLemmas.{first_items_refused, next_refused}
 
 -- ---- item by item
 
-module _ {E U S A V : Type 0} {gives : Error → E → Type 0} {becomes : U → S → Type 0} {steps : S → Option A → S → Type 0} {seen : A → V} {F : Encoding → Format V} {items : U} (it : S) (walked : List A) (now next : S) (it_is : becomes items it) (walk : Yields steps it walked now) where
+module _ {E U S A V : Type 0} {gives : Error → E → Type 0} {becomes : U → S → Type 0}
+    {steps : S → Option A → S → Type 0} {seen : A → V} {F : Encoding → Format V} {items : U} (it : S) (walked : List A)
+    (now next : S) (it_is : becomes items it) (walk : Yields steps it walked now) where
   -- no item is left
-  pub all_items_written : {old new : WriterState} {appended : List ℕ → Type 0} → steps now None next → WritesEach gives F seen walked (Ok tt) old new appended → WritesItems becomes steps seen gives F items (Ok tt) old new appended
-  all_items_written end w = record { iterator = it; iterator_is = it_is; walked = walked; are_walked = (next, (now, walk, end)); writes = w }
+  pub all_items_written : {old new : WriterState} {appended : List ℕ → Type 0} → steps now None next
+      → WritesEach gives F seen walked (Ok tt) old new appended
+      → WritesItems becomes steps seen gives F items (Ok tt) old new appended
+  all_items_written end w = record {
+    iterator = it;
+    iterator_is = it_is;
+    walked = walked;
+    are_walked = (next, (now, walk, end));
+    writes = w;
+  }
 
   -- the next one is refused
-  pub next_item_refused : {least : ℕ} {e : E} {result : Result (Unit {0}) E} {old mid new : WriterState} {front back whole : List ℕ → Type 0} (x : A) → ((a b : List ℕ) → front a → back b → whole (a ++ b)) → ((encoding : Encoding) → Laws encoding.strict least (F encoding))
-      → IsErrAnd result (λ r. r ≡ e) → steps now (Some x) next → WritesEach gives F seen walked (Ok tt) old mid front → Writes gives F (seen x) (Err e) mid new back → WritesItems becomes steps seen gives F items result old new whole
+  pub next_item_refused : {least : ℕ} {e : E} {result : Result (Unit {0}) E} {old mid new : WriterState}
+      {front back whole : List ℕ → Type 0} (x : A) → ((a b : List ℕ) → front a → back b → whole (a ++ b))
+      → ((encoding : Encoding) → Laws encoding.strict least (F encoding))
+      → IsErrAnd result (λ r. r ≡ e) → steps now (Some x) next → WritesEach gives F seen walked (Ok tt) old mid front
+      → Writes gives F (seen x) (Err e) mid new back → WritesItems becomes steps seen gives F items result old new whole
   next_item_refused {e = e} {result = result} {old = old} {new = new} {whole = whole} x join laws passed step h w =
-      subst (λ (r : Result (Unit {0}) E). WritesItems becomes steps seen gives F items r old new whole) (passed_on result e passed) (record {
+      subst (λ (r : Result (Unit {0}) E). WritesItems becomes steps seen gives F items r old new whole)
+      (passed_on result e passed) (record {
         iterator = it;
         iterator_is = it_is;
         walked = walked ++ x ∷ [];
@@ -45,57 +60,85 @@ module _ {E U S A V : Type 0} {gives : Error → E → Type 0} {becomes : U → 
 
 -- ---- the items that were walked, among all
 
-module _ {E S A V : Type 0} {gives : Error → E → Type 0} {steps : S → Option A → S → Type 0} {seen : A → V} {F : Encoding → Format V} {items : S} {shown : List V} {old new : WriterState} {appended : List ℕ → Type 0} where
-  all_shown : (result : Result (Unit {0}) E) → AlwaysYields steps seen items shown → WritesItems (λ s r. r ≡ s) steps seen gives F items result old new appended → Writes gives (λ encoding. repeat (length shown) (F encoding)) shown result old new appended
-  all_shown result always w = by result (subst (λ s. AlwaysYields steps seen s shown) (sym w.iterator_is) always) w.writes w.are_walked where
-    by : (result : Result (Unit {0}) E) → AlwaysYields steps seen w.iterator shown → WritesEach gives F seen w.walked result old new appended → MatchResult result (λ _. Drains steps w.iterator w.walked) (λ _. (rest : S) × Yields steps w.iterator w.walked rest)
-        → Writes gives (λ encoding. repeat (length shown) (F encoding)) shown result old new appended
-    by (Ok done) always written walked =
-        let same = gives_Drains steps seen w.walked shown w.iterator always walked in
-        subst (λ (vs : List V). Writes gives (λ encoding. repeat (length vs) (F encoding)) vs (Ok done) old new appended) same
-        (subst (λ (n : ℕ). Writes gives (λ encoding. repeat n (F encoding)) (map seen w.walked) (Ok done) old new appended) (sym (length-map w.walked seen)) written)
-    by (Err e) always written walked =
-        let left = gives_left steps seen w.walked shown w.iterator walked.0 always walked.1 in
-        subst (λ (vs : List V). Writes gives (λ encoding. repeat (length vs) (F encoding)) vs (Err e) old new appended) (sym left.1)
-        (first_items_refused F (length w.walked) (map seen w.walked) left.0 (length-map w.walked seen) written)
+module _ {E S A V : Type 0} {gives : Error → E → Type 0} {steps : S → Option A → S → Type 0} {seen : A → V}
+    {F : Encoding → Format V} {items : S} {shown : List V} {old new : WriterState} {appended : List ℕ → Type 0} where
+  all_shown : (result : Result (Unit {0}) E) → AlwaysYields steps seen items shown
+      → WritesItems (λ s r. r ≡ s) steps seen gives F items result old new appended
+      → Writes gives (λ encoding. repeat (length shown) (F encoding)) shown result old new appended
+  all_shown result always w =
+      by result (subst (λ s. AlwaysYields steps seen s shown) (sym w.iterator_is) always) w.writes w.are_walked where
+        by : (result : Result (Unit {0}) E) → AlwaysYields steps seen w.iterator shown
+            → WritesEach gives F seen w.walked result old new appended
+            → MatchResult result (λ _. Drains steps w.iterator w.walked)
+            (λ _. (rest : S) × Yields steps w.iterator w.walked rest)
+            → Writes gives (λ encoding. repeat (length shown) (F encoding)) shown result old new appended
+        by (Ok done) always written walked =
+            let same = gives_Drains steps seen w.walked shown w.iterator always walked in
+            subst
+            (λ (vs : List V). Writes gives (λ encoding. repeat (length vs) (F encoding)) vs (Ok done) old new appended)
+            same
+            (subst
+            (λ (n : ℕ). Writes gives (λ encoding. repeat n (F encoding)) (map seen w.walked) (Ok done) old new appended)
+            (sym (length-map w.walked seen)) written)
+        by (Err e) always written walked =
+            let left = gives_left steps seen w.walked shown w.iterator walked.0 always walked.1 in
+            subst
+            (λ (vs : List V). Writes gives (λ encoding. repeat (length vs) (F encoding)) vs (Err e) old new appended)
+            (sym left.1)
+            (first_items_refused F (length w.walked) (map seen w.walked) left.0 (length-map w.walked seen) written)
 
   -- an iterator that always gives the same items is written as so many
-  pub shown_items_written : {count : ℕ} {result : Result (Unit {0}) E} → count ≡ length shown → AlwaysYields steps seen items shown → WritesItems (λ s r. r ≡ s) steps seen gives F items result old new appended → Writes gives (λ encoding. repeat count (F encoding)) shown result old new appended
+  pub shown_items_written : {count : ℕ} {result : Result (Unit {0}) E} → count ≡ length shown
+      → AlwaysYields steps seen items shown
+      → WritesItems (λ s r. r ≡ s) steps seen gives F items result old new appended
+      → Writes gives (λ encoding. repeat count (F encoding)) shown result old new appended
   shown_items_written {result = result} same always w =
-      subst (λ (n : ℕ). Writes gives (λ encoding. repeat n (F encoding)) shown result old new appended) (sym same) (all_shown result always w)
+      subst (λ (n : ℕ). Writes gives (λ encoding. repeat n (F encoding)) shown result old new appended) (sym same)
+      (all_shown result always w)
 
 -- an iterator that shows what is left always gives it
-pub shown_in_order : {A X V : Type 0} {s xs : List X} (shows : A → X) (seen : X → V) → s ≡ xs → AlwaysYields (TakesFirst shows) (λ a. seen (shows a)) s (map seen xs)
+pub shown_in_order : {A X V : Type 0} {s xs : List X} (shows : A → X) (seen : X → V) → s ≡ xs
+    → AlwaysYields (TakesFirst shows) (λ a. seen (shows a)) s (map seen xs)
 shown_in_order {xs = xs} shows seen same =
     subst (λ l. AlwaysYields (TakesFirst shows) (λ a. seen (shows a)) l (map seen xs)) (sym same)
-    (listed (TakesFirst shows) (λ a. seen (shows a)) (map seen) (λ s t h. ap (λ l. length (map seen l)) h.0) (λ s x t h. ap (map seen) h) xs)
+    (listed (TakesFirst shows) (λ a. seen (shows a)) (map seen) (λ s t h. ap (λ l. length (map seen l)) h.0)
+    (λ s x t h. ap (map seen) h) xs)
 
 -- and so does one whose items are shown by what it has left
-pub left_in_order : {S A V : Type 0} (left : S → List A) (seen : A → V) {s : S} {items : List A} → left s ≡ items → AlwaysYields (YieldsFirst left) seen s (map seen items)
+pub left_in_order : {S A V : Type 0} (left : S → List A) (seen : A → V) {s : S} {items : List A} → left s ≡ items
+    → AlwaysYields (YieldsFirst left) seen s (map seen items)
 left_in_order left seen {s = s} same =
     subst (λ xs. AlwaysYields (YieldsFirst left) seen s (map seen xs)) same
-    (listed (YieldsFirst left) seen (λ t. map seen (left t)) (λ s t h. ap (λ xs. length (map seen xs)) h.0) (λ s x t h. ap (map seen) h) s)
+    (listed (YieldsFirst left) seen (λ t. map seen (left t)) (λ s t h. ap (λ xs. length (map seen xs)) h.0)
+    (λ s x t h. ap (map seen) h) s)
 
 -- ---- the collection
 
-items_of_refuses : {X : Type 0} (hashed : Bool) (encoding : Encoding) (L : Format X) → (items_of hashed encoding L).refuses_writing ≡ (list encoding L).refuses_writing
+items_of_refuses : {X : Type 0} (hashed : Bool) (encoding : Encoding) (L : Format X)
+    → (items_of hashed encoding L).refuses_writing ≡ (list encoding L).refuses_writing
 unfolding hashed_items
 items_of_refuses false encoding L = refl
 items_of_refuses true encoding L = refl
 
-module _ {E : Type 0} {gives : Error → E → Type 0} {result : Result (Unit {0}) E} {old new : WriterState} {appended : List ℕ → Type 0} where
+module _ {E : Type 0} {gives : Error → E → Type 0} {result : Result (Unit {0}) E} {old new : WriterState}
+    {appended : List ℕ → Type 0} where
   -- lent items are written as the items
-  lent_items : {X : Type 0} {shown : List X} (F : Encoding → Format X) → Writes gives (λ encoding. list encoding (borrowed_content (F encoding))) shown result old new appended → Writes gives (λ encoding. list encoding (F encoding)) shown result old new appended
+  lent_items : {X : Type 0} {shown : List X} (F : Encoding → Format X)
+      → Writes gives (λ encoding. list encoding (borrowed_content (F encoding))) shown result old new appended
+      → Writes gives (λ encoding. list encoding (F encoding)) shown result old new appended
   unfolding list sequence vector owned_content repeat borrowed_content
   lent_items F w = Writes-as (λ _ k. k) (λ _ h. h) (λ b h. (b, h, refl)) (λ b h. (b, h)) w
 
   -- and so are pairs of lent parts
-  lent_pairs : {K V : Type 0} {shown : List (K × V)} (F : Encoding → Format K) (G : Encoding → Format V) → Writes gives (λ encoding. list encoding (pair (borrowed_content (F encoding)) (borrowed_content (G encoding)))) shown result old new appended
+  lent_pairs : {K V : Type 0} {shown : List (K × V)} (F : Encoding → Format K) (G : Encoding → Format V)
+      → Writes gives (λ encoding. list encoding (pair (borrowed_content (F encoding)) (borrowed_content (G encoding))))
+      shown result old new appended
       → Writes gives (λ encoding. list encoding (pair (F encoding) (G encoding))) shown result old new appended
   unfolding list sequence vector owned_content repeat borrowed_content
   lent_pairs F G w = Writes-as (λ _ k. k) (λ _ h. h) (λ b h. (b, h, refl)) (λ b h. (b, h)) w
 
-module _ {E S : Type 0} {gives : Error → E → Type 0} {hashed : Bool} {whole : S} {result : Result (Unit {0}) E} {old new : WriterState} {appended : List ℕ → Type 0} where
+module _ {E S : Type 0} {gives : Error → E → Type 0} {hashed : Bool} {whole : S} {result : Result (Unit {0}) E}
+    {old new : WriterState} {appended : List ℕ → Type 0} where
   -- a form of a collection is written as the collection
   form_written_as : {X : Type 0} {stands : List X → S → Type 0} {are_written : List X → Type 0} {shown : List X}
       (item : Codec X) → IsGathering hashed stands are_written → stands shown whole × are_written shown

@@ -1,5 +1,7 @@
--- What `bytes_needed` answers follows from what a write into a collector does that only counts; and items that are counted one by one.
-use Rattle.std.specs.Prelude.{◌≡◌, ℕ, ◌+◌, ◌-◌, ◌^◌, ◌<◌, Bool, List, [], ◌∷◌, ◌++◌, length, map, take, Result, Ok, refl}
+-- What `bytes_needed` answers follows from what a write into a collector does that only counts; and items that are
+-- counted one by one.
+use Rattle.std.specs.Prelude.{◌≡◌, ℕ, ◌+◌, ◌-◌, ◌^◌, ◌<◌, Bool, List, [], ◌∷◌, ◌++◌, length, map, take, Result, Ok}
+use Rattle.std.specs.Prelude.{refl}
 use Rattle.std.specs.Borrow.{GName}
 use Rattle.std.proofs.Common.{sym, ◌∙◌, ap, subst, arith}
 use Rattle.std.proofs.Math.ListN.{get_or}
@@ -16,23 +18,29 @@ use Rattle.speedy_write.specs.WaysOfWriting.{NeedsIn}
 use Rattle.speedy_write.proofs.ListLemmas.{first_items}
 
 -- all written forms of a value have one length
-one_length : {V : Type 0} {strict : Bool} {least : ℕ} {L : Format V} → Laws strict least L → (v : V) (b c : List ℕ) → L.writes v b → L.writes v c → length b ≡ length c
+one_length : {V : Type 0} {strict : Bool} {least : ℕ} {L : Format V} → Laws strict least L → (v : V) (b c : List ℕ)
+    → L.writes v b → L.writes v c → length b ≡ length c
 one_length laws v b c h k =
     let x = laws.shortest v b c h (laws.written_spells v c k) in
     let y = laws.shortest v c b k (laws.written_spells v b h) in
     omega arith
 
 -- a sum below its greatest value is the length of what was written
-pub counted : {E : Type 0} {gives : Error → E → Type 0} {V : Type 0} {F : Encoding → Format V} {v : V} {encoding at : Encoding} {least sum size answered : ℕ} {targets : List GName} {after : WriterState} {u : Unit {0}}
+pub counted : {E : Type 0} {gives : Error → E → Type 0} {V : Type 0} {F : Encoding → Format V} {v : V}
+    {encoding at : Encoding} {least sum size answered : ℕ} {targets : List GName} {after : WriterState} {u : Unit {0}}
     → Laws encoding.strict least (F encoding) → at ≡ encoding → sum ≡ 0 → answered ≡ size → answered < 2 ^ 64 - 1
     → Writes gives F v (Ok u) (counting_state at targets) after (λ b. CountAppends sum b size)
     → NeedsIn gives (F encoding) v (Ok answered)
-counted {gives = gives} {F = F} {v = v} {sum = sum} {size = size} {answered = answered} {targets = targets} {after = after} {u = u} laws same_encoding starts is less w =
-    let put = (subst (λ (f : Encoding). Writes gives F v (Ok u) (counting_state f targets) after (λ b. CountAppends sum b size)) same_encoding w).answer in
+counted {gives = gives} {F = F} {v = v} {sum = sum} {size = size} {answered = answered} {targets = targets}
+    {after = after} {u = u} laws same_encoding starts is less w =
+    let put =
+    (subst (λ (f : Encoding). Writes gives F v (Ok u) (counting_state f targets) after (λ b. CountAppends sum b size))
+    same_encoding w).answer in
     let long : answered ≡ length put.bytes = let e = put.is_appended in omega (arith, starts, is, less) in
     record {
       written = (put.bytes, put.is_written, long);
-      answers = λ bytes writes _. let same = one_length laws v put.bytes bytes put.is_written writes in omega (arith, long);
+      answers =
+          λ bytes writes _. let same = one_length laws v put.bytes bytes put.is_written writes in omega (arith, long);
       too_long = λ bytes writes past.
           let same = one_length laws v put.bytes bytes put.is_written writes in
           absurd (omega (arith, long));
@@ -42,18 +50,25 @@ counted {gives = gives} {F = F} {v = v} {sum = sum} {size = size} {answered = an
 -- ---- items, one by one
 
 -- one more item is counted
-pub one_more_counted : {A V : Type 0} {x : A} {sum size : ℕ} (writes : V → List ℕ → Type 0) (seen : A → V) (items : List A) (i : ℕ) → i < length items → x ≡ get_or items i x → CountsEach writes (map seen (take i items)) sum
-    → ((bytes : List ℕ) × writes (seen x) bytes × (size ≡ length bytes)) → CountsEach writes (map seen (take (i + 1) items)) (sum + size)
+pub one_more_counted : {A V : Type 0} {x : A} {sum size : ℕ} (writes : V → List ℕ → Type 0) (seen : A → V)
+    (items : List A) (i : ℕ) → i < length items → x ≡ get_or items i x → CountsEach writes (map seen (take i items)) sum
+    → ((bytes : List ℕ) × writes (seen x) bytes × (size ≡ length bytes))
+    → CountsEach writes (map seen (take (i + 1) items)) (sum + size)
 one_more_counted {x = x} writes seen items i within is h k = (
   h.0 ++ k.0,
-  subst (λ vs. Each writes vs (h.0 ++ k.0)) (sym (ap (map seen) (first_items items i within is) ∙ map-append seen (take i items) (x ∷ [])))
+  subst (λ vs. Each writes vs (h.0 ++ k.0))
+      (sym (ap (map seen) (first_items items i within is) ∙ map-append seen (take i items) (x ∷ [])))
       (each_more writes (map seen (take i items)) (seen x) h.0 k.0 h.1 k.1),
   let l = length-append h.0 k.0 in omega (arith, l, h.2, k.2),
 )
 
 -- a writer that counts the bytes of items does as it would in writing them
-pub items_counted : {E A V : Type 0} {gives : Error → E → Type 0} {F : Encoding → Format V} {least size : ℕ} {result : Result (Unit {0}) E} {old new : WriterState} {appended : List ℕ → Type 0} {encoding : Encoding} (seen : A → V) (items : List A)
-    → ((encoding : Encoding) → Laws encoding.strict least (F encoding)) → encoding ≡ old.encoding → CountsEach (F encoding).writes (map seen items) size → ((bytes : List ℕ) → length bytes ≡ size → WritesBytes gives bytes result old new appended)
+pub items_counted : {E A V : Type 0} {gives : Error → E → Type 0} {F : Encoding → Format V} {least size : ℕ}
+    {result : Result (Unit {0}) E} {old new : WriterState} {appended : List ℕ → Type 0} {encoding : Encoding}
+    (seen : A → V) (items : List A)
+    → ((encoding : Encoding) → Laws encoding.strict least (F encoding)) → encoding ≡ old.encoding
+    → CountsEach (F encoding).writes (map seen items) size
+    → ((bytes : List ℕ) → length bytes ≡ size → WritesBytes gives bytes result old new appended)
     → WritesEach gives F seen items result old new appended
 unfolding repeat
 items_counted {F = F} {size = size} {old = old} seen items laws same h told =
@@ -61,8 +76,11 @@ items_counted {F = F} {size = size} {old = old} seen items laws same h told =
     form_written (λ e. repeat_laws (laws e) (length items)) (length-map items seen, k.1) (told k.0 k.2)
 
 -- and of one
-pub item_counted : {E V : Type 0} {gives : Error → E → Type 0} {F : Encoding → Format V} {least size : ℕ} {result : Result (Unit {0}) E} {old new : WriterState} {appended : List ℕ → Type 0} {encoding : Encoding} {v : V}
-    → ((encoding : Encoding) → Laws encoding.strict least (F encoding)) → encoding ≡ old.encoding → ((bytes : List ℕ) × (F encoding).writes v bytes × (size ≡ length bytes)) → ((bytes : List ℕ) → length bytes ≡ size → WritesBytes gives bytes result old new appended)
+pub item_counted : {E V : Type 0} {gives : Error → E → Type 0} {F : Encoding → Format V} {least size : ℕ}
+    {result : Result (Unit {0}) E} {old new : WriterState} {appended : List ℕ → Type 0} {encoding : Encoding} {v : V}
+    → ((encoding : Encoding) → Laws encoding.strict least (F encoding)) → encoding ≡ old.encoding
+    → ((bytes : List ℕ) × (F encoding).writes v bytes × (size ≡ length bytes))
+    → ((bytes : List ℕ) → length bytes ≡ size → WritesBytes gives bytes result old new appended)
     → Writes gives F v result old new appended
 item_counted {F = F} {size = size} {v = v} laws same h told =
     let k = subst (λ (e : Encoding). (bytes : List ℕ) × (F e).writes v bytes × (size ≡ length bytes)) same h in
@@ -71,19 +89,29 @@ item_counted {F = F} {size = size} {v = v} laws same h told =
 -- ---- a writer whose context was lent
 
 -- what is written behind the one writer is written behind the other
-pub record StaysAs {W : Type 0} (state : W → WriterState) (appends : W → List ℕ → W → Type 0) (old new : W) : Type 0 where
+pub record StaysAs {W : Type 0} (state : W → WriterState) (appends : W → List ℕ → W → Type 0)
+    (old new : W) : Type 0 where
   pub state_is : state new ≡ state old
   pub joins : (bytes : List ℕ) (w : W) → appends new bytes w → appends old bytes w
 
-pub stays_same : {W : Type 0} {state : W → WriterState} {appends : W → List ℕ → W → Type 0} {old : W} → StaysAs state appends old old
+pub stays_same : {W : Type 0} {state : W → WriterState} {appends : W → List ℕ → W → Type 0} {old : W}
+    → StaysAs state appends old old
 stays_same = record { state_is = refl; joins = λ _ _ h. h }
 
 -- a writer that has its context back, with the encoding that this had, changes nothing that a write sees
-pub context_back : {W C : Type 0} {state : W → WriterState} {appends : W → List ℕ → W → Type 0} {with_context : W → C → W} (at : W → C) (encoding : C → Encoding)
-    → ((w : W) → (state w).encoding ≡ encoding (at w)) → ((w : W) (c : C) → state (with_context w c) ≡ record (state w) { encoding = encoding c }) → ((w : W) → appends w [] w)
-    → ((a b c : W) (s t : List ℕ) → appends a s b → appends b t c → appends a (s ++ t) c) → ((a b : W) (s : List ℕ) (c : C) → appends a s b → appends a s (with_context b c) × appends (with_context a c) s b)
-    → (w after : W) (lent c : C) → lent ≡ at w → encoding c ≡ encoding lent → after ≡ with_context w c → StaysAs state appends w after
-context_back {state = state} {appends = appends} {with_context = with_context} at encoding encoding_at state_with nothing additive appends_with w after lent c value kept is = subst (StaysAs state appends w) (sym is) (record {
-  state_is = state_with w c ∙ ap (λ e. record (state w) { encoding = e }) (kept ∙ (ap encoding value ∙ sym (encoding_at w)));
-  joins = λ bytes v h. additive w (with_context w c) v [] bytes (appends_with w w [] c (nothing w)).0 h;
-})
+pub context_back : {W C : Type 0} {state : W → WriterState} {appends : W → List ℕ → W → Type 0}
+    {with_context : W → C → W} (at : W → C) (encoding : C → Encoding)
+    → ((w : W) → (state w).encoding ≡ encoding (at w))
+    → ((w : W) (c : C) → state (with_context w c) ≡ record (state w) { encoding = encoding c })
+    → ((w : W) → appends w [] w)
+    → ((a b c : W) (s t : List ℕ) → appends a s b → appends b t c → appends a (s ++ t) c)
+    → ((a b : W) (s : List ℕ) (c : C) → appends a s b → appends a s (with_context b c) × appends (with_context a c) s b)
+    → (w after : W) (lent c : C) → lent ≡ at w → encoding c ≡ encoding lent → after ≡ with_context w c
+    → StaysAs state appends w after
+context_back {state = state} {appends = appends} {with_context = with_context} at encoding encoding_at state_with
+    nothing additive appends_with w after lent c value kept is = subst (StaysAs state appends w) (sym is) (record {
+      state_is =
+          state_with w c
+          ∙ ap (λ e. record (state w) { encoding = e }) (kept ∙ (ap encoding value ∙ sym (encoding_at w)));
+      joins = λ bytes v h. additive w (with_context w c) v [] bytes (appends_with w w [] c (nothing w)).0 h;
+    })

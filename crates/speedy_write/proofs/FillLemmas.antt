@@ -22,7 +22,9 @@ none_grown faults same grown =
 
 module _ {E : Type 0} {gives : Error → E → Type 0} {V : Type 0} {F : Encoding → Format V} {v : V} where
   -- a write into a buffer that has the room is never refused
-  never_refused : {encoding : Encoding} {targets : List GName} {room : ℕ} {e : E} {after : WriterState} {appended : List ℕ → Type 0} (bytes : List ℕ) → (F encoding).writes v bytes → length bytes ≤ room → after.faults ≡ no_faults → Writes gives F v (Err e) (buffer_state encoding targets room) after appended → ⊥
+  never_refused : {encoding : Encoding} {targets : List GName} {room : ℕ} {e : E} {after : WriterState}
+      {appended : List ℕ → Type 0} (bytes : List ℕ) → (F encoding).writes v bytes → length bytes ≤ room
+      → after.faults ≡ no_faults → Writes gives F v (Err e) (buffer_state encoding targets room) after appended → ⊥
   never_refused {after = after} bytes writes fit none w =
       elim w.answer.because [
         | inl h ↦ none_grown after.faults none h.0
@@ -30,26 +32,45 @@ module _ {E : Type 0} {gives : Error → E → Type 0} {V : Type 0} {F : Encodin
       ]
 
   -- a write into the whole of a buffer, whatever its state was called
-  module _ {encoding at : Encoding} {targets : List GName} {p q : ℕ} {old A B : List ℕ} {after : WriterState} (same_encoding : at ≡ encoding) (same_buffer : A ≡ old) (starts : p ≡ 0) where
-    restated : {result : Result (Unit {0}) E} → Writes gives F v result (buffer_state at targets (length A - p)) after (λ b. BufferAppends p A b q B) → Writes gives F v result (buffer_state encoding targets (length old)) after (λ b. BufferAppends 0 old b q B)
+  module _ {encoding at : Encoding} {targets : List GName} {p q : ℕ} {old A B : List ℕ} {after : WriterState}
+      (same_encoding : at ≡ encoding) (same_buffer : A ≡ old) (starts : p ≡ 0) where
+    restated : {result : Result (Unit {0}) E}
+        → Writes gives F v result (buffer_state at targets (length A - p)) after (λ b. BufferAppends p A b q B)
+        → Writes gives F v result (buffer_state encoding targets (length old)) after (λ b. BufferAppends 0 old b q B)
     restated {result = result} w =
-        let x = subst (λ (f : Encoding). Writes gives F v result (buffer_state f targets (length A - p)) after (λ b. BufferAppends p A b q B)) same_encoding w in
-        let y = subst (λ (a : List ℕ). Writes gives F v result (buffer_state encoding targets (length a - p)) after (λ b. BufferAppends p a b q B)) same_buffer x in
-        let z = subst (λ (m : ℕ). Writes gives F v result (buffer_state encoding targets (length old - m)) after (λ b. BufferAppends m old b q B)) starts y in
-        subst (λ (room : ℕ). Writes gives F v result (buffer_state encoding targets room) after (λ b. BufferAppends 0 old b q B)) (let e : length old - 0 ≡ length old = omega arith in e) z
+        let x =
+        subst (λ (f : Encoding). Writes gives F v result (buffer_state f targets (length A - p)) after
+        (λ b. BufferAppends p A b q B)) same_encoding w in
+        let y =
+        subst (λ (a : List ℕ). Writes gives F v result (buffer_state encoding targets (length a - p)) after
+        (λ b. BufferAppends p a b q B)) same_buffer x in
+        let z =
+        subst (λ (m : ℕ). Writes gives F v result (buffer_state encoding targets (length old - m)) after
+        (λ b. BufferAppends m old b q B)) starts y in
+        subst (λ (room : ℕ). Writes gives F v result (buffer_state encoding targets room) after
+        (λ b. BufferAppends 0 old b q B)) (let e : length old - 0 ≡ length old = omega arith in e) z
 
     -- it succeeds where a written form fits
-    pub fill_succeeds : (bytes : List ℕ) (result : Result (Unit {0}) E) → (F encoding).writes v bytes → length bytes ≤ length old → after.faults ≡ no_faults → Writes gives F v result (buffer_state at targets (length A - p)) after (λ b. BufferAppends p A b q B) → IsOk result
+    pub fill_succeeds : (bytes : List ℕ) (result : Result (Unit {0}) E) → (F encoding).writes v bytes
+        → length bytes ≤ length old → after.faults ≡ no_faults
+        → Writes gives F v result (buffer_state at targets (length A - p)) after (λ b. BufferAppends p A b q B)
+        → IsOk result
     fill_succeeds bytes (Ok u) writes fit none w = refl
     fill_succeeds bytes (Err e) writes fit none w = absurd (never_refused bytes writes fit none (restated w))
 
     -- and what it puts stands at the front
-    pub fill_stands : {least : ℕ} {new : List ℕ} (result : Result (Unit {0}) E) → ((encoding : Encoding) → Laws encoding.strict least (F encoding)) → IsOk result → new ≡ B → Writes gives F v result (buffer_state at targets (length A - p)) after (λ b. BufferAppends p A b q B) → Stands (F encoding) v old new
+    pub fill_stands : {least : ℕ} {new : List ℕ} (result : Result (Unit {0}) E)
+        → ((encoding : Encoding) → Laws encoding.strict least (F encoding)) → IsOk result → new ≡ B
+        → Writes gives F v result (buffer_state at targets (length A - p)) after (λ b. BufferAppends p A b q B)
+        → Stands (F encoding) v old new
     fill_stands (Ok u) laws ok same w =
         let put = (restated w).answer in
         record {
           bytes = put.bytes;
-          is_shortest = record { is_written = put.is_written; shortest = λ others k. (laws encoding).shortest v put.bytes others put.is_written k };
+          is_shortest = record {
+            is_written = put.is_written;
+            shortest = λ others k. (laws encoding).shortest v put.bytes others put.is_written k;
+          };
           new_is = same ∙ put_in_front refl refl put.is_appended;
         }
     fill_stands (Err e) laws ok same w = absurd (cc)

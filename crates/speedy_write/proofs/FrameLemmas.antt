@@ -40,13 +40,15 @@ framed_spells : {V : Type 0} (f : Encoding) (number : Format ℕ) {F : Format V}
     → (bytes front : List ℕ) × F.spells v bytes × AreCounted bytes × number.spells (length bytes) front
 unfolding frame coding sequence
 framed_spells f number {F = F} laws v b h =
-    let means = Accepts-means f.strict (frame_code F) h.code v (λ k. (laws.written_spells v h.code k.0, k.1)) h.stands in
+    let means =
+    Accepts-means f.strict (frame_code F) h.code v (λ k. (laws.written_spells v h.code k.0, k.1)) h.stands in
     (h.code, h.code_is.front, means.0, means.1, h.code_is.first_is)
 
 module _ {E V : Type 0} {gives : Error → E → Type 0} (numbers : Numbers) (value : Codec V) {v : V}
     {old : WriterState} {appended : List ℕ → Type 0} where
   -- the number of a value's bytes and then the value are written as its frame
-  pub frame_written : {n : ℕ} {new : WriterState} {result : Result (Unit {0}) E} → Takes (value.format old.encoding) v n → n < 2 ^ 64 - 1
+  pub frame_written : {n : ℕ} {new : WriterState} {result : Result (Unit {0}) E} → Takes (value.format old.encoding) v n
+      → n < 2 ^ 64 - 1
       → Writes gives (λ f. numbered (numbers.codec.format f) (value.format f)) (n, v) result old new appended
       → Writes gives (frame_behind value numbers).format v result old new appended
   unfolding frame coding sequence raw_bytes

@@ -1,9 +1,11 @@
 -- Items are written one after the other.
-use Rattle.std.specs.Prelude.{◌≡◌, ℕ, suc, ◌+◌, ◌<◌, List, [], ◌∷◌, ◌++◌, length, map, take, drop, Result, Ok, Err, IsErrAnd, refl}
+use Rattle.std.specs.Prelude.{◌≡◌, ℕ, suc, ◌+◌, ◌<◌, List, [], ◌∷◌, ◌++◌, length, map, take, drop, Result, Ok, Err}
+use Rattle.std.specs.Prelude.{IsErrAnd, refl}
 use Rattle.std.proofs.Common.{sym, ◌∙◌, ap, ap₂, subst, inl, inr}
 use Rattle.std.proofs.Math.ListN.{get_or}
 use Rattle.std.proofs.Math.Seq.{drop-cons}
-use Rattle.std.proofs.lemmas.List.{append_assoc, append-nil, length-map, map-append, map-id, take_more, take-append-drop}
+use Rattle.std.proofs.lemmas.List.{append_assoc, append-nil, length-map, map-append, map-id, take_more}
+use Rattle.std.proofs.lemmas.List.{take-append-drop}
 use Rattle.speedy_base.specs.declared.error.Error.{Error}
 use Rattle.speedy_base.specs.declared.endianness.Endianness.{Endianness}
 use Rattle.speedy_base.specs.Digits.{AreBytes}
@@ -17,11 +19,13 @@ use Rattle.speedy_layout.specs.Sequences.{sequence, Parts-as}
 use Rattle.speedy_layout.specs.Texts.{each_byte}
 use Rattle.speedy_layout.specs.Tuples.{pair}
 use Rattle.speedy_write.specs.Writing.{WriterState, Writes, WritesEach, WritesBytes}
-use Rattle.speedy_write.specs.Sequences.{Kept-same, Kept-after, Put-as, Put-nothing, Put-both, Writes-as, Writes-at, is_sequence, first_refused, second_written, form_written}
+use Rattle.speedy_write.specs.Sequences.{Kept-same, Kept-after, Put-as, Put-nothing, Put-both, Writes-as, Writes-at}
+use Rattle.speedy_write.specs.Sequences.{is_sequence, first_refused, second_written, form_written}
 
 module _ {V : Type 0} (R : V → List ℕ → Type 0) where
   pub Each-append : (xs ys : List V) (b : List ℕ) → Parts (Each R xs) (Each R ys) b → Each R (xs ++ ys) b
-  Each-append xs ys b p = subst (Each R (xs ++ ys)) (sym p.whole_is) (each_append R xs ys p.front p.back p.first_is p.second_is)
+  Each-append xs ys b p =
+      subst (Each R (xs ++ ys)) (sym p.whole_is) (each_append R xs ys p.front p.back p.first_is p.second_is)
 
   pub Each-parts : (xs ys : List V) (b : List ℕ) → Each R (xs ++ ys) b → Parts (Each R xs) (Each R ys) b
   Each-parts [] ys b h = record { front = []; back = b; whole_is = refl; first_is = refl; second_is = h }
@@ -31,7 +35,13 @@ module _ {V : Type 0} (R : V → List ℕ → Type 0) where
         front = h.front ++ r.front;
         back = r.back;
         whole_is = h.whole_is ∙ (ap (λ z. h.front ++ z) r.whole_is ∙ sym (append_assoc h.front r.front r.back));
-        first_is = record { front = h.front; back = r.front; whole_is = refl; first_is = h.first_is; second_is = r.first_is };
+        first_is = record {
+          front = h.front;
+          back = r.front;
+          whole_is = refl;
+          first_is = h.first_is;
+          second_is = r.first_is;
+        };
         second_is = r.second_is;
       }
 
@@ -40,31 +50,45 @@ module _ {V : Type 0} (R : V → List ℕ → Type 0) where
 
   -- the items before one, that one, and those after it
   abbrev Three : ℕ → List V → V → List V → List ℕ → Type 0
-  Three n vs v rest = Parts (λ b. (length vs ≡ n) × Each R vs b) (Parts (R v) (λ b. (length rest ≡ length rest) × Each R rest b))
+  Three n vs v rest =
+      Parts (λ b. (length vs ≡ n) × Each R vs b) (Parts (R v) (λ b. (length rest ≡ length rest) × Each R rest b))
 
-  Three-each : (n : ℕ) (vs : List V) (v : V) (rest : List V) (b : List ℕ) → Three n vs v rest b → Each R (vs ++ v ∷ rest) b
+  Three-each : (n : ℕ) (vs : List V) (v : V) (rest : List V) (b : List ℕ) → Three n vs v rest b
+      → Each R (vs ++ v ∷ rest) b
   Three-each n vs v rest b h =
       Each-append vs (v ∷ rest) b (Parts-as (λ s k. k.1) (λ s k. Parts-as (λ t l. l) (λ t l. l.1) k) h)
 
-  Each-three : (n : ℕ) (vs : List V) (v : V) (rest : List V) (b : List ℕ) → length vs ≡ n → Each R (vs ++ v ∷ rest) b → Three n vs v rest b
+  Each-three : (n : ℕ) (vs : List V) (v : V) (rest : List V) (b : List ℕ) → length vs ≡ n → Each R (vs ++ v ∷ rest) b
+      → Three n vs v rest b
   Each-three n vs v rest b l h =
       Parts-as (λ s k. (l, k)) (λ s k. Parts-as (λ t m. m) (λ t m. (refl, m)) k) (Each-parts vs (v ∷ rest) b h)
 
 -- the items as far as the next one, and all of them
-pub first_items : {A : Type 0} (items : List A) (i : ℕ) {x : A} → i < length items → x ≡ get_or items i x → take (i + 1) items ≡ take i items ++ x ∷ []
+pub first_items : {A : Type 0} (items : List A) (i : ℕ) {x : A} → i < length items → x ≡ get_or items i x
+    → take (i + 1) items ≡ take i items ++ x ∷ []
 first_items items i {x} within is = take_more items i x within ∙ ap (λ y. take i items ++ y ∷ []) (sym is)
 
-all_items : {A : Type 0} (items : List A) (i : ℕ) {x : A} → i < length items → x ≡ get_or items i x → take i items ++ x ∷ drop (suc i) items ≡ items
-all_items items i {x} within is = ap (λ y. take i items ++ y ∷ drop (suc i) items) is ∙ (ap (λ y. take i items ++ y) (sym (drop-cons items i x within)) ∙ take-append-drop i items)
+all_items : {A : Type 0} (items : List A) (i : ℕ) {x : A} → i < length items → x ≡ get_or items i x
+    → take i items ++ x ∷ drop (suc i) items ≡ items
+all_items items i {x} within is = ap (λ y. take i items ++ y ∷ drop (suc i) items) is
+    ∙ (ap (λ y. take i items ++ y) (sym (drop-cons items i x within)) ∙ take-append-drop i items)
 
 -- no item is written yet
-pub no_items_written : {E : Type 0} {gives : Error → E → Type 0} {A V : Type 0} {old : WriterState} {appended : List ℕ → Type 0} (F : Encoding → Format V) (seen : A → V) → appended [] → WritesEach gives F seen [] (Ok tt) old old appended
+pub no_items_written : {E : Type 0} {gives : Error → E → Type 0} {A V : Type 0} {old : WriterState}
+    {appended : List ℕ → Type 0} (F : Encoding → Format V) (seen : A → V) → appended []
+    → WritesEach gives F seen [] (Ok tt) old old appended
 unfolding repeat
-no_items_written {old = old} F seen h = record { kept = Kept-same old; answer = Put-as (λ b k. (refl, k)) (Put-nothing old h) }
+no_items_written {old = old} F seen h = record {
+  kept = Kept-same old;
+  answer = Put-as (λ b k. (refl, k)) (Put-nothing old h);
+}
 
-module _ {E : Type 0} {gives : Error → E → Type 0} {A V : Type 0} {F : Encoding → Format V} {old mid new : WriterState} {front back whole : List ℕ → Type 0} (join : (a b : List ℕ) → front a → back b → whole (a ++ b)) (seen : A → V) (xs : List A) (x : A) where
+module _ {E : Type 0} {gives : Error → E → Type 0} {A V : Type 0} {F : Encoding → Format V} {old mid new : WriterState}
+    {front back whole : List ℕ → Type 0} (join : (a b : List ℕ) → front a → back b → whole (a ++ b)) (seen : A → V)
+    (xs : List A) (x : A) where
   -- one more item is written
-  pub next_written : {done : Unit {0}} → WritesEach gives F seen xs (Ok tt) old mid front → Writes gives F (seen x) (Ok done) mid new back → WritesEach gives F seen (xs ++ x ∷ []) (Ok tt) old new whole
+  pub next_written : {done : Unit {0}} → WritesEach gives F seen xs (Ok tt) old mid front
+      → Writes gives F (seen x) (Ok done) mid new back → WritesEach gives F seen (xs ++ x ∷ []) (Ok tt) old new whole
   unfolding repeat
   next_written h w =
       let R = (F old.encoding).writes in
@@ -73,18 +97,29 @@ module _ {E : Type 0} {gives : Error → E → Type 0} {A V : Type 0} {F : Encod
       let all = Put-as (Each-append R vs (seen x ∷ [])) (Put-both join (Put-as (λ b k. k.1) h.answer) item) in
       record {
         kept = Kept-after h.kept w.kept;
-        answer = Put-as (λ b k. (length-map (xs ++ x ∷ []) seen, subst (λ (us : List V). Each R us b) (sym (map-append seen xs (x ∷ []))) k)) all;
+        answer = Put-as (λ b k. (
+          length-map (xs ++ x ∷ []) seen,
+          subst (λ (us : List V). Each R us b) (sym (map-append seen xs (x ∷ []))) k,
+        )) all;
       }
 
   -- where the next item is refused, the items before it, that one and others after it are
-  three_refused : {least : ℕ} {e : E} {result : Result (Unit {0}) E} → ((encoding : Encoding) → Laws encoding.strict least (F encoding)) → IsErrAnd result (λ r. r ≡ e) → WritesEach gives F seen xs (Ok tt) old mid front → Writes gives F (seen x) (Err e) mid new back → (ys : List A)
-      → let rest : List V = map seen ys in let n = length xs in Writes gives (λ encoding. pair (repeat n (F encoding)) (pair (F encoding) (repeat (length rest) (F encoding)))) (map seen xs, (seen x, rest)) result old new whole
+  three_refused : {least : ℕ} {e : E} {result : Result (Unit {0}) E}
+      → ((encoding : Encoding) → Laws encoding.strict least (F encoding)) → IsErrAnd result (λ r. r ≡ e)
+      → WritesEach gives F seen xs (Ok tt) old mid front → Writes gives F (seen x) (Err e) mid new back → (ys : List A)
+      → let rest : List V = map seen ys in
+      let n = length xs in
+      Writes gives (λ encoding. pair (repeat n (F encoding)) (pair (F encoding) (repeat (length rest) (F encoding))))
+      (map seen xs, (seen x, rest)) result old new whole
   three_refused laws passed h w ys =
-      second_written is_sequence refl (λ encoding. repeat_laws (laws encoding) (length xs)) join h (first_refused is_sequence refl passed w)
+      second_written is_sequence refl (λ encoding. repeat_laws (laws encoding) (length xs)) join h
+      (first_refused is_sequence refl passed w)
 
   -- and so is their list
-  pub next_refused : {least : ℕ} {e : E} {result : Result (Unit {0}) E} → ((encoding : Encoding) → Laws encoding.strict least (F encoding)) → IsErrAnd result (λ r. r ≡ e)
-      → WritesEach gives F seen xs (Ok tt) old mid front → Writes gives F (seen x) (Err e) mid new back → (ys : List A) → WritesEach gives F seen (xs ++ x ∷ ys) result old new whole
+  pub next_refused : {least : ℕ} {e : E} {result : Result (Unit {0}) E}
+      → ((encoding : Encoding) → Laws encoding.strict least (F encoding)) → IsErrAnd result (λ r. r ≡ e)
+      → WritesEach gives F seen xs (Ok tt) old mid front → Writes gives F (seen x) (Err e) mid new back → (ys : List A)
+      → WritesEach gives F seen (xs ++ x ∷ ys) result old new whole
   unfolding repeat sequence
   next_refused laws passed h w ys =
       let n = length xs in
@@ -92,31 +127,54 @@ module _ {E : Type 0} {gives : Error → E → Type 0} {A V : Type 0} {F : Encod
       let rest = map seen ys in
       let parts : map seen (xs ++ x ∷ ys) ≡ vs ++ seen x ∷ rest = map-append seen xs (x ∷ ys) in
       let R = (F old.encoding).writes in
-      let turned : (S : V → List ℕ → Type 0) (b : List ℕ) → Each S (map seen (xs ++ x ∷ ys)) b → Three S n vs (seen x) rest b = λ S b k. Each-three S n vs (seen x) rest b (length-map xs seen) (subst (λ (us : List V). Each S us b) parts k) in
+      let turned : (S : V → List ℕ → Type 0) (b : List ℕ) → Each S (map seen (xs ++ x ∷ ys)) b
+      → Three S n vs (seen x) rest b =
+      λ S b k. Each-three S n vs (seen x) rest b (length-map xs seen) (subst (λ (us : List V). Each S us b) parts k) in
       Writes-as (λ kind k. elim k [ inl y ↦ y | inr y ↦ elim y.1 [ inl z ↦ z | inr z ↦ z.1 ] ])
-      (λ b k. (length-map (xs ++ x ∷ ys) seen, subst (λ (us : List V). Each R us b) (sym parts) (Three-each R n vs (seen x) rest b k)))
-      (λ b k. (b, turned R b k.1, refl)) (λ b k. (b, turned (F old.encoding).spells b k.1)) (three_refused laws passed h w ys)
+      (λ b k. (
+        length-map (xs ++ x ∷ ys) seen,
+        subst (λ (us : List V). Each R us b) (sym parts) (Three-each R n vs (seen x) rest b k),
+      ))
+      (λ b k. (b, turned R b k.1, refl)) (λ b k. (b, turned (F old.encoding).spells b k.1))
+      (three_refused laws passed h w ys)
 
 -- items are written after others
-module _ {E : Type 0} {gives : Error → E → Type 0} {A V : Type 0} (F : Encoding → Format V) {old mid new : WriterState} {front back whole : List ℕ → Type 0} (join : (a b : List ℕ) → front a → back b → whole (a ++ b)) (seen : A → V) (xs ys : List A) where
-  pub more_written : {done : Unit {0}} → WritesEach gives F seen xs (Ok tt) old mid front → WritesEach gives F seen ys (Ok done) mid new back → WritesEach gives F seen (xs ++ ys) (Ok tt) old new whole
+module _ {E : Type 0} {gives : Error → E → Type 0} {A V : Type 0} (F : Encoding → Format V) {old mid new : WriterState}
+    {front back whole : List ℕ → Type 0} (join : (a b : List ℕ) → front a → back b → whole (a ++ b)) (seen : A → V)
+    (xs ys : List A) where
+  pub more_written : {done : Unit {0}} → WritesEach gives F seen xs (Ok tt) old mid front
+      → WritesEach gives F seen ys (Ok done) mid new back → WritesEach gives F seen (xs ++ ys) (Ok tt) old new whole
   unfolding repeat
   more_written h w =
       let R = (F old.encoding).writes in
-      let all = Put-as (Each-append R (map seen xs) (map seen ys)) (Put-both join (Put-as (λ b k. k.1) h.answer) (Put-as (λ b k. k.1) (Writes-at h.kept w).answer)) in
+      let all = Put-as (Each-append R (map seen xs) (map seen ys))
+      (Put-both join (Put-as (λ b k. k.1) h.answer) (Put-as (λ b k. k.1) (Writes-at h.kept w).answer)) in
       record {
         kept = Kept-after h.kept w.kept;
-        answer = Put-as (λ b k. (length-map (xs ++ ys) seen, subst (λ (us : List V). Each R us b) (sym (map-append seen xs ys)) k)) all;
+        answer = Put-as (λ b k. (
+          length-map (xs ++ ys) seen,
+          subst (λ (us : List V). Each R us b) (sym (map-append seen xs ys)) k,
+        )) all;
       }
 
 -- the same of the items of a list that stand before an index, and of the one that stands there
-module _ {E : Type 0} {gives : Error → E → Type 0} {A V : Type 0} {F : Encoding → Format V} {x : A} {old mid new : WriterState} {front back whole : List ℕ → Type 0} (join : (a b : List ℕ) → front a → back b → whole (a ++ b)) (seen : A → V) (items : List A) (i : ℕ) (within : i < length items) (is : x ≡ get_or items i x) where
-  pub one_more_written : {done : Unit {0}} → WritesEach gives F seen (take i items) (Ok tt) old mid front → Writes gives F (seen x) (Ok done) mid new back → WritesEach gives F seen (take (i + 1) items) (Ok tt) old new whole
-  one_more_written h w = subst (λ (us : List A). WritesEach gives F seen us (Ok tt) old new whole) (sym (first_items items i within is)) (next_written join seen (take i items) x h w)
+module _ {E : Type 0} {gives : Error → E → Type 0} {A V : Type 0} {F : Encoding → Format V} {x : A}
+    {old mid new : WriterState} {front back whole : List ℕ → Type 0}
+    (join : (a b : List ℕ) → front a → back b → whole (a ++ b)) (seen : A → V) (items : List A) (i : ℕ)
+    (within : i < length items) (is : x ≡ get_or items i x) where
+  pub one_more_written : {done : Unit {0}} → WritesEach gives F seen (take i items) (Ok tt) old mid front
+      → Writes gives F (seen x) (Ok done) mid new back
+      → WritesEach gives F seen (take (i + 1) items) (Ok tt) old new whole
+  one_more_written h w = subst (λ (us : List A). WritesEach gives F seen us (Ok tt) old new whole)
+      (sym (first_items items i within is)) (next_written join seen (take i items) x h w)
 
-  pub items_refused : {least : ℕ} {e : E} {result : Result (Unit {0}) E} → ((encoding : Encoding) → Laws encoding.strict least (F encoding)) → IsErrAnd result (λ r. r ≡ e)
-      → WritesEach gives F seen (take i items) (Ok tt) old mid front → Writes gives F (seen x) (Err e) mid new back → WritesEach gives F seen items result old new whole
-  items_refused {result = result} laws passed h w = subst (λ (us : List A). WritesEach gives F seen us result old new whole) (all_items items i within is) (next_refused join seen (take i items) x laws passed h w (drop (suc i) items))
+  pub items_refused : {least : ℕ} {e : E} {result : Result (Unit {0}) E}
+      → ((encoding : Encoding) → Laws encoding.strict least (F encoding)) → IsErrAnd result (λ r. r ≡ e)
+      → WritesEach gives F seen (take i items) (Ok tt) old mid front → Writes gives F (seen x) (Err e) mid new back
+      → WritesEach gives F seen items result old new whole
+  items_refused {result = result} laws passed h w =
+      subst (λ (us : List A). WritesEach gives F seen us result old new whole) (all_items items i within is)
+      (next_refused join seen (take i items) x laws passed h w (drop (suc i) items))
 
 -- ---- some items, and others after them
 
@@ -131,12 +189,16 @@ module _ {V : Type 0} (R : V → List ℕ → Type 0) (n : ℕ) (vs more : List 
   Each-two : length vs ≡ n → Each R (vs ++ more) b → Two
   Each-two l h = Parts-as (λ s k. (l, k)) (λ s k. (refl, k)) (Each-parts R vs more b h)
 
-module _ {E V : Type 0} {gives : Error → E → Type 0} {e : E} {old new : WriterState} {appended : List ℕ → Type 0} (F : Encoding → Format V) (n : ℕ) (vs more : List V) where
-  two_refused : Writes gives (λ encoding. repeat n (F encoding)) vs (Err e) old new appended → Writes gives (λ encoding. pair (repeat n (F encoding)) (repeat (length more) (F encoding))) (vs, more) (Err e) old new appended
+module _ {E V : Type 0} {gives : Error → E → Type 0} {e : E} {old new : WriterState} {appended : List ℕ → Type 0}
+    (F : Encoding → Format V) (n : ℕ) (vs more : List V) where
+  two_refused : Writes gives (λ encoding. repeat n (F encoding)) vs (Err e) old new appended
+      → Writes gives (λ encoding. pair (repeat n (F encoding)) (repeat (length more) (F encoding))) (vs, more) (Err e)
+      old new appended
   two_refused w = first_refused is_sequence refl refl w
 
   -- where the first items are refused, all are
-  pub first_items_refused : length vs ≡ n → Writes gives (λ encoding. repeat n (F encoding)) vs (Err e) old new appended → Writes gives (λ encoding. repeat (length (vs ++ more)) (F encoding)) (vs ++ more) (Err e) old new appended
+  pub first_items_refused : length vs ≡ n → Writes gives (λ encoding. repeat n (F encoding)) vs (Err e) old new appended
+      → Writes gives (λ encoding. repeat (length (vs ++ more)) (F encoding)) (vs ++ more) (Err e) old new appended
   unfolding repeat sequence
   first_items_refused l w =
       Writes-as (λ kind k. elim k [ inl y ↦ y | inr y ↦ y.1 ])
@@ -145,14 +207,22 @@ module _ {E V : Type 0} {gives : Error → E → Type 0} {e : E} {old new : Writ
       (λ b k. (b, Each-two (F old.encoding).spells n vs more b l k.1)) (two_refused w)
 
 -- some items are written, others after them are refused, and so are all
-module _ {E : Type 0} {gives : Error → E → Type 0} {A V : Type 0} {F : Encoding → Format V} {old mid new : WriterState} {front back whole : List ℕ → Type 0} (join : (a b : List ℕ) → front a → back b → whole (a ++ b)) (seen : A → V) (xs ys more : List A) {e : E} where
-  both_refused : {least : ℕ} → ((encoding : Encoding) → Laws encoding.strict least (F encoding)) → WritesEach gives F seen xs (Ok tt) old mid front → WritesEach gives F seen ys (Err e) mid new back
-      → let rest : List V = map seen ys ++ map seen more in Writes gives (λ encoding. pair (repeat (length xs) (F encoding)) (repeat (length rest) (F encoding))) (map seen xs, rest) (Err e) old new whole
+module _ {E : Type 0} {gives : Error → E → Type 0} {A V : Type 0} {F : Encoding → Format V} {old mid new : WriterState}
+    {front back whole : List ℕ → Type 0} (join : (a b : List ℕ) → front a → back b → whole (a ++ b)) (seen : A → V)
+    (xs ys more : List A) {e : E} where
+  both_refused : {least : ℕ} → ((encoding : Encoding) → Laws encoding.strict least (F encoding))
+      → WritesEach gives F seen xs (Ok tt) old mid front → WritesEach gives F seen ys (Err e) mid new back
+      → let rest : List V = map seen ys ++ map seen more in
+      Writes gives (λ encoding. pair (repeat (length xs) (F encoding)) (repeat (length rest) (F encoding)))
+      (map seen xs, rest) (Err e) old new whole
   both_refused laws h w =
-      second_written is_sequence refl (λ encoding. repeat_laws (laws encoding) (length xs)) join h (first_items_refused F (length ys) (map seen ys) (map seen more) (length-map ys seen) w)
+      second_written is_sequence refl (λ encoding. repeat_laws (laws encoding) (length xs)) join h
+      (first_items_refused F (length ys) (map seen ys) (map seen more) (length-map ys seen) w)
 
-  pub later_items_refused : {least : ℕ} {result : Result (Unit {0}) E} → ((encoding : Encoding) → Laws encoding.strict least (F encoding)) → IsErrAnd result (λ r. r ≡ e)
-      → WritesEach gives F seen xs (Ok tt) old mid front → WritesEach gives F seen ys (Err e) mid new back → WritesEach gives F seen (xs ++ (ys ++ more)) result old new whole
+  pub later_items_refused : {least : ℕ} {result : Result (Unit {0}) E}
+      → ((encoding : Encoding) → Laws encoding.strict least (F encoding)) → IsErrAnd result (λ r. r ≡ e)
+      → WritesEach gives F seen xs (Ok tt) old mid front → WritesEach gives F seen ys (Err e) mid new back
+      → WritesEach gives F seen (xs ++ (ys ++ more)) result old new whole
   unfolding repeat sequence
   later_items_refused {result = result} laws passed h w =
       let n = length xs in
@@ -161,39 +231,62 @@ module _ {E : Type 0} {gives : Error → E → Type 0} {A V : Type 0} {F : Encod
       let all = map seen (xs ++ (ys ++ more)) in
       let R = (F old.encoding).writes in
       let parts : all ≡ vs ++ rest = map-append seen xs (ys ++ more) ∙ ap (λ us. vs ++ us) (map-append seen ys more) in
-      let turned : (S : V → List ℕ → Type 0) (b : List ℕ) → Each S all b → Two S n vs rest b = λ S b k. Each-two S n vs rest b (length-map xs seen) (subst (λ (us : List V). Each S us b) parts k) in
+      let turned : (S : V → List ℕ → Type 0) (b : List ℕ) → Each S all b → Two S n vs rest b =
+      λ S b k. Each-two S n vs rest b (length-map xs seen) (subst (λ (us : List V). Each S us b) parts k) in
       let refused : WritesEach gives F seen (xs ++ (ys ++ more)) (Err e) old new whole =
       Writes-as (λ kind k. elim k [ inl y ↦ y | inr y ↦ y.1 ])
-      (λ b k. (length-map (xs ++ (ys ++ more)) seen, subst (λ (us : List V). Each R us b) (sym parts) (Two-each R n vs rest b k)))
+      (λ b k. (
+        length-map (xs ++ (ys ++ more)) seen,
+        subst (λ (us : List V). Each R us b) (sym parts) (Two-each R n vs rest b k),
+      ))
       (λ b k. (b, turned R b k.1, refl)) (λ b k. (b, turned (F old.encoding).spells b k.1)) (both_refused laws h w) in
-      subst (λ (r : Result (Unit {0}) E). WritesEach gives F seen (xs ++ (ys ++ more)) r old new whole) (passed_on result e passed) refused
+      subst (λ (r : Result (Unit {0}) E). WritesEach gives F seen (xs ++ (ys ++ more)) r old new whole)
+      (passed_on result e passed) refused
 
 -- ---- values, by chunks of their bytes
 
 -- a chunk is cut off the rest
-pub cut_off : {A : Type 0} {items some more : List A} (rest done : List A) (n : ℕ) → some ≡ take n rest → more ≡ drop n rest → items ≡ done ++ rest → items ≡ done ++ (some ++ more)
+pub cut_off : {A : Type 0} {items some more : List A} (rest done : List A) (n : ℕ) → some ≡ take n rest
+    → more ≡ drop n rest → items ≡ done ++ rest → items ≡ done ++ (some ++ more)
 cut_off rest done n front back is = is ∙ ap (λ us. done ++ us) (sym (ap₂ ◌++◌ front back ∙ take-append-drop n rest))
 
-module _ {E A V : Type 0} {gives : Error → E → Type 0} {F : Encoding → Format V} {least : ℕ} {mid new : WriterState} {back : List ℕ → Type 0} {order : Endianness} (laws : (encoding : Encoding) → Laws encoding.strict least (F encoding)) (seen : A → V) (some : List A) {b : List ℕ} (same : order ≡ mid.encoding.order)
+module _ {E A V : Type 0} {gives : Error → E → Type 0} {F : Encoding → Format V} {least : ℕ} {mid new : WriterState}
+    {back : List ℕ → Type 0} {order : Endianness}
+    (laws : (encoding : Encoding) → Laws encoding.strict least (F encoding)) (seen : A → V) (some : List A) {b : List ℕ}
+    (same : order ≡ mid.encoding.order)
     (put : (encoding : Encoding) → order ≡ encoding.order → Each (F encoding).writes (map seen some) b) where
   -- the bytes of values are written as they are
-  pub values_are_written : {result : Result (Unit {0}) E} → WritesBytes gives b result mid new back → WritesEach gives F seen some result mid new back
+  pub values_are_written : {result : Result (Unit {0}) E} → WritesBytes gives b result mid new back
+      → WritesEach gives F seen some result mid new back
   unfolding repeat
-  values_are_written w = form_written (λ e. repeat_laws (laws e) (length some)) (length-map some seen, put mid.encoding same) w
+  values_are_written w =
+      form_written (λ e. repeat_laws (laws e) (length some)) (length-map some seen, put mid.encoding same) w
 
-  module _ {old : WriterState} {front whole : List ℕ → Type 0} (join : (a b : List ℕ) → front a → back b → whole (a ++ b)) (done : List A) (h : WritesEach gives F seen done (Ok tt) old mid front) where
+  module _ {old : WriterState} {front whole : List ℕ → Type 0}
+      (join : (a b : List ℕ) → front a → back b → whole (a ++ b)) (done : List A)
+      (h : WritesEach gives F seen done (Ok tt) old mid front) where
     -- one chunk more is written
-    pub values_written : {x : Unit {0}} → WritesBytes gives b (Ok x) mid new back → WritesEach gives F seen (done ++ some) (Ok tt) old new whole
+    pub values_written : {x : Unit {0}} → WritesBytes gives b (Ok x) mid new back
+        → WritesEach gives F seen (done ++ some) (Ok tt) old new whole
     values_written w = more_written F join seen done some h (values_are_written w)
 
     -- where one is refused, all are
-    pub values_refused : {e : E} {result : Result (Unit {0}) E} {items : List A} (more : List A) → items ≡ done ++ (some ++ more) → IsErrAnd result (λ r. r ≡ e) → WritesBytes gives b (Err e) mid new back → WritesEach gives F seen items result old new whole
+    pub values_refused : {e : E} {result : Result (Unit {0}) E} {items : List A} (more : List A)
+        → items ≡ done ++ (some ++ more) → IsErrAnd result (λ r. r ≡ e) → WritesBytes gives b (Err e) mid new back
+        → WritesEach gives F seen items result old new whole
     values_refused {result = result} more is passed w =
-        subst (λ (us : List A). WritesEach gives F seen us result old new whole) (sym is) (later_items_refused join seen done some more laws passed h (values_are_written w))
+        subst (λ (us : List A). WritesEach gives F seen us result old new whole) (sym is)
+        (later_items_refused join seen done some more laws passed h (values_are_written w))
 
 -- bytes are written at once as they are item by item
-pub byte_items_written : {E : Type 0} {gives : Error → E → Type 0} {items : List ℕ} {result : Result (Unit {0}) E} {old new : WriterState} {appended : List ℕ → Type 0} → AreBytes items → WritesBytes gives items result old new appended → WritesEach gives (unsigned_number 1) (λ n. n) items result old new appended
+pub byte_items_written : {E : Type 0} {gives : Error → E → Type 0} {items : List ℕ} {result : Result (Unit {0}) E}
+    {old new : WriterState} {appended : List ℕ → Type 0} → AreBytes items
+    → WritesBytes gives items result old new appended
+    → WritesEach gives (unsigned_number 1) (λ n. n) items result old new appended
 unfolding repeat unsigned_number
 byte_items_written {items = items} {old = old} h w =
-    form_written (λ e. repeat_laws (unsigned_number_laws 1 e) (length items))
-    (length-map items (λ n. n), subst (λ (vs : List ℕ). Each (unsigned_number 1 old.encoding).writes vs items) (sym (map-id items)) (each_byte old.encoding.order items h)) w
+    form_written (λ e. repeat_laws (unsigned_number_laws 1 e) (length items)) (
+      length-map items (λ n. n),
+      subst (λ (vs : List ℕ). Each (unsigned_number 1 old.encoding).writes vs items) (sym (map-id items))
+          (each_byte old.encoding.order items h),
+    ) w

@@ -9,7 +9,8 @@ use Rattle.speedy_write.specs.Writing.{WriterState, Writes}
 use Rattle.speedy_write.specs.Codes.{subset_written}
 use Rattle.speedy_write.proofs.NumberLemmas.{signed_value_written}
 
-module _ {E : Type 0} {gives : Error → E → Type 0} {result : Result (Unit {0}) E} {old new : WriterState} {appended : List ℕ → Type 0} where
+module _ {E : Type 0} {gives : Error → E → Type 0} {result : Result (Unit {0}) E} {old new : WriterState}
+    {appended : List ℕ → Type 0} where
   -- a number that is not 0 is written as the number
   pub non_zero_written : {n v : ℕ} (width : ℕ) → n ≡ v → 0 < v
       → Writes gives (unsigned_number width) n result old new appended

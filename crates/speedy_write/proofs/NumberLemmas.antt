@@ -24,7 +24,8 @@ use Rattle.speedy_write.specs.Codes.{subset_written}
 use Rattle.speedy_write.specs.Writing.{WriterState, Writes}
 use Rattle.speedy_write.specs.Sequences.{Kept-same}
 
-module _ {E : Type 0} {gives : Error → E → Type 0} {result : Result (Unit {0}) E} {old new : WriterState} {appended : List ℕ → Type 0} where
+module _ {E : Type 0} {gives : Error → E → Type 0} {result : Result (Unit {0}) E} {old new : WriterState}
+    {appended : List ℕ → Type 0} where
   -- a signed number is what its bits stand for
   pub signed_value_written : {z : ℤ} (w : Width) → FitsSigned w z
       → Writes gives (signed_number w) (cast_signed w (cast_unsigned w z)) result old new appended
@@ -33,12 +34,20 @@ module _ {E : Type 0} {gives : Error → E → Type 0} {result : Result (Unit {0
       subst (λ (y : ℤ). Writes gives (signed_number w) y result old new appended) (to_z-of_z w z range) h
 
 -- a value that no bytes spell is refused before anything is written
-pub unspelled_refused : {E V : Type 0} {gives : Error → E → Type 0} {F : Encoding → Format V} {v : V} {e : E} {old : WriterState} {appended : List ℕ → Type 0} {strict : Bool} {least : ℕ} → Laws strict least (F old.encoding) → ((b : List ℕ) → (F old.encoding).spells v b → ⊥) → gives (error_of kinds.OutOfRangeLength) e → Writes gives F v (Err e) old old appended
+pub unspelled_refused : {E V : Type 0} {gives : Error → E → Type 0} {F : Encoding → Format V} {v : V} {e : E}
+    {old : WriterState} {appended : List ℕ → Type 0} {strict : Bool} {least : ℕ} → Laws strict least (F old.encoding)
+    → ((b : List ℕ) → (F old.encoding).spells v b → ⊥) → gives (error_of kinds.OutOfRangeLength) e
+    → Writes gives F v (Err e) old old appended
 unspelled_refused {v = v} {old = old} laws unspelled given = record {
   kept = Kept-same old;
   answer = record {
     beginning = λ b h. absurd (unspelled b (laws.written_spells v b h));
-    because = inr (record { no_fault = refl; no_fit = λ b h _. unspelled b (laws.written_spells v b h); no_spelling = λ _ b h. unspelled b h; kind = inr (inl given) });
+    because = inr (record {
+      no_fault = refl;
+      no_fit = λ b h _. unspelled b (laws.written_spells v b h);
+      no_spelling = λ _ b h. unspelled b h;
+      kind = inr (inl given);
+    });
   };
 }
 
@@ -47,7 +56,8 @@ pub too_long_refused : {E : Type 0} {gives : Error → E → Type 0} (width : �
     {appended : List ℕ → Type 0} → 256 ^ width ≤ n → gives (error_of kinds.OutOfRangeLength) e
     → Writes gives (unsigned_number width) n (Err e) old old appended
 unfolding unsigned_number
-too_long_refused width {n = n} {old = old} long given = unspelled_refused (unsigned_number_laws width old.encoding) (λ b h. let below = SpellsNumber-below width old.encoding.order n b h in omega arith) given
+too_long_refused width {n = n} {old = old} long given = unspelled_refused (unsigned_number_laws width old.encoding)
+    (λ b h. let below = SpellsNumber-below width old.encoding.order n b h in omega arith) given
 
 -- a length of at most so many is written as the number is
 pub length_written : {E : Type 0} {gives : Error → E → Type 0} (width greatest : ℕ) {n : ℕ}
@@ -57,7 +67,9 @@ pub length_written : {E : Type 0} {gives : Error → E → Type 0} (width greate
 length_written width greatest within w = subset_written _ _ (refl, within) w
 
 -- and a longer one is refused
-pub past_greatest_refused : {E : Type 0} {gives : Error → E → Type 0} (width greatest : ℕ) {n : ℕ} {e : E} {old : WriterState} {appended : List ℕ → Type 0} → greatest < n → gives (error_of kinds.OutOfRangeLength) e → Writes gives (length_number width greatest) n (Err e) old old appended
+pub past_greatest_refused : {E : Type 0} {gives : Error → E → Type 0} (width greatest : ℕ) {n : ℕ} {e : E}
+    {old : WriterState} {appended : List ℕ → Type 0} → greatest < n → gives (error_of kinds.OutOfRangeLength) e
+    → Writes gives (length_number width greatest) n (Err e) old old appended
 unfolding coding
 past_greatest_refused width greatest {old = old} past given =
     unspelled_refused {F = length_number width greatest} ((length_codec width greatest).laws old.encoding)
@@ -70,7 +82,8 @@ bool_byte_is true = refl
 bool_byte_is false = refl
 
 -- a duration is its whole seconds and the rest
-pub duration_is_chosen : (n seconds nanos : ℕ) → seconds ≡ n / 1_000_000_000 → nanos ≡ n % 1_000_000_000 → seconds < 2 ^ 64 → duration_code.chosen (seconds, nanos) n
+pub duration_is_chosen : (n seconds nanos : ℕ) → seconds ≡ n / 1_000_000_000 → nanos ≡ n % 1_000_000_000
+    → seconds < 2 ^ 64 → duration_code.chosen (seconds, nanos) n
 duration_is_chosen n seconds nanos s m small = (omega arith, omega arith, omega arith)
 
 -- a small number is written as itself
@@ -82,6 +95,11 @@ pub small_written : (encoding : Encoding) (n : ℕ) → n < 128 → (varint enco
 unfolding varint coding
 small_written encoding n small = record {
   code = ((0, n), 0);
-  code_is = prefixed_written encoding 0 n 0 n [] (record { at_most_eight = omega arith; low_is_below = small; byte_is = omega arith }) no_digits;
-  stands = (record { at_most_eight = omega arith; enough = small; no_shorter = λ j less. absurd (omega arith) }, omega arith, omega arith);
+  code_is = prefixed_written encoding 0 n 0 n []
+      (record { at_most_eight = omega arith; low_is_below = small; byte_is = omega arith }) no_digits;
+  stands = (
+    record { at_most_eight = omega arith; enough = small; no_shorter = λ j less. absurd (omega arith) },
+    omega arith,
+    omega arith,
+  );
 }

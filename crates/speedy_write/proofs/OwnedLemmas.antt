@@ -7,11 +7,14 @@ use Rattle.speedy_layout.specs.Owned.{owned_content, borrowed_content}
 use Rattle.speedy_write.specs.Writing.{WriterState, Writes}
 use Rattle.speedy_write.specs.Sequences.{Writes-as}
 
-module _ {E : Type 0} {gives : Error → E → Type 0} {V : Type 0} {F : Encoding → Format V} {v : V} {result : Result (Unit {0}) E} {old new : WriterState} {appended : List ℕ → Type 0} where
-  pub owned_written : Writes gives F v result old new appended → Writes gives (λ encoding. owned_content (F encoding)) v result old new appended
+module _ {E : Type 0} {gives : Error → E → Type 0} {V : Type 0} {F : Encoding → Format V} {v : V}
+    {result : Result (Unit {0}) E} {old new : WriterState} {appended : List ℕ → Type 0} where
+  pub owned_written : Writes gives F v result old new appended
+      → Writes gives (λ encoding. owned_content (F encoding)) v result old new appended
   unfolding owned_content
   owned_written w = Writes-as (λ _ k. k) (λ _ h. h) (λ b h. (b, h, refl)) (λ b h. (b, h)) w
 
-  pub borrowed_written : Writes gives F v result old new appended → Writes gives (λ encoding. borrowed_content (F encoding)) v result old new appended
+  pub borrowed_written : Writes gives F v result old new appended
+      → Writes gives (λ encoding. borrowed_content (F encoding)) v result old new appended
   unfolding borrowed_content
   borrowed_written w = Writes-as (λ _ k. k) (λ _ h. h) (λ b h. (b, h, refl)) (λ b h. (b, h)) w

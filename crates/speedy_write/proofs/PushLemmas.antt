@@ -19,17 +19,21 @@ pub record PushedSoFar (bytes rest : List ℕ) (old new : SinkState) : Type 0 wh
 abbrev pub past : ℕ → List ℕ → List ℕ
 past n rest = take (length rest - n) (drop n rest)
 
-pub more_pushed : {bytes rest : List ℕ} {n : ℕ} {s t u : SinkState} → PushedSoFar bytes rest s t → Pushes (Ok n) t u rest → PushedSoFar bytes (past n rest) s u
-more_pushed {bytes = bytes} {rest = rest} {n = n} {s = s} {t = t} {u = u} so_far p = subst (λ (x : List ℕ). PushedSoFar bytes x s u) (sym (take_rest rest n)) (record {
-  no_fault = p.no_fault ∙ so_far.no_fault;
-  waits = λ settled. so_far.waits (p.waits settled);
-  front = so_far.front ++ take n rest;
-  bytes_are = so_far.bytes_are ∙ (ap (λ (x : List ℕ). so_far.front ++ x) (sym (take-append-drop n rest)) ∙ sym (append_assoc so_far.front (take n rest) (drop n rest)));
-  taken = sink_additive so_far.taken (record { kept = p.kept; taken_is = p.moved });
-})
+pub more_pushed : {bytes rest : List ℕ} {n : ℕ} {s t u : SinkState} → PushedSoFar bytes rest s t
+    → Pushes (Ok n) t u rest → PushedSoFar bytes (past n rest) s u
+more_pushed {bytes = bytes} {rest = rest} {n = n} {s = s} {t = t} {u = u} so_far p =
+    subst (λ (x : List ℕ). PushedSoFar bytes x s u) (sym (take_rest rest n)) (record {
+      no_fault = p.no_fault ∙ so_far.no_fault;
+      waits = λ settled. so_far.waits (p.waits settled);
+      front = so_far.front ++ take n rest;
+      bytes_are = so_far.bytes_are ∙ (ap (λ (x : List ℕ). so_far.front ++ x) (sym (take-append-drop n rest))
+          ∙ sym (append_assoc so_far.front (take n rest) (drop n rest)));
+      taken = sink_additive so_far.taken (record { kept = p.kept; taken_is = p.moved });
+    })
 
 -- where some are left, some were to be pushed
-pub some_to_push : {bytes rest : List ℕ} {s t : SinkState} → PushedSoFar bytes rest s t → false ≡ (length rest == 0) → bytes ≡ [] → ⊥
+pub some_to_push : {bytes rest : List ℕ} {s t : SinkState} → PushedSoFar bytes rest s t → false ≡ (length rest == 0)
+    → bytes ≡ [] → ⊥
 some_to_push {bytes = bytes} {rest = rest} so_far some none =
     let h = eqb-false (length rest) 0 (sym some) in
     let l = ap length so_far.bytes_are ∙ length-append so_far.front rest in

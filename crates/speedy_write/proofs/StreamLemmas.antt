@@ -22,10 +22,15 @@ module _ {E : Type 0} {gives : Error → E → Type 0} {V : Type 0} {v : V} wher
       record { written = tt; refused = elim w.0.refused [ inl h ↦ inl (h.0, h.2) | inr h ↦ inr h.1 ] }
 
   -- where space has no bound, what is not written has no spelling
-  no_spelling : {L : Format V} {e : E} {old new : WriterState} → old.space ≡ None → Unwritten gives L v e old new → RefusesUnspelled gives L v e
-  no_spelling none h = record { no_spelling = h.no_spelling none; kind = elim h.kind [ inl k ↦ absurd (k.0 none) | inr k ↦ k ] }
+  no_spelling : {L : Format V} {e : E} {old new : WriterState} → old.space ≡ None → Unwritten gives L v e old new
+      → RefusesUnspelled gives L v e
+  no_spelling none h = record {
+    no_spelling = h.no_spelling none;
+    kind = elim h.kind [ inl k ↦ absurd (k.0 none) | inr k ↦ k ];
+  }
 
-  module _ {F : Encoding → Format V} {encoding : Encoding} {least : ℕ} (laws : Laws encoding.strict least (F encoding)) where
+  module _ {F : Encoding → Format V} {encoding : Encoding} {least : ℕ}
+      (laws : Laws encoding.strict least (F encoding)) where
     to_stream : {other : Encoding} {name other_name : GName} (s t : SinkState) (result : Result (Unit {0}) E)
         → Writes gives F v result (sink_state encoding name s) (sink_state other other_name t) (λ b. Takes s b t)
         → WritesToStreamIn gives (F encoding) v result s t
@@ -35,19 +40,33 @@ module _ {E : Type 0} {gives : Error → E → Type 0} {V : Type 0} {v : V} wher
           kept = record { tells = ap (λ (kind : WriterKind). kind.tells) w.kept.fixed; faults = w.kept.faults };
           no_flush = w.kept.waits;
           no_fault = put.no_fault;
-          written = (put.bytes, record { is_written = put.is_written; shortest = λ others k. laws.shortest v put.bytes others put.is_written k }, put.is_appended);
+          written = (
+            put.bytes,
+            record {
+              is_written = put.is_written;
+              shortest = λ others k. laws.shortest v put.bytes others put.is_written k;
+            },
+            put.is_appended,
+          );
           succeeds = λ _ _ _. refl;
           refused = tt;
           begun = tt;
         }
     to_stream s t (Err e) w =
-        let why : IsOfFailedCall gives e s.faults t.faults ⊎ ((t.faults ≡ s.faults) × RefusesUnspelled gives (F encoding) v e) = elim w.answer.because [ inl h ↦ inl (h.1 refl) | inr h ↦ inr (h.no_fault, no_spelling refl h) ] in
+        let why : IsOfFailedCall gives e s.faults t.faults
+        ⊎ ((t.faults ≡ s.faults) × RefusesUnspelled gives (F encoding) v e) = elim w.answer.because [
+          | inl h ↦ inl (h.1 refl)
+          | inr h ↦ inr (h.no_fault, no_spelling refl h)
+        ] in
         record {
           kept = record { tells = ap (λ (kind : WriterKind). kind.tells) w.kept.fixed; faults = w.kept.faults };
           no_flush = w.kept.waits;
           no_fault = tt;
           written = tt;
-          succeeds = λ bytes k clean. absurd (elim why [ inl h ↦ clean (grown h.0 s.faults t.faults h.1) | inr h ↦ h.1.no_spelling bytes k ]);
+          succeeds = λ bytes k clean. absurd (elim why [
+            | inl h ↦ clean (grown h.0 s.faults t.faults h.1)
+            | inr h ↦ h.1.no_spelling bytes k
+          ]);
           refused = why;
           begun = w.answer.beginning;
         }
@@ -57,7 +76,10 @@ module _ {E : Type 0} {gives : Error → E → Type 0} {V : Type 0} {v : V} wher
         → at ≡ encoding → s ≡ old → t ≡ new → (result : Result (Unit {0}) E)
         → Writes gives F v result (sink_state at name s) (sink_state other other_name t) (λ b. Takes s b t)
         → WritesToStreamIn gives (F encoding) v result old new
-    stream_written {other = other} {name = name} {other_name = other_name} {old = old} s t same_encoding starts ends result w =
-        let x = to_stream s t result (subst (λ (f : Encoding). Writes gives F v result (sink_state f name s) (sink_state other other_name t) (λ b. Takes s b t)) same_encoding w) in
+    stream_written {other = other} {name = name} {other_name = other_name} {old = old} s t same_encoding starts
+        ends result w =
+        let x = to_stream s t result
+        (subst (λ (f : Encoding). Writes gives F v result (sink_state f name s) (sink_state other other_name t)
+        (λ b. Takes s b t)) same_encoding w) in
         subst (λ (b : SinkState). WritesToStreamIn gives (F encoding) v result old b) ends
         (subst (λ (a : SinkState). WritesToStreamIn gives (F encoding) v result a t) starts x)

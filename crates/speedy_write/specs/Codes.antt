@@ -10,16 +10,19 @@ use Rattle.speedy_layout.specs.Numbers.{unsigned_number}
 use Rattle.speedy_write.specs.Writing.{WriterState, Writes}
 use Rattle.speedy_write.specs.Sequences.{Writes-as}
 
-module _ {E : Type 0} {gives : Error → E → Type 0} {U V : Type 0} {c : Code U V} {u : U} {v : V} {result : Result (Unit {0}) E} {old new : WriterState} {appended : List ℕ → Type 0} where
+module _ {E : Type 0} {gives : Error → E → Type 0} {U V : Type 0} {c : Code U V} {u : U} {v : V}
+    {result : Result (Unit {0}) E} {old new : WriterState} {appended : List ℕ → Type 0} where
   -- a value is written as the code that is chosen for it
   pub code_written : {F : Encoding → Format U} → ((encoding : Encoding) → IsCode c (F encoding))
-      → ((encoding : Encoding) → (F encoding).asks.hashed ≡ false) → c.chosen u v → Writes gives F u result old new appended
+      → ((encoding : Encoding) → (F encoding).asks.hashed ≡ false) → c.chosen u v
+      → Writes gives F u result old new appended
       → Writes gives (λ encoding. coding encoding c (F encoding)) v result old new appended
   unfolding coding
   code_written {F = F} is_code not_hashed chosen w =
       let is = is_code old.encoding in
       let one : (x : U) → c.chosen x v → x ≡ u = λ x k. is.one_chosen (not_hashed old.encoding) x u v k chosen in
-      Writes-as {F = F} (λ _ k. k) (λ b h. record { code = u; code_is = h; stands = chosen }) (λ b h. (b, subst (λ (x : U). (F old.encoding).writes x b) (one h.code h.stands) h.code_is, refl))
+      Writes-as {F = F} (λ _ k. k) (λ b h. record { code = u; code_is = h; stands = chosen })
+      (λ b h. (b, subst (λ (x : U). (F old.encoding).writes x b) (one h.code h.stands) h.code_is, refl))
       (λ b h.
       let means = Accepts-means old.encoding.strict c h.code v (is.chosen_means h.code v) h.stands in
       let x = is.has_chosen v b (record { code = h.code; code_is = h.code_is; stands = means }) in

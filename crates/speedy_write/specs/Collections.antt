@@ -14,5 +14,6 @@ module _ {U S A V : Type 0} (becomes : U → S → Type 0) (steps : S → Option
     pub iterator : S
     pub iterator_is : becomes items iterator
     pub walked : List A
-    pub are_walked : MatchResult result (λ _. Drains steps iterator walked) (λ _. (rest : S) × Yields steps iterator walked rest)
+    pub are_walked : MatchResult result (λ _. Drains steps iterator walked)
+        (λ _. (rest : S) × Yields steps iterator walked rest)
     pub writes : WritesEach gives F seen walked result old new appended

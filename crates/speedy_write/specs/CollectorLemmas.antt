@@ -22,12 +22,14 @@ put_length p A s q B h =
     omega arith
 
 -- the parts of a buffer that bytes were put into
-pub part_front : (p : ℕ) (A s : List ℕ) (q : ℕ) → q ≡ p + length s → q ≤ length A → take q (take p A ++ (s ++ drop q A)) ≡ take p A ++ s
+pub part_front : (p : ℕ) (A s : List ℕ) (q : ℕ) → q ≡ p + length s → q ≤ length A
+    → take q (take p A ++ (s ++ drop q A)) ≡ take p A ++ s
 part_front p A s q e h =
     let front : length (take p A ++ s) ≡ q = length-append (take p A) s ∙ (let l = length-take p A in omega arith) in
     ap (take q) (sym (append_assoc (take p A) s (drop q A))) ∙ take_at (take p A ++ s) (drop q A) q front
 
-part_back : (p : ℕ) (A s : List ℕ) (q n : ℕ) → q ≡ p + length s → q ≤ length A → drop (q + n) (take p A ++ (s ++ drop q A)) ≡ drop (q + n) A
+part_back : (p : ℕ) (A s : List ℕ) (q n : ℕ) → q ≡ p + length s → q ≤ length A
+    → drop (q + n) (take p A ++ (s ++ drop q A)) ≡ drop (q + n) A
 part_back p A s q n e h =
     let front : length (take p A ++ s) ≡ q = length-append (take p A) s ∙ (let l = length-take p A in omega arith) in
     ap (drop (q + n)) (sym (append_assoc (take p A) s (drop q A)))
@@ -35,14 +37,17 @@ part_back p A s q n e h =
     ∙ (drop-append-add (take p A ++ s) (drop q A) n ∙ drop-drop n q A))
 
 -- what is put after what was put
-pub buffer_additive : {p : ℕ} {A s : List ℕ} {q : ℕ} {B t : List ℕ} {r : ℕ} {C : List ℕ} → BufferAppends p A s q B → BufferAppends q B t r C
+pub buffer_additive : {p : ℕ} {A s : List ℕ} {q : ℕ} {B t : List ℕ} {r : ℕ} {C : List ℕ} → BufferAppends p A s q B
+    → BufferAppends q B t r C
     → BufferAppends p A (s ++ t) r C
 buffer_additive {p = p} {A = A} {s = s} {q = q} {B = B} {t = t} {r = r} h k =
     let l = length-append s t in
     let same_length : length B ≡ length A = put_length p A s q B h in
     let front : take q B ≡ take p A ++ s = ap (take q) h.after_is ∙ part_front p A s q h.end_is h.within in
     let back : drop r B ≡ drop r A =
-    ap (λ m. drop m B) k.end_is ∙ (ap (drop (q + length t)) h.after_is ∙ (part_back p A s q (length t) h.end_is h.within ∙ ap (λ m. drop m A) (sym k.end_is))) in
+    ap (λ m. drop m B) k.end_is
+    ∙ (ap (drop (q + length t)) h.after_is
+    ∙ (part_back p A s q (length t) h.end_is h.within ∙ ap (λ m. drop m A) (sym k.end_is))) in
     record {
       end_is = let x = h.end_is in let y = k.end_is in omega arith;
       within = let y = k.within in omega arith;
@@ -52,10 +57,13 @@ buffer_additive {p = p} {A = A} {s = s} {q = q} {B = B} {t = t} {r = r} h k =
     }
 
 -- what was put at the front of a buffer stands there
-pub put_in_front : {p : ℕ} {old A s : List ℕ} {q : ℕ} {B : List ℕ} → p ≡ 0 → A ≡ old → BufferAppends p A s q B → B ≡ s ++ drop (length s) old
+pub put_in_front : {p : ℕ} {old A s : List ℕ} {q : ℕ} {B : List ℕ} → p ≡ 0 → A ≡ old → BufferAppends p A s q B
+    → B ≡ s ++ drop (length s) old
 put_in_front {old = old} {A = A} {s = s} {q = q} start same h =
     let end : q ≡ length s = let e = h.end_is in omega arith in
-    h.after_is ∙ (ap (λ (p : ℕ). take p A ++ (s ++ drop q A)) start ∙ (ap (λ n. s ++ drop n A) end ∙ ap (λ (A : List ℕ). s ++ drop (length s) A) same))
+    h.after_is
+    ∙ (ap (λ (p : ℕ). take p A ++ (s ++ drop q A)) start
+    ∙ (ap (λ n. s ++ drop n A) end ∙ ap (λ (A : List ℕ). s ++ drop (length s) A) same))
 
 -- what is appended to a list
 pub vec_nothing : (xs : List ℕ) → xs ≡ xs ++ []
@@ -76,5 +84,6 @@ sink_nothing a = record { kept = DeviceKept-same; taken_is = λ _. sym (append-n
 pub sink_additive : {a b c : SinkState} {s t : List ℕ} → Takes a s b → Takes b t c → Takes a (s ++ t) c
 sink_additive {a = a} {s = s} {t = t} h k = record {
   kept = DeviceKept-after h.kept k.kept;
-  taken_is = λ told. k.taken_is (DeviceKept-told h.kept told) ∙ (ap (λ (x : List ℕ). x ++ t) (h.taken_is told) ∙ append_assoc a.taken s t);
+  taken_is = λ told. k.taken_is (DeviceKept-told h.kept told)
+      ∙ (ap (λ (x : List ℕ). x ++ t) (h.taken_is told) ∙ append_assoc a.taken s t);
 }

@@ -77,4 +77,9 @@ pub record GatheringModel (S C : Type 0) : Type 0 where
   pub waits : List ℕ
 
 abbrev pub gathering_model : {S C : Type 0} → GatheringCollector S C → GatheringModel S C
-gathering_model w = record { context = w.context; sink = w.sink.now; sink_name = w.sink.ghost_name; waits = waiting w.waiting }
+gathering_model w = record {
+  context = w.context;
+  sink = w.sink.now;
+  sink_name = w.sink.ghost_name;
+  waits = waiting w.waiting;
+}

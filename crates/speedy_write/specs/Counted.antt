@@ -14,21 +14,26 @@ use Rattle.speedy_write.specs.Writing.{WriterState, Writes, WritesBytes, WritesE
 use Rattle.speedy_write.specs.Sequences.{Writes-as, form_written}
 
 -- as many items as are seen
-pub counts_items : {A V : Type 0} (seen : A → V) (items : List A) → list_parts (map seen items) ≡ (length items, map seen items)
+pub counts_items : {A V : Type 0} (seen : A → V) (items : List A)
+    → list_parts (map seen items) ≡ (length items, map seen items)
 counts_items {V = V} seen items = ap (λ (n : ℕ). let p : ℕ × List V = (n, map seen items) in p) (length-map items seen)
 
 -- as many bytes as the text has
 pub counts_bytes : (slice text : List ℕ) → slice ≡ text → text_parts text ≡ (length slice, text)
 counts_bytes slice text same = ap (λ (s : List ℕ). let p : ℕ × List ℕ = (length s, text) in p) (sym same)
 
-module _ {E : Type 0} {gives : Error → E → Type 0} {result : Result (Unit {0}) E} {old new : WriterState} {appended : List ℕ → Type 0} where
-  pub items_written : {A V : Type 0} (F : Encoding → Format V) (seen : A → V) (items : List A) → WritesEach gives F seen items result old new appended
+module _ {E : Type 0} {gives : Error → E → Type 0} {result : Result (Unit {0}) E} {old new : WriterState}
+    {appended : List ℕ → Type 0} where
+  pub items_written : {A V : Type 0} (F : Encoding → Format V) (seen : A → V) (items : List A)
+      → WritesEach gives F seen items result old new appended
       → Writes gives (λ encoding. vector (length items) (F encoding)) (map seen items) result old new appended
   unfolding vector owned_content
   items_written F seen items w = Writes-as (λ _ k. k) (λ _ h. h) (λ b h. (b, h, refl)) (λ b h. (b, h)) w
 
-  pub text_bytes_written : {text slice : List ℕ} → slice ≡ text → IsUtf8 text → WritesBytes gives slice result old new appended
+  pub text_bytes_written : {text slice : List ℕ} → slice ≡ text → IsUtf8 text
+      → WritesBytes gives slice result old new appended
       → Writes gives (λ encoding. text_of_length encoding (length slice)) text result old new appended
   unfolding text_of_length owned_content coding raw_bytes
   text_bytes_written {text = text} {slice = slice} same utf8 w =
-      form_written (λ encoding. text_of_length_laws encoding (length slice)) (record { code = slice; code_is = (refl, refl); stands = (same, utf8) }) w
+      form_written (λ encoding. text_of_length_laws encoding (length slice))
+      (record { code = slice; code_is = (refl, refl); stands = (same, utf8) }) w

@@ -6,14 +6,16 @@ use Rattle.speedy_layout.specs.Format.{Format, Each}
 use Rattle.speedy_write.specs.Collectors.{BufferAppends}
 
 -- their bytes, so many of each, were put into the buffer from the one position to the other
-pub record PutsAt {A V : Type 0} (F : Encoding → Format V) (seen : A → V) (values : List A) (size : ℕ) (order : Endianness) (at : ℕ) (buffer : List ℕ) (end : ℕ) (after : List ℕ) : Type 0 where
+pub record PutsAt {A V : Type 0} (F : Encoding → Format V) (seen : A → V) (values : List A) (size : ℕ)
+    (order : Endianness) (at : ℕ) (buffer : List ℕ) (end : ℕ) (after : List ℕ) : Type 0 where
   pub bytes : List ℕ
   pub count : length bytes ≡ length values * size
   pub are_put : BufferAppends at buffer bytes end after
   pub is_written : (encoding : Encoding) → order ≡ encoding.order → Each (F encoding).writes (map seen values) bytes
 
 -- their bytes were put behind others
-pub record PutsBehind {A V : Type 0} (F : Encoding → Format V) (seen : A → V) (values : List A) (order : Endianness) (front after : List ℕ) : Type 0 where
+pub record PutsBehind {A V : Type 0} (F : Encoding → Format V) (seen : A → V) (values : List A) (order : Endianness)
+    (front after : List ℕ) : Type 0 where
   pub bytes : List ℕ
   pub all_is : after ≡ front ++ bytes
   pub is_written : (encoding : Encoding) → order ≡ encoding.order → Each (F encoding).writes (map seen values) bytes

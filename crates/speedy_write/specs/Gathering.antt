@@ -17,15 +17,18 @@ pub record Gathers (old : SinkState) (waited bytes : List ℕ) (new : SinkState)
 pub gathers_nothing : (s : SinkState) (waits : List ℕ) → Gathers s waits [] s waits
 gathers_nothing s waits = record { taken = []; is_taken = sink_nothing s; all_is = append-nil waits }
 
-pub gathers_additive : {a b c : SinkState} {v w x s t : List ℕ} → Gathers a v s b w → Gathers b w t c x → Gathers a v (s ++ t) c x
+pub gathers_additive : {a b c : SinkState} {v w x s t : List ℕ} → Gathers a v s b w → Gathers b w t c x
+    → Gathers a v (s ++ t) c x
 gathers_additive {v = v} {x = x} {s = s} {t = t} h k = record {
   taken = h.taken ++ k.taken;
   is_taken = sink_additive h.is_taken k.is_taken;
-  all_is = sym (append_assoc v s t) ∙ (ap (λ (l : List ℕ). l ++ t) h.all_is ∙ (append_assoc h.taken _ t ∙ (ap (λ (l : List ℕ). h.taken ++ l) k.all_is ∙ sym (append_assoc h.taken k.taken x))));
+  all_is = sym (append_assoc v s t) ∙ (ap (λ (l : List ℕ). l ++ t) h.all_is ∙ (append_assoc h.taken _ t
+      ∙ (ap (λ (l : List ℕ). h.taken ++ l) k.all_is ∙ sym (append_assoc h.taken k.taken x))));
 }
 
 -- what waited was pushed, or a beginning of it and then a push failed
-pub record PushesWaiting {E : Type 0} (gives : Error → E → Type 0) (result : Result (Unit {0}) E) (waited waits : List ℕ) (old new : SinkState) : Type 0 where
+pub record PushesWaiting {E : Type 0} (gives : Error → E → Type 0) (result : Result (Unit {0}) E)
+    (waited waits : List ℕ) (old new : SinkState) : Type 0 where
   pub kept : SinkKept old new
   -- what succeeds had no failed push, and leaves nothing waiting
   pub no_fault : OnOk result (new.faults ≡ old.faults)

@@ -28,7 +28,8 @@ module _ {E : Type 0} {gives : Error → E → Type 0} {old new : WriterState} {
 
   module _ {V W : Type 0} (F : Encoding → Format V) (G : Encoding → Format W) where
     first_written : (b : Bool) → b ≡ true → (v : V) {result : Result (Unit {0}) E}
-        → Writes gives F v result old new appended → Writes gives (λ f. either b (F f) (G f)) (inl v) result old new appended
+        → Writes gives F v result old new appended
+        → Writes gives (λ f. either b (F f) (G f)) (inl v) result old new appended
     first_written true e v w =
         Writes-as (λ _ k. k) (λ b h. (v, refl, h))
         (λ b h. (b, subst (λ x. (F old.encoding).writes x b) (one_first h.0 v h.1) h.2, refl))
@@ -36,7 +37,8 @@ module _ {E : Type 0} {gives : Error → E → Type 0} {old new : WriterState} {
     first_written false e v w = absurd (cc)
 
     second_written : (b : Bool) → b ≡ false → (v : W) {result : Result (Unit {0}) E}
-        → Writes gives G v result old new appended → Writes gives (λ f. either b (F f) (G f)) (inr v) result old new appended
+        → Writes gives G v result old new appended
+        → Writes gives (λ f. either b (F f) (G f)) (inr v) result old new appended
     second_written false e v w =
         Writes-as (λ _ k. k) (λ b h. (v, refl, h))
         (λ b h. (b, subst (λ x. (G old.encoding).writes x b) (one_second h.0 v h.1) h.2, refl))
@@ -50,9 +52,11 @@ module _ {E : Type 0} {gives : Error → E → Type 0} {old new : WriterState} {
         → Writes gives (λ f. (either_case first second).behind f (either_tag first.tag second.tag whole)) whole result
         old new appended
     left_written {v = v} is found w =
-        subst (λ (x : V ⊎ W). Writes gives (λ f. (either_case first second).behind f (either_tag first.tag second.tag x))
+        subst
+        (λ (x : V ⊎ W). Writes gives (λ f. (either_case first second).behind f (either_tag first.tag second.tag x))
         x result old new appended) (sym is)
-        (first_written (λ f. first.behind f (first.tag v)) (λ f. second.behind f (first.tag v)) (first.has (first.tag v))
+        (first_written (λ f. first.behind f (first.tag v)) (λ f. second.behind f (first.tag v))
+        (first.has (first.tag v))
         found v w)
 
     pub right_written : {v : W} → (let this : V ⊎ W = inr v in whole ≡ this) → first.has (second.tag v) ≡ false
@@ -60,7 +64,8 @@ module _ {E : Type 0} {gives : Error → E → Type 0} {old new : WriterState} {
         → Writes gives (λ f. (either_case first second).behind f (either_tag first.tag second.tag whole)) whole result
         old new appended
     right_written {v = v} is none w =
-        subst (λ (x : V ⊎ W). Writes gives (λ f. (either_case first second).behind f (either_tag first.tag second.tag x))
+        subst
+        (λ (x : V ⊎ W). Writes gives (λ f. (either_case first second).behind f (either_tag first.tag second.tag x))
         x result old new appended) (sym is)
         (second_written (λ f. first.behind f (second.tag v)) (λ f. second.behind f (second.tag v))
         (first.has (second.tag v)) none v w)

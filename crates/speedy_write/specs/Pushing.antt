@@ -6,7 +6,8 @@ use Rattle.speedy_base.specs.FailedCalls.{IsOfFailedCall}
 use Rattle.speedy_write.specs.Collectors.{Takes}
 
 -- all of the bytes were pushed, or a beginning of them and then a push failed
-pub record PushesAll {E : Type 0} (gives : Error → E → Type 0) (bytes : List ℕ) (result : Result (Unit {0}) E) (old new : SinkState) : Type 0 where
+pub record PushesAll {E : Type 0} (gives : Error → E → Type 0) (bytes : List ℕ) (result : Result (Unit {0}) E)
+    (old new : SinkState) : Type 0 where
   pub kept : SinkKept old new
   -- what succeeds had no failed push
   pub no_fault : OnOk result (new.faults ≡ old.faults)

@@ -1,5 +1,6 @@
 -- Writes of parts make writes of wholes.
-use Rattle.std.specs.Prelude.{◌≡◌, ℕ, zero, ◌+◌, List, [], ◌++◌, length, Option, Some, None, Result, Ok, Err, MatchResult, IsErrAnd, refl, Bool}
+use Rattle.std.specs.Prelude.{◌≡◌, ℕ, zero, ◌+◌, List, [], ◌++◌, length, Option, Some, None, Result, Ok, Err}
+use Rattle.std.specs.Prelude.{MatchResult, IsErrAnd, refl, Bool}
 use Rattle.std.proofs.Common.{sym, ◌∙◌, ap, subst, arith, inl, inr}
 use Rattle.std.proofs.lemmas.List.{append_assoc, length-append}
 use Rattle.speedy_base.specs.declared.error.ErrorKind.{ErrorKind}
@@ -12,7 +13,8 @@ use Rattle.speedy_layout.specs.Format.{Format, Parts, Asks}
 use Rattle.speedy_layout.specs.Laws.{Laws}
 use Rattle.speedy_layout.specs.Sequences.{sequence}
 use Rattle.speedy_layout.specs.Tuples.{unit}
-use Rattle.speedy_write.specs.Writing.{WriterKind, WriterState, IsOutOfRange, Fits, less, Kept, Put, Refused, Writes, WritesBytes}
+use Rattle.speedy_write.specs.Writing.{WriterKind, WriterState, IsOutOfRange, Fits, less, Kept, Put, Refused, Writes}
+use Rattle.speedy_write.specs.Writing.{WritesBytes}
 
 -- ---- spaces
 
@@ -62,11 +64,25 @@ Kept-same a = record { fixed = refl; encoding = refl; faults = omega arith; wait
 -- what was put is said in other words
 pub Put-as : {writes other appended : List ℕ → Type 0} {old new : WriterState} → ((b : List ℕ) → writes b → other b)
     → Put writes old new appended → Put other old new appended
-Put-as f p = record { bytes = p.bytes; is_written = f p.bytes p.is_written; is_appended = p.is_appended; fits = p.fits; space = p.space; no_fault = p.no_fault }
+Put-as f p = record {
+  bytes = p.bytes;
+  is_written = f p.bytes p.is_written;
+  is_appended = p.is_appended;
+  fits = p.fits;
+  space = p.space;
+  no_fault = p.no_fault;
+}
 
 -- nothing was put
 pub Put-nothing : {appended : List ℕ → Type 0} (old : WriterState) → appended [] → Put (λ b. b ≡ []) old old appended
-Put-nothing old h = record { bytes = []; is_written = refl; is_appended = h; fits = fits_nothing old.space; space = less_nothing old.space; no_fault = refl }
+Put-nothing old h = record {
+  bytes = [];
+  is_written = refl;
+  is_appended = h;
+  fits = fits_nothing old.space;
+  space = less_nothing old.space;
+  no_fault = refl;
+}
 
 -- one part was put after the other
 pub Put-both : {first second front back whole : List ℕ → Type 0} {old mid new : WriterState}
@@ -76,15 +92,24 @@ Put-both {old = old} join p q =
     let l = length-append p.bytes q.bytes in
     record {
       bytes = p.bytes ++ q.bytes;
-      is_written = record { front = p.bytes; back = q.bytes; whole_is = refl; first_is = p.is_written; second_is = q.is_written };
+      is_written = record {
+        front = p.bytes;
+        back = q.bytes;
+        whole_is = refl;
+        first_is = p.is_written;
+        second_is = q.is_written;
+      };
       is_appended = join p.bytes q.bytes p.is_appended q.is_appended;
-      fits = subst (λ n. Fits n old.space) (sym l) (fits_both old.space (length p.bytes) (length q.bytes) p.fits (subst (Fits (length q.bytes)) p.space q.fits));
-      space = q.space ∙ (ap (λ s. less s (length q.bytes)) p.space ∙ (less_both old.space (length p.bytes) (length q.bytes) ∙ ap (less old.space) (sym l)));
+      fits = subst (λ n. Fits n old.space) (sym l)
+          (fits_both old.space (length p.bytes) (length q.bytes) p.fits (subst (Fits (length q.bytes)) p.space q.fits));
+      space = q.space ∙ (ap (λ s. less s (length q.bytes)) p.space
+          ∙ (less_both old.space (length p.bytes) (length q.bytes) ∙ ap (less old.space) (sym l)));
       no_fault = q.no_fault ∙ p.no_fault;
     }
 
 -- the written forms of a value have one length
-pub one_length : {V : Type 0} {strict : Bool} {least : ℕ} {F : Format V} → Laws strict least F → (v : V) (a b : List ℕ) → F.writes v a
+pub one_length : {V : Type 0} {strict : Bool} {least : ℕ} {F : Format V} → Laws strict least F → (v : V) (a b : List ℕ)
+    → F.writes v a
     → F.writes v b → length a ≡ length b
 one_length laws v a b h k =
     let l = laws.shortest v a b h (laws.written_spells v b k) in
@@ -105,7 +130,8 @@ module _ {E : Type 0} {gives : Error → E → Type 0} {U V : Type 0} {F : Encod
   pub Writes-as : {result : Result (Unit {0}) E}
       → ((kind : ErrorKind) → (F old.encoding).refuses_writing kind → (G old.encoding).refuses_writing kind)
       → ((b : List ℕ) → (F old.encoding).writes u b → (G old.encoding).writes v b)
-      → ((b : List ℕ) → (G old.encoding).writes v b → (d : List ℕ) × (F old.encoding).writes u d × (length d ≡ length b))
+      → ((b : List ℕ) → (G old.encoding).writes v b
+      → (d : List ℕ) × (F old.encoding).writes u d × (length d ≡ length b))
       → ((b : List ℕ) → (G old.encoding).spells v b → (d : List ℕ) × (F old.encoding).spells u d)
       → Writes gives F u result old new appended → Writes gives G v result old new appended
   Writes-as {result = Ok _} n f g h w = record { kept = w.kept; answer = Put-as f w.answer }
@@ -114,7 +140,12 @@ module _ {E : Type 0} {gives : Error → E → Type 0} {U V : Type 0} {F : Encod
     answer = record {
       beginning = λ b k. let d = g b k in
           let x = w.answer.beginning d.0 d.1 in
-          record { front = x.front; rest = x.rest; is_written = f (x.front ++ x.rest) x.is_written; is_appended = x.is_appended };
+          record {
+            front = x.front;
+            rest = x.rest;
+            is_written = f (x.front ++ x.rest) x.is_written;
+            is_appended = x.is_appended;
+          };
       because = elim w.answer.because [
         | inl x ↦ inl x
         | inr x ↦ inr (record {
@@ -127,12 +158,15 @@ module _ {E : Type 0} {gives : Error → E → Type 0} {U V : Type 0} {F : Encod
     };
   }
 
-module _ {E : Type 0} {gives : Error → E → Type 0} {V : Type 0} {F : Encoding → Format V} {v : V} {result : Result (Unit {0}) E} {old new : WriterState} {appended : List ℕ → Type 0} where
+module _ {E : Type 0} {gives : Error → E → Type 0} {V : Type 0} {F : Encoding → Format V} {v : V}
+    {result : Result (Unit {0}) E} {old new : WriterState} {appended : List ℕ → Type 0} where
   -- the bytes of a written form are written as the value is
   pub form_written : {least : ℕ} {bytes : List ℕ} → ((encoding : Encoding) → Laws encoding.strict least (F encoding))
-      → (F old.encoding).writes v bytes → WritesBytes gives bytes result old new appended → Writes gives F v result old new appended
+      → (F old.encoding).writes v bytes → WritesBytes gives bytes result old new appended
+      → Writes gives F v result old new appended
   form_written {bytes = bytes} laws written =
-      Writes-as (λ _ k. absurd k) (λ b e. subst ((F old.encoding).writes v) (sym e) written) (λ b k. (bytes, refl, one_length (laws old.encoding) v bytes b written k)) (λ _ _. (bytes, refl))
+      Writes-as (λ _ k. absurd k) (λ b e. subst ((F old.encoding).writes v) (sym e) written)
+      (λ b k. (bytes, refl, one_length (laws old.encoding) v bytes b written k)) (λ _ _. (bytes, refl))
 
   -- a state that is another one too, from which what was appended is said in other words
   pub Writes-from : {other : WriterState} {more : List ℕ → Type 0} → old ≡ other → ((b : List ℕ) → appended b → more b)
@@ -141,11 +175,26 @@ module _ {E : Type 0} {gives : Error → E → Type 0} {V : Type 0} {F : Encodin
     kept = w.kept;
     answer = by result w.answer;
   }) where
-    by : (r : Result (Unit {0}) E) → MatchResult r (λ _. Put ((F old.encoding).writes v) old new appended) (λ e. Refused gives (F old.encoding) v e old new appended)
-        → MatchResult r (λ _. Put ((F old.encoding).writes v) old new more) (λ e. Refused gives (F old.encoding) v e old new more)
-    by (Ok _) p = record { bytes = p.bytes; is_written = p.is_written; is_appended = f p.bytes p.is_appended; fits = p.fits; space = p.space; no_fault = p.no_fault }
+    by : (r : Result (Unit {0}) E)
+        → MatchResult r (λ _. Put ((F old.encoding).writes v) old new appended)
+        (λ e. Refused gives (F old.encoding) v e old new appended)
+        → MatchResult r (λ _. Put ((F old.encoding).writes v) old new more)
+        (λ e. Refused gives (F old.encoding) v e old new more)
+    by (Ok _) p = record {
+      bytes = p.bytes;
+      is_written = p.is_written;
+      is_appended = f p.bytes p.is_appended;
+      fits = p.fits;
+      space = p.space;
+      no_fault = p.no_fault;
+    }
     by (Err e) r = record {
-      beginning = λ b h. let x = r.beginning b h in record { front = x.front; rest = x.rest; is_written = x.is_written; is_appended = f x.front x.is_appended };
+      beginning = λ b h. let x = r.beginning b h in record {
+        front = x.front;
+        rest = x.rest;
+        is_written = x.is_written;
+        is_appended = f x.front x.is_appended;
+      };
       because = r.because;
     }
 
@@ -153,11 +202,15 @@ module _ {E : Type 0} {gives : Error → E → Type 0} {V : Type 0} {F : Encodin
   pub Writes-at : {before : WriterState} → Kept before old → Writes gives F v result old new appended
       → Writes gives (λ _. F before.encoding) v result old new appended
   Writes-at k w =
-      let here : Writes gives (λ _. F old.encoding) v result old new appended = record { kept = w.kept; answer = w.answer } in
+      let here : Writes gives (λ _. F old.encoding) v result old new appended = record {
+        kept = w.kept;
+        answer = w.answer;
+      } in
       subst (λ (e : Encoding). Writes gives (λ _. F e) v result old new appended) k.encoding here
 
 -- no bytes are written
-pub unit_written : {E : Type 0} {gives : Error → E → Type 0} {old : WriterState} {appended : List ℕ → Type 0} → appended []
+pub unit_written : {E : Type 0} {gives : Error → E → Type 0} {old : WriterState}
+    {appended : List ℕ → Type 0} → appended []
     → Writes gives (λ _. unit) tt (Ok tt) old old appended
 unfolding unit
 unit_written {old = old} h = record { kept = Kept-same old; answer = Put-nothing old h }
@@ -169,23 +222,29 @@ pub record IsSequence {U V : Type 0} {W : U → Type 0} (split : V → (u : U) �
     (asks : Encoding → Asks) (G : Encoding → (u : U) → Format (W u)) (H : Encoding → Format V) : Type 1 where
   pub is : (encoding : Encoding) → H encoding ≡ sequence split (F encoding) (asks encoding) (G encoding)
 
-pub is_sequence : {U V : Type 0} {W : U → Type 0} {split : V → (u : U) × W u} {F : Encoding → Format U} {asks : Encoding → Asks} {G : Encoding → (u : U) → Format (W u)}
+pub is_sequence : {U V : Type 0} {W : U → Type 0} {split : V → (u : U) × W u} {F : Encoding → Format U}
+    {asks : Encoding → Asks} {G : Encoding → (u : U) → Format (W u)}
     → IsSequence split F asks G (λ encoding. sequence split (F encoding) (asks encoding) (G encoding))
 is_sequence = record { is = λ _. refl }
 
-module _ {E : Type 0} {gives : Error → E → Type 0} {U V : Type 0} {W : U → Type 0} {split : V → (u : U) × W u} {F : Encoding → Format U}
+module _ {E : Type 0} {gives : Error → E → Type 0} {U V : Type 0} {W : U → Type 0} {split : V → (u : U) × W u}
+    {F : Encoding → Format U}
     {asks : Encoding → Asks} {G : Encoding → (u : U) → Format (W u)} {H : Encoding → Format V} {v : V}
     (sequenced : IsSequence split F asks G H) where
   -- the format is the sequence
   restated : {result : Result (Unit {0}) E} {old new : WriterState} {appended : List ℕ → Type 0}
-      → Writes gives (λ _. sequence split (F old.encoding) (asks old.encoding) (G old.encoding)) v result old new appended
+      → Writes gives (λ _. sequence split (F old.encoding) (asks old.encoding) (G old.encoding)) v result
+      old new appended
       → Writes gives H v result old new appended
   restated {result = result} {old = old} {new = new} {appended = appended} w =
-      let x = subst (λ (L : Format V). Writes gives (λ _. L) v result old new appended) (sym (sequenced.is old.encoding)) w in
+      let x =
+      subst (λ (L : Format V). Writes gives (λ _. L) v result old new appended) (sym (sequenced.is old.encoding)) w in
       record { kept = x.kept; answer = x.answer }
 
-  refused : {e : E} {old new : WriterState} {appended : List ℕ → Type 0} → Writes gives F (split v).0 (Err e) old new appended
-      → Writes gives (λ _. sequence split (F old.encoding) (asks old.encoding) (G old.encoding)) v (Err e) old new appended
+  refused : {e : E} {old new : WriterState} {appended : List ℕ → Type 0}
+      → Writes gives F (split v).0 (Err e) old new appended
+      → Writes gives (λ _. sequence split (F old.encoding) (asks old.encoding) (G old.encoding)) v (Err e)
+      old new appended
   unfolding sequence
   refused {e = e} {old = old} w = record {
     kept = w.kept;
@@ -195,14 +254,21 @@ module _ {E : Type 0} {gives : Error → E → Type 0} {U V : Type 0} {W : U →
           record {
             front = x.front;
             rest = x.rest ++ k.back;
-            is_written = record { front = x.front ++ x.rest; back = k.back; whole_is = sym (append_assoc x.front x.rest k.back); first_is = x.is_written; second_is = k.second_is };
+            is_written = record {
+              front = x.front ++ x.rest;
+              back = k.back;
+              whole_is = sym (append_assoc x.front x.rest k.back);
+              first_is = x.is_written;
+              second_is = k.second_is;
+            };
             is_appended = x.is_appended;
           };
       because = elim w.answer.because [
         | inl x ↦ inl x
         | inr x ↦ inr (record {
           no_fault = x.no_fault;
-          no_fit = λ b k fit. x.no_fit k.front k.first_is (fits_first old.space (length k.front) (length k.back) (subst (λ n. Fits n old.space) (ap length k.whole_is ∙ length-append k.front k.back) fit));
+          no_fit = λ b k fit. x.no_fit k.front k.first_is (fits_first old.space (length k.front) (length k.back)
+              (subst (λ n. Fits n old.space) (ap length k.whole_is ∙ length-append k.front k.back) fit));
           no_spelling = λ s b k. x.no_spelling s k.front k.first_is;
           kind = elim x.kind [ inl y ↦ inl y | inr y ↦ inr (IsOutOfRange-more gives e (λ _ k. inl k) y) ];
         })
@@ -211,11 +277,14 @@ module _ {E : Type 0} {gives : Error → E → Type 0} {U V : Type 0} {W : U →
   }
 
   module _ {old mid new : WriterState} {front back whole : List ℕ → Type 0}
-      (one : (a b : List ℕ) → (F old.encoding).writes (split v).0 a → (F old.encoding).writes (split v).0 b → length a ≡ length b)
+      (one : (a b : List ℕ) → (F old.encoding).writes (split v).0 a → (F old.encoding).writes (split v).0 b
+      → length a ≡ length b)
       (join : (a b : List ℕ) → front a → back b → whole (a ++ b))
       (k : Kept old mid) (p : Put ((F old.encoding).writes (split v).0) old mid front) where
-    written : (result : Result (Unit {0}) E) → Writes gives (λ _. G old.encoding (split v).0) (split v).1 result mid new back
-        → Writes gives (λ _. sequence split (F old.encoding) (asks old.encoding) (G old.encoding)) v result old new whole
+    written : (result : Result (Unit {0}) E)
+        → Writes gives (λ _. G old.encoding (split v).0) (split v).1 result mid new back
+        → Writes gives (λ _. sequence split (F old.encoding) (asks old.encoding) (G old.encoding)) v
+        result old new whole
     unfolding sequence
     written (Ok _) w = record { kept = Kept-after k w.kept; answer = Put-both join p w.answer }
     written (Err e) w = record {
@@ -226,20 +295,35 @@ module _ {E : Type 0} {gives : Error → E → Type 0} {U V : Type 0} {W : U →
             record {
               front = p.bytes ++ x.front;
               rest = x.rest;
-              is_written = record { front = p.bytes; back = x.front ++ x.rest; whole_is = append_assoc p.bytes x.front x.rest; first_is = p.is_written; second_is = x.is_written };
+              is_written = record {
+                front = p.bytes;
+                back = x.front ++ x.rest;
+                whole_is = append_assoc p.bytes x.front x.rest;
+                first_is = p.is_written;
+                second_is = x.is_written;
+              };
               is_appended = join p.bytes x.front p.is_appended x.is_appended;
             };
         because = elim w.answer.because [
-          | inl x ↦ inl (fault_after gives old.fixed.tells_faults e old.faults mid.faults new.faults p.no_fault (subst (λ (kind : WriterKind). IsOfFault gives kind.tells_faults e mid.faults new.faults) k.fixed x))
+          | inl x ↦
+              inl (fault_after gives old.fixed.tells_faults e old.faults mid.faults new.faults p.no_fault
+              (subst (λ (kind : WriterKind). IsOfFault gives kind.tells_faults e mid.faults new.faults) k.fixed x))
           | inr x ↦ inr (record {
             no_fault = x.no_fault ∙ p.no_fault;
             no_fit = λ b h fit.
                 let l : length b ≡ length p.bytes + length h.back =
-                let m = one h.front p.bytes h.first_is p.is_written in let q = ap length h.whole_is ∙ length-append h.front h.back in omega arith in
-                x.no_fit h.back h.second_is (subst (Fits (length h.back)) (sym p.space) (fits_second old.space (length p.bytes) (length h.back) (subst (λ n. Fits n old.space) l fit)));
+                let m = one h.front p.bytes h.first_is p.is_written in
+                let q = ap length h.whole_is ∙ length-append h.front h.back in
+                omega arith in
+                x.no_fit h.back h.second_is
+                (subst (Fits (length h.back)) (sym p.space)
+                (fits_second old.space (length p.bytes) (length h.back) (subst (λ n. Fits n old.space) l fit)));
             no_spelling = λ s b h. x.no_spelling (p.space ∙ less_none old.space (length p.bytes) s) h.back h.second_is;
             kind = elim x.kind [
-              | inl y ↦ inl ((λ s. y.0 (p.space ∙ less_none old.space (length p.bytes) s)), subst (λ (kind : WriterKind). gives (error_of kind.full) e) k.fixed y.1)
+              | inl y ↦ inl (
+                (λ s. y.0 (p.space ∙ less_none old.space (length p.bytes) s)),
+                subst (λ (kind : WriterKind). gives (error_of kind.full) e) k.fixed y.1,
+              )
               | inr y ↦ inr (IsOutOfRange-more gives e (λ _ k. inr ((split v).0, k)) y)
             ];
           })
@@ -249,18 +333,23 @@ module _ {E : Type 0} {gives : Error → E → Type 0} {U V : Type 0} {W : U →
 
   module _ {p : (u : U) × W u} (same : split v ≡ p) {old new : WriterState} where
     -- where the first part is refused, the whole is, as `?` passes the refusal on
-    pub first_refused : {e : E} {result : Result (Unit {0}) E} {appended : List ℕ → Type 0} → IsErrAnd result (λ x. x ≡ e)
+    pub first_refused : {e : E} {result : Result (Unit {0}) E} {appended : List ℕ → Type 0}
+        → IsErrAnd result (λ x. x ≡ e)
         → Writes gives F p.0 (Err e) old new appended → Writes gives H v result old new appended
     first_refused {e = e} {result = result} {appended = appended} passed w =
         subst (λ (r : Result (Unit {0}) E). Writes gives H v r old new appended) (passed_on result e passed)
         (restated (refused (subst (λ (p : (u : U) × W u). Writes gives F p.0 (Err e) old new appended) (sym same) w)))
 
     -- once the first part is written, the whole is written as the second part is
-    pub second_written : {least : ℕ} {done : Unit {0}} {result : Result (Unit {0}) E} {mid : WriterState} {front back whole : List ℕ → Type 0}
-        → ((encoding : Encoding) → Laws encoding.strict least (F encoding)) → ((a b : List ℕ) → front a → back b → whole (a ++ b))
+    pub second_written : {least : ℕ} {done : Unit {0}} {result : Result (Unit {0}) E} {mid : WriterState}
+        {front back whole : List ℕ → Type 0}
+        → ((encoding : Encoding) → Laws encoding.strict least (F encoding))
+        → ((a b : List ℕ) → front a → back b → whole (a ++ b))
         → Writes gives F p.0 (Ok done) old mid front → Writes gives (λ encoding. G encoding p.0) p.1 result mid new back
         → Writes gives H v result old new whole
     second_written {done = done} {result = result} {mid = mid} {front = front} {back = back} laws join h w =
         let first = subst (λ (p : (u : U) × W u). Writes gives F p.0 (Ok done) old mid front) (sym same) h in
-        let second = subst (λ (p : (u : U) × W u). Writes gives (λ encoding. G encoding p.0) p.1 result mid new back) (sym same) w in
-        restated (written (one_length (laws old.encoding) (split v).0) join first.kept first.answer result (Writes-at first.kept second))
+        let second =
+        subst (λ (p : (u : U) × W u). Writes gives (λ encoding. G encoding p.0) p.1 result mid new back) (sym same) w in
+        restated (written (one_length (laws old.encoding) (split v).0) join first.kept first.answer result
+        (Writes-at first.kept second))

@@ -1,5 +1,6 @@
 -- What the ways of writing answer.
-use Rattle.std.specs.Prelude.{◌≡◌, ℕ, ◌-◌, ◌^◌, ◌<◌, ◌≤◌, List, ◌++◌, length, drop, ◌⊎◌, Result, IsOk, IfOk, OnOk, OnErr, IfErr, IsOkAnd, IsErrAnd, IsTrue}
+use Rattle.std.specs.Prelude.{◌≡◌, ℕ, ◌-◌, ◌^◌, ◌<◌, ◌≤◌, List, ◌++◌, length, drop, ◌⊎◌, Result, IsOk, IfOk, OnOk}
+use Rattle.std.specs.Prelude.{OnErr, IfErr, IsOkAnd, IsErrAnd, IsTrue}
 use Rattle.std.specs.declared.io.Error.{Error as StdIoError}
 use Rattle.speedy_base.specs.declared.error.ErrorKind.TheVariants as kinds
 use Rattle.speedy_base.specs.declared.error.Error.{Error}
@@ -35,7 +36,8 @@ module _ {E : Type 0} (gives : Error → E → Type 0) where
     -- a number that is answered is the length of a written form
     pub written : IfOk result (λ n. (bytes : List ℕ) × L.writes v bytes × (n ≡ length bytes))
     -- the length of a written form is answered, if it is below `usize::MAX`
-    pub answers : (bytes : List ℕ) → L.writes v bytes → length bytes < 2 ^ 64 - 1 → IsOkAnd result (λ n. n ≡ length bytes)
+    pub answers : (bytes : List ℕ) → L.writes v bytes → length bytes < 2 ^ 64 - 1
+        → IsOkAnd result (λ n. n ≡ length bytes)
     -- and is refused from there on
     pub too_long : RefusesTooLong L v result
     -- a kind that the type names for writing is left to values without a written form
@@ -56,7 +58,9 @@ module _ {E : Type 0} (gives : Error → E → Type 0) where
         → IsErrAnd result (IsTooSmall (length old) (length bytes))
     pub too_long : RefusesTooLong L v result
     -- there is no other refusal than these and that of a value that cannot be written
-    pub refused : IfErr result (λ e. ((bytes : List ℕ) × L.writes v bytes × (length old < length bytes) × IsTooSmall (length old) (length bytes) e) ⊎ IsOutOfRange gives L.refuses_writing e)
+    pub refused : IfErr result
+        (λ e. ((bytes : List ℕ) × L.writes v bytes × (length old < length bytes)
+        × IsTooSmall (length old) (length bytes) e) ⊎ IsOutOfRange gives L.refuses_writing e)
     -- what is refused leaves the buffer as it was
     pub unchanged : OnErr result (new ≡ old)
 
@@ -67,7 +71,8 @@ module _ {E : Type 0} (gives : Error → E → Type 0) where
     pub too_long : RefusesTooLong L v result
     -- a refusal means want of memory, or that the value has no spelling that can be counted
     pub refused : IfErr result (λ e. gives (error_of kinds.OutOfMemory) e
-        ⊎ (((bytes : List ℕ) → L.spells v bytes → length bytes < 2 ^ 64 - 1 → ⊥) × IsOutOfRange gives L.refuses_writing e))
+        ⊎ (((bytes : List ℕ) → L.spells v bytes → length bytes < 2 ^ 64 - 1 → ⊥)
+        × IsOutOfRange gives L.refuses_writing e))
 
   -- the refusal of a value that has no spelling
   pub record RefusesUnspelled {V : Type 0} (L : Format V) (v : V) (e : E) : Type 0 where
@@ -87,11 +92,13 @@ module _ {E : Type 0} (gives : Error → E → Type 0) where
     -- a value that has a spelling is never refused where no push fails
     pub succeeds : (bytes : List ℕ) → L.spells v bytes → (HasGrown old.faults new.faults → ⊥) → IsOk result
     -- a refusal is the error of the one push that failed; or none failed, and the value has no spelling
-    pub refused : IfErr result (λ e. IsOfFailedCall gives e old.faults new.faults ⊎ ((new.faults ≡ old.faults) × RefusesUnspelled L v e))
+    pub refused : IfErr result
+        (λ e. IsOfFailedCall gives e old.faults new.faults ⊎ ((new.faults ≡ old.faults) × RefusesUnspelled L v e))
     -- what is refused leaves a beginning of a written form in the sink, where there is one
     pub begun : OnErr result ((bytes : List ℕ) → L.writes v bytes → Begun (L.writes v) (λ front. Takes old front new))
 
-  -- what a write to a sink and a flush behind it do: the write with what waits left out of sight, and where both succeed nothing waits
+  -- what a write to a sink and a flush behind it do: the write with what waits left out of sight, and where both
+  -- succeed nothing waits
   abbrev pub WritesAndFlushesIn : {V : Type 0} → Format V → V → Result (Unit {0}) E → SinkState → SinkState → Type 0
   WritesAndFlushesIn L v result old new =
       WritesToStreamIn L v result old (record new { settled = old.settled }) × OnOk result (IsTrue new.settled)

@@ -1,5 +1,6 @@
 -- What a write does.
-use Rattle.std.specs.Prelude.{◌≡◌, ◌≢◌, ℕ, ℤ, ◌-◌, ◌≤◌, List, ◌++◌, length, map, Bool, IsTrue, ◌⊎◌, ◌↔◌, Option, Some, None, MatchOption, Result, MatchResult, IfErr}
+use Rattle.std.specs.Prelude.{◌≡◌, ◌≢◌, ℕ, ℤ, ◌-◌, ◌≤◌, List, ◌++◌, length, map, Bool, IsTrue, ◌⊎◌, ◌↔◌, Option, Some}
+use Rattle.std.specs.Prelude.{None, MatchOption, Result, MatchResult, IfErr}
 use Rattle.std.specs.Borrow.{GName}
 use Rattle.std.specs.Int.{Width}
 use Rattle.speedy_base.specs.declared.error.ErrorKind.{ErrorKind}
@@ -88,20 +89,25 @@ module _ {E : Type 0} (gives : Error → E → Type 0) where
     pub kind : ((old.space ≢ None) × gives (error_of old.fixed.full) e) ⊎ IsOutOfRange F.refuses_writing e
 
   -- a refusal
-  pub record Refused {V : Type 0} (F : Format V) (v : V) (e : E) (old new : WriterState) (appended : List ℕ → Type 0) : Type 0 where
+  pub record Refused {V : Type 0} (F : Format V) (v : V) (e : E) (old new : WriterState)
+      (appended : List ℕ → Type 0) : Type 0 where
     pub beginning : (b : List ℕ) → F.writes v b → Begun (F.writes v) appended
-    -- a call of the device failed, and where the writer tells which, one alone did, and the refusal is its error; or no call failed
+    -- a call of the device failed, and where the writer tells which, one alone did, and the refusal is its error; or no
+    -- call failed
     pub because : IsOfFault gives old.fixed.tells_faults e old.faults new.faults ⊎ Unwritten F v e old new
 
   -- The write of a value, in the format of the writer's encoding. What succeeds appends a written form that fits, and
   -- no call of the device failed. What is refused appends a beginning of one, where there is one; and either a call of
   -- the device failed, and this is its error where the writer tells it, or none failed and no written form fits.
-  pub record Writes {V : Type 0} (F : Encoding → Format V) (v : V) (result : Result (Unit {0}) E) (old new : WriterState) (appended : List ℕ → Type 0) : Type 0 where
+  pub record Writes {V : Type 0} (F : Encoding → Format V) (v : V) (result : Result (Unit {0}) E)
+      (old new : WriterState) (appended : List ℕ → Type 0) : Type 0 where
     pub kept : Kept old new
-    pub answer : MatchResult result (λ _. Put ((F old.encoding).writes v) old new appended) (λ e. Refused (F old.encoding) v e old new appended)
+    pub answer : MatchResult result (λ _. Put ((F old.encoding).writes v) old new appended)
+        (λ e. Refused (F old.encoding) v e old new appended)
 
   -- the write of items, seen as values of a format, one after the other
-  abbrev pub WritesEach : {A V : Type 0} → (Encoding → Format V) → (A → V) → List A → Result (Unit {0}) E → WriterState → WriterState
+  abbrev pub WritesEach : {A V : Type 0} → (Encoding → Format V) → (A → V) → List A → Result (Unit {0}) E
+      → WriterState → WriterState
       → (List ℕ → Type 0) → Type 0
   WritesEach F seen items = Writes (λ encoding. repeat (length items) (F encoding)) (map seen items)
 

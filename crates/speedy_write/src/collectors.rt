@@ -1,10 +1,13 @@
 //! The writers of the ways of writing: into a buffer, into a vector, into a sink, and one that only counts.
-ghost use Rattle.std.specs.Prelude.{◌≡◌, ◌+◌, ◌-◌, ◌*◌, ◌^◌, ◌≤◌, ℕ, [], ◌∷◌, ◌++◌, length, vec_len, vec_capacity, Some, None, Ok, IsOk, IfErr, OnErr, IsSome, IsTrue, false, take, nat_le, refl};
+ghost use Rattle.std.specs.Prelude.{◌≡◌, ◌+◌, ◌-◌, ◌*◌, ◌^◌, ◌≤◌, ℕ, [], ◌∷◌, ◌++◌, length, vec_len, vec_capacity};
+ghost use Rattle.std.specs.Prelude.{Some, None, Ok, IsOk, IfErr, OnErr, IsSome, IsTrue, false, take, nat_le, refl};
 ghost use Rattle.speedy_base.specs.FailedCalls.{IsErrorOf, IsOfFailedCall};
 ghost use Rattle.speedy_write.specs.Writing.{RefusesFull, CountsBytes, Fits, WritesValues, WritesSlice};
 ghost use Rattle.speedy_write.specs.Pushing.{PushesAll};
-ghost use Rattle.speedy_write.specs.Collectors.{buffer_state, BufferAppends, size_state, SizeAppends, sink_state, Takes};
-ghost use Rattle.speedy_write.specs.CollectorLemmas.{buffer_nothing, buffer_additive, vec_nothing, vec_additive, size_nothing, size_additive, sink_nothing, sink_additive};
+ghost use Rattle.speedy_write.specs.Collectors.{buffer_state, BufferAppends, size_state, SizeAppends, sink_state};
+ghost use Rattle.speedy_write.specs.Collectors.{Takes};
+ghost use Rattle.speedy_write.specs.CollectorLemmas.{buffer_nothing, buffer_additive, vec_nothing, vec_additive};
+ghost use Rattle.speedy_write.specs.CollectorLemmas.{size_nothing, size_additive, sink_nothing, sink_additive};
 
 use crate::fixed::{FixedBytes, put_values_at};
 use crate::writer::Writer;
@@ -220,7 +223,8 @@ impl<'a, C: Context> Writer<C> for VecCollector<'a, C> {
         Ok(())
     }
 
-    /// Puts the values where they are to stand, if they fit and are not too many to lay zeros for first: at most 16 KiB.
+    /// Puts the values where they are to stand, if they fit and are not too many to lay zeros for first: at most 16
+    /// KiB.
     #[inline]
     fn put_fixed<T: Layout, P: FixedBytes<T>>(&mut self, values: &[T]) -> bool
         ensures puts { let writer = ⟦<VecCollector<'a, C> as Writer<C>>⟧ in

@@ -158,8 +158,8 @@ pub(crate) fn put_values_at<T: Layout, P: FixedBytes<T>>(
 /// So many values at least are put by chunks where their bytes are those in memory, as of numbers in the little order.
 const LEAST_COPIED: usize = 64;
 
-// Puts the bytes of the values through a chunk. Nothing else can lie in that, so a compiler sees where it copies memory,
-// and then copies it to the output at once.
+// Puts the bytes of the values through a chunk. Nothing else can lie in that, so a compiler sees where it copies
+// memory, and then copies it to the output at once.
 #[inline(always)]
 fn put_by_chunks<T: Layout, P: FixedBytes<T>>(values: &[T], order: Endianness, output: &mut [u8])
     requires { length output.old ≡ length values.now * P.BYTES }
@@ -205,8 +205,8 @@ const SHORT_CHUNK: usize = 64;
 /// The chunk for many, in bytes: longer writes, of which there are fewer, take less time.
 const LONG_CHUNK: usize = 8192;
 
-// Writes the values through a chunk, which is as long as pays for so many of them. It stands apart: a caller that has it
-// within pays at each call for the longest.
+// Writes the values through a chunk, which is as long as pays for so many of them. It stands apart: a caller that has
+// it within pays at each call for the longest.
 #[inline(never)]
 fn write_by_chunks<C: Context, T: Layout, P: FixedBytes<T>, W: Writer<C>>(
     values: &[T],

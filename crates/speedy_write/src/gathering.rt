@@ -1,6 +1,7 @@
 //! A writer to a sink that gathers short writes and pushes them together.
 ghost use Rattle.std.specs.Borrow.{GName};
-ghost use Rattle.std.specs.Prelude.{◌≡◌, ◌+◌, ◌-◌, ◌*◌, ◌≤◌, ◌↔◌, [], ◌++◌, length, take, drop, None, Ok, IsTrue, false, OnOk, refl};
+ghost use Rattle.std.specs.Prelude.{◌≡◌, ◌+◌, ◌-◌, ◌*◌, ◌≤◌, ◌↔◌, [], ◌++◌, length, take, drop, None, Ok, IsTrue};
+ghost use Rattle.std.specs.Prelude.{false, OnOk, refl};
 ghost use Rattle.speedy_base.specs.Encoding.{Encoding};
 ghost use Rattle.speedy_write.specs.Collectors.{sink_state};
 ghost use Rattle.speedy_write.specs.FixedBytes.{PutsBehind};
@@ -276,7 +277,8 @@ impl<'s, S: Sink, C: Context> Writer<C> for GatheringCollector<'s, S, C> {
     // The room is not given back, so its name is not told.
     ghost state = { λ w. sink_state (C.encoding w.context) w.sink.ghost_name (S.sink w.sink.now) };
 
-    ghost appends = { λ a s b. Gathers (S.sink a.sink.now) (waiting a.waiting) s (S.sink b.sink.now) (waiting b.waiting) };
+    ghost appends = { λ a s b.
+        Gathers (S.sink a.sink.now) (waiting a.waiting) s (S.sink b.sink.now) (waiting b.waiting) };
 
     ghost can_write = { λ w n. None };
 

@@ -6,7 +6,8 @@ use speedy_layout::Layout;
 
 /// A part of a value, behind a reference: it has the layout of the part itself and is written as it.
 ///
-/// A struct of one's own is written as the tuple of its parts, `(Part(&self.number), Part(&self.text))`, without a copy.
+/// A struct of one's own is written as the tuple of its parts, `(Part(&self.number), Part(&self.text))`, without a
+/// copy.
 #[derive(Drop)]
 pub struct Part<'t, T>(pub &'t T);
 

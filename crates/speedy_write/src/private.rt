@@ -16,8 +16,8 @@ use std::alloc::Global;
 
 /// Writes a value to a sink, as [`Writable::write_to_stream_with_ctx`] does, and flushes the sink.
 ///
-/// Where it succeeds, the sink took the value, all of it was passed on, and no call failed. The error of a failed flush is
-/// answered as that of a failed push is, and no call is tried again. After an earlier error there is no flush.
+/// Where it succeeds, the sink took the value, all of it was passed on, and no call failed. The error of a failed flush
+/// is answered as that of a failed push is, and no call is tried again. After an earlier error there is no flush.
 pub fn write_to_stream_and_flush_with_ctx<C: Context, T: Writable<C>, S: Sink>(
     value: &T,
     alloc: Global,

@@ -3,7 +3,8 @@ ghost use Rattle.std.specs.Prelude.{◌≡◌, ◌≤◌, ℕ, List, length, Mat
 ghost use Rattle.speedy_base.specs.Error.{error_of};
 ghost use Rattle.speedy_base.specs.Encoding.{plain_encoding};
 ghost use Rattle.speedy_write.specs.Writing.{WritesValue, WritesValues};
-ghost use Rattle.speedy_write.specs.WaysOfWriting.{Needs, IsShortest, Stands, WritesToBuffer, WritesToVec, WritesToStream, WritesAndFlushes, WritesToFile};
+ghost use Rattle.speedy_write.specs.WaysOfWriting.{Needs, IsShortest, Stands, WritesToBuffer, WritesToVec};
+ghost use Rattle.speedy_write.specs.WaysOfWriting.{WritesToStream, WritesAndFlushes, WritesToFile};
 
 use crate::collectors::{VecCollector, error_of_failed_call};
 pub use crate::collectors::{BufferCollector, SizeCalculatorCollector, WritingCollector};
@@ -171,8 +172,8 @@ pub trait Writable<C: Context>: Layout {
 
     /// Encodes the value to a sink, under the context. The sink is not flushed.
     ///
-    /// Short parts of the value are gathered, and pushed 256 bytes at a time; longer ones are pushed as they are. Memory
-    /// is asked for where a push fails, for its error.
+    /// Short parts of the value are gathered, and pushed 256 bytes at a time; longer ones are pushed as they are.
+    /// Memory is asked for where a push fails, for its error.
     final fn write_to_stream_with_ctx<S: Sink>(
         &self,
         alloc: Global,
@@ -204,8 +205,8 @@ pub trait Writable<C: Context>: Layout {
     /// Encodes the value to a file, under the context. The file is made or emptied, and flushed at the end.
     ///
     /// Short parts of the value are gathered, and written 8,192 bytes at a time. A failed call of the file is answered,
-    /// that of the flush too, and no call is tried again, an interrupted one neither. After an error the file may hold a
-    /// part of the value. Memory is asked for where a call fails, for its error.
+    /// that of the flush too, and no call is tried again, an interrupted one neither. After an error the file may hold
+    /// a part of the value. Memory is asked for where a call fails, for its error.
     final fn write_to_file_with_ctx<R: Files, P: AsPath>(
         &self,
         rt: &R,

@@ -62,8 +62,8 @@ pub trait Writer<C: Context> {
         false
     }
 
-    /// Tells the writer how many bytes are written next, for which its sink may make room at once. It writes nothing. This
-    /// body does nothing.
+    /// Tells the writer how many bytes are written next, for which its sink may make room at once. It writes nothing.
+    /// This body does nothing.
     #[inline(always)]
     fn reserve(&mut self, _additional: usize)
         ensures state { state self.new ≡ state self.old }

@@ -12,8 +12,11 @@ pub loop-value-preserved : goal.loop-value-preserved
 loop-value-preserved g c =
     let swapped_in = g.T.Swap.swapped_in in
     let is_big : c.args.order ≡ BigEndian = c.conversion_necessary.ensures.0 c.if-conversion_necessary.true in
-    let turned = c.reversed.ensures ∙ ap (λ (order : Endianness). swapped_in order (get_or c.loop-value.slice c.loop-value.value-index c.value-item.result)) (sym is_big) in
-    passed_more (swapped_in c.args.order) _ _ _ c.value-item.result _ c.loop-value-test.true c.loop-value.invariant turned
+    let turned = c.reversed.ensures ∙ ap
+    (λ (order : Endianness). swapped_in order (get_or c.loop-value.slice c.loop-value.value-index c.value-item.result))
+    (sym is_big) in
+    passed_more (swapped_in c.args.order) _ _ _ c.value-item.result _ c.loop-value-test.true
+    c.loop-value.invariant turned
 
 pub returns-after-loop-value : goal.returns-after-loop-value
 returns-after-loop-value g c = c.loop-value.invariant ∙ passed_all _ _ _ c.loop-value-test.false
@@ -21,5 +24,7 @@ returns-after-loop-value g c = c.loop-value.invariant ∙ passed_all _ _ _ c.loo
 pub returns-else-conversion_necessary : goal.returns-else-conversion_necessary
 returns-else-conversion_necessary g c =
     let swapped_in = g.T.Swap.swapped_in in
-    let is_little : c.args.order ≡ LittleEndian = little_from_not_big c.args.order _ c.conversion_necessary.ensures c.if-conversion_necessary.false in
-    sym (map_same (swapped_in c.args.order) _ (λ n. ap (λ (order : Endianness). swapped_in order n) is_little ∙ g.met.T.Swap.stays n))
+    let is_little : c.args.order ≡ LittleEndian =
+    little_from_not_big c.args.order _ c.conversion_necessary.ensures c.if-conversion_necessary.false in
+    sym (map_same (swapped_in c.args.order) _
+    (λ n. ap (λ (order : Endianness). swapped_in order n) is_little ∙ g.met.T.Swap.stays n))

@@ -23,15 +23,20 @@ only_memory : {A V : Type 0} {seen : A → V} {least : ℕ} {L : Format V} {e : 
 only_memory above (v, front, rest, spelled, whole) answers =
     let size = ap length whole ∙ length-append front rest in
     let enough = above v front spelled in
-    elim (answers.refused (omega arith)) [ inl memory ↦ memory.0 | inr refused ↦ absurd ((refused.because tt).no_front v front rest whole spelled) ]
+    elim (answers.refused (omega arith)) [
+      | inl memory ↦ memory.0
+      | inr refused ↦ absurd ((refused.because tt).no_front v front rest whole spelled)
+    ]
 
 pub returns-in_err-value-clause-refused : goal.returns-in_err-value-clause-refused
 returns-in_err-value-clause-refused c =
-    λ begins. rw (← passed_on _ _ c.from_residual.ensures.1) (only_memory (c.no_spelling_is_below_least.ensures _) begins c.in_err-value.ensures.1)
+    λ begins. rw (← passed_on _ _ c.from_residual.ensures.1)
+    (only_memory (c.no_spelling_is_below_least.ensures _) begins c.in_err-value.ensures.1)
 
 pub returns-clause-same : goal.returns-clause-same
 unfolding sequence coding unsigned_number unit text
 returns-clause-same c =
     let read = c.in_ok-value.ensures.1.value in
-    let same = c.written_form_alone.ensures.same _ _ read.front _ refl refl read.front_is c.in_ok-written.ensures.written.is_written in
+    let same = c.written_form_alone.ensures.same _ _ read.front _ refl refl read.front_is
+    c.in_ok-written.ensures.written.is_written in
     rw (← same) (_, read.rest, read.front_is, read.whole_is)

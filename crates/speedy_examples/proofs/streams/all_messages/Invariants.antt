@@ -9,4 +9,5 @@ use Rattle.speedy_examples.proofs.streams.all_messages.Given as goal
 abbrev pub invariant-loop-i : goal.invariant-loop-i
 invariant-loop-i g l =
     (length (map seen_message l.messages.items) ≡ l._i)
-    × ReadSoFar message.spells (map seen_message l.messages.items) (g.S.Source.source l.fn.source) (stream_state g.S.Source.source (λ _. plain_encoding LittleEndian) l.reader)
+    × ReadSoFar message.spells (map seen_message l.messages.items) (g.S.Source.source l.fn.source)
+    (stream_state g.S.Source.source (λ _. plain_encoding LittleEndian) l.reader)

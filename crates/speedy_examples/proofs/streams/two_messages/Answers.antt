@@ -11,20 +11,25 @@ use Rattle.speedy_examples.proofs.streams.two_messages.Goals as goal
 
 pub returns-clause-same : goal.returns-clause-same
 returns-clause-same c = λ v w front back first second whole.
-    let one = c.written_is_streamed.ensures (plain_encoding LittleEndian) v front back false _ _ _ first refl whole c.in_ok-first.ensures in
-    let two = c.written_is_streamed.ensures (plain_encoding LittleEndian) w back [] false _ _ _ second refl (one.rest_is refl ∙ sym (append-nil back)) c.in_ok-second.ensures in
+    let one = c.written_is_streamed.ensures (plain_encoding LittleEndian) v front back false _ _ _ first refl whole
+    c.in_ok-first.ensures in
+    let two = c.written_is_streamed.ensures (plain_encoding LittleEndian) w back [] false _ _ _ second refl
+    (one.rest_is refl ∙ sym (append-nil back)) c.in_ok-second.ensures in
     (one.same, two.same)
 
 pub returns-in_err-first-clause-refused : goal.returns-in_err-first-clause-refused
 returns-in_err-first-clause-refused c = λ v w front back first second whole.
-    let one = c.written_is_streamed.ensures (plain_encoding LittleEndian) v front back false _ _ _ first refl whole c.in_err-first.ensures in
+    let one = c.written_is_streamed.ensures (plain_encoding LittleEndian) v front back false _ _ _ first refl whole
+    c.in_err-first.ensures in
     rw (← passed_on _ _ c.from_residual.ensures.1)
     (wants_memory (one.refused (AreBytes-slice _ c.type_inv.bytes) (omega arith) (message_lends_nothing _)))
 
 pub returns-in_err-second-clause-refused : goal.returns-in_err-second-clause-refused
 returns-in_err-second-clause-refused c = λ v w front back first second whole.
-    let one = c.written_is_streamed.ensures (plain_encoding LittleEndian) v front back false _ _ _ first refl whole c.in_ok-first.ensures in
-    let two = c.written_is_streamed.ensures (plain_encoding LittleEndian) w back [] false _ _ _ second refl (one.rest_is refl ∙ sym (append-nil back)) c.in_err-second.ensures in
+    let one = c.written_is_streamed.ensures (plain_encoding LittleEndian) v front back false _ _ _ first refl whole
+    c.in_ok-first.ensures in
+    let two = c.written_is_streamed.ensures (plain_encoding LittleEndian) w back [] false _ _ _ second refl
+    (one.rest_is refl ∙ sym (append-nil back)) c.in_err-second.ensures in
     let left = one.rest_is refl in
     let are_bytes = (AreBytes-append_parts front back (subst AreBytes whole (AreBytes-slice _ c.type_inv.bytes))).1 in
     let sizes = ap length whole ∙ length-append front back in

@@ -15,6 +15,9 @@ returns g c =
     let source = ap map_source ran.2 ∙ c.map.ensures.source in
     let bytes = ap chunks_exact_rest source ∙ c.chunks_exact.ensures.rest in
     on_success _ c.extend.result ran.4 (λ drains.
-    let taken = each_taken S g.T.Layout.seen g.T.FixedSize.SIZE g.met.T.FixedNumber.is_fixed.has_bytes (g.met.T.FixedNumber.decodes c.args.order) (λ x r q sized k. search rules) ran.0 c.requires.0 ran.1
-    (ap map_callee ran.2 ∙ c.map.ensures.closure) (ap chunks_exact_size source ∙ (c.chunks_exact.ensures.size ∙ c.SIZE.ensures)) (ap length bytes ∙ c.requires.1) (subst AreBytes (sym bytes) (AreBytes-slice c.args.bytes.now c.type_inv.bytes)) drains in
+    let taken = each_taken S g.T.Layout.seen g.T.FixedSize.SIZE g.met.T.FixedNumber.is_fixed.has_bytes
+    (g.met.T.FixedNumber.decodes c.args.order) (λ x r q sized k. search rules) ran.0 c.requires.0 ran.1
+    (ap map_callee ran.2 ∙ c.map.ensures.closure)
+    (ap chunks_exact_size source ∙ (c.chunks_exact.ensures.size ∙ c.SIZE.ensures)) (ap length bytes ∙ c.requires.1)
+    (subst AreBytes (sym bytes) (AreBytes-slice c.args.bytes.now c.type_inv.bytes)) drains in
     (ran.1, ran.3.0, subst (λ (b : List ℕ). Each S (map g.T.Layout.seen ran.1) b) bytes taken))

@@ -29,7 +29,9 @@ own k n h j l =
     omega arith
 
 -- so many bits has the number with that bit, and at least one
-bits : (n : ℕ) → n < 2 ^ 64 → (b : ℕ) × (count_leading_zeros 64 (bit_or n 1) + b ≡ 64) × (1 ≤ b) × ((n / 2) * 2 + 1 < 2 ^ b) × (2 ^ b ≤ 2 * ((n / 2) * 2 + 1) + 1)
+bits : (n : ℕ) → n < 2 ^ 64
+    → (b : ℕ) × (count_leading_zeros 64 (bit_or n 1) + b ≡ 64) × (1 ≤ b) × ((n / 2) * 2 + 1 < 2 ^ b)
+    × (2 ^ b ≤ 2 * ((n / 2) * 2 + 1) + 1)
 bits n small =
     let is = odd n in
     let found = leading_length 64 (bit_or n 1) (omega arith) in

@@ -11,4 +11,5 @@ pub returns-clause-spelled : goal.returns-clause-spelled
 returns-clause-spelled g c = λ count long.
     let bytes = c.args.bytes.now in
     let item = g.T.ViewItem in
-    shown_items_spelled item.decoded g.T.FixedSize.SIZE g.T.Layout.seen _ g.met.T.ViewItem.decodes count bytes g.met.T.ViewItem.some_bytes long (AreBytes-slice bytes c.type_inv.bytes)
+    shown_items_spelled item.decoded g.T.FixedSize.SIZE g.T.Layout.seen _ g.met.T.ViewItem.decodes count bytes
+    g.met.T.ViewItem.some_bytes long (AreBytes-slice bytes c.type_inv.bytes)

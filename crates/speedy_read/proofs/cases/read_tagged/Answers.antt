@@ -11,5 +11,6 @@ returns-in_err-tag g c =
 pub returns : goal.returns
 returns g c =
     let number = c.in_ok-tag.ensures in
-    second_decides (tagged_composes g.N.Prefix.numbers.codec.format g.T.Cases.choices _) (g.N.Prefix.numbers.codec.laws _) number
+    second_decides (tagged_composes g.N.Prefix.numbers.codec.format g.T.Cases.choices _)
+    (g.N.Prefix.numbers.codec.laws _) number
     (rw number.kept.encoding at c.read_case.ensures) (λ _. refl)

@@ -18,7 +18,8 @@ loop-at-preserved g c =
     let room = mid_len at (at + some) places (omega (arith, c.loop-at.invariant.0)) in
     let sized = c.take_each.auto.places ∙ room in
     let same = same_len_mid at (at + some - at) places c.take_each.new.places c.take_each.auto.places in
-    let order = c.endianness.ensures ∙ ap (λ e. e.order) (c.in_ok-read_bytes.ensures.kept.encoding ∙ so_far.kept.encoding) in (
+    let order =
+    c.endianness.ensures ∙ ap (λ e. e.order) (c.in_ok-read_bytes.ensures.kept.encoding ∙ so_far.kept.encoding) in (
       omega (arith, same, c.loop-at.invariant.0),
       same ∙ c.loop-at.invariant.1,
       rw (put_behind places c.take_each.new.places at some c.loop-at.invariant.0 (omega (arith, sized)))
@@ -29,7 +30,8 @@ loop-at-preserved g c =
 pub returns : goal.returns
 returns g c =
     let all = take_all c.loop-at.at c.loop-at.places c.loop-at-test.false in
-    got_items _ _ (rw all at c.loop-at.invariant.2) (length-map c.loop-at.places g.T.Layout.seen ∙ c.loop-at.invariant.1)
+    got_items _ _ (rw all at c.loop-at.invariant.2)
+    (length-map c.loop-at.places g.T.Layout.seen ∙ c.loop-at.invariant.1)
 
 pub returns-in_err-read_bytes : goal.returns-in_err-read_bytes
 returns-in_err-read_bytes g c =
@@ -37,5 +39,7 @@ returns-in_err-read_bytes g c =
     let count = length-take-le at c.loop-at.places c.loop-at.invariant.0 in
     numbers_refused g.T.Layout.layout.laws g.met.T.FixedNumber.is_fixed _ g.T.Layout.seen _ (take at c.loop-at.places)
     c.min-some.result (omega (arith, count, c.loop-at.invariant.0, c.loop-at.invariant.1))
-    (length-take-le (c.min-some.result * c.SIZE-in-loop-at.result) c.loop-at.chunk (chunk_fits {some = c.min-some.result} g.met.T.FixedNumber.is_fixed.has_bytes (omega arith) c.SIZE.ensures c.SIZE-in-loop-at.ensures c.loop-at.auto.chunk) ∙ ap (λ n. c.min-some.result * n) c.SIZE-in-loop-at.ensures)
+    (length-take-le (c.min-some.result * c.SIZE-in-loop-at.result) c.loop-at.chunk
+    (chunk_fits {some = c.min-some.result} g.met.T.FixedNumber.is_fixed.has_bytes (omega arith) c.SIZE.ensures
+    c.SIZE-in-loop-at.ensures c.loop-at.auto.chunk) ∙ ap (λ n. c.min-some.result * n) c.SIZE-in-loop-at.ensures)
     c.loop-at.invariant.2 c.from_residual.ensures.1 c.in_err-read_bytes.ensures

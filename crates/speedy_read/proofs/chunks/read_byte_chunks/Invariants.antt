@@ -4,7 +4,8 @@ use Rattle.speedy_read.proofs.chunks.read_byte_chunks.Given as goal
 
 abbrev pub invariant-loop-left : goal.invariant-loop-left
 invariant-loop-left g l =
-    (l.left ≤ l.length) × (length l.bytes.items ≡ l.length - l.left) × BytesSoFar l.bytes.items (g.R.LendingReader.state l.fn.reader) (g.R.LendingReader.state l.reader)
+    (l.left ≤ l.length) × (length l.bytes.items ≡ l.length - l.left)
+    × BytesSoFar l.bytes.items (g.R.LendingReader.state l.fn.reader) (g.R.LendingReader.state l.reader)
 
 abbrev pub decreases-loop-left : goal.decreases-loop-left
 decreases-loop-left g l = l.left

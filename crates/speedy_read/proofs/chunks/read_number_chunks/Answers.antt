@@ -24,16 +24,23 @@ returns-in_err-read_bytes g c =
 pub returns-then-is_err : goal.returns-then-is_err
 returns-then-is_err g c =
     let so_far = c.loop-left.invariant.2 in
-    refused_room _ _ _ (Kept-after so_far.kept c.in_ok-read_bytes.ensures.kept) (c.in_ok-read_bytes.ensures.answer.no_fault ∙ so_far.got.no_fault) refl c.error_out_of_memory.ensures
+    refused_room _ _ _ (Kept-after so_far.kept c.in_ok-read_bytes.ensures.kept)
+    (c.in_ok-read_bytes.ensures.answer.no_fault ∙ so_far.got.no_fault) refl c.error_out_of_memory.ensures
 
 pub loop-left-preserved : goal.loop-left-preserved
 loop-left-preserved g c =
     let so_far = c.loop-left.invariant.2 in
-    let added = from_ok c.append_in_steps.result (sym c.is_err.ensures.value ∙ c.if-is_err.false) c.append_in_steps.ensures in
-    let size = length-take-le (c.min-some.result * c.SIZE-in-loop-left.result) c.loop-left.chunk (chunk_fits {some = c.min-some.result} g.met.T.FixedNumber.is_fixed.has_bytes (omega arith) c.SIZE-2.ensures c.SIZE-in-loop-left.ensures c.loop-left.auto.chunk) in
-    let count = count_of_digits g.met.T.FixedNumber.is_fixed g.T.Layout.seen _ added.0 c.read_bytes.new.output c.min-some.result added.2 (c.read_bytes.auto.output ∙ (size ∙ ap (λ n. c.min-some.result * n) c.SIZE-in-loop-left.ensures)) in (
+    let added =
+    from_ok c.append_in_steps.result (sym c.is_err.ensures.value ∙ c.if-is_err.false) c.append_in_steps.ensures in
+    let size = length-take-le (c.min-some.result * c.SIZE-in-loop-left.result) c.loop-left.chunk
+    (chunk_fits {some = c.min-some.result} g.met.T.FixedNumber.is_fixed.has_bytes (omega arith) c.SIZE-2.ensures
+    c.SIZE-in-loop-left.ensures c.loop-left.auto.chunk) in
+    let count =
+    count_of_digits g.met.T.FixedNumber.is_fixed g.T.Layout.seen _ added.0 c.read_bytes.new.output c.min-some.result
+    added.2 (c.read_bytes.auto.output ∙ (size ∙ ap (λ n. c.min-some.result * n) c.SIZE-in-loop-left.ensures)) in (
       omega arith,
-      ap length added.1 ∙ (length-append c.loop-left.numbers.items added.0 ∙ omega (arith, count, c.loop-left.invariant.1)),
+      ap length added.1
+          ∙ (length-append c.loop-left.numbers.items added.0 ∙ omega (arith, count, c.loop-left.invariant.1)),
       rw added.1 (more_numbers g.T.Layout.layout.laws g.met.T.FixedNumber.is_fixed _ g.T.Layout.seen c.args.count
           c.loop-left.numbers.items added.0 _
           (c.endianness.ensures ∙ ap (λ e. e.order)
@@ -42,4 +49,5 @@ loop-left-preserved g c =
     )
 
 pub returns : goal.returns
-returns g c = got_items _ _ c.loop-left.invariant.2 (length-map c.loop-left.numbers.items g.T.Layout.seen ∙ (c.loop-left.invariant.1 ∙ omega arith))
+returns g c = got_items _ _ c.loop-left.invariant.2
+    (length-map c.loop-left.numbers.items g.T.Layout.seen ∙ (c.loop-left.invariant.1 ∙ omega arith))

@@ -10,4 +10,5 @@ pub returns : goal.returns
 returns g c =
     let bytes = c.read_bytes.new.output in
     let back = take_all 4 (drop 8 bytes) (omega (arith, length-drop 8 bytes, c.read_bytes.auto.output)) in
-    two_read (take 8 bytes) (take 4 (drop 8 bytes)) c.in_ok-read_bytes.ensures c.endianness-order.ensures (sym (ap (λ l. take 8 bytes ++ l) back ∙ take-append-drop 8 bytes)) c.read_u64.ensures c.read_u32.ensures
+    two_read (take 8 bytes) (take 4 (drop 8 bytes)) c.in_ok-read_bytes.ensures c.endianness-order.ensures
+    (sym (ap (λ l. take 8 bytes ++ l) back ∙ take-append-drop 8 bytes)) c.read_u64.ensures c.read_u32.ensures

@@ -11,7 +11,8 @@ returns-in_default-clause-reads g c =
 
 pub returns-in_err-bytes-clause-reads : goal.returns-in_err-bytes-clause-reads
 unfolding raw_bytes
-returns-in_err-bytes-clause-reads g c = Reads-passed c.from_residual.ensures.1 (borrowed_read _ refl (rw c.in_err-bytes.was at c.in-Some.ensures.1))
+returns-in_err-bytes-clause-reads g c =
+    Reads-passed c.from_residual.ensures.1 (borrowed_read _ refl (rw c.in_err-bytes.was at c.in-Some.ensures.1))
 
 pub returns-clause-reads : goal.returns-clause-reads
 unfolding raw_bytes

@@ -11,7 +11,8 @@ loop-at-init g c = (omega arith, refl, none_compared c.args.constant.now, λ _. 
 pub returns-in_err-read_bytes-clause-reads : goal.returns-in_err-read_bytes-clause-reads
 returns-in_err-read_bytes-clause-reads g c =
     let size = length-take-le c.min-size.result c.loop-at.chunk (omega (arith, c.loop-at.invariant.1)) in
-    comparison_refused c.args.constant.now c.loop-at.at _ (omega (arith, size)) c.loop-at.invariant.2 c.from_residual.ensures.1 c.in_err-read_bytes.ensures
+    comparison_refused c.args.constant.now c.loop-at.at _ (omega (arith, size)) c.loop-at.invariant.2
+    c.from_residual.ensures.1 c.in_err-read_bytes.ensures
 
 pub returns-in_err-read_bytes-clause-fewer : goal.returns-in_err-read_bytes-clause-fewer
 returns-in_err-read_bytes-clause-fewer g c told few =
@@ -25,17 +26,28 @@ loop-at-preserved g c =
     let size = length-take-le c.min-size.result c.loop-at.chunk (omega (arith, c.loop-at.invariant.1)) in
     let back : (c.loop-at.at + c.min-size.result) - c.loop-at.at ≡ c.min-size.result = omega arith in (
       omega arith,
-      length-append c.read_bytes.new.output (drop c.min-size.result c.loop-at.chunk) ∙ omega (arith, c.read_bytes.auto.output, length-drop c.min-size.result c.loop-at.chunk, size),
-      chunk_compared c.args.constant.now c.loop-at.at _ _ size (omega arith) c.loop-at.invariant.2 c.in_ok-read_bytes.ensures (front_of c.min-size.result c.read_bytes.new.output (drop c.min-size.result c.loop-at.chunk) (c.read_bytes.auto.output ∙ size)) (ap (λ (n : ℕ). take n (drop c.loop-at.at c.args.constant.now)) back) c.are_still_the_same-same.ensures,
+      length-append c.read_bytes.new.output (drop c.min-size.result c.loop-at.chunk)
+          ∙ omega (arith, c.read_bytes.auto.output, length-drop c.min-size.result c.loop-at.chunk, size),
+      chunk_compared c.args.constant.now c.loop-at.at _ _ size (omega arith) c.loop-at.invariant.2
+          c.in_ok-read_bytes.ensures (front_of c.min-size.result c.read_bytes.new.output
+          (drop c.min-size.result c.loop-at.chunk) (c.read_bytes.auto.output ∙ size))
+          (ap (λ (n : ℕ). take n (drop c.loop-at.at c.args.constant.now)) back) c.are_still_the_same-same.ensures,
       λ none. let l = ap length none in absurd (omega arith),
     )
 
 pub returns-then-not-same-clause-reads : goal.returns-then-not-same-clause-reads
 returns-then-not-same-clause-reads g c =
-    constant_differs c.args.constant.now (omega arith) (rw c.if-not-same.true at c.loop-at.invariant.2) (_, refl, c.error_expected_constant.ensures)
+    constant_differs c.args.constant.now (omega arith) (rw c.if-not-same.true at c.loop-at.invariant.2) (
+      _,
+      refl,
+      c.error_expected_constant.ensures,
+    )
 
 pub returns-then-not-same-clause-nothing : goal.returns-then-not-same-clause-nothing
-returns-then-not-same-clause-nothing g c none = let same = (c.loop-at.invariant.3 none).1 in let not_same = c.if-not-same.true in absurd (cc)
+returns-then-not-same-clause-nothing g c none =
+    let same = (c.loop-at.invariant.3 none).1 in
+    let not_same = c.if-not-same.true in
+    absurd (cc)
 
 pub returns-then-not-same-clause-fewer : goal.returns-then-not-same-clause-fewer
 returns-then-not-same-clause-fewer g c told few =
@@ -45,7 +57,8 @@ pub returns-clause-fewer : goal.returns-clause-fewer
 returns-clause-fewer g c told few = absurd (all_there c.args.constant.now (omega arith) c.loop-at.invariant.2 told few)
 
 pub returns-clause-reads : goal.returns-clause-reads
-returns-clause-reads g c = constant_read c.args.constant.now (omega arith) (rw c.if-not-same.false at c.loop-at.invariant.2)
+returns-clause-reads g c =
+    constant_read c.args.constant.now (omega arith) (rw c.if-not-same.false at c.loop-at.invariant.2)
 
 pub returns-clause-nothing : goal.returns-clause-nothing
 returns-clause-nothing g c none = (refl, ap g.R.LendingReader.state (c.loop-at.invariant.3 none).0)

@@ -9,10 +9,14 @@ returns-in_err-length g c = code_refused _ _ c.from_residual.ensures.1 c.in_err-
 
 pub returns-then-length-gt-U7_MAX : goal.returns-then-length-gt-U7_MAX
 returns-then-length-gt-U7_MAX g c =
-    code_means_nothing _ _ (unsigned_number_laws 1 _) (λ _ m. m) (λ v m. let same = m.0 in let within = m.1 in let past = c.if-length-gt-U7_MAX.true in omega arith)
+    code_means_nothing _ _ (unsigned_number_laws 1 _) (λ _ m. m)
+    (λ v m. let same = m.0 in let within = m.1 in let past = c.if-length-gt-U7_MAX.true in omega arith)
     (kinds.OutOfRangeLength, refl, c.error_out_of_range_length.ensures) c.in_ok-length.ensures
 
 pub returns : goal.returns
 returns g c =
-    let within : c.from.result ≤ 127 = let past = c.if-length-gt-U7_MAX.false in let same = c.from.ensures in omega arith in
+    let within : c.from.result ≤ 127 =
+    let past = c.if-length-gt-U7_MAX.false in
+    let same = c.from.ensures in
+    omega arith in
     exact_code_read _ _ _ (sym c.from.ensures, within) c.in_ok-length.ensures

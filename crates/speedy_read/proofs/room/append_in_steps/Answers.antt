@@ -13,27 +13,37 @@ loop-at-init g c =
 
 pub append_each-requires : goal.append_each-requires
 append_each-requires g c =
-    let within = steps_within g.met.T.FixedNumber.is_fixed.has_bytes c.SIZE.ensures _ c.args.digits.now (omega arith) in
-    (c.min-some.result, step_length c.loop-at.at c.min-some.result c.SIZE-in-loop-at.ensures c.SIZE-in-loop-at-2.ensures c.args.digits.now within)
+    let within =
+    steps_within g.met.T.FixedNumber.is_fixed.has_bytes c.SIZE.ensures _ c.args.digits.now (omega arith) in (
+      c.min-some.result,
+      step_length c.loop-at.at c.min-some.result c.SIZE-in-loop-at.ensures c.SIZE-in-loop-at-2.ensures
+          c.args.digits.now within,
+    )
 
 pub loop-at-preserved : goal.loop-at-preserved
 loop-at-preserved g c =
     let S = spelled_in g.T.Layout.layout.format c.args.order in
-    let within = steps_within g.met.T.FixedNumber.is_fixed.has_bytes c.SIZE.ensures (c.loop-at.at + c.min-some.result) c.args.digits.now (omega arith) in
+    let within = steps_within g.met.T.FixedNumber.is_fixed.has_bytes c.SIZE.ensures (c.loop-at.at + c.min-some.result)
+    c.args.digits.now (omega arith) in
     let before = c.loop-at.invariant.1 in
     let more = c.in_ok-append_each.ensures in (
       omega arith,
       (
         before.0 ++ more.0,
-        more.1 ∙ (ap (λ xs. xs ++ more.0) (c.in_ok-make_room.ensures.same ∙ before.1) ∙ append_assoc c.args.numbers.now.items before.0 more.0),
-        subst₂ (λ vs b. Each S vs b) (sym (map-append g.T.Layout.seen before.0 more.0)) (sym (step_behind c.loop-at.at c.min-some.result c.SIZE-in-loop-at.ensures c.SIZE-in-loop-at-2.ensures c.args.digits.now within))
+        more.1
+            ∙ (ap (λ xs. xs ++ more.0) (c.in_ok-make_room.ensures.same ∙ before.1)
+            ∙ append_assoc c.args.numbers.now.items before.0 more.0),
+        subst₂ (λ vs b. Each S vs b) (sym (map-append g.T.Layout.seen before.0 more.0))
+            (sym (step_behind c.loop-at.at c.min-some.result c.SIZE-in-loop-at.ensures c.SIZE-in-loop-at-2.ensures
+            c.args.digits.now within))
             (each_append S _ _ _ _ before.2 more.2),
       ),
     )
 
 pub returns : goal.returns
 returns g c =
-    let done = steps_done g.met.T.FixedNumber.is_fixed.has_bytes c.SIZE.ensures c.requires.0 c.loop-at.at c.args.digits.now c.requires.1 (omega arith) in
+    let done = steps_done g.met.T.FixedNumber.is_fixed.has_bytes c.SIZE.ensures c.requires.0 c.loop-at.at
+    c.args.digits.now c.requires.1 (omega arith) in
     let items = c.loop-at.invariant.1 in (
       items.0,
       items.1,

@@ -1,6 +1,7 @@
 use Rattle.std.proofs.Common.{sym, arith}
 use Rattle.speedy_read.proofs.CollectionLemmas.{on_success}
-use Rattle.speedy_read.proofs.UntilEndLemmas.{where_none, no_items, one_item_more, one_too_many, no_room, item_refused, ended_before}
+use Rattle.speedy_read.proofs.UntilEndLemmas.{where_none, no_items, one_item_more, one_too_many, no_room, item_refused}
+use Rattle.speedy_read.proofs.UntilEndLemmas.{ended_before}
 use Rattle.speedy_read.proofs.until_end.gather_until_end.Goals as goal
 
 pub loop-whole-init : goal.loop-whole-init
@@ -29,7 +30,8 @@ loop-whole-preserved g c =
     let so_far = c.loop-whole.invariant.1 in
     let read = rw c.in-Some.is at c.in_ok-item.ensures in (
       omega arith,
-      one_item_more so_far _ (omega arith) (rw so_far.so_far.kept.encoding at read) (on_success c.add.result (sym c.if-is_err.ensures.value) c.add.ensures so_far.items so_far.gathered),
+      one_item_more so_far _ (omega arith) (rw so_far.so_far.kept.encoding at read)
+          (on_success c.add.result (sym c.if-is_err.ensures.value) c.add.ensures so_far.items so_far.gathered),
     )
 
 pub returns : goal.returns

@@ -8,7 +8,8 @@ use Rattle.speedy_vectors.proofs.program.answer_waiting.Goals as goal
 
 pub returns-then-is_empty : goal.returns-then-is_empty
 returns-then-is_empty g c =
-    let none : c.args.pending.now.items ≡ [] = nil_from_length _ (omega (arith, eqb-true _ 0 (sym c.if-is_empty.ensures))) in
+    let none : c.args.pending.now.items ≡ [] =
+    nil_from_length _ (omega (arith, eqb-true _ 0 (sym c.if-is_empty.ensures))) in
     record {
       waits = nothing_waits c.push_answer.result _ none;
       answers = whole_line _ _ _ _ _ (ap (λ (x : List ℕ). x ++ c.args.line.now) (sym none)) c.push_answer.ensures;

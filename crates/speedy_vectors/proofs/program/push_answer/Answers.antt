@@ -11,7 +11,8 @@ returns g c =
     let given_name = c.into_sink.ensures.same_sink in
     let given = c.into_sink.ensures.sink in
     let wrote = c.write_bytes-outcome.ensures in
-    pushed_answer _ _ _ _ _ (ap g.W.Sink.sink made.sink) (ap g.W.Sink.sink (grind arith)) c.in_ok-answer.ensures (rw e at wrote.writes) wrote.error
+    pushed_answer _ _ _ _ _ (ap g.W.Sink.sink made.sink) (ap g.W.Sink.sink (grind arith)) c.in_ok-answer.ensures
+    (rw e at wrote.writes) wrote.error
 
 pub returns-in_err-answer : goal.returns-in_err-answer
 returns-in_err-answer g c =

@@ -14,4 +14,5 @@ abbrev pub invariant-write_children-loop-child : goal.invariant-write_children-l
 invariant-write_children-loop-child g l =
     let W = g.W.Writer in
     let before = l.initial.writer in
-    WritesEach g.C.Error.From.from_gives (tree_levels l.levels) view (take l.child-index l.children) (Ok tt) (W.state before) (W.state l.writer) (λ b. W.appends before b l.writer)
+    WritesEach g.C.Error.From.from_gives (tree_levels l.levels) view (take l.child-index l.children) (Ok tt)
+    (W.state before) (W.state l.writer) (λ b. W.appends before b l.writer)

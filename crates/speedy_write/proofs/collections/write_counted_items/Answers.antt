@@ -12,14 +12,17 @@ parts : {V : Type 0} (count : ℕ) (shown : List V) → count ≡ length shown �
 parts {V = V} count shown same = ap (λ (n : ℕ). let p : ℕ × List V = (n, shown) in p) (sym same)
 
 pub write_collection-requires : goal.write_collection-requires
-write_collection-requires g c = λ it same. subst (λ i. g.I.Iterator.can_next i × IsFinite (g.I.Iterator.remaining i)) (sym same) (c.requires.can, c.requires.ends)
+write_collection-requires g c = λ it same. subst (λ i. g.I.Iterator.can_next i × IsFinite (g.I.Iterator.remaining i))
+    (sym same) (c.requires.can, c.requires.ends)
 
 pub returns-in_err-write_length : goal.returns-in_err-write_length
 unfolding list
-returns-in_err-write_length g c = λ shown same always. first_refused is_sequence (parts _ shown same) c.from_residual.ensures.1 c.in_err-write_length.ensures.writes
+returns-in_err-write_length g c = λ shown same always.
+    first_refused is_sequence (parts _ shown same) c.from_residual.ensures.1 c.in_err-write_length.ensures.writes
 
 pub returns : goal.returns
 unfolding list vector
 returns g c = λ shown same always.
-    second_written is_sequence (parts _ shown same) (unsigned_number_laws 4) (g.met.W.Writer.additive _ _ _) c.in_ok-write_length.ensures.writes
+    second_written is_sequence (parts _ shown same) (unsigned_number_laws 4) (g.met.W.Writer.additive _ _ _)
+    c.in_ok-write_length.ensures.writes
     (owned_written (shown_items_written same always c.write_collection.ensures))

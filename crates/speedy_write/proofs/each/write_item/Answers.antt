@@ -2,13 +2,16 @@ use Rattle.std.proofs.Common.{◌∙◌, refl, sym, ap, subst}
 use Rattle.speedy_write.specs.Sequences.{Writes-from}
 use Rattle.speedy_write.specs.Writing.{WriterState}
 use Rattle.speedy_write.proofs.CountLemmas.{StaysAs, stays_same, context_back, item_counted}
-use Rattle.speedy_write.proofs.each.write_item.Goals.{then-COUNTS+in-Ok+in_default-count_bytes, then-COUNTS+in_default+in-Err-1, then-COUNTS+in_default+in-Ok-1, else-COUNTS}
+use Rattle.speedy_write.proofs.each.write_item.Goals.{then-COUNTS+in-Ok+in_default-count_bytes}
+use Rattle.speedy_write.proofs.each.write_item.Goals.{then-COUNTS+in_default+in-Err-1, then-COUNTS+in_default+in-Ok-1}
+use Rattle.speedy_write.proofs.each.write_item.Goals.{else-COUNTS}
 use Rattle.speedy_write.proofs.each.write_item.Goals as goal
 
 pub returns-in-Some : goal.returns-in-Some
 returns-in-Some g c =
     let W = g.met.W.Writer in
-    let back = context_back g.W.Writer.at g.C.Context.encoding W.encoding_at W.state_with W.nothing W.additive W.appends_with in
+    let back =
+    context_back g.W.Writer.at g.C.Context.encoding W.encoding_at W.state_with W.nothing W.additive W.appends_with in
     let w = c.args.writer.now in
     let value = c.context_mut.ensures.value in
     let same = back w _ _ _ value c.bytes_needed.ensures.encoding refl in
@@ -21,12 +24,16 @@ returns-in-Some g c =
 pub returns : goal.returns
 returns g c =
     let W = g.met.W.Writer in
-    let back = context_back g.W.Writer.at g.C.Context.encoding W.encoding_at W.state_with W.nothing W.additive W.appends_with in
+    let back =
+    context_back g.W.Writer.at g.C.Context.encoding W.encoding_at W.state_with W.nothing W.additive W.appends_with in
     let w = c.args.writer.now in
     let same : StaysAs g.W.Writer.state g.W.Writer.appends w c.if-COUNTS.writer = elim c.if-COUNTS.branch [
-      | then-COUNTS+in-Ok+in_default-count_bytes h ↦ back w _ _ _ h.context_mut.ensures.value h.bytes_needed.ensures.encoding (h.writer-is ∙ h.in_default-count_bytes.ensures)
-      | then-COUNTS+in_default+in-Err-1 h ↦ back w _ _ _ h.context_mut.ensures.value h.bytes_needed.ensures.encoding h.writer-is
-      | then-COUNTS+in_default+in-Ok-1 h ↦ back w _ _ _ h.context_mut.ensures.value h.bytes_needed.ensures.encoding h.writer-is
+      | then-COUNTS+in-Ok+in_default-count_bytes h ↦ back w _ _ _ h.context_mut.ensures.value
+          h.bytes_needed.ensures.encoding (h.writer-is ∙ h.in_default-count_bytes.ensures)
+      | then-COUNTS+in_default+in-Err-1 h ↦
+          back w _ _ _ h.context_mut.ensures.value h.bytes_needed.ensures.encoding h.writer-is
+      | then-COUNTS+in_default+in-Ok-1 h ↦
+          back w _ _ _ h.context_mut.ensures.value h.bytes_needed.ensures.encoding h.writer-is
       | else-COUNTS h ↦ subst (StaysAs g.W.Writer.state g.W.Writer.appends w) (sym h.writer-is) stays_same
     ] in
     Writes-from same.state_is (λ b. same.joins b _) c.write_to.ensures

@@ -2,13 +2,15 @@ use Rattle.std.proofs.Common.{◌∙◌, refl, sym, ap, subst}
 use Rattle.speedy_write.specs.Sequences.{Writes-from}
 use Rattle.speedy_write.specs.Writing.{WriterState}
 use Rattle.speedy_write.proofs.CountLemmas.{StaysAs, stays_same, context_back, items_counted}
-use Rattle.speedy_write.proofs.each.write_items.Goals.{then-COUNTS+in-Some+in_default-count_bytes, then-COUNTS+in_default, else-COUNTS}
+use Rattle.speedy_write.proofs.each.write_items.Goals.{then-COUNTS+in-Some+in_default-count_bytes}
+use Rattle.speedy_write.proofs.each.write_items.Goals.{then-COUNTS+in_default, else-COUNTS}
 use Rattle.speedy_write.proofs.each.write_items.Goals as goal
 
 pub returns-in-Some-count_bytes : goal.returns-in-Some-count_bytes
 returns-in-Some-count_bytes g c =
     let W = g.met.W.Writer in
-    let back = context_back g.W.Writer.at g.C.Context.encoding W.encoding_at W.state_with W.nothing W.additive W.appends_with in
+    let back =
+    context_back g.W.Writer.at g.C.Context.encoding W.encoding_at W.state_with W.nothing W.additive W.appends_with in
     let w = c.args.writer.now in
     let value = c.context_mut.ensures.value in
     let same = back w _ _ _ value c.count_each.ensures.encoding refl in
@@ -21,10 +23,12 @@ returns-in-Some-count_bytes g c =
 pub returns : goal.returns
 returns g c =
     let W = g.met.W.Writer in
-    let back = context_back g.W.Writer.at g.C.Context.encoding W.encoding_at W.state_with W.nothing W.additive W.appends_with in
+    let back =
+    context_back g.W.Writer.at g.C.Context.encoding W.encoding_at W.state_with W.nothing W.additive W.appends_with in
     let w = c.args.writer.now in
     let same : StaysAs g.W.Writer.state g.W.Writer.appends w c.if-COUNTS.writer = elim c.if-COUNTS.branch [
-      | then-COUNTS+in-Some+in_default-count_bytes h ↦ back w _ _ _ h.context_mut.ensures.value h.count_each.ensures.encoding (h.writer-is ∙ h.in_default-count_bytes.ensures)
+      | then-COUNTS+in-Some+in_default-count_bytes h ↦ back w _ _ _ h.context_mut.ensures.value
+          h.count_each.ensures.encoding (h.writer-is ∙ h.in_default-count_bytes.ensures)
       | then-COUNTS+in_default h ↦ back w _ _ _ h.context_mut.ensures.value h.count_each.ensures.encoding h.writer-is
       | else-COUNTS h ↦ subst (StaysAs g.W.Writer.state g.W.Writer.appends w) (sym h.writer-is) stays_same
     ] in

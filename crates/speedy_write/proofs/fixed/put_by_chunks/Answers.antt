@@ -19,10 +19,24 @@ loop-rest-preserved g c =
     let front_length = c.split_at.ensures.front_len in
     let back_length = c.split_at.ensures.back_len in
     let few = c.has_few_bytes.ensures in
-    let fits : length some * c.BYTES-in-loop-rest.result ≤ length c.loop-rest.chunk = grind (arith, common_steps, c.BYTES-in-loop-rest.array_long, c.min.ensures, front_length, c.BYTES.ensures, c.BYTES-in-loop-rest.ensures, few) in (
-      chunk_ends c.loop-rest.at (length c.loop-rest.rest.now) (length some) (length c.split_at.result.1.now) g.P.FixedBytes.BYTES (length c.put_values.new.output) (length c.loop-rest.output) before.0 (omega (arith, front_length, back_length)) (put_length ∙ (length-take-le _ _ fits ∙ ap (λ (n : ℕ). length some * n) c.BYTES-in-loop-rest.ensures)) ∙ sym (same_len_mid _ _ _ _ c.copy_from_slice.ensures.len),
+    let fits : length some * c.BYTES-in-loop-rest.result ≤ length c.loop-rest.chunk = grind (
+      arith,
+      common_steps,
+      c.BYTES-in-loop-rest.array_long,
+      c.min.ensures,
+      front_length,
+      c.BYTES.ensures,
+      c.BYTES-in-loop-rest.ensures,
+      few,
+    ) in (
+      chunk_ends c.loop-rest.at (length c.loop-rest.rest.now) (length some) (length c.split_at.result.1.now)
+          g.P.FixedBytes.BYTES (length c.put_values.new.output) (length c.loop-rest.output) before.0
+          (omega (arith, front_length, back_length))
+          (put_length ∙ (length-take-le _ _ fits ∙ ap (λ (n : ℕ). length some * n) c.BYTES-in-loop-rest.ensures))
+          ∙ sym (same_len_mid _ _ _ _ c.copy_from_slice.ensures.len),
       done ++ some,
-      cut_off _ done _ c.split_at.ensures.front c.split_at.ensures.back before.2 ∙ sym (append_assoc done some c.split_at.result.1.now),
+      cut_off _ done _ c.split_at.ensures.front c.split_at.ensures.back before.2
+          ∙ sym (append_assoc done some c.split_at.result.1.now),
       λ e same. chunk_put (g.T.Layout.layout.format e).writes g.T.Layout.seen done some c.loop-rest.at _
           c.loop-rest.output c.put_values.new.output c.copy_from_slice.new.self c.copy_from_slice.ensures.after
           (omega (arith, before.0)) (before.3 e same) (c.put_values.ensures e same),

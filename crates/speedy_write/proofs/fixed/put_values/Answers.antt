@@ -8,20 +8,24 @@ loop-value-init g c = (omega arith, c.requires, λ _ _. refl)
 
 pub overflow_add-end : goal.overflow_add-end
 overflow_add-end g c =
-    let room = room_ahead g.P.FixedBytes.BYTES _ _ _ c.BYTES.result _ c.loop-value-test.true c.loop-value.invariant.0 c.BYTES.ensures c.loop-value.invariant.1 in
+    let room = room_ahead g.P.FixedBytes.BYTES _ _ _ c.BYTES.result _ c.loop-value-test.true c.loop-value.invariant.0
+    c.BYTES.ensures c.loop-value.invariant.1 in
     omega (arith, room)
 
 pub slice_bounds-put-end : goal.slice_bounds-put-end
 slice_bounds-put-end g c =
-    let room = room_ahead g.P.FixedBytes.BYTES _ _ _ c.BYTES.result _ c.loop-value-test.true c.loop-value.invariant.0 c.BYTES.ensures c.loop-value.invariant.1 in
+    let room = room_ahead g.P.FixedBytes.BYTES _ _ _ c.BYTES.result _ c.loop-value-test.true c.loop-value.invariant.0
+    c.BYTES.ensures c.loop-value.invariant.1 in
     omega (arith, room)
 
 pub loop-value-preserved : goal.loop-value-preserved
 loop-value-preserved g c =
-    let room = room_ahead g.P.FixedBytes.BYTES _ _ _ c.BYTES.result _ c.loop-value-test.true c.loop-value.invariant.0 c.BYTES.ensures c.loop-value.invariant.1 in
+    let room = room_ahead g.P.FixedBytes.BYTES _ _ _ c.BYTES.result _ c.loop-value-test.true c.loop-value.invariant.0
+    c.BYTES.ensures c.loop-value.invariant.1 in
     let sized = mid_len c.loop-value.at (c.loop-value.at + c.BYTES.result) c.loop-value.output room in
     let put = c.put.auto.output ∙ sized in (
-      one_more_times g.P.FixedBytes.BYTES c.loop-value.value-index c.loop-value.at c.BYTES.result c.loop-value.invariant.0 c.BYTES.ensures,
+      one_more_times g.P.FixedBytes.BYTES c.loop-value.value-index c.loop-value.at c.BYTES.result
+          c.loop-value.invariant.0 c.BYTES.ensures,
       same_len_mid c.loop-value.at _ c.loop-value.output c.put.new.output c.put.auto.output ∙ c.loop-value.invariant.1,
       λ e same.
           rw c.BYTES.ensures (one_more_put (g.T.Layout.layout.format e).writes g.T.Layout.seen c.args.values.now

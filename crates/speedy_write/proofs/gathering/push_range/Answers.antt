@@ -5,13 +5,21 @@ use Rattle.speedy_write.proofs.gathering.push_range.Goals as goal
 
 pub loop-at-preserved : goal.loop-at-preserved
 loop-at-preserved g c = record {
-  range = omega (arith, c.in-Ok.ensures.within, ap length c.waiting_in.ensures, length-drop c.loop-at.at (take c.args.end c.args.room.now), length-take-le c.args.end c.args.room.now c.requires.1);
-  pushed = more_taken c.args.room.now c.loop-at.at c.args.end c.in-Ok.count c.loop-at.invariant.pushed (rw c.waiting_in.ensures at c.in-Ok.ensures);
+  range = omega (
+    arith,
+    c.in-Ok.ensures.within,
+    ap length c.waiting_in.ensures,
+    length-drop c.loop-at.at (take c.args.end c.args.room.now),
+    length-take-le c.args.end c.args.room.now c.requires.1,
+  );
+  pushed = more_taken c.args.room.now c.loop-at.at c.args.end c.in-Ok.count c.loop-at.invariant.pushed
+      (rw c.waiting_in.ensures at c.in-Ok.ensures);
 }
 
 pub returns-clause-pushes : goal.returns-clause-pushes
 returns-clause-pushes g c =
-    let none = drop_all c.loop-at.at (take c.args.end c.args.room.now) (omega (arith, length-take-le c.args.end c.args.room.now c.requires.1, c.loop-at-test.false)) in
+    let none = drop_all c.loop-at.at (take c.args.end c.args.room.now)
+    (omega (arith, length-take-le c.args.end c.args.room.now c.requires.1, c.loop-at-test.false)) in
     all_taken {waited = drop c.args.start (take c.args.end c.args.room.now)} c.loop-at.invariant.pushed none none
 
 pub returns-in-Err-clause-pushes : goal.returns-in-Err-clause-pushes

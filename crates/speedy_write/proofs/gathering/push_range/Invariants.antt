@@ -6,7 +6,8 @@ use Rattle.speedy_write.proofs.gathering.push_range.Given as goal
 abbrev pub invariant-loop-at : goal.invariant-loop-at
 invariant-loop-at g l = record {
   range : l.at ≤ l.end;
-  pushed : PushedSoFar (drop l.fn.start (take l.end l.room)) (drop l.at (take l.end l.room)) (g.S.Sink.sink l.fn.sink) (g.S.Sink.sink l.sink);
+  pushed : PushedSoFar (drop l.fn.start (take l.end l.room)) (drop l.at (take l.end l.room)) (g.S.Sink.sink l.fn.sink)
+      (g.S.Sink.sink l.sink);
 }
 
 abbrev pub decreases-loop-at : goal.decreases-loop-at

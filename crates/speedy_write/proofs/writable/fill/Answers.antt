@@ -7,7 +7,8 @@ pub returns-clause-succeeds : goal.returns-clause-succeeds
 returns-clause-succeeds g c =
     let made = c.new-collector.ensures in
     let model = buffer_model c.new-collector.result in
-    fill_succeeds {targets = model.context_name ∷ model.buffer_name ∷ []} (ap g.C.Context.encoding made.context) made.buffer made.position _ c.write_to-outcome.result c.requires.1 c.requires.2 refl c.write_to-outcome.ensures
+    fill_succeeds {targets = model.context_name ∷ model.buffer_name ∷ []} (ap g.C.Context.encoding made.context)
+    made.buffer made.position _ c.write_to-outcome.result c.requires.1 c.requires.2 refl c.write_to-outcome.ensures
 
 pub returns-clause-stands : goal.returns-clause-stands
 returns-clause-stands g c =

@@ -8,6 +8,7 @@ returns c =
     let b = c.self.inside in
     let xs = b.memory.items in
     let n = c.args.count in
-    let kept : b.start + n ≤ b.end = omega (arith, ap (λ (r : Ring). length r.bytes) c.self.view_is, length-take (b.end - b.start) (drop b.start xs)) in
+    let kept : b.start + n ≤ b.end =
+    omega (arith, ap (λ (r : Ring). length r.bytes) c.self.view_is, length-take (b.end - b.start) (drop b.start xs)) in
     (λ i. record { bytes = stretch_consumed xs b.start b.end n kept i; capacity = length xs; room = [] })
     ∙ ap (λ (r : Ring). record r { bytes = drop n r.bytes; room = [] }) c.self.view_is

@@ -8,4 +8,5 @@ pub returns-clause-spelled : goal.returns-clause-spelled
 returns-clause-spelled g c =
     let bytes = c.args.bytes.now in
     let size = g.T.FixedSize.SIZE in
-    shown_items_spelled g.T.ViewItem.decoded size g.T.Layout.seen _ g.met.T.ViewItem.decodes (length bytes / size) bytes g.met.T.ViewItem.some_bytes (whole_items size (length bytes) c.requires) (AreBytes-slice bytes c.type_inv.bytes)
+    shown_items_spelled g.T.ViewItem.decoded size g.T.Layout.seen _ g.met.T.ViewItem.decodes (length bytes / size) bytes
+    g.met.T.ViewItem.some_bytes (whole_items size (length bytes) c.requires) (AreBytes-slice bytes c.type_inv.bytes)

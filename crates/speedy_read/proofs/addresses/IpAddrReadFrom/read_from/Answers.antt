@@ -13,31 +13,38 @@ neither n false e h k = h e
 
 pub returns-in_err-tag : goal.returns-in_err-tag
 returns-in_err-tag g c =
-    refused_first (ip_address_composes _) {seen = λ (b : Bool). b} c.from_residual.ensures.1 (code_refused _ address_tag_code refl c.in_err-tag.ensures)
+    refused_first (ip_address_composes _) {seen = λ (b : Bool). b} c.from_residual.ensures.1
+    (code_refused _ address_tag_code refl c.in_err-tag.ensures)
 
 pub returns-in_default : goal.returns-in_default
 returns-in_default g c =
     refused_first (ip_address_composes _) {seen = λ (b : Bool). b} refl
-    (code_means_nothing _ address_tag_code (unsigned_number_laws 1 _) (λ _ h. h) (λ is_long h. neither _ is_long h (λ e. omega arith) (λ e. omega arith)) (kinds.InvalidEnumVariant, refl, c.error_invalid_enum_variant.ensures) c.in_ok-tag.ensures)
+    (code_means_nothing _ address_tag_code (unsigned_number_laws 1 _) (λ _ h. h)
+    (λ is_long h. neither _ is_long h (λ e. omega arith) (λ e. omega arith))
+    (kinds.InvalidEnumVariant, refl, c.error_invalid_enum_variant.ensures) c.in_ok-tag.ensures)
 
 pub returns-in_err-short-in-0 : goal.returns-in_err-short-in-0
 returns-in_err-short-in-0 g c =
-    let tag = code_read _ address_tag_code {seen' = λ (b : Bool). b} {y = false} c.in-0.is (λ _. c.in-0.is) c.in_ok-tag.ensures in
+    let tag =
+    code_read _ address_tag_code {seen' = λ (b : Bool). b} {y = false} c.in-0.is (λ _. c.in-0.is) c.in_ok-tag.ensures in
     refused_second (ip_address_composes _) (address_tag.laws _) tag c.from_residual-in_err-short-in-0.ensures.1
     (rw tag.kept.encoding at c.in_err-short-in-0.ensures)
 
 pub returns-in_ok-short-in-0 : goal.returns-in_ok-short-in-0
 returns-in_ok-short-in-0 g c =
-    let tag = code_read _ address_tag_code {seen' = λ (b : Bool). b} {y = false} c.in-0.is (λ _. c.in-0.is) c.in_ok-tag.ensures in
+    let tag =
+    code_read _ address_tag_code {seen' = λ (b : Bool). b} {y = false} c.in-0.is (λ _. c.in-0.is) c.in_ok-tag.ensures in
     got_both (ip_address_composes _) tag (rw tag.kept.encoding at c.in_ok-short-in-0.ensures) refl
 
 pub returns-in_err-long-in-1 : goal.returns-in_err-long-in-1
 returns-in_err-long-in-1 g c =
-    let tag = code_read _ address_tag_code {seen' = λ (b : Bool). b} {y = true} c.in-1.is (λ _. c.in-1.is) c.in_ok-tag.ensures in
+    let tag =
+    code_read _ address_tag_code {seen' = λ (b : Bool). b} {y = true} c.in-1.is (λ _. c.in-1.is) c.in_ok-tag.ensures in
     refused_second (ip_address_composes _) (address_tag.laws _) tag c.from_residual-in_err-long-in-1.ensures.1
     (rw tag.kept.encoding at c.in_err-long-in-1.ensures)
 
 pub returns-in_ok-long-in-1 : goal.returns-in_ok-long-in-1
 returns-in_ok-long-in-1 g c =
-    let tag = code_read _ address_tag_code {seen' = λ (b : Bool). b} {y = true} c.in-1.is (λ _. c.in-1.is) c.in_ok-tag.ensures in
+    let tag =
+    code_read _ address_tag_code {seen' = λ (b : Bool). b} {y = true} c.in-1.is (λ _. c.in-1.is) c.in_ok-tag.ensures in
     got_both (ip_address_composes _) tag (rw tag.kept.encoding at c.in_ok-long-in-1.ensures) refl

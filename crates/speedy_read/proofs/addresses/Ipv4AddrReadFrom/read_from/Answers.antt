@@ -8,4 +8,6 @@ pub returns-in_err-number : goal.returns-in_err-number
 returns-in_err-number g c = code_refused _ _ c.from_residual.ensures.1 c.in_err-number.ensures
 
 pub returns : goal.returns
-returns g c = exact_code_read _ _ _ (subst (SpellsNumber 4 BigEndian c.in_ok-number.number) (sym c.from.ensures) c.bytes_of_u32.ensures) c.in_ok-number.ensures
+returns g c = exact_code_read _ _ _
+    (subst (SpellsNumber 4 BigEndian c.in_ok-number.number) (sym c.from.ensures) c.bytes_of_u32.ensures)
+    c.in_ok-number.ensures

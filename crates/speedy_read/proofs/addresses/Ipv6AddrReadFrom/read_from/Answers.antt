@@ -12,5 +12,7 @@ returns-in_err-number g c = code_refused _ _ c.from_residual.ensures.1 c.in_err-
 pub returns : goal.returns
 returns g c =
     let octets = c.bytes_of_u128.ensures in
-    let same : ipv6_octets c.from.result ≡ c.bytes_of_u128.result = ap octets_of c.from.ensures ∙ octets_of-segments_of 8 c.bytes_of_u128.result octets.width_is octets.are_bytes in
-    exact_code_read _ _ _ (subst (SpellsNumber 16 BigEndian c.in_ok-number.number) (sym same) c.bytes_of_u128.ensures) c.in_ok-number.ensures
+    let same : ipv6_octets c.from.result ≡ c.bytes_of_u128.result =
+    ap octets_of c.from.ensures ∙ octets_of-segments_of 8 c.bytes_of_u128.result octets.width_is octets.are_bytes in
+    exact_code_read _ _ _ (subst (SpellsNumber 16 BigEndian c.in_ok-number.number) (sym same) c.bytes_of_u128.ensures)
+    c.in_ok-number.ensures

@@ -5,7 +5,10 @@ use Rattle.speedy_read.proofs.buffer_reader.BufferReaderLendingReaderRefSliceU8.
 
 pub returns-then-self-length-clause-reads : goal.returns-then-self-length-clause-reads
 returns-then-self-length-clause-reads g c =
-    bytes_missed c.if-self-length.true (input_ended g.C.Error.From.from_gives g.C.Error.IsEof.eof false _ c.error_end_of_input.ensures (g.met.C.Context.keeps_eof _ _ c.error_end_of_input.ensures))
+    bytes_missed c.if-self-length.true
+    (input_ended g.C.Error.From.from_gives g.C.Error.IsEof.eof false _ c.error_end_of_input.ensures
+    (g.met.C.Context.keeps_eof _ _ c.error_end_of_input.ensures))
 
 pub returns-clause-reads : goal.returns-clause-reads
-returns-clause-reads g c = rw c.split_at.ensures.back (bytes_read c.if-self-length.false (c.copy_from_slice.ensures.after ∙ c.split_at.ensures.front))
+returns-clause-reads g c = rw c.split_at.ensures.back
+    (bytes_read c.if-self-length.false (c.copy_from_slice.ensures.after ∙ c.split_at.ensures.front))

@@ -6,7 +6,10 @@ use Rattle.speedy_read.proofs.buffer_reader.BufferReaderLendingReaderRefSliceU8.
 
 pub returns-then-self-length-clause-skips : goal.returns-then-self-length-clause-skips
 returns-then-self-length-clause-skips g c =
-    bytes_not_skipped {seen = λ x. x} c.if-self-length.true (input_ended g.C.Error.From.from_gives g.C.Error.IsEof.eof false _ c.error_end_of_input.ensures (g.met.C.Context.keeps_eof _ _ c.error_end_of_input.ensures))
+    bytes_not_skipped {seen = λ x. x} c.if-self-length.true
+    (input_ended g.C.Error.From.from_gives g.C.Error.IsEof.eof false _ c.error_end_of_input.ensures
+    (g.met.C.Context.keeps_eof _ _ c.error_end_of_input.ensures))
 
 pub returns-clause-skips : goal.returns-clause-skips
-returns-clause-skips g c = rw (take_rest c.args.self.now.rest.now c.args.length) (bytes_skipped {seen = λ x. x} c.if-self-length.false)
+returns-clause-skips g c =
+    rw (take_rest c.args.self.now.rest.now c.args.length) (bytes_skipped {seen = λ x. x} c.if-self-length.false)

@@ -2,4 +2,5 @@ use Rattle.speedy_layout.specs.Adding.{hash_set_accepts}
 use Rattle.speedy_read.proofs.collections.HashSetFromItems.accepts.Goals as goal
 
 pub returns : goal.returns
-returns g c = λ items. hash_set_accepts g.met.T.SameKey.same_key items c.args.self.now c.args.item.now c.contains.ensures
+returns g
+    c = λ items. hash_set_accepts g.met.T.SameKey.same_key items c.args.self.now c.args.item.now c.contains.ensures

@@ -8,4 +8,6 @@ returns-in-Some-clause-skips g c = cut_skipped {seen = λ x. x} c.in-Some.ensure
 
 pub returns-in-None-clause-skips : goal.returns-in-None-clause-skips
 returns-in-None-clause-skips g c =
-    bytes_not_skipped {seen = λ x. x} c.in-None.ensures.cases (input_ended g.C.Error.From.from_gives g.C.Error.IsEof.eof false _ c.error_end_of_input.ensures (g.met.C.Context.keeps_eof _ _ c.error_end_of_input.ensures))
+    bytes_not_skipped {seen = λ x. x} c.in-None.ensures.cases
+    (input_ended g.C.Error.From.from_gives g.C.Error.IsEof.eof false _ c.error_end_of_input.ensures
+    (g.met.C.Context.keeps_eof _ _ c.error_end_of_input.ensures))

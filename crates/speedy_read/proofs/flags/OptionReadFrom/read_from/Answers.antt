@@ -21,4 +21,5 @@ returns-in_err-value g c =
 pub returns : goal.returns
 returns g c =
     let flag = c.in_ok-is_some.ensures in
-    got_both (option_composes _) (rw c.if-not-is_some.false at flag) (rw flag.kept.encoding at c.in_ok-value.ensures) refl
+    got_both (option_composes _) (rw c.if-not-is_some.false at flag)
+    (rw flag.kept.encoding at c.in_ok-value.ensures) refl

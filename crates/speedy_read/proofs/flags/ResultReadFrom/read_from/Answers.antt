@@ -30,4 +30,5 @@ returns-in_ok-value g c =
 pub returns-in_ok-error : goal.returns-in_ok-error
 returns-in_ok-error g c =
     let flag = c.in_ok-is_ok.ensures in
-    got_both (alternative_composes _) (rw c.if-is_ok.false at flag) (rw flag.kept.encoding at c.in_ok-error.ensures) refl
+    got_both (alternative_composes _) (rw c.if-is_ok.false at flag)
+    (rw flag.kept.encoding at c.in_ok-error.ensures) refl

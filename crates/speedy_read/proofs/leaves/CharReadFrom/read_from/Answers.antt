@@ -15,8 +15,11 @@ pub returns-in_err-code : goal.returns-in_err-code
 returns-in_err-code g c = code_refused _ _ c.from_residual.ensures.1 c.in_err-code.ensures
 
 pub returns-in-Some : goal.returns-in-Some
-returns-in-Some g c = exact_code_read _ _ _ (let is = c.in-Some.ensures in (sym is.value.1, subst InScalarRange (sym is.value.1) is.cases)) c.in_ok-code.ensures
+returns-in-Some g c = exact_code_read _ _ _
+    (let is = c.in-Some.ensures in (sym is.value.1, subst InScalarRange (sym is.value.1) is.cases)) c.in_ok-code.ensures
 
 pub returns-in-None : goal.returns-in-None
 returns-in-None g c =
-    code_means_nothing _ _ (unsigned_number_laws 4 _) (λ _ h. h) (λ v h. not_both v (subst OutOfScalarRange h.0 c.in-None.ensures.cases) h.1) (kinds.InvalidChar, refl, c.error_out_of_range_char.ensures) c.in_ok-code.ensures
+    code_means_nothing _ _ (unsigned_number_laws 4 _) (λ _ h. h)
+    (λ v h. not_both v (subst OutOfScalarRange h.0 c.in-None.ensures.cases) h.1)
+    (kinds.InvalidChar, refl, c.error_out_of_range_char.ensures) c.in_ok-code.ensures

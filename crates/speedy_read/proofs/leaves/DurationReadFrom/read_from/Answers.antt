@@ -1,7 +1,8 @@
 use Rattle.std.proofs.Common.{refl, arith}
 use Rattle.speedy_base.specs.declared.error.ErrorKind.TheVariants as kinds
 use Rattle.speedy_layout.specs.Leaves.{duration_code, duration_reads_wider, seconds_and_nanos_codec}
-use Rattle.speedy_read.specs.Codes.{code_refused, code_read, code_means_nothing, code_not_written, demanded, not_demanded}
+use Rattle.speedy_read.specs.Codes.{code_refused, code_read, code_means_nothing, code_not_written, demanded}
+use Rattle.speedy_read.specs.Codes.{not_demanded}
 use Rattle.speedy_read.proofs.leaves.DurationReadFrom.read_from.Goals as goal
 
 pub returns-in_err-seconds : goal.returns-in_err-seconds
@@ -29,4 +30,6 @@ pub returns : goal.returns
 returns g c =
     let parts = c.in_ok-seconds.ensures in
     let e = c.new-2.ensures in
-    code_read _ duration_code (e, omega arith) (λ strict. absurd (not_demanded parts.kept.encoding c.demands_written_form.ensures c.if-demands_written_form.false strict)) parts
+    code_read _ duration_code (e, omega arith)
+    (λ strict. absurd
+    (not_demanded parts.kept.encoding c.demands_written_form.ensures c.if-demands_written_form.false strict)) parts

@@ -22,4 +22,6 @@ returns-in-1 g c = exact_code_read _ _ _ c.in-1.is c.in_ok-read_u8.ensures
 
 pub returns-in_default : goal.returns-in_default
 returns-in_default g c =
-    code_means_nothing _ _ (unsigned_number_laws 1 _) (λ _ h. h) (λ order h. neither _ order h (λ e. omega arith) (λ e. omega arith)) (kinds.InvalidEnumVariant, refl, c.error_invalid_enum_variant.ensures) c.in_ok-read_u8.ensures
+    code_means_nothing _ _ (unsigned_number_laws 1 _) (λ _ h. h)
+    (λ order h. neither _ order h (λ e. omega arith) (λ e. omega arith))
+    (kinds.InvalidEnumVariant, refl, c.error_invalid_enum_variant.ensures) c.in_ok-read_u8.ensures

@@ -16,4 +16,6 @@ returns-in-Ok g c =
 pub returns-in-Err : goal.returns-in-Err
 returns-in-Err g c =
     let past = c.in-Err.ensures in
-    code_means_nothing _ _ (unsigned_number_laws 8 _) (λ _ h. h) (λ v h. let same = h.0 in let fits = h.1 in absurd (omega arith)) (kinds.OutOfRangeUsize, refl, c.error_too_big_usize_for_this_architecture.ensures) c.in_ok-read_u64.ensures
+    code_means_nothing _ _ (unsigned_number_laws 8 _) (λ _ h. h)
+    (λ v h. let same = h.0 in let fits = h.1 in absurd (omega arith))
+    (kinds.OutOfRangeUsize, refl, c.error_too_big_usize_for_this_architecture.ensures) c.in_ok-read_u64.ensures

@@ -10,4 +10,5 @@ pub returns-in-Ok : goal.returns-in-Ok
 returns-in-Ok g c = owned_read (got_as (ap g.T.Layout.seen c.in-Ok.ensures.ok) c.in_ok-value.ensures)
 
 pub returns : goal.returns
-returns g c = memory_refused _ c.in_ok-value.ensures.kept c.in_ok-value.ensures.answer.no_fault c.error_out_of_memory.ensures
+returns g c =
+    memory_refused _ c.in_ok-value.ensures.kept c.in_ok-value.ensures.answer.no_fault c.error_out_of_memory.ensures

@@ -4,4 +4,5 @@ use Rattle.speedy_read.proofs.stream_reader.StreamReader.read_ahead.Goals as goa
 pub returns : goal.returns
 returns g c =
     let source = g.S.Source.source in
-    filled_read (source c.args.self.now.source.now) (source c.fill.new.self.source.now) c.requires.more c.in_ok-fill.ensures c.consume_into.ensures.output c.consume_into.ensures.rest
+    filled_read (source c.args.self.now.source.now) (source c.fill.new.self.source.now) c.requires.more
+    c.in_ok-fill.ensures c.consume_into.ensures.output c.consume_into.ensures.rest

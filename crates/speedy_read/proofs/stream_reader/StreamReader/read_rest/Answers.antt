@@ -6,7 +6,8 @@ pub returns-in-Ok-true : goal.returns-in-Ok-true
 returns-in-Ok-true g c =
     let ring = c.args.self.now.ring in
     let none = c.requires.nothing_held in
-    past_read ring ring refl none c.in-Ok-true.field-0-test c.in-Ok-true.ensures (ap (λ (l : List ℕ). l ++ c.fill_list.new.output) (sym none))
+    past_read ring ring refl none c.in-Ok-true.field-0-test c.in-Ok-true.ensures
+    (ap (λ (l : List ℕ). l ++ c.fill_list.new.output) (sym none))
     (omega (arith, ap length none, c.fill_list.auto.output)) (omega (arith, ap length none, c.requires.some))
 
 pub returns-in-Ok-false : goal.returns-in-Ok-false

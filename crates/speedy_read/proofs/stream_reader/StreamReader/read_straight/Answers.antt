@@ -11,7 +11,8 @@ use Rattle.speedy_read.proofs.StreamLemmas.{device_ended, past_read, past_ended}
 use Rattle.speedy_read.proofs.stream_reader.StreamReader.read_straight.Goals as goal
 
 -- one call fills as much as it moves
-one_call : {old new : SourceState} {output : List ℕ} (n : ℕ) → Pulls (Ok n) old new output → FillsList (take n output) (Ok true) old new
+one_call : {old new : SourceState} {output : List ℕ} (n : ℕ) → Pulls (Ok n) old new output
+    → FillsList (take n output) (Ok true) old new
 one_call {output = output} n p = record {
   kept = p.kept;
   no_fault = p.no_fault;
@@ -22,7 +23,8 @@ one_call {output = output} n p = record {
 }
 
 -- or it meets the end
-end_met : {old new : SourceState} {output : List ℕ} (n : ℕ) → n ≡ 0 → 0 < length output → Pulls (Ok n) old new output → FillsList output (Ok false) old new
+end_met : {old new : SourceState} {output : List ℕ} (n : ℕ) → n ≡ 0 → 0 < length output → Pulls (Ok n) old new output
+    → FillsList output (Ok false) old new
 end_met {output = output} n none some p = record {
   kept = p.kept;
   no_fault = p.no_fault;
@@ -35,7 +37,8 @@ end_met {output = output} n none some p = record {
 -- what is read behind the front of an output
 put_behind : (output rest : List ℕ) (n : ℕ) → put_mid n (length output - n) output rest ≡ take n output ++ rest
 put_behind output rest n =
-    ap (λ (l : List ℕ). take n output ++ (rest ++ l)) (drop_all (length output - n) (drop n output) (omega (arith, length-drop n output)))
+    ap (λ (l : List ℕ). take n output ++ (rest ++ l))
+    (drop_all (length output - n) (drop n output) (omega (arith, length-drop n output)))
     ∙ ap (λ (l : List ℕ). take n output ++ l) (append-nil rest)
 
 pub returns-then-first-output : goal.returns-then-first-output
@@ -44,14 +47,16 @@ returns-then-first-output g c =
     let none = c.requires.nothing_held in
     let output = c.pull.new.output in
     let all = take_all c.in-Ok.first output (omega (arith, c.if-first-output.true, c.pull.auto.output)) in
-    past_read ring ring refl none refl (one_call c.in-Ok.first c.in-Ok.ensures) (sym (ap (λ (l : List ℕ). l ++ take c.in-Ok.first output) none ∙ all))
+    past_read ring ring refl none refl (one_call c.in-Ok.first c.in-Ok.ensures)
+    (sym (ap (λ (l : List ℕ). l ++ take c.in-Ok.first output) none ∙ all))
     (omega (arith, ap length none, ap length all, c.pull.auto.output)) (omega (arith, ap length none, c.requires.some))
 
 pub returns-then-first-eq0 : goal.returns-then-first-eq0
 returns-then-first-eq0 g c =
     let ring = c.args.self.now.ring in
     let none = c.requires.nothing_held in
-    past_ended ring ring refl none refl (end_met c.in-Ok.first c.if-first-eq0.true (omega (arith, c.pull.auto.output, c.requires.some)) c.in-Ok.ensures)
+    past_ended ring ring refl none refl
+    (end_met c.in-Ok.first c.if-first-eq0.true (omega (arith, c.pull.auto.output, c.requires.some)) c.in-Ok.ensures)
     (device_ended g.C.Error.From.from_gives g.C.Error.IsEof.eof _ g.met.C.Context.keeps_eof c.ended.ensures)
     (omega (arith, ap length none, c.pull.auto.output))
 
@@ -62,7 +67,17 @@ returns-else-first-eq0 g c =
     let output = c.pull.new.output in
     let n = c.in-Ok.first in
     let front = length-take-le n output c.in-Ok.ensures.within in
-    let first = past_read ring ring refl none {gives = g.C.Error.From.from_gives} {eof = g.C.Error.IsEof.eof} {seen = λ (u : Unit {0}). take n output} {x = tt} refl (one_call n c.in-Ok.ensures) (sym (ap (λ (l : List ℕ). l ++ take n output) none)) (omega (arith, ap length none, front)) (omega (arith, ap length none, c.if-first-eq0.false)) in
+    let first = past_read ring ring refl none {gives = g.C.Error.From.from_gives} {eof = g.C.Error.IsEof.eof}
+    {seen = λ (u : Unit {0}). take n output} {x = tt} refl (one_call n c.in-Ok.ensures)
+    (sym (ap (λ (l : List ℕ). l ++ take n output) none)) (omega (arith, ap length none, front))
+    (omega (arith, ap length none, c.if-first-eq0.false)) in
     rest_read _ _ (take n output) c.read_on.result (more_bytes n [] (take n output) (none_so_far refl) first refl)
-    (omega (arith, front, c.in-Ok.ensures.within, c.pull.auto.output, length-take-le (length output - n) (drop n output) (omega (arith, length-drop n output)), length-drop n output))
+    (omega (
+      arith,
+      front,
+      c.in-Ok.ensures.within,
+      c.pull.auto.output,
+      length-take-le (length output - n) (drop n output) (omega (arith, length-drop n output)),
+      length-drop n output,
+    ))
     (λ u. put_behind output c.read_on.new.output n) c.read_on.ensures

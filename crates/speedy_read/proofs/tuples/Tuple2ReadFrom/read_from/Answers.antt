@@ -12,4 +12,6 @@ returns-in_err-second g c =
     (rw first.kept.encoding at c.in_err-second.ensures)
 
 pub returns : goal.returns
-returns g c = let first = c.in_ok-first.ensures in got_both pair_composes first (rw first.kept.encoding at c.in_ok-second.ensures) refl
+returns g c =
+    let first = c.in_ok-first.ensures in
+    got_both pair_composes first (rw first.kept.encoding at c.in_ok-second.ensures) refl

@@ -9,12 +9,14 @@ pub returns-in_default-clause-reads : goal.returns-in_default-clause-reads
 returns-in_default-clause-reads g c =
     let old = g.R.LendingReader.state c.args.reader.now in
     more_than_all g.T.FixedSize.SIZE _ (g.met.T.ViewItem.one_size _) g.row.N c.in_default.ensures _
-    (input_ended g.C.Error.From.from_gives g.C.Error.IsEof.eof old.fixed.ends_by_device _ c.error_end_of_input.ensures (g.met.C.Context.keeps_eof _ _ c.error_end_of_input.ensures))
+    (input_ended g.C.Error.From.from_gives g.C.Error.IsEof.eof old.fixed.ends_by_device _ c.error_end_of_input.ensures
+    (g.met.C.Context.keeps_eof _ _ c.error_end_of_input.ensures))
     c.in_ok-read_lent.ensures.reads
 
 pub returns-in_err-read_lent-clause-reads : goal.returns-in_err-read_lent-clause-reads
 returns-in_err-read_lent-clause-reads g c =
-    all_refused g.T.FixedSize.SIZE _ (g.met.T.ViewItem.one_size _) g.row.N c.in_default.ensures c.from_residual.ensures.1 c.in_err-read_lent.ensures.reads
+    all_refused g.T.FixedSize.SIZE _ (g.met.T.ViewItem.one_size _) g.row.N c.in_default.ensures
+    c.from_residual.ensures.1 c.in_err-read_lent.ensures.reads
 
 pub returns-in_err-bytes-clause-reads : goal.returns-in_err-bytes-clause-reads
 returns-in_err-bytes-clause-reads g c =
@@ -28,5 +30,7 @@ pub returns-clause-reads : goal.returns-clause-reads
 returns-clause-reads g c =
     let item = g.met.T.ViewItem in
     let lent = c.in_ok-bytes.ensures in
-    view_lent g.T.FixedSize.SIZE _ (item.one_size _) g.row.N g.T.ViewItem.decoded g.T.Layout.seen item.some_bytes (λ bytes l are. c.spelled_as_little.ensures _ bytes (item.decodes bytes l are))
-    (ap (λ b. map g.T.Layout.seen (shown_items g.T.ViewItem.decoded g.T.FixedSize.SIZE b)) c.over.ensures.bytes) lent.range (rw c.in-Some.ensures at lent.reads)
+    view_lent g.T.FixedSize.SIZE _ (item.one_size _) g.row.N g.T.ViewItem.decoded g.T.Layout.seen item.some_bytes
+    (λ bytes l are. c.spelled_as_little.ensures _ bytes (item.decodes bytes l are))
+    (ap (λ b. map g.T.Layout.seen (shown_items g.T.ViewItem.decoded g.T.FixedSize.SIZE b)) c.over.ensures.bytes)
+    lent.range (rw c.in-Some.ensures at lent.reads)

@@ -21,7 +21,8 @@ pub returns-in_err-bytes-clause-reads : goal.returns-in_err-bytes-clause-reads
 returns-in_err-bytes-clause-reads g c =
     refused_second (borrowed_list_composes _ _) (unsigned_number_laws 4 _)
     {A = List g.T.Layout.Seen} {seen = λ t. t} c.in_ok-length.ensures c.from_residual-in_err-bytes.ensures.1
-    (view_not_lent g.T.FixedSize.SIZE _ (g.met.T.ViewItem.one_size _) _ refl (rw c.size_of_items.ensures at c.in_err-bytes.ensures.reads))
+    (view_not_lent g.T.FixedSize.SIZE _ (g.met.T.ViewItem.one_size _) _ refl
+    (rw c.size_of_items.ensures at c.in_err-bytes.ensures.reads))
 
 pub returns-clause-reads : goal.returns-clause-reads
 returns-clause-reads g c =
@@ -30,6 +31,8 @@ returns-clause-reads g c =
     second_decides (borrowed_list_composes _ _) (unsigned_number_laws 4 _)
     {seen = λ view. map g.T.Layout.seen (shown_items g.T.ViewItem.decoded g.T.FixedSize.SIZE view.bytes.now)}
     c.in_ok-length.ensures
-    (view_lent g.T.FixedSize.SIZE _ (item.one_size _) _ g.T.ViewItem.decoded g.T.Layout.seen item.some_bytes (λ bytes l are. c.spelled_as_little.ensures _ bytes (item.decodes bytes l are))
-    (ap (λ b. map g.T.Layout.seen (shown_items g.T.ViewItem.decoded g.T.FixedSize.SIZE b)) c.over.ensures.bytes) lent.range (rw c.size_of_items.ensures at lent.reads))
+    (view_lent g.T.FixedSize.SIZE _ (item.one_size _) _ g.T.ViewItem.decoded g.T.Layout.seen item.some_bytes
+    (λ bytes l are. c.spelled_as_little.ensures _ bytes (item.decodes bytes l are))
+    (ap (λ b. map g.T.Layout.seen (shown_items g.T.ViewItem.decoded g.T.FixedSize.SIZE b)) c.over.ensures.bytes)
+    lent.range (rw c.size_of_items.ensures at lent.reads))
     (λ _. refl)

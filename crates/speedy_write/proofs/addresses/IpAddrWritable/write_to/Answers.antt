@@ -6,7 +6,8 @@ use Rattle.speedy_write.proofs.addresses.IpAddrWritable.write_to.Goals as goal
 
 pub returns-in_err-write_u8-in-V4 : goal.returns-in_err-write_u8-in-V4
 returns-in_err-write_u8-in-V4 g c =
-    first_refused is_sequence (ap (λ a. ip_parts (ip_octets a)) c.in-V4.is) c.from_residual.ensures.1 (number_code_written 1 address_tag_is_code refl c.in_err-write_u8-in-V4.ensures.writes)
+    first_refused is_sequence (ap (λ a. ip_parts (ip_octets a)) c.in-V4.is) c.from_residual.ensures.1
+    (number_code_written 1 address_tag_is_code refl c.in_err-write_u8-in-V4.ensures.writes)
 
 pub returns-in_ok-write_u8-in-V4 : goal.returns-in_ok-write_u8-in-V4
 returns-in_ok-write_u8-in-V4 g c =
@@ -16,7 +17,9 @@ returns-in_ok-write_u8-in-V4 g c =
 
 pub returns-in_err-write_u8-in-V6 : goal.returns-in_err-write_u8-in-V6
 returns-in_err-write_u8-in-V6 g c =
-    first_refused is_sequence (ap (λ a. ip_parts (ip_octets a)) c.in-V6.is) c.from_residual-in_err-write_u8-in-V6.ensures.1 (number_code_written 1 address_tag_is_code refl c.in_err-write_u8-in-V6.ensures.writes)
+    first_refused is_sequence (ap (λ a. ip_parts (ip_octets a)) c.in-V6.is)
+    c.from_residual-in_err-write_u8-in-V6.ensures.1
+    (number_code_written 1 address_tag_is_code refl c.in_err-write_u8-in-V6.ensures.writes)
 
 pub returns-in_ok-write_u8-in-V6 : goal.returns-in_ok-write_u8-in-V6
 returns-in_ok-write_u8-in-V6 g c =

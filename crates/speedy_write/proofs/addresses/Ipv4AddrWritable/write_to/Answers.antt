@@ -6,4 +6,6 @@ use Rattle.speedy_write.specs.Codes.{number_code_written}
 use Rattle.speedy_write.proofs.addresses.Ipv4AddrWritable.write_to.Goals as goal
 
 pub returns : goal.returns
-returns g c = number_code_written 4 (octets_is_code 4) (subst (SpellsNumber 4 BigEndian c.read_u32.result) c.octets-octets.ensures c.read_u32.ensures) c.write_u32.ensures.writes
+returns g c = number_code_written 4 (octets_is_code 4)
+    (subst (SpellsNumber 4 BigEndian c.read_u32.result) c.octets-octets.ensures c.read_u32.ensures)
+    c.write_u32.ensures.writes

@@ -7,5 +7,13 @@ in_order h k = ap (λ x. (x, h.1, h.2)) (le_prop h.0 k.0) ∙ ap₂ (λ x y. (k.
 
 -- what the vector has of room has one proof, so the context alone differs
 pub returns : goal.returns
-returns g c =
-    ((refl, λ w. ap (λ h. record c.args.self.now { context = record c.args.self.now.context { now = w }; has_room = h }) (in_order _ c.args.self.now.has_room)), record { writes_back = tt; value = refl })
+returns g c = (
+  (
+    refl,
+    λ w. ap (λ h. record c.args.self.now {
+      context = record c.args.self.now.context { now = w };
+      has_room = h;
+    }) (in_order _ c.args.self.now.has_room),
+  ),
+  record { writes_back = tt; value = refl },
+)

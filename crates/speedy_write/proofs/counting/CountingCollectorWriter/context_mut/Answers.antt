@@ -4,5 +4,13 @@ use Rattle.speedy_write.proofs.counting.CountingCollectorWriter.context_mut.Goal
 
 -- what the sum has of its bound has one proof, so the context alone differs
 pub returns : goal.returns
-returns g c =
-    ((refl, λ w. ap (λ h. record c.args.self.now { context = record c.args.self.now.context { now = w }; in_range = h }) (le_prop _ c.args.self.now.in_range)), record { writes_back = tt; value = refl })
+returns g c = (
+  (
+    refl,
+    λ w. ap (λ h. record c.args.self.now {
+      context = record c.args.self.now.context { now = w };
+      in_range = h;
+    }) (le_prop _ c.args.self.now.in_range),
+  ),
+  record { writes_back = tt; value = refl },
+)

@@ -9,6 +9,13 @@ pub returns : goal.returns
 unfolding coding sequence unsigned_number
 returns c e same = record {
   code = (c.as_secs.result, c.subsec_nanos.result);
-  code_is = record { front = c.put_number.new.output; back = c.put_number-2.new.output; whole_is = refl; first_is = c.put_number.ensures e same; second_is = c.put_number-2.ensures e same };
-  stands = duration_is_chosen _ c.as_secs.result c.subsec_nanos.result c.as_secs.ensures c.subsec_nanos.ensures c.as_secs.type_inv;
+  code_is = record {
+    front = c.put_number.new.output;
+    back = c.put_number-2.new.output;
+    whole_is = refl;
+    first_is = c.put_number.ensures e same;
+    second_is = c.put_number-2.ensures e same;
+  };
+  stands = duration_is_chosen _ c.as_secs.result c.subsec_nanos.result c.as_secs.ensures c.subsec_nanos.ensures
+      c.as_secs.type_inv;
 }

@@ -7,7 +7,8 @@ use Rattle.speedy_write.proofs.flags.OptionWritable.write_to.Goals as goal
 
 pub returns-in_err-write_value-in-Some : goal.returns-in_err-write_value-in-Some
 returns-in_err-write_value-in-Some g c =
-    first_refused is_sequence (ap (λ o. option_parts (option_map g.T.Layout.seen o)) c.in-Some.is) c.from_residual.ensures.1 c.in_err-write_value-in-Some.ensures
+    first_refused is_sequence (ap (λ o. option_parts (option_map g.T.Layout.seen o)) c.in-Some.is)
+    c.from_residual.ensures.1 c.in_err-write_value-in-Some.ensures
 
 pub returns-in_ok-write_value-in-Some : goal.returns-in_ok-write_value-in-Some
 returns-in_ok-write_value-in-Some g c =

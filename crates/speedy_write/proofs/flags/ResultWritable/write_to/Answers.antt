@@ -6,7 +6,9 @@ use Rattle.speedy_write.proofs.flags.ResultWritable.write_to.Goals as goal
 
 pub returns-in_err-write_value-in-Ok : goal.returns-in_err-write_value-in-Ok
 returns-in_err-write_value-in-Ok g c =
-    first_refused is_sequence (ap (λ r. alternative_parts (result_map_both g.T.Layout.seen g.U.Layout.seen r)) c.in-Ok.is) c.from_residual.ensures.1 c.in_err-write_value-in-Ok.ensures
+    first_refused is_sequence
+    (ap (λ r. alternative_parts (result_map_both g.T.Layout.seen g.U.Layout.seen r)) c.in-Ok.is)
+    c.from_residual.ensures.1 c.in_err-write_value-in-Ok.ensures
 
 pub returns-in_ok-write_value-in-Ok : goal.returns-in_ok-write_value-in-Ok
 returns-in_ok-write_value-in-Ok g c =
@@ -16,7 +18,9 @@ returns-in_ok-write_value-in-Ok g c =
 
 pub returns-in_err-write_value-in-Err : goal.returns-in_err-write_value-in-Err
 returns-in_err-write_value-in-Err g c =
-    first_refused is_sequence (ap (λ r. alternative_parts (result_map_both g.T.Layout.seen g.U.Layout.seen r)) c.in-Err.is) c.from_residual-in_err-write_value-in-Err.ensures.1 c.in_err-write_value-in-Err.ensures
+    first_refused is_sequence
+    (ap (λ r. alternative_parts (result_map_both g.T.Layout.seen g.U.Layout.seen r)) c.in-Err.is)
+    c.from_residual-in_err-write_value-in-Err.ensures.1 c.in_err-write_value-in-Err.ensures
 
 pub returns-in_ok-write_value-in-Err : goal.returns-in_ok-write_value-in-Err
 returns-in_ok-write_value-in-Err g c =

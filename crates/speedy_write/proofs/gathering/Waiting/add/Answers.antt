@@ -10,5 +10,8 @@ returns c =
     let put = c.copy_from_slice.new.self in
     let end = w.end + length slice in
     let same = c.copy_from_slice.ensures.after in
-    ap (drop w.start) (take-put_mid w.end (end - w.end) w.room.now put end (omega (arith, ap length same)) w.within ∙ ap (λ l. take w.end w.room.now ++ l) same)
-    ∙ drop-append-le w.start (take w.end w.room.now) slice (omega (arith, length-take-le w.end w.room.now w.within, w.ordered))
+    ap (drop w.start)
+    (take-put_mid w.end (end - w.end) w.room.now put end (omega (arith, ap length same)) w.within
+    ∙ ap (λ l. take w.end w.room.now ++ l) same)
+    ∙ drop-append-le w.start (take w.end w.room.now) slice
+    (omega (arith, length-take-le w.end w.room.now w.within, w.ordered))

@@ -8,4 +8,5 @@ use Rattle.speedy_write.proofs.leaves.DurationWritable.write_to.Goals as goal
 
 pub returns : goal.returns
 unfolding sequence unsigned_number
-returns g c = code_written duration_is_code (λ _. refl) (duration_is_chosen _ c.as_secs.result c.subsec_nanos.result c.as_secs.ensures c.subsec_nanos.ensures c.as_secs.type_inv) c.write_to.ensures
+returns g c = code_written duration_is_code (λ _. refl) (duration_is_chosen _ c.as_secs.result c.subsec_nanos.result
+    c.as_secs.ensures c.subsec_nanos.ensures c.as_secs.type_inv) c.write_to.ensures

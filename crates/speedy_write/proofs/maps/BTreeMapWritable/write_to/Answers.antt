@@ -17,4 +17,5 @@ returns g c =
     map_written {new = g.W.Writer.state after} {appended = λ b. g.W.Writer.appends c.args.writer.now b after}
     g.K.Layout.layout g.V.Layout.layout (tree_map_is (less_is_asymmetric g.K.Layout.seen g.K.Ord.cmp))
     (tree_map_entries g.V.Layout.seen same order.total order.matches_eq m c.iter-pairs.ensures.ordered)
-    (c.write_counted_items.ensures (map seen m.entries) (c.len.ensures.len ∙ sym (length-map m.entries seen)) (shown_in_order deref_pair seen c.iter-pairs.ensures.rest))
+    (c.write_counted_items.ensures (map seen m.entries) (c.len.ensures.len ∙ sym (length-map m.entries seen))
+    (shown_in_order deref_pair seen c.iter-pairs.ensures.rest))

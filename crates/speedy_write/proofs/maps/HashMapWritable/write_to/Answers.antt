@@ -15,4 +15,5 @@ returns g c =
     map_written {new = g.W.Writer.state after} {appended = λ b. g.W.Writer.appends c.args.writer.now b after}
     g.K.Layout.layout g.V.Layout.layout hash_map_is
     (hash_map_entries g.V.Layout.seen same m c.iter.ensures.unique)
-    (c.write_counted_items.ensures (map seen m.entries) (c.len.ensures.len ∙ sym (length-map m.entries seen)) (shown_in_order deref_pair seen c.iter.ensures.rest))
+    (c.write_counted_items.ensures (map seen m.entries) (c.len.ensures.len ∙ sym (length-map m.entries seen))
+    (shown_in_order deref_pair seen c.iter.ensures.rest))

@@ -3,7 +3,8 @@ use Rattle.speedy_write.specs.Sequences.{is_sequence, first_refused, second_writ
 use Rattle.speedy_write.proofs.ranges.RangeInclusiveWritable.write_to.Goals as goal
 
 pub returns-in_err-write_value : goal.returns-in_err-write_value
-returns-in_err-write_value g c = first_refused is_sequence refl c.from_residual.ensures.1 (rw c.start.ensures at c.in_err-write_value.ensures)
+returns-in_err-write_value g c =
+    first_refused is_sequence refl c.from_residual.ensures.1 (rw c.start.ensures at c.in_err-write_value.ensures)
 
 pub returns : goal.returns
 returns g c =

@@ -17,4 +17,5 @@ returns g c =
     set_written {new = g.W.Writer.state after} {appended = λ b. g.W.Writer.appends c.args.writer.now b after}
     g.T.Layout.layout (tree_set_is (less_is_asymmetric seen g.T.Ord.cmp))
     (tree_set_items same order.total order.matches_eq s c.iter-items.ensures.ordered)
-    (c.write_counted_items.ensures (map seen s.keys) (c.len.ensures.len ∙ sym (length-map s.keys seen)) (shown_in_order deref seen c.iter-items.ensures.rest))
+    (c.write_counted_items.ensures (map seen s.keys) (c.len.ensures.len ∙ sym (length-map s.keys seen))
+    (shown_in_order deref seen c.iter-items.ensures.rest))

@@ -14,4 +14,5 @@ returns g c =
     let seen = g.T.Layout.seen in
     set_written {new = g.W.Writer.state after} {appended = λ b. g.W.Writer.appends c.args.writer.now b after}
     g.T.Layout.layout index_set_is (index_set_items same s c.iter.ensures.unique)
-    (c.write_counted_items.ensures (map seen s.keys) (c.len-count.ensures.len ∙ sym (length-map s.keys seen)) (shown_in_order deref seen c.iter.ensures.rest))
+    (c.write_counted_items.ensures (map seen s.keys) (c.len-count.ensures.len ∙ sym (length-map s.keys seen))
+    (shown_in_order deref seen c.iter.ensures.rest))

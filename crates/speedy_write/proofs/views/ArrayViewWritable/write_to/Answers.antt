@@ -14,9 +14,12 @@ returns g c =
     let seen = g.T.Layout.seen in
     let view = c.args.self.now in
     let items = shown_items item.decoded g.T.FixedSize.SIZE view.bytes.now in
-    let many = length-shown_many item.decoded g.T.FixedSize.SIZE g.row.N view.bytes.now g.met.T.ViewItem.some_bytes view.whole in
+    let many =
+    length-shown_many item.decoded g.T.FixedSize.SIZE g.row.N view.bytes.now g.met.T.ViewItem.some_bytes view.whole in
     let after = c.write_collection.new.self in
     let state = g.W.Writer.state after in
     let appended = λ (b : List ℕ). g.W.Writer.appends c.args.writer.now b after in
     borrowed_written {new = state} {appended = appended}
-    (owned_written {new = state} {appended = appended} (shown_items_written {new = state} {appended = appended} (sym many ∙ sym (length-map items seen)) (left_in_order (left_items item.decoded g.T.FixedSize.SIZE) seen c.iter.ensures.shown) c.write_collection.ensures))
+    (owned_written {new = state} {appended = appended}
+    (shown_items_written {new = state} {appended = appended} (sym many ∙ sym (length-map items seen))
+    (left_in_order (left_items item.decoded g.T.FixedSize.SIZE) seen c.iter.ensures.shown) c.write_collection.ensures))

@@ -13,4 +13,5 @@ returns g c =
     let items = shown_items item.decoded g.T.FixedSize.SIZE c.args.self.now.bytes.now in
     let after = c.write_counted_items.new.writer in
     borrowed_written {new = g.W.Writer.state after} {appended = λ b. g.W.Writer.appends c.args.writer.now b after}
-    (c.write_counted_items.ensures (map seen items) (c.len-count.ensures ∙ sym (length-map items seen)) (left_in_order (left_items item.decoded g.T.FixedSize.SIZE) seen c.iter.ensures.shown))
+    (c.write_counted_items.ensures (map seen items) (c.len-count.ensures ∙ sym (length-map items seen))
+    (left_in_order (left_items item.decoded g.T.FixedSize.SIZE) seen c.iter.ensures.shown))

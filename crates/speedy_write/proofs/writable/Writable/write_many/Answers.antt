@@ -9,11 +9,14 @@ loop-item-init g c = no_items_written g.Self.Layout.layout.format g.Self.Layout.
 
 pub loop-item-preserved : goal.loop-item-preserved
 loop-item-preserved g c =
-    one_more_written (g.met.W.Writer.additive _ _ _) g.Self.Layout.seen c.args.items.now c.loop-item.item-index (omega arith) c.item-item.is c.loop-item.invariant c.in_ok-write_to.ensures
+    one_more_written (g.met.W.Writer.additive _ _ _) g.Self.Layout.seen c.args.items.now c.loop-item.item-index
+    (omega arith) c.item-item.is c.loop-item.invariant c.in_ok-write_to.ensures
 
 pub returns-in_err-write_to : goal.returns-in_err-write_to
 returns-in_err-write_to g c =
-    let same = subst (StaysAs g.W.Writer.state g.W.Writer.appends c.args.writer.now) (sym c.in_default.ensures) stays_same in
+    let same =
+    subst (StaysAs g.W.Writer.state g.W.Writer.appends c.args.writer.now) (sym c.in_default.ensures) stays_same in
     Writes-from same.state_is (λ b. same.joins b _)
-    (items_refused (g.met.W.Writer.additive _ _ _) g.Self.Layout.seen c.args.items.now c.loop-item.item-index (omega arith) c.item-item.is
+    (items_refused (g.met.W.Writer.additive _ _ _) g.Self.Layout.seen c.args.items.now c.loop-item.item-index
+    (omega arith) c.item-item.is
     g.Self.Layout.layout.laws c.from_residual.ensures.1 c.loop-item.invariant c.in_err-write_to.ensures)

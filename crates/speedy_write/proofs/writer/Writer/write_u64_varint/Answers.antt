@@ -5,11 +5,14 @@ use Rattle.speedy_write.specs.Sequences.{form_written}
 use Rattle.speedy_write.proofs.NumberLemmas.{small_written}
 use Rattle.speedy_write.proofs.writer.Writer.write_u64_varint.Goals as goal
 
-renamed : (encoding : Encoding) (m n : ℕ) (bytes : List ℕ) → m ≡ n → (varint encoding).writes m bytes → (varint encoding).writes n bytes
+renamed : (encoding : Encoding) (m n : ℕ) (bytes : List ℕ) → m ≡ n → (varint encoding).writes m bytes
+    → (varint encoding).writes n bytes
 renamed encoding m n bytes same h = subst (λ (i : ℕ). (varint encoding).writes i bytes) same h
 
 pub returns-then-value-lt128-clause-writes : goal.returns-then-value-lt128-clause-writes
-returns-then-value-lt128-clause-writes g c = form_written varint_laws (small_written _ _ c.if-value-lt128.true) c.write_bytes.ensures.writes
+returns-then-value-lt128-clause-writes g c =
+    form_written varint_laws (small_written _ _ c.if-value-lt128.true) c.write_bytes.ensures.writes
 
 pub returns-clause-writes : goal.returns-clause-writes
-returns-clause-writes g c = form_written varint_laws (renamed _ _ _ _ c.from.ensures (c.encode-count.ensures.written _)) c.write_bytes-2.ensures.writes
+returns-clause-writes g c = form_written varint_laws (renamed _ _ _ _ c.from.ensures (c.encode-count.ensures.written _))
+    c.write_bytes-2.ensures.writes
