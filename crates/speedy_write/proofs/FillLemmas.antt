@@ -1,7 +1,8 @@
 -- What the ways of writing answer follows from what a write into a collector does.
-use Rattle.std.specs.Prelude.{◌≡◌, ℕ, ◌-◌, ◌≤◌, List, length, Result, Ok, Err, IsOk, refl}
+use Rattle.std.specs.Prelude.{◌≡◌, ℕ, ◌-◌, ◌≤◌, List, ◌++◌, length, Bool, Result, Ok, Err, IsOk, refl}
 use Rattle.std.specs.Borrow.{GName}
-use Rattle.std.proofs.Common.{◌∙◌, ap, subst, arith, inl, inr}
+use Rattle.std.proofs.Common.{◌∙◌, sym, ap, subst, arith, inl, inr}
+use Rattle.std.proofs.lemmas.List.{append-nil, drop_all}
 use Rattle.speedy_base.specs.declared.error.Error.{Error}
 use Rattle.speedy_base.specs.declared.device.Faults.{Faults}
 use Rattle.speedy_base.specs.MemoryDevices.{no_faults}
@@ -11,8 +12,9 @@ use Rattle.speedy_layout.specs.Format.{Format}
 use Rattle.speedy_layout.specs.Laws.{Laws}
 use Rattle.speedy_write.specs.Writing.{WriterState, Writes}
 use Rattle.speedy_write.specs.Collectors.{buffer_state, BufferAppends}
-use Rattle.speedy_write.specs.WaysOfWriting.{Stands}
+use Rattle.speedy_write.specs.WaysOfWriting.{IsShortest, Stands}
 use Rattle.speedy_write.specs.CollectorLemmas.{put_in_front}
+use Rattle.speedy_write.specs.Sequences.{one_length}
 
 -- no call failed where none is counted
 none_grown : (faults : Faults) → faults ≡ no_faults → HasGrown no_faults faults → ⊥
@@ -74,3 +76,13 @@ module _ {E : Type 0} {gives : Error → E → Type 0} {V : Type 0} {F : Encodin
           new_is = same ∙ put_in_front refl refl put.is_appended;
         }
     fill_stands (Err e) laws ok same w = absurd (cc)
+
+-- a buffer that is as long as what is written holds just that
+pub filled_whole : {V : Type 0} {strict : Bool} {least : ℕ} {L : Format V} → Laws strict least L
+    → (v : V) (bytes : List ℕ)
+    → L.writes v bytes → {old new : List ℕ} → length bytes ≡ length old → Stands L v old new → IsShortest L v new
+filled_whole {L = L} laws v bytes written {old = old} sized s =
+    let size = one_length laws v s.bytes bytes s.is_shortest.is_written written in
+    let none = drop_all (length s.bytes) old (omega (arith, size, sized)) in
+    let whole = s.new_is ∙ (ap (λ rest. s.bytes ++ rest) none ∙ append-nil s.bytes) in
+    subst (IsShortest L v) (sym whole) s.is_shortest

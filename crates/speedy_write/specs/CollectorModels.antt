@@ -17,7 +17,7 @@ pub record BufferModel (C : Type 0) : Type 0 where
   pub buffer_name : GName
   pub position : ℕ
 
-abbrev pub buffer_model : {C : Type 0} → BufferCollector C → BufferModel C
+abbrev pub buffer_model : {C U : Type 0} → BufferCollector C U → BufferModel C
 buffer_model w = record {
   context = w.context.now;
   context_name = w.context.ghost_name;

@@ -17,13 +17,17 @@ use speedy_base::error::{Error, error_end_of_output_buffer, error_out_of_range_l
 use speedy_layout::Layout;
 use std::alloc::Global;
 use std::io;
+use std::marker::PhantomData;
 
 /// A writer to the beginning of a buffer.
+///
+/// `U` says what it is used for. Code for each use is compiled apart, so that it can stand inline where it is used.
 #[derive(Drop)]
-pub struct BufferCollector<'a, C> {
+pub struct BufferCollector<'a, C, U = ()> {
     context: &'a mut C,
     buffer: &'a mut [u8],
     position: usize,
+    usage: PhantomData<U>,
     ghost in_range: { position ≤ length buffer.now },
 }
 
@@ -39,10 +43,27 @@ impl<'a, C> BufferCollector<'a, C> {
         ensures buffer { (buffer_model result).buffer ≡ buffer.old }
         ensures position { (buffer_model result).position ≡ 0 }
     {
+        BufferCollector::for_use(context, buffer)
+    }
+}
+
+impl<'a, C, U> BufferCollector<'a, C, U> {
+    ghost use Rattle.speedy_write.specs.CollectorModels.{buffer_model};
+
+    /// A writer at the beginning of the buffer, for the use.
+    #[inline]
+    pub(crate) fn for_use(context: &'a mut C, buffer: &'a mut [u8]) -> BufferCollector<'a, C, U>
+        ensures same_context { (buffer_model result).context_name ≡ context.entry.ghost_name }
+        ensures context { (buffer_model result).context ≡ context.old }
+        ensures same_buffer { (buffer_model result).buffer_name ≡ buffer.entry.ghost_name }
+        ensures buffer { (buffer_model result).buffer ≡ buffer.old }
+        ensures position { (buffer_model result).position ≡ 0 }
+    {
         BufferCollector {
             context,
             buffer,
             position: 0,
+            usage: PhantomData,
         }
     }
 
@@ -57,7 +78,7 @@ impl<'a, C> BufferCollector<'a, C> {
     }
 }
 
-impl<'a, C: Context> Writer<C> for BufferCollector<'a, C> {
+impl<'a, C: Context, U> Writer<C> for BufferCollector<'a, C, U> {
     ghost at = { λ w. w.context.now };
 
     ghost with_context = { λ w c. record w { context = record w.context { now = c } } };
@@ -82,10 +103,10 @@ impl<'a, C: Context> Writer<C> for BufferCollector<'a, C> {
     /// Writes all the bytes, or none where they do not fit.
     #[inline]
     fn write_bytes(&mut self, slice: &[u8]) -> Result<(), C::Error>
-        ensures writes { let writer = ⟦<BufferCollector<'a, C> as Writer<C>>⟧ in
+        ensures writes { let writer = ⟦<BufferCollector<'a, C, U> as Writer<C>>⟧ in
             WritesSlice C.Error.from_gives writer.state writer.appends slice.now
             result self.old self.new }
-        ensures full { let writer = ⟦<BufferCollector<'a, C> as Writer<C>>⟧ in
+        ensures full { let writer = ⟦<BufferCollector<'a, C, U> as Writer<C>>⟧ in
             RefusesFull C.Error.from_gives writer.state result self.old self.new }
         ensures unchanged { OnErr result (self.new ≡ self.old) }
     {
@@ -102,11 +123,11 @@ impl<'a, C: Context> Writer<C> for BufferCollector<'a, C> {
     /// Puts the values where they are to stand, if they fit.
     #[inline]
     fn put_fixed<T: Layout, P: FixedBytes<T>>(&mut self, values: &[T]) -> bool
-        ensures puts { let writer = ⟦<BufferCollector<'a, C> as Writer<C>>⟧ in
+        ensures puts { let writer = ⟦<BufferCollector<'a, C, U> as Writer<C>>⟧ in
             IsTrue result → WritesValues C.Error.from_gives writer.state writer.appends T.seen
             T.layout values.now (Ok tt) self.old self.new }
         ensures unchanged { result ≡ false → self.new ≡ self.old }
-        ensures fits { let writer = ⟦<BufferCollector<'a, C> as Writer<C>>⟧ in
+        ensures fits { let writer = ⟦<BufferCollector<'a, C, U> as Writer<C>>⟧ in
             Fits (length values.now * P.BYTES) (writer.state self.old).space → IsTrue result }
     {
         P::has_few_bytes();

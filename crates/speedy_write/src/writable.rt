@@ -121,7 +121,7 @@ pub trait Writable<C: Context>: Layout {
         if length < needed {
             return Err(error_output_buffer_is_too_small(length, needed));
         }
-        fill(self, context, buffer)
+        fill::<C, Self, ()>(self, context, buffer)
     }
 
     /// Encodes the value into a vector, in little endian.
@@ -274,8 +274,9 @@ pub(crate) fn write_and_flush<C: Context, T: Writable<C>, S: Sink>(
     }
 }
 
-// Writes a value to the front of a buffer in which it fits. It always succeeds: the result is that of the write.
-fn fill<C: Context, T: Writable<C>>(
+// Writes a value to the front of a buffer in which it fits. It always succeeds: the result is that of the write. `U`
+// says what the buffer is used for.
+fn fill<C: Context, T: Writable<C>, U>(
     value: &T,
     context: &mut C,
     buffer: &mut [u8],
@@ -288,13 +289,19 @@ fn fill<C: Context, T: Writable<C>>(
     ensures stands { let format = T.layout.format (C.encoding context.old) in
         Stands format (T.seen value.now) buffer.old buffer.new }
 {
-    let mut collector = BufferCollector::new(context, buffer);
+    let mut collector: BufferCollector<C, U> = BufferCollector::for_use(context, buffer);
     let outcome = value.write_to(&mut collector);
     collector.finish();
     outcome
 }
 
-// Writes a value to a vector that is requested once, with room for so many bytes, in which the value fits.
+// The use of a buffer as the room of a vector.
+struct VecRoom {}
+
+// Vectors of at most so many bytes are filled as buffers are, over zeros: these are still in the processor's cache.
+const MOST_ZEROED: usize = 131_072;
+
+// Writes a value to a vector that is requested once, with room for the bytes that the value takes.
 fn fill_vec<C: Context, T: Writable<C>>(
     value: &T,
     alloc: Global,
@@ -302,7 +309,7 @@ fn fill_vec<C: Context, T: Writable<C>>(
     room: usize,
 ) -> Result<Vec<u8>, C::Error>
     requires { let format = T.layout.format (C.encoding context.old) in
-        ((bytes : List ℕ) × format.writes (T.seen value.now) bytes × (length bytes ≤ room)) }
+        ((bytes : List ℕ) × format.writes (T.seen value.now) bytes × (length bytes ≡ room)) }
     ensures encoding { C.encoding context.new ≡ C.encoding context.old }
     ensures fills { let format = T.layout.format (C.encoding context.old) in
         MatchResult result (λ vec. IsShortest format (T.seen value.now) vec.items)
@@ -311,6 +318,15 @@ fn fill_vec<C: Context, T: Writable<C>>(
     let Ok(mut bytes) = Vec::with_capacity(alloc, room) else {
         return Err(error_out_of_memory());
     };
+    if room <= MOST_ZEROED {
+        if bytes.resize(room, 0).is_err() {
+            unreachable!();
+        }
+        return match fill::<C, T, VecRoom>(value, context, bytes.as_mut_slice()) {
+            Ok(()) => Ok(bytes),
+            Err(_) => unreachable!(),
+        };
+    }
     let mut collector = VecCollector::new(context, &mut bytes, room);
     let outcome = value.write_to(&mut collector);
     collector.finish();
