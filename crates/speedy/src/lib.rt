@@ -44,6 +44,8 @@ mod tests_owned;
 #[cfg(test)]
 mod tests_prefixed;
 #[cfg(test)]
+mod tests_prefixed_maps;
+#[cfg(test)]
 mod tests_ranges;
 #[cfg(test)]
 mod tests_readers;

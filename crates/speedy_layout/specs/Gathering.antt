@@ -3,16 +3,15 @@
 use Rattle.std.specs.Prelude.{◌≡◌, ℕ, ◌+◌, ◌≤◌, List, [], ◌∷◌, ◌++◌, length, Bool, true, false, refl}
 use Rattle.std.proofs.Common.{sym, ◌∙◌, ap, subst, inl, inr, arith}
 use Rattle.std.proofs.lemmas.List.{length-append}
-use Rattle.speedy_base.specs.Digits.{digits}
-use Rattle.speedy_base.specs.DigitsLemmas.{SpellsNumber-digits, SpellsNumber-below}
 use Rattle.speedy_base.specs.Encoding.{Encoding}
 use Rattle.speedy_layout.specs.Format.{Format, Each}
 use Rattle.speedy_layout.specs.Laws.{Laws, Codec, Laws-asking, Decided}
 use Rattle.speedy_layout.specs.Codes.{Code, Coded, IsCode, coding, coding_laws}
-use Rattle.speedy_layout.specs.Numbers.{unsigned_number}
+use Rattle.speedy_layout.specs.Numbers.{WritesSmaller}
 use Rattle.speedy_layout.specs.Owned.{owned_content}
+use Rattle.speedy_layout.specs.Prefixed.{Numbers, Behind}
 use Rattle.speedy_layout.specs.Sequences.{sequence}
-use Rattle.speedy_layout.specs.Lists.{list, list_laws, repeat, vector, each_shortest}
+use Rattle.speedy_layout.specs.Lists.{counted_list, counted_list_laws, repeat, vector, each_shortest}
 use Rattle.speedy_layout.specs.Members.{IsIn, AreDistinct, IsIn-left, IsIn-right, IsIn-either, IsIn-around}
 
 -- What makes it lawful that lists stand for things, and that some lists are written. A list that stands for a thing and
@@ -46,14 +45,15 @@ gathering stands written = record { means = stands; chosen = λ xs s. stands xs 
 unfoldable pub hashed_items : {V : Type 0} → Format V → Format V
 hashed_items F = record F { asks = record F.asks { hashed = true } }
 
--- the counted list of the items
-abbrev pub items_of : {E : Type 0} → Bool → Encoding → Format E → Format (List E)
-items_of false encoding L = list encoding L
-items_of true encoding L = hashed_items (list encoding L)
+-- the list of the items, with a count before it, which is spelled as a format of numbers says
+abbrev pub items_of : {E : Type 0} → Bool → Format ℕ → Format E → Format (List E)
+items_of false count L = counted_list count L
+items_of true count L = hashed_items (counted_list count L)
 
 -- things that are spelled as the counted list of some items that gather to them
-abbrev pub gathered : {E S : Type 0} → Bool → Encoding → (List E → S → Type 0) → (List E → Type 0) → Format E → Format S
-gathered hashed encoding stands written L = coding encoding (gathering stands written) (items_of hashed encoding L)
+abbrev pub gathered : {E S : Type 0} → Bool → Encoding → Format ℕ → (List E → S → Type 0) → (List E → Type 0)
+    → Format E → Format S
+gathered hashed encoding count stands written L = coding encoding (gathering stands written) (items_of hashed count L)
 
 pub hashed_items_laws : {V : Type 0} {strict : Bool} {least : ℕ} {F : Format V} → Laws strict least F
     → Laws strict least (hashed_items F)
@@ -184,62 +184,62 @@ module _ {V : Type 0} {strict : Bool} {least : ℕ} {F : Format V} (laws : Laws 
 -- ---- the laws
 
 module _ {E S : Type 0} {hashed : Bool} {stands : List E → S → Type 0} {written : List E → Type 0}
-    {least : ℕ} {L : Format E} (encoding : Encoding) (laws : Laws encoding.strict least L)
-    (is : IsGathering hashed stands written) where
+    {strict : Bool} {width least : ℕ} {count : Format ℕ} {L : Format E} (numbers : Laws strict width count)
+    (smaller : WritesSmaller count) (laws : Laws strict least L) (is : IsGathering hashed stands written) where
   -- each form of a thing that is spelled is spelled
-  pub form_spelled : (s : S) (bytes : List ℕ) → Coded (list encoding L).spells stands s bytes → (xs : List E)
-      → stands xs s → written xs
-      → (b : List ℕ) × (list encoding L).spells xs b
-  unfolding list sequence unsigned_number vector owned_content repeat
+  pub form_spelled : (s : S) (bytes : List ℕ) → Coded (counted_list count L).spells stands s bytes → (xs : List E)
+      → stands xs s → written xs → (b : List ℕ) × (counted_list count L).spells xs b
+  unfolding sequence vector owned_content repeat
   form_spelled s bytes h xs stands_for is_written =
       let w = spelled_within L.spells xs h.code h.code_is.back (is.form_distinct xs is_written)
       (is.form_inside xs h.code s is_written stands_for h.stands) h.code_is.second_is.1 in
-      let below = SpellsNumber-below 4 encoding.order (length h.code) h.code_is.front h.code_is.first_is in
-      let fewer = w.count in
-      let count = digits encoding.order 4 (length xs) in (
-        count ++ w.shorter,
+      let n = smaller (length xs) (length h.code) h.code_is.front w.count h.code_is.first_is in (
+        n.0 ++ w.shorter,
         record {
-          front = count;
+          front = n.0;
           back = w.shorter;
           whole_is = refl;
-          first_is = SpellsNumber-digits 4 encoding.order (length xs) (omega arith);
+          first_is = numbers.written_spells (length xs) n.0 n.1;
           second_is = (refl, w.spelled);
         },
       )
 
   -- and there is one
   some_form_spelled : HasForms L stands written → (s : S) (bytes : List ℕ)
-      → Coded (list encoding L).spells stands s bytes
-      → (b : List ℕ) × Coded (list encoding L).spells (gathering stands written).chosen s b
-  unfolding list sequence unsigned_number vector owned_content repeat
+      → Coded (counted_list count L).spells stands s bytes
+      → (b : List ℕ) × Coded (counted_list count L).spells (gathering stands written).chosen s b
+  unfolding sequence vector owned_content repeat
   some_form_spelled has s bytes h =
       let f = has h.code h.code_is.back s h.code_is.second_is.1 h.stands in
       let b = form_spelled s bytes h f.0 f.1 f.2 in
       (b.0, record { code = f.0; code_is = b.1; stands = (f.1, f.2) })
 
   -- and no list that stands for the thing is spelled in fewer bytes than a form is written in
-  pub form_shortest : (s : S) (b d : List ℕ) → Coded (list encoding L).writes (gathering stands written).chosen s b
-      → Coded (list encoding L).spells stands s d → length b ≤ length d
-  unfolding list sequence unsigned_number vector owned_content repeat
+  pub form_shortest : (s : S) (b d : List ℕ) → Coded (counted_list count L).writes (gathering stands written).chosen s b
+      → Coded (counted_list count L).spells stands s d → length b ≤ length d
+  unfolding sequence vector owned_content repeat
   form_shortest s b d h k =
       let w = spelled_within L.spells h.code k.code k.code_is.back (is.form_distinct h.code h.stands.1)
       (is.form_inside h.code k.code s h.stands.1 h.stands.0 k.stands) k.code_is.second_is.1 in
       let shortest = each_shortest laws h.code h.code_is.back w.shorter h.code_is.second_is.1 w.spelled in
       let size = w.size in
-      let x = h.code_is.first_is.width_is in
-      let y = k.code_is.first_is.width_is in
+      let n = smaller (length h.code) (length k.code) k.code_is.front w.count k.code_is.first_is in
+      let x = numbers.shortest (length h.code) h.code_is.front n.0 h.code_is.first_is
+      (numbers.written_spells (length h.code) n.0 n.1) in
+      let y = n.2 in
       let l = ap length h.code_is.whole_is ∙ length-append h.code_is.front h.code_is.back in
       let m = ap length k.code_is.whole_is ∙ length-append k.code_is.front k.code_is.back in
       omega arith
 
   -- their forms tell things apart, and where things are hashed, the items of the forms
   things_tell : (unordered : Bool) → hashed ≡ unordered → HasForms L stands written → (s t : S) (b d : List ℕ)
-      → Coded (list encoding L).spells stands s b → Coded (list encoding L).spells stands t d → Decided (s ≡ t)
-  unfolding list sequence unsigned_number vector owned_content repeat
+      → Coded (counted_list count L).spells stands s b → Coded (counted_list count L).spells stands t d
+      → Decided (s ≡ t)
+  unfolding sequence vector owned_content repeat
   things_tell false ordered has s t b d h k =
       let x = some_form_spelled has s b h in
       let y = some_form_spelled has t d k in
-      elim ((list_laws encoding laws).tells x.1.code y.1.code x.0 y.0 x.1.code_is y.1.code_is) [
+      elim ((counted_list_laws numbers laws).tells x.1.code y.1.code x.0 y.0 x.1.code_is y.1.code_is) [
         | inl e ↦ inl (is.one_thing y.1.code s t (subst (λ zs. stands zs s) e x.1.stands.0) y.1.stands.0)
         | inr n ↦ inr (λ e. n (is.one_form ordered x.1.code y.1.code t x.1.stands.1 y.1.stands.1
             (subst (stands x.1.code) e x.1.stands.0) y.1.stands.0))
@@ -264,39 +264,41 @@ module _ {E S : Type 0} {hashed : Bool} {stands : List E → S → Type 0} {writ
 
 -- what lists gather to is coded by them
 pub gathering_is_code : {E S : Type 0} (hashed : Bool) {stands : List E → S → Type 0} {written : List E → Type 0}
-    {least : ℕ} {L : Format E} (encoding : Encoding) → Laws encoding.strict least L → IsGathering hashed stands written
-    → HasForms L stands written → IsCode (gathering stands written) (items_of hashed encoding L)
+    {strict : Bool} {width least : ℕ} {count : Format ℕ} {L : Format E} → Laws strict width count → WritesSmaller count
+    → Laws strict least L → IsGathering hashed stands written → HasForms L stands written
+    → IsCode (gathering stands written) (items_of hashed count L)
 unfolding hashed_items
-gathering_is_code false encoding laws is has = record {
+gathering_is_code false numbers smaller laws is has = record {
   one_meaning = is.one_thing;
   one_chosen = λ _ xs ys s h k. is.one_form refl xs ys s h.1 k.1 h.0 k.0;
-  tells = λ _ _. things_tell encoding laws is false refl has;
+  tells = λ _ _. things_tell numbers smaller laws is false refl has;
   chosen_means = λ xs s h. h.0;
-  has_chosen = some_form_spelled encoding laws is has;
-  chosen_shortest = λ _. form_shortest encoding laws is;
+  has_chosen = some_form_spelled numbers smaller laws is has;
+  chosen_shortest = λ _. form_shortest numbers smaller laws is;
   refusals_own = λ kind h. absurd h;
 }
-gathering_is_code true encoding laws is has = record {
+gathering_is_code true numbers smaller laws is has = record {
   one_meaning = is.one_thing;
   one_chosen = λ e. absurd (cc);
-  tells = λ _ _. things_tell encoding laws is true refl has;
+  tells = λ _ _. things_tell numbers smaller laws is true refl has;
   chosen_means = λ xs s h. h.0;
-  has_chosen = some_form_spelled encoding laws is has;
-  chosen_shortest = λ _. form_shortest encoding laws is;
+  has_chosen = some_form_spelled numbers smaller laws is has;
+  chosen_shortest = λ _. form_shortest numbers smaller laws is;
   refusals_own = λ kind h. absurd h;
 }
 
-pub items_of_laws : {E : Type 0} (hashed : Bool) {least : ℕ} {L : Format E} (encoding : Encoding)
-    → Laws encoding.strict least L → Laws encoding.strict 4 (items_of hashed encoding L)
-items_of_laws false encoding laws = list_laws encoding laws
-items_of_laws true encoding laws = hashed_items_laws (list_laws encoding laws)
+pub items_of_laws : {E : Type 0} (hashed : Bool) {strict : Bool} {width least : ℕ} {count : Format ℕ} {L : Format E}
+    → Laws strict width count → Laws strict least L → Laws strict width (items_of hashed count L)
+items_of_laws false numbers laws = counted_list_laws numbers laws
+items_of_laws true numbers laws = hashed_items_laws (counted_list_laws numbers laws)
 
-abbrev pub gathered_codec : {E S : Type 0} (hashed : Bool) {stands : List E → S → Type 0} {written : List E → Type 0}
+-- things behind the number of items that gather to them
+abbrev pub gathered_behind : {E S : Type 0} (hashed : Bool) {stands : List E → S → Type 0} {written : List E → Type 0}
     → IsGathering hashed stands written → (item : Codec E)
-    → ((f : Encoding) → HasForms (item.format f) stands written) → Codec S
-gathered_codec hashed {stands = stands} {written = written} is item has = record {
-  least = 4;
-  format = λ f. gathered hashed f stands written (item.format f);
+    → ((f : Encoding) → HasForms (item.format f) stands written) → (numbers : Numbers) → Behind numbers S
+gathered_behind hashed {stands = stands} {written = written} is item has numbers = record {
+  format = λ f. gathered hashed f (numbers.codec.format f) stands written (item.format f);
   laws = λ f.
-      coding_laws f (items_of_laws hashed f (item.laws f)) (gathering_is_code hashed f (item.laws f) is (has f));
+      coding_laws f (items_of_laws hashed (numbers.codec.laws f) (item.laws f))
+      (gathering_is_code hashed (numbers.codec.laws f) (numbers.smaller f) (item.laws f) is (has f));
 }

@@ -6,13 +6,15 @@ use Rattle.std.proofs.Common.{sym, ◌∙◌, ap, subst, inl, inr}
 use Rattle.speedy_base.specs.Encoding.{Encoding}
 use Rattle.speedy_layout.specs.Format.{Format, Each}
 use Rattle.speedy_layout.specs.Laws.{Laws, Codec, Decided}
+use Rattle.speedy_layout.specs.Numbers.{unsigned_number}
+use Rattle.speedy_layout.specs.Prefixed.{Numbers, Behind, unsigned_numbers, prefixed_codec}
 use Rattle.speedy_layout.specs.Sequences.{sequence}
 use Rattle.speedy_layout.specs.Tuples.{pair, pair_codec}
 use Rattle.speedy_layout.specs.Members.{IsIn, AreDistinct, Ascends, IsLast, InFirstOrder, IsIn-key, IsIn-pair}
 use Rattle.speedy_layout.specs.Members.{IsLast-in, IsIn-last, AreDistinct-keys, same_by_keys}
 use Rattle.speedy_layout.specs.Orders.{IsAsymmetric, same_ascending, own_first_order, same_first_order}
 use Rattle.speedy_layout.specs.SeenItems.{AreSeen, less_is_asymmetric}
-use Rattle.speedy_layout.specs.Gathering.{IsGathering, HasForms, gathered, gathered_codec}
+use Rattle.speedy_layout.specs.Gathering.{IsGathering, HasForms, gathered, gathered_behind}
 
 -- what is seen of a pair
 abbrev pub seen_pair : {K V A B : Type 0} → (K → A) → (V → B) → K × V → A × B
@@ -50,16 +52,19 @@ GathersToIndexMap items es = HasDistinctKeys es × HasLasts items es × InFirstO
 
 -- A map whose keys ascend is written in their order.
 abbrev pub tree_map : {K V : Type 0} → Encoding → (K → K → Type 0) → Format K → Format V → Format (List (K × V))
-tree_map encoding less L M = gathered false encoding (GathersToTreeMap less) (Ascends (by_key less)) (pair L M)
+tree_map encoding less L M =
+    gathered false encoding (unsigned_number 4 encoding) (GathersToTreeMap less) (Ascends (by_key less)) (pair L M)
 
 -- One that finds values is written in any order, with each key once.
 abbrev pub hash_map : {K A V : Type 0} → Encoding → (K → A) → Format A → Format V → Format (K → Option V)
-hash_map encoding seen L M = gathered true encoding (GathersToHashMap seen) HasDistinctKeys (pair L M)
+hash_map encoding seen L M =
+    gathered true encoding (unsigned_number 4 encoding) (GathersToHashMap seen) HasDistinctKeys (pair L M)
 
 -- One whose keys stand in the order of their first occurrences is written in that order, which is told by each key
 -- standing once.
 abbrev pub index_map : {K V : Type 0} → Encoding → Format K → Format V → Format (List (K × V))
-index_map encoding L M = gathered false encoding GathersToIndexMap HasDistinctKeys (pair L M)
+index_map encoding L M =
+    gathered false encoding (unsigned_number 4 encoding) GathersToIndexMap HasDistinctKeys (pair L M)
 
 -- ---- their laws
 
@@ -249,18 +254,30 @@ module _ {K A V : Type 0} {seen : K → A} where
         kept.1,
       )
 
--- of keys that are seen so, and compared so
-abbrev pub tree_map_codec : {K A B : Type 0} → (K → A) → (K → K → Ordering) → Codec A → Codec B → Codec (List (A × B))
-tree_map_codec seen cmp key value =
-    gathered_codec false (tree_map_is (less_is_asymmetric seen cmp)) (pair_codec key value)
+-- Behind the number of pairs. The keys of ascending ones are seen so, and compared so.
+abbrev pub tree_map_behind : {K A B : Type 0} → (K → A) → (K → K → Ordering) → Codec A → Codec B
+    → (numbers : Numbers) → Behind numbers (List (A × B))
+tree_map_behind seen cmp key value =
+    gathered_behind false (tree_map_is (less_is_asymmetric seen cmp)) (pair_codec key value)
     (λ f items bytes es spelled h. (es, own_tree_map (less_is_asymmetric seen cmp) es h.0, h.0))
 
-abbrev pub hash_map_codec : {K A B : Type 0} → (K → A) → Codec A → Codec B → Codec (K → Option B)
-hash_map_codec seen key value =
-    gathered_codec true (hash_map_is {seen = seen}) (pair_codec key value)
+abbrev pub hash_map_behind : {K A B : Type 0} → (K → A) → Codec A → Codec B
+    → (numbers : Numbers) → Behind numbers (K → Option B)
+hash_map_behind seen key value =
+    gathered_behind true (hash_map_is {seen = seen}) (pair_codec key value)
     (λ f. hash_map_forms (value.format f) (key.laws f))
 
-abbrev pub index_map_codec : {A B : Type 0} → Codec A → Codec B → Codec (List (A × B))
-index_map_codec key value =
-    gathered_codec false index_map_is (pair_codec key value)
+abbrev pub index_map_behind : {A B : Type 0} → Codec A → Codec B → (numbers : Numbers) → Behind numbers (List (A × B))
+index_map_behind key value =
+    gathered_behind false index_map_is (pair_codec key value)
     (λ f items bytes es spelled h. (es, own_index_map es h.0, h.0))
+
+-- and by themselves behind that number in four bytes
+abbrev pub tree_map_codec : {K A B : Type 0} → (K → A) → (K → K → Ordering) → Codec A → Codec B → Codec (List (A × B))
+tree_map_codec seen cmp key value = prefixed_codec (tree_map_behind seen cmp key value (unsigned_numbers 4))
+
+abbrev pub hash_map_codec : {K A B : Type 0} → (K → A) → Codec A → Codec B → Codec (K → Option B)
+hash_map_codec seen key value = prefixed_codec (hash_map_behind seen key value (unsigned_numbers 4))
+
+abbrev pub index_map_codec : {A B : Type 0} → Codec A → Codec B → Codec (List (A × B))
+index_map_codec key value = prefixed_codec (index_map_behind key value (unsigned_numbers 4))

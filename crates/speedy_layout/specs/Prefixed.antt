@@ -3,15 +3,16 @@
 use Rattle.std.specs.Prelude.{◌≡◌, ℕ, ◌+◌, List, Bool, refl}
 use Rattle.std.proofs.Common.{ap, arith}
 use Rattle.speedy_base.specs.Encoding.{Encoding}
-use Rattle.speedy_layout.specs.Codecs.{Codec, unsigned_codec, varint_codec, length_codec}
-use Rattle.speedy_layout.specs.Codecs.{borrowed_codec, counted_list_codec, counted_text_codec}
 use Rattle.speedy_layout.specs.Codes.{coding}
 use Rattle.speedy_layout.specs.Format.{Asks, asks_nothing, Format}
-use Rattle.speedy_layout.specs.Laws.{Laws, Laws-less}
-use Rattle.speedy_layout.specs.Numbers.{unsigned_number, length_number}
+use Rattle.speedy_layout.specs.Laws.{Laws, Codec, Laws-less}
+use Rattle.speedy_layout.specs.Lists.{counted_list_codec}
+use Rattle.speedy_layout.specs.Numbers.{unsigned_number, unsigned_codec, length_number, length_codec}
 use Rattle.speedy_layout.specs.Numbers.{WritesSmaller, unsigned_smaller, length_smaller}
+use Rattle.speedy_layout.specs.Owned.{borrowed_codec}
 use Rattle.speedy_layout.specs.Sequences.{AsksAtMost, sequence, sequence_laws}
-use Rattle.speedy_layout.specs.Varint.{varint, varint_smaller}
+use Rattle.speedy_layout.specs.Texts.{counted_text_codec}
+use Rattle.speedy_layout.specs.Varint.{varint, varint_codec, varint_smaller}
 
 -- Numbers that lengths and tags are encoded as.
 pub record Numbers : Type 1 where

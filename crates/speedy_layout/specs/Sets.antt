@@ -5,10 +5,12 @@ use Rattle.std.specs.declared.cmp.Ordering.{Ordering}
 use Rattle.speedy_base.specs.Encoding.{Encoding}
 use Rattle.speedy_layout.specs.Format.{Format, Each}
 use Rattle.speedy_layout.specs.Laws.{Laws, Codec}
+use Rattle.speedy_layout.specs.Numbers.{unsigned_number}
+use Rattle.speedy_layout.specs.Prefixed.{Numbers, Behind, unsigned_numbers, prefixed_codec}
 use Rattle.speedy_layout.specs.Members.{IsIn, AreDistinct, Ascends, InFirstOrder}
 use Rattle.speedy_layout.specs.Orders.{IsAsymmetric, Ascends-distinct, same_ascending, own_first_order}
 use Rattle.speedy_layout.specs.Orders.{same_first_order}
-use Rattle.speedy_layout.specs.Gathering.{IsGathering, HasForms, gathered, gathered_codec, in_decided}
+use Rattle.speedy_layout.specs.Gathering.{IsGathering, HasForms, gathered, gathered_behind, in_decided}
 use Rattle.speedy_layout.specs.SeenItems.{AreSeen, IsLess, less_is_asymmetric}
 
 -- the two lists have the same items
@@ -29,16 +31,16 @@ GathersToIndexSet items xs = AreDistinct xs × HasItems items xs × InFirstOrder
 
 -- A set whose items ascend is written in their order.
 abbrev pub tree_set : {T : Type 0} → Encoding → (T → T → Type 0) → Format T → Format (List T)
-tree_set encoding less L = gathered false encoding (GathersToTreeSet less) (Ascends less) L
+tree_set encoding less L = gathered false encoding (unsigned_number 4 encoding) (GathersToTreeSet less) (Ascends less) L
 
 -- One that tells whether it holds an item is written in any order, with each item once.
 abbrev pub hash_set : {T A : Type 0} → Encoding → (T → A) → Format A → Format (T → Bool)
-hash_set encoding seen L = gathered true encoding (GathersToHashSet seen) AreDistinct L
+hash_set encoding seen L = gathered true encoding (unsigned_number 4 encoding) (GathersToHashSet seen) AreDistinct L
 
 -- One whose items stand in the order of their first occurrences is written in that order, which is told by each item
 -- standing once.
 abbrev pub index_set : {T : Type 0} → Encoding → Format T → Format (List T)
-index_set encoding L = gathered false encoding GathersToIndexSet AreDistinct L
+index_set encoding L = gathered false encoding (unsigned_number 4 encoding) GathersToIndexSet AreDistinct L
 
 -- ---- their laws
 
@@ -142,15 +144,26 @@ module _ {T A : Type 0} {seen : T → A} where
         kept.1,
       )
 
--- of items that are seen so, and compared so
-abbrev pub tree_set_codec : {T A : Type 0} → (T → A) → (T → T → Ordering) → Codec A → Codec (List A)
-tree_set_codec seen cmp item =
-    gathered_codec false (tree_set_is (less_is_asymmetric seen cmp)) item
+-- Behind the number of items. Ascending ones are seen so, and compared so.
+abbrev pub tree_set_behind : {T A : Type 0} → (T → A) → (T → T → Ordering) → Codec A
+    → (numbers : Numbers) → Behind numbers (List A)
+tree_set_behind seen cmp item =
+    gathered_behind false (tree_set_is (less_is_asymmetric seen cmp)) item
     (λ f items bytes xs spelled h. (xs, own_tree_set (IsLess seen cmp) xs h.0, h.0))
 
+abbrev pub hash_set_behind : {T A : Type 0} → (T → A) → Codec A → (numbers : Numbers) → Behind numbers (T → Bool)
+hash_set_behind seen item = gathered_behind true (hash_set_is {seen = seen}) item (λ f. hash_set_forms (item.laws f))
+
+abbrev pub index_set_behind : {A : Type 0} → Codec A → (numbers : Numbers) → Behind numbers (List A)
+index_set_behind item =
+    gathered_behind false index_set_is item (λ f items bytes xs spelled h. (xs, own_index_set xs h.0, h.0))
+
+-- and by themselves behind that number in four bytes
+abbrev pub tree_set_codec : {T A : Type 0} → (T → A) → (T → T → Ordering) → Codec A → Codec (List A)
+tree_set_codec seen cmp item = prefixed_codec (tree_set_behind seen cmp item (unsigned_numbers 4))
+
 abbrev pub hash_set_codec : {T A : Type 0} → (T → A) → Codec A → Codec (T → Bool)
-hash_set_codec seen item = gathered_codec true (hash_set_is {seen = seen}) item (λ f. hash_set_forms (item.laws f))
+hash_set_codec seen item = prefixed_codec (hash_set_behind seen item (unsigned_numbers 4))
 
 abbrev pub index_set_codec : {A : Type 0} → Codec A → Codec (List A)
-index_set_codec item =
-    gathered_codec false index_set_is item (λ f items bytes xs spelled h. (xs, own_index_set xs h.0, h.0))
+index_set_codec item = prefixed_codec (index_set_behind item (unsigned_numbers 4))

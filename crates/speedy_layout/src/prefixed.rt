@@ -1,4 +1,5 @@
-//! Values behind a number that tells of them: a text or a list behind its length, one of several cases behind its tag.
+//! Values behind a number that tells of them: a text, a list, a map or a set behind its length, one of several cases
+//! behind its tag.
 ghost use Rattle.std.specs.Prelude.{◌≡◌};
 ghost use Rattle.speedy_layout.specs.Prefixed.{Numbers, unsigned_numbers, varint_numbers, length_numbers};
 ghost use Rattle.speedy_layout.specs.Prefixed.{Behind, prefixed_codec};
@@ -40,7 +41,7 @@ impl Prefix for U7 {
     ghost numbers = { length_numbers 1 127 };
 }
 
-/// What a number before it tells of: texts, lists and other counted types, and cases.
+/// What a number before it tells of: texts, lists, maps, sets and other counted types, and cases.
 pub trait Told {
     /// What is seen of a value.
     ghost Seen: { Type 0 };
@@ -51,9 +52,10 @@ pub trait Told {
     ghost behind: { (numbers : Numbers) → Behind numbers Seen };
 }
 
-/// A value behind a number of the type `N` that tells of it: a text or a list behind its length, a case behind its tag.
+/// A value behind a number of the type `N` that tells of it: a text, a list, a map or a set behind its length, a case
+/// behind its tag.
 ///
-/// A text or a list behind a `u32` needs it not: that is how it is encoded by itself.
+/// What has a length needs it not behind a `u32`: that is how it is encoded by itself.
 #[derive(Debug, PartialEq, Drop)]
 pub struct Prefixed<N, T> {
     pub value: T,

@@ -10,17 +10,17 @@ use Rattle.speedy_layout.specs.Format.{Format, Each}
 use Rattle.speedy_layout.specs.Laws.{Laws, Codec}
 use Rattle.speedy_layout.specs.Codes.{Code, ReadsWider, coding, Accepts-is, Accepts-demanded}
 use Rattle.speedy_layout.specs.Sequences.{across, sequence, asks_after, asks_hashed, Parts-as}
-use Rattle.speedy_layout.specs.Numbers.{unsigned_number, unsigned_number_laws}
 use Rattle.speedy_layout.specs.Gathering.{gathering, items_of, hashed_items}
 use Rattle.speedy_base.specs.Encoding.{Encoding}
 use Rattle.speedy_read.specs.Sequences.{Composes, second_decides, refused_first}
-use Rattle.speedy_layout.specs.Lists.{vector, repeat, list}
+use Rattle.speedy_layout.specs.Lists.{vector, repeat, counted_list}
 use Rattle.speedy_layout.specs.Owned.{owned_content}
 use Rattle.speedy_read.specs.Reading.{ReaderState, Kept, Unspelled, Reads}
 use Rattle.speedy_read.specs.ReadingLemmas.{Kept-same, Got-nothing, Got-as, ReadSoFar}
 use Rattle.speedy_read.specs.Codes.{code_refused}
+use Rattle.speedy_read.specs.Counted.{counted_list_composes}
 use Rattle.speedy_read.specs.Collections.{Gatherer, GotItems, NotWritten, Collects}
-use Rattle.speedy_read.proofs.ListLemmas.{item_more, refused_item, list_composes}
+use Rattle.speedy_read.proofs.ListLemmas.{item_more, refused_item}
 
 -- from old to mid so many items were read, which gather to the collection
 pub record GatheredSoFar {T F V : Type 0} (g : Gatherer T F V) (L : Format V) (n : ℕ) (whole : F)
@@ -250,12 +250,11 @@ collected_read {V = V} {g = g} {c = c} {L = L} {n = n} {gives = gives} {eof = eo
     ]
 
 -- a coded list is read as its length, and then so many items
-coded_list_composes : {V S : Type 0} (L : Format V) (encoding : Encoding) (c : Code (List V) S)
-    → Composes (unsigned_number 4 encoding) (λ n. coding encoding c (vector n L)) (coding encoding c (list encoding L))
-    (λ n s. s)
-unfolding coding list sequence
-coded_list_composes L encoding c =
-    let parts = list_composes L encoding in
+coded_list_composes : {V S : Type 0} (count : Format ℕ) (L : Format V) (encoding : Encoding) (c : Code (List V) S)
+    → Composes count (λ n. coding encoding c (vector n L)) (coding encoding c (counted_list count L)) (λ n s. s)
+unfolding coding sequence
+coded_list_composes count L encoding c =
+    let parts = counted_list_composes count L in
     record {
       joins = λ n s a b h k. record {
         code = k.code;
@@ -301,13 +300,13 @@ coded_list_composes L encoding c =
     }
 
 -- the items of a thing that has no order of its own are read alike
-gathered_composes : {V S : Type 0} (hashed : Bool) (L : Format V) (encoding : Encoding) (c : Code (List V) S)
-    → Composes (unsigned_number 4 encoding) (λ n. coding encoding c (vector n L))
-    (coding encoding c (items_of hashed encoding L)) (λ n s. s)
+gathered_composes : {V S : Type 0} (hashed : Bool) (count : Format ℕ) (L : Format V) (encoding : Encoding)
+    (c : Code (List V) S) → Composes count (λ n. coding encoding c (vector n L))
+    (coding encoding c (items_of hashed count L)) (λ n s. s)
 unfolding coding hashed_items
-gathered_composes false L encoding c = coded_list_composes L encoding c
-gathered_composes true L encoding c =
-    let same = coded_list_composes L encoding c in
+gathered_composes false count L encoding c = coded_list_composes count L encoding c
+gathered_composes true count L encoding c =
+    let same = coded_list_composes count L encoding c in
     record {
       joins = same.joins;
       splits = same.splits;
@@ -333,20 +332,22 @@ gatherer_code {g = g} stands to from first = record {
 -- the number of items and then the items are read as what they gather to
 pub collection_read : {T F V S : Type 0} {g : Gatherer T F V} {c : Code (List V) S} {seen' : F → S} {n : ℕ} {E : Type 0}
     {gives : Error → E → Type 0} {eof : E → Bool} {result : Result F E} {old mid new : ReaderState} (hashed : Bool)
-    (item : Codec V) → IsCodeOf g c seen' → Reads gives eof (λ x. x) (unsigned_number 4 old.encoding) (Ok n) old mid
+    (count : Codec ℕ) (item : Codec V) → IsCodeOf g c seen'
+    → Reads gives eof (λ x. x) (count.format old.encoding) (Ok n) old mid
     → Collects g (item.format mid.encoding) n gives eof result mid new
-    → Reads gives eof seen' (coding old.encoding c (items_of hashed old.encoding (item.format old.encoding))) result old
-    new
+    → Reads gives eof seen'
+    (coding old.encoding c (items_of hashed (count.format old.encoding) (item.format old.encoding))) result old new
 collection_read {c = c} {seen' = seen'} {n = n} {gives = gives} {eof = eof} {result = result} {old = old} {mid = mid}
-    {new = new} hashed item is number r =
-    second_decides (gathered_composes hashed _ old.encoding c) (unsigned_number_laws 4 old.encoding) number
+    {new = new} hashed count item is number r =
+    second_decides (gathered_composes hashed _ _ old.encoding c) (count.laws old.encoding) number
     (subst (λ (e : Encoding). Reads gives eof seen' (coding e c (vector n (item.format e))) result mid new)
     number.kept.encoding (collected_read (item.laws mid.encoding) is r)) (λ _. refl)
 
 -- and where the number is refused, so is the collection
-pub collection_refused : {V S : Type 0} (c : Code (List V) S) (L : Format V) {E : Type 0} {gives : Error → E → Type 0}
-    {eof : E → Bool} {A B : Type 0} {seen : A → ℕ} {seen' : B → S} {e : E} {result : Result B E} {old new : ReaderState}
-    (hashed : Bool) → IsErrAnd result (λ x. x ≡ e)
-    → Reads gives eof seen (unsigned_number 4 old.encoding) (Err e) old new
-    → Reads gives eof seen' (coding old.encoding c (items_of hashed old.encoding L)) result old new
-collection_refused c L {old = old} hashed passed r = refused_first (gathered_composes hashed L old.encoding c) passed r
+pub collection_refused : {V S : Type 0} (c : Code (List V) S) (L : Format V) {count : Format ℕ} {E : Type 0}
+    {gives : Error → E → Type 0} {eof : E → Bool} {A B : Type 0} {seen : A → ℕ} {seen' : B → S} {e : E}
+    {result : Result B E} {old new : ReaderState} (hashed : Bool) → IsErrAnd result (λ x. x ≡ e)
+    → Reads gives eof seen count (Err e) old new
+    → Reads gives eof seen' (coding old.encoding c (items_of hashed count L)) result old new
+collection_refused c L {count = count} {old = old} hashed passed r =
+    refused_first (gathered_composes hashed count L old.encoding c) passed r

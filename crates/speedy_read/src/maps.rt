@@ -1,5 +1,6 @@
 //! How maps are read.
 use crate::many::ItemByItem;
+use crate::prefixed::{ReadPrefix, ReadTold};
 use crate::readable::ReadFrom;
 use crate::reader::LendingReader;
 use indexmap::IndexMap;
@@ -19,13 +20,27 @@ impl<
 
     #[inline]
     fn read_from<R: LendingReader<L, C>>(reader: &mut R) -> Result<BTreeMap<K, V>, C::Error> {
-        let length = reader.read_u32()?;
-        reader.read_key_value_collection(length as usize)
+        BTreeMap::read_behind::<u32, R>(reader)
     }
 
     #[inline]
     fn minimum_bytes_needed() -> usize {
         4
+    }
+}
+
+impl<
+    L: AsSlice<u8> + Drop,
+    C: Context,
+    K: ReadFrom<L, C> + SameKey + Ord,
+    V: ReadFrom<L, C>,
+> ReadTold<L, C> for BTreeMap<K, V> {
+    #[inline]
+    fn read_behind<N: ReadPrefix, R: LendingReader<L, C>>(
+        reader: &mut R,
+    ) -> Result<BTreeMap<K, V>, C::Error> {
+        let length = N::read_number(reader)?;
+        reader.read_key_value_collection(length)
     }
 }
 
@@ -40,8 +55,7 @@ impl<
 
     #[inline]
     fn read_from<R: LendingReader<L, C>>(reader: &mut R) -> Result<HashMap<K, V, S>, C::Error> {
-        let length = reader.read_u32()?;
-        reader.read_key_value_collection(length as usize)
+        HashMap::read_behind::<u32, R>(reader)
     }
 
     #[inline]
@@ -56,17 +70,48 @@ impl<
     K: ReadFrom<L, C> + SameKey + Hash,
     V: ReadFrom<L, C>,
     S: BuildHasher + Default + Drop,
+> ReadTold<L, C> for HashMap<K, V, S> {
+    #[inline]
+    fn read_behind<N: ReadPrefix, R: LendingReader<L, C>>(
+        reader: &mut R,
+    ) -> Result<HashMap<K, V, S>, C::Error> {
+        let count = N::read_number(reader)?;
+        reader.read_key_value_collection(count)
+    }
+}
+
+impl<
+    L: AsSlice<u8> + Drop,
+    C: Context,
+    K: ReadFrom<L, C> + SameKey + Hash,
+    V: ReadFrom<L, C>,
+    S: BuildHasher + Default + Drop,
 > ReadFrom<L, C> for IndexMap<K, V, S> {
     type Strategy = ItemByItem<C>;
 
     #[inline]
     fn read_from<R: LendingReader<L, C>>(reader: &mut R) -> Result<IndexMap<K, V, S>, C::Error> {
-        let length = reader.read_u32()?;
-        reader.read_key_value_collection(length as usize)
+        IndexMap::read_behind::<u32, R>(reader)
     }
 
     #[inline]
     fn minimum_bytes_needed() -> usize {
         4
+    }
+}
+
+impl<
+    L: AsSlice<u8> + Drop,
+    C: Context,
+    K: ReadFrom<L, C> + SameKey + Hash,
+    V: ReadFrom<L, C>,
+    S: BuildHasher + Default + Drop,
+> ReadTold<L, C> for IndexMap<K, V, S> {
+    #[inline]
+    fn read_behind<N: ReadPrefix, R: LendingReader<L, C>>(
+        reader: &mut R,
+    ) -> Result<IndexMap<K, V, S>, C::Error> {
+        let number = N::read_number(reader)?;
+        reader.read_key_value_collection(number)
     }
 }

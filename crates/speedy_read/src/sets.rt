@@ -1,5 +1,6 @@
 //! How sets are read.
 use crate::many::ItemByItem;
+use crate::prefixed::{ReadPrefix, ReadTold};
 use crate::readable::{ReadFrom, ReadMany};
 use crate::reader::LendingReader;
 use indexmap::IndexSet;
@@ -15,13 +16,23 @@ impl<L: AsSlice<u8> + Drop, C: Context, T: ReadMany<L, C> + SameKey + Ord> ReadF
 
     #[inline]
     fn read_from<R: LendingReader<L, C>>(reader: &mut R) -> Result<BTreeSet<T>, C::Error> {
-        let length = reader.read_u32()?;
-        reader.read_collection(length as usize)
+        BTreeSet::read_behind::<u32, R>(reader)
     }
 
     #[inline]
     fn minimum_bytes_needed() -> usize {
         4
+    }
+}
+
+impl<L: AsSlice<u8> + Drop, C: Context, T: ReadMany<L, C> + SameKey + Ord> ReadTold<L, C>
+    for BTreeSet<T> {
+    #[inline]
+    fn read_behind<N: ReadPrefix, R: LendingReader<L, C>>(
+        reader: &mut R,
+    ) -> Result<BTreeSet<T>, C::Error> {
+        let length = N::read_number(reader)?;
+        reader.read_collection(length)
     }
 }
 
@@ -35,8 +46,7 @@ impl<
 
     #[inline]
     fn read_from<R: LendingReader<L, C>>(reader: &mut R) -> Result<HashSet<T, S>, C::Error> {
-        let length = reader.read_u32()?;
-        reader.read_collection(length as usize)
+        HashSet::read_behind::<u32, R>(reader)
     }
 
     #[inline]
@@ -50,17 +60,46 @@ impl<
     C: Context,
     T: ReadMany<L, C> + SameKey + Hash,
     S: BuildHasher + Default + Drop,
+> ReadTold<L, C> for HashSet<T, S> {
+    #[inline]
+    fn read_behind<N: ReadPrefix, R: LendingReader<L, C>>(
+        reader: &mut R,
+    ) -> Result<HashSet<T, S>, C::Error> {
+        let count = N::read_number(reader)?;
+        reader.read_collection(count)
+    }
+}
+
+impl<
+    L: AsSlice<u8> + Drop,
+    C: Context,
+    T: ReadMany<L, C> + SameKey + Hash,
+    S: BuildHasher + Default + Drop,
 > ReadFrom<L, C> for IndexSet<T, S> {
     type Strategy = ItemByItem<C>;
 
     #[inline]
     fn read_from<R: LendingReader<L, C>>(reader: &mut R) -> Result<IndexSet<T, S>, C::Error> {
-        let length = reader.read_u32()?;
-        reader.read_collection(length as usize)
+        IndexSet::read_behind::<u32, R>(reader)
     }
 
     #[inline]
     fn minimum_bytes_needed() -> usize {
         4
+    }
+}
+
+impl<
+    L: AsSlice<u8> + Drop,
+    C: Context,
+    T: ReadMany<L, C> + SameKey + Hash,
+    S: BuildHasher + Default + Drop,
+> ReadTold<L, C> for IndexSet<T, S> {
+    #[inline]
+    fn read_behind<N: ReadPrefix, R: LendingReader<L, C>>(
+        reader: &mut R,
+    ) -> Result<IndexSet<T, S>, C::Error> {
+        let number = N::read_number(reader)?;
+        reader.read_collection(number)
     }
 }

@@ -15,8 +15,9 @@ use Rattle.speedy_layout.specs.Format.{Format}
 use Rattle.speedy_layout.specs.GatheredLemmas.{gathered_writes, gathered_form, gathered_form_length}
 use Rattle.speedy_layout.specs.Gathering.{IsGathering, hashed_items, items_of, gathered}
 use Rattle.speedy_layout.specs.Laws.{Laws, Codec}
-use Rattle.speedy_layout.specs.Lists.{repeat, vector, list}
+use Rattle.speedy_layout.specs.Lists.{repeat, vector, counted_list}
 use Rattle.speedy_layout.specs.Owned.{owned_content, borrowed_content}
+use Rattle.speedy_layout.specs.Prefixed.{Numbers}
 use Rattle.speedy_layout.specs.Sequences.{sequence}
 use Rattle.speedy_layout.specs.Tuples.{pair, pair_codec}
 use Rattle.speedy_write.specs.Collections.{WritesItems}
@@ -114,59 +115,65 @@ left_in_order left seen {s = s} same =
 
 -- ---- the collection
 
-items_of_refuses : {X : Type 0} (hashed : Bool) (encoding : Encoding) (L : Format X)
-    → (items_of hashed encoding L).refuses_writing ≡ (list encoding L).refuses_writing
+items_of_refuses : {X : Type 0} (hashed : Bool) (count : Format ℕ) (L : Format X)
+    → (items_of hashed count L).refuses_writing ≡ (counted_list count L).refuses_writing
 unfolding hashed_items
-items_of_refuses false encoding L = refl
-items_of_refuses true encoding L = refl
+items_of_refuses false count L = refl
+items_of_refuses true count L = refl
 
 module _ {E : Type 0} {gives : Error → E → Type 0} {result : Result (Unit {0}) E} {old new : WriterState}
-    {appended : List ℕ → Type 0} where
+    {appended : List ℕ → Type 0} (count : Encoding → Format ℕ) where
   -- lent items are written as the items
   lent_items : {X : Type 0} {shown : List X} (F : Encoding → Format X)
-      → Writes gives (λ encoding. list encoding (borrowed_content (F encoding))) shown result old new appended
-      → Writes gives (λ encoding. list encoding (F encoding)) shown result old new appended
-  unfolding list sequence vector owned_content repeat borrowed_content
+      → Writes gives (λ f. counted_list (count f) (borrowed_content (F f))) shown result old new appended
+      → Writes gives (λ f. counted_list (count f) (F f)) shown result old new appended
+  unfolding sequence vector owned_content repeat borrowed_content
   lent_items F w = Writes-as (λ _ k. k) (λ _ h. h) (λ b h. (b, h, refl)) (λ b h. (b, h)) w
 
   -- and so are pairs of lent parts
   lent_pairs : {K V : Type 0} {shown : List (K × V)} (F : Encoding → Format K) (G : Encoding → Format V)
-      → Writes gives (λ encoding. list encoding (pair (borrowed_content (F encoding)) (borrowed_content (G encoding))))
-      shown result old new appended
-      → Writes gives (λ encoding. list encoding (pair (F encoding) (G encoding))) shown result old new appended
-  unfolding list sequence vector owned_content repeat borrowed_content
+      → Writes gives (λ f. counted_list (count f) (pair (borrowed_content (F f)) (borrowed_content (G f)))) shown result
+      old new appended
+      → Writes gives (λ f. counted_list (count f) (pair (F f) (G f))) shown result old new appended
+  unfolding sequence vector owned_content repeat borrowed_content
   lent_pairs F G w = Writes-as (λ _ k. k) (λ _ h. h) (λ b h. (b, h, refl)) (λ b h. (b, h)) w
 
 module _ {E S : Type 0} {gives : Error → E → Type 0} {hashed : Bool} {whole : S} {result : Result (Unit {0}) E}
-    {old new : WriterState} {appended : List ℕ → Type 0} where
+    {old new : WriterState} {appended : List ℕ → Type 0} (numbers : Numbers) where
   -- a form of a collection is written as the collection
   form_written_as : {X : Type 0} {stands : List X → S → Type 0} {are_written : List X → Type 0} {shown : List X}
       (item : Codec X) → IsGathering hashed stands are_written → stands shown whole × are_written shown
-      → Writes gives (λ f. list f (item.format f)) shown result old new appended
-      → Writes gives (λ f. gathered hashed f stands are_written (item.format f)) whole result old new appended
+      → Writes gives (λ f. counted_list (numbers.codec.format f) (item.format f)) shown result old new appended
+      → Writes gives (λ f. gathered hashed f (numbers.codec.format f) stands are_written (item.format f)) whole result
+      old new appended
   unfolding coding
   form_written_as {stands = stands} {are_written = are_written} {shown = shown} item is form w =
       let f = old.encoding in
-      let refuses = items_of_refuses hashed f (item.format f) in
+      let count = numbers.codec.format f in
+      let laws = numbers.codec.laws f in
+      let smaller = numbers.smaller f in
+      let refuses = items_of_refuses hashed count (item.format f) in
       Writes-as (λ kind k. subst (λ (kinds : ErrorKind → Type 0). kinds kind) (sym refuses) k)
-      (λ b h. gathered_writes hashed f stands are_written (item.format f) shown whole b h form.0 form.1)
-      (λ b h. gathered_form_length f (item.laws f) is whole b h shown form.0 form.1)
-      (λ b h. gathered_form f (item.laws f) is whole b h shown form.0 form.1) w
+      (λ b h. gathered_writes hashed f count stands are_written (item.format f) shown whole b h form.0 form.1)
+      (λ b h. gathered_form_length f laws smaller (item.laws f) is whole b h shown form.0 form.1)
+      (λ b h. gathered_form f laws smaller (item.laws f) is whole b h shown form.0 form.1) w
 
   -- the lent items of a set, where they are a form of it
   pub set_written : {X : Type 0} {stands : List X → S → Type 0} {are_written : List X → Type 0} {shown : List X}
       (item : Codec X) → IsGathering hashed stands are_written → stands shown whole × are_written shown
-      → Writes gives (λ f. list f (borrowed_content (item.format f))) shown result old new appended
-      → Writes gives (λ f. gathered hashed f stands are_written (item.format f)) whole result old new appended
-  set_written item is form w = form_written_as item is form (lent_items item.format w)
+      → Writes gives (λ f. counted_list (numbers.codec.format f) (borrowed_content (item.format f))) shown result old
+      new appended
+      → Writes gives (λ f. gathered hashed f (numbers.codec.format f) stands are_written (item.format f)) whole result
+      old new appended
+  set_written item is form w = form_written_as item is form (lent_items numbers.codec.format item.format w)
 
   -- and the lent pairs of a map
   pub map_written : {K V : Type 0} {stands : List (K × V) → S → Type 0} {are_written : List (K × V) → Type 0}
       {shown : List (K × V)} (key : Codec K) (value : Codec V) → IsGathering hashed stands are_written
       → stands shown whole × are_written shown
-      → Writes gives (λ f. list f (pair (borrowed_content (key.format f)) (borrowed_content (value.format f)))) shown
-      result old new appended
-      → Writes gives (λ f. gathered hashed f stands are_written (pair (key.format f) (value.format f))) whole result old
-      new appended
+      → Writes gives (λ f. counted_list (numbers.codec.format f)
+      (pair (borrowed_content (key.format f)) (borrowed_content (value.format f)))) shown result old new appended
+      → Writes gives (λ f. gathered hashed f (numbers.codec.format f) stands are_written
+      (pair (key.format f) (value.format f))) whole result old new appended
   map_written key value is form w =
-      form_written_as (pair_codec key value) is form (lent_pairs key.format value.format w)
+      form_written_as (pair_codec key value) is form (lent_pairs numbers.codec.format key.format value.format w)

@@ -1,17 +1,19 @@
 //! How the items of maps and sets are written.
 ghost use Rattle.std.specs.Prelude.{◌≡◌, List, length};
 ghost use Rattle.std.specs.Iterator.{IsFinite, AlwaysYields};
-ghost use Rattle.speedy_layout.specs.Codecs.{list_codec};
+ghost use Rattle.speedy_layout.specs.Prefixed.{list_behind, prefixed_codec};
 ghost use Rattle.speedy_write.specs.Writing.{WritesValue};
 
-use crate::private::write_length;
+use crate::prefixed::WritePrefix;
 use crate::writable::Writable;
 use crate::writer::Writer;
 use speedy_base::context::Context;
 
-// The number of items, and then the items. Items that every walk gives are written as a list.
+// The number of items as a number of the type `N`, and then the items. Items that every walk gives are written as a
+// list.
 #[inline]
 pub(crate) fn write_counted_items<
+    N: WritePrefix,
     C: Context,
     T: Writable<C> + Drop,
     I: Iterator<Item = T>,
@@ -21,9 +23,9 @@ pub(crate) fn write_counted_items<
     requires ends { IsFinite (I.remaining items) }
     ensures { (shown : List T.Seen) → count ≡ length shown
         → AlwaysYields I.next_gives T.seen items shown
-        → WritesValue C.Error.from_gives W.state W.appends (λ v. v) (list_codec T.layout) shown
-        result writer.old writer.new }
+        → WritesValue C.Error.from_gives W.state W.appends (λ v. v)
+        (prefixed_codec (list_behind T.layout N.numbers)) shown result writer.old writer.new }
 {
-    write_length(count, writer)?;
+    N::write_number(count, writer)?;
     writer.write_collection(items)
 }

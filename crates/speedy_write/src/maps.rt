@@ -1,5 +1,6 @@
 //! How maps are written.
 use crate::collections::write_counted_items;
+use crate::prefixed::{WritePrefix, WriteTold};
 use crate::writable::Writable;
 use crate::writer::Writer;
 use indexmap::IndexMap;
@@ -11,8 +12,15 @@ use std::hash::{BuildHasher, Hash};
 impl<C: Context, K: Writable<C> + SameKey + Ord, V: Writable<C>> Writable<C> for BTreeMap<K, V> {
     #[inline]
     fn write_to<W: Writer<C>>(&self, writer: &mut W) -> Result<(), C::Error> {
+        self.write_behind::<u32, W>(writer)
+    }
+}
+
+impl<C: Context, K: Writable<C> + SameKey + Ord, V: Writable<C>> WriteTold<C> for BTreeMap<K, V> {
+    #[inline]
+    fn write_behind<N: WritePrefix, W: Writer<C>>(&self, writer: &mut W) -> Result<(), C::Error> {
         let pairs = self.iter();
-        write_counted_items(self.len(), pairs, writer)
+        write_counted_items::<N, C, _, _, W>(self.len(), pairs, writer)
     }
 }
 
@@ -20,7 +28,15 @@ impl<C: Context, K: Writable<C> + SameKey + Hash, V: Writable<C>, S: BuildHasher
     for HashMap<K, V, S> {
     #[inline]
     fn write_to<W: Writer<C>>(&self, writer: &mut W) -> Result<(), C::Error> {
-        write_counted_items(self.len(), self.iter(), writer)
+        self.write_behind::<u32, W>(writer)
+    }
+}
+
+impl<C: Context, K: Writable<C> + SameKey + Hash, V: Writable<C>, S: BuildHasher> WriteTold<C>
+    for HashMap<K, V, S> {
+    #[inline]
+    fn write_behind<N: WritePrefix, W: Writer<C>>(&self, writer: &mut W) -> Result<(), C::Error> {
+        write_counted_items::<N, C, _, _, W>(self.len(), self.iter(), writer)
     }
 }
 
@@ -28,7 +44,15 @@ impl<C: Context, K: Writable<C> + SameKey + Hash, V: Writable<C>, S: BuildHasher
     for IndexMap<K, V, S> {
     #[inline]
     fn write_to<W: Writer<C>>(&self, writer: &mut W) -> Result<(), C::Error> {
+        self.write_behind::<u32, W>(writer)
+    }
+}
+
+impl<C: Context, K: Writable<C> + SameKey + Hash, V: Writable<C>, S: BuildHasher> WriteTold<C>
+    for IndexMap<K, V, S> {
+    #[inline]
+    fn write_behind<N: WritePrefix, W: Writer<C>>(&self, writer: &mut W) -> Result<(), C::Error> {
         let count = self.len();
-        write_counted_items(count, self.iter(), writer)
+        write_counted_items::<N, C, _, _, W>(count, self.iter(), writer)
     }
 }

@@ -1,5 +1,6 @@
 //! How sets are written.
 use crate::collections::write_counted_items;
+use crate::prefixed::{WritePrefix, WriteTold};
 use crate::writable::Writable;
 use crate::writer::Writer;
 use indexmap::IndexSet;
@@ -11,22 +12,43 @@ use std::hash::{BuildHasher, Hash};
 impl<C: Context, T: Writable<C> + SameKey + Ord> Writable<C> for BTreeSet<T> {
     #[inline]
     fn write_to<W: Writer<C>>(&self, writer: &mut W) -> Result<(), C::Error> {
+        self.write_behind::<u32, W>(writer)
+    }
+}
+
+impl<C: Context, T: Writable<C> + SameKey + Ord> WriteTold<C> for BTreeSet<T> {
+    #[inline]
+    fn write_behind<N: WritePrefix, W: Writer<C>>(&self, writer: &mut W) -> Result<(), C::Error> {
         let items = self.iter();
-        write_counted_items(self.len(), items, writer)
+        write_counted_items::<N, C, _, _, W>(self.len(), items, writer)
     }
 }
 
 impl<C: Context, T: Writable<C> + SameKey + Hash, S: BuildHasher> Writable<C> for HashSet<T, S> {
     #[inline]
     fn write_to<W: Writer<C>>(&self, writer: &mut W) -> Result<(), C::Error> {
-        write_counted_items(self.len(), self.iter(), writer)
+        self.write_behind::<u32, W>(writer)
+    }
+}
+
+impl<C: Context, T: Writable<C> + SameKey + Hash, S: BuildHasher> WriteTold<C> for HashSet<T, S> {
+    #[inline]
+    fn write_behind<N: WritePrefix, W: Writer<C>>(&self, writer: &mut W) -> Result<(), C::Error> {
+        write_counted_items::<N, C, _, _, W>(self.len(), self.iter(), writer)
     }
 }
 
 impl<C: Context, T: Writable<C> + SameKey + Hash, S: BuildHasher> Writable<C> for IndexSet<T, S> {
     #[inline]
     fn write_to<W: Writer<C>>(&self, writer: &mut W) -> Result<(), C::Error> {
+        self.write_behind::<u32, W>(writer)
+    }
+}
+
+impl<C: Context, T: Writable<C> + SameKey + Hash, S: BuildHasher> WriteTold<C> for IndexSet<T, S> {
+    #[inline]
+    fn write_behind<N: WritePrefix, W: Writer<C>>(&self, writer: &mut W) -> Result<(), C::Error> {
         let count = self.len();
-        write_counted_items(count, self.iter(), writer)
+        write_counted_items::<N, C, _, _, W>(count, self.iter(), writer)
     }
 }

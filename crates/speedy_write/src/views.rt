@@ -10,7 +10,7 @@ impl<'a, C: Context, T: Writable<C> + ViewItem> Writable<C> for SliceView<'a, T>
     #[inline]
     fn write_to<W: Writer<C>>(&self, writer: &mut W) -> Result<(), C::Error> {
         let count = self.len();
-        write_counted_items(count, self.iter(), writer)
+        write_counted_items::<u32, C, _, _, W>(count, self.iter(), writer)
     }
 }
 

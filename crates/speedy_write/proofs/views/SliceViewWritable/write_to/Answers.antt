@@ -1,5 +1,6 @@
 use Rattle.std.proofs.Common.{sym, ◌∙◌, map}
 use Rattle.std.proofs.lemmas.List.{length-map}
+use Rattle.speedy_layout.specs.Lists.{list}
 use Rattle.speedy_layout.specs.ViewIters.{left_items}
 use Rattle.speedy_layout.specs.Views.{shown_items}
 use Rattle.speedy_write.proofs.CollectionLemmas.{left_in_order}
@@ -7,6 +8,7 @@ use Rattle.speedy_write.proofs.OwnedLemmas.{borrowed_written}
 use Rattle.speedy_write.proofs.views.SliceViewWritable.write_to.Goals as goal
 
 pub returns : goal.returns
+unfolding list
 returns g c =
     let item = g.T.ViewItem in
     let seen = g.T.Layout.seen in

@@ -1,0 +1,16 @@
+use Rattle.std.proofs.Common.{false}
+use Rattle.speedy_layout.specs.Tuples.{pair_codec}
+use Rattle.speedy_layout.specs.IndexMaps.{index_map_seen}
+use Rattle.speedy_layout.specs.Adding.{HasDistinctKeys-first}
+use Rattle.speedy_read.proofs.CollectionLemmas.{gatherer_code, collection_read, collection_refused}
+use Rattle.speedy_read.proofs.maps.IndexMapReadTold.read_behind.Goals as goal
+
+pub returns-in_err-number : goal.returns-in_err-number
+returns-in_err-number g c = collection_refused _ _ false c.from_residual.ensures.1 c.in_err-number.ensures
+
+pub returns : goal.returns
+returns g c =
+    let seen = index_map_seen g.V.Layout.seen g.met.K.SameKey.same_key in
+    let is = gatherer_code seen (λ _ h. h) (λ _ h. h) HasDistinctKeys-first in
+    collection_read false g.N.Prefix.numbers.codec (pair_codec g.K.Layout.layout g.V.Layout.layout) is
+    c.in_ok-number.ensures c.read_key_value_collection.ensures
