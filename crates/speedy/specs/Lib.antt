@@ -24,6 +24,7 @@ pub use Rattle.speedy_layout.specs.StdMaps
 pub use Rattle.speedy_layout.specs.StdSets
 pub use Rattle.speedy_layout.specs.FixedNumbers
 pub use Rattle.speedy_layout.specs.Flags
+pub use Rattle.speedy_layout.specs.Floats
 pub use Rattle.speedy_layout.specs.Format
 pub use Rattle.speedy_layout.specs.Frames
 pub use Rattle.speedy_layout.specs.GatheredLemmas

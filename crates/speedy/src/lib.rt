@@ -28,6 +28,8 @@ mod tests_endianness;
 #[cfg(test)]
 mod tests_errors;
 #[cfg(test)]
+mod tests_floats;
+#[cfg(test)]
 mod tests_frames;
 #[cfg(test)]
 mod tests_laws;
@@ -67,6 +69,7 @@ pub use context::{
 };
 pub use endianness::Endianness;
 pub use error::{Error, IsEof};
+pub use floats::{F32, F64};
 pub use layout::Layout;
 pub use many::ItemByItem;
 pub use part::Part;
@@ -74,7 +77,7 @@ pub use readable::{ReadFrom, ReadMany, Readable, ReadableOwned};
 pub use reader::{LendingReader, Reader};
 pub use same_key::SameKey;
 pub use speedy_base::{circular_buffer, context, device, endianness, error};
-pub use speedy_layout::{magic, same_key, varint, view_items, views};
+pub use speedy_layout::{floats, magic, same_key, varint, view_items, views};
 pub use speedy_read::{buffer, collections, lent, many, readable};
 pub use speedy_write::{part, writable, writer};
 pub use writable::Writable;

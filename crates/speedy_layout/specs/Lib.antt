@@ -5,6 +5,7 @@ pub mod Codes
 pub mod Sequences
 pub mod Numbers
 pub mod FixedNumbers
+pub mod Floats
 pub mod NonZero
 pub mod Owned
 pub mod Tuples

@@ -6,6 +6,7 @@ pub mod cases;
 pub mod cows;
 pub mod fixed_numbers;
 pub mod flags;
+pub mod floats;
 pub mod frames;
 pub mod laws;
 pub mod layout;
@@ -26,6 +27,7 @@ pub mod varint;
 pub mod view_items;
 pub mod views;
 
+pub use floats::{F32, F64};
 pub use layout::Layout;
 pub use same_key::SameKey;
 pub use varint::VarInt64;

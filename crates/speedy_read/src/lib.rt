@@ -12,6 +12,7 @@ pub mod copying_reader;
 pub mod cows;
 mod digits;
 pub mod flags;
+pub mod floats;
 mod frame_reader;
 pub mod frames;
 pub mod laws;

@@ -10,6 +10,7 @@ pub mod cows;
 mod each;
 mod fixed;
 pub mod flags;
+pub mod floats;
 pub mod frames;
 mod gathering;
 pub mod leaves;
