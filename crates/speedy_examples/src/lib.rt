@@ -6,7 +6,6 @@ pub mod files;
 pub mod headers;
 pub mod memory;
 pub mod own_maps;
-pub mod own_messages;
 pub mod own_numbers;
 pub mod own_parts;
 pub mod own_struct;

@@ -1,6 +1,5 @@
 //! Types of one's own: bytes that come from outside.
 use crate::own_maps::Directory;
-use crate::own_messages::Message;
 use crate::own_numbers::{Colour, Packet};
 use crate::own_struct::Contact;
 use crate::tests::assert_refused;
@@ -63,20 +62,4 @@ fn parts_may_stand_behind_tags_of_ones_own(rt: HostRuntime) {
     assert!(rt; packet == Packet::Named(String::from_str(alloc, "Hi").expect(&rt, "a text"), 7));
     let again = Writable::<LittleEndian>::write_to_vec(&packet, alloc).expect(&rt, "bytes");
     assert!(rt; again.as_slice() == bytes.as_slice());
-}
-
-#[test]
-fn an_enum_borrows_behind_tags_of_ones_own(rt: HostRuntime) {
-    let alloc = rt.alloc();
-    let bytes = b"\x02\x02\0\0\0Hi\xff\x10\x01\0\0\0a\x07\0\0\0\x04";
-    let mut reader = make_reader(alloc, bytes);
-    let topic: Message<'_> = reader.read_value().expect(&rt, "a message");
-    assert!(rt; topic == Message::Topic("Hi"));
-    let bye: Message<'_> = reader.read_value().expect(&rt, "a message");
-    assert!(rt; bye == Message::Bye);
-    let entry: Message<'_> = reader.read_value().expect(&rt, "a message");
-    let written = Writable::<LittleEndian>::write_to_vec(&entry, alloc).expect(&rt, "bytes");
-    assert!(rt; written.as_slice() == &bytes[8..18]);
-    let outcome = reader.read_value::<Message<'_>>();
-    assert_refused(&rt, alloc, outcome, "InvalidEnumVariant");
 }

@@ -1,0 +1,133 @@
+//! A program that writes messages to a vector and to a sink, reads them from a buffer and from a stream, and meets
+//! hostile bytes. The protocol is that of `speedy_protocol`.
+#![tactic(auto)]
+
+mod failure;
+mod hostile;
+mod pieces;
+
+use failure::Failure;
+use hostile::show_hostile;
+use pieces::Pieces;
+use speedy::device::{Source, VecSink};
+use speedy::readable::StreamReader;
+use speedy::{Buffer, LendingReader, LittleEndian, Writable};
+use speedy_protocol::frames::{decode, encode, next_frame, send};
+use speedy_protocol::headers::{header_1, header_2, make_start};
+use speedy_protocol::messages::{Header2, Message, Reading, Start};
+use std::alloc::{AllocError, Global};
+use std::process::ExitCode;
+
+/// Some messages.
+fn make_messages(alloc: Global) -> Result<Vec<Message<'static>>, AllocError> {
+    let first = Reading {
+        second: 1,
+        value: 20_500,
+    };
+    let last = Reading {
+        second: 2,
+        value: -40,
+    };
+    let list = vec![in alloc; first, last]?;
+    let messages = vec![in alloc;
+        Message::Hello {
+            name: "Ada",
+            mail: Some("ada@example.org")
+        },
+        Message::Readings { sensor: 7, list },
+        Message::Blob(b"\x00\xff"),
+        Message::Ping,
+        Message::Failure {
+            code: 404,
+            text: "no such sensor"
+        },
+        Message::Bye,
+    ]?;
+    Ok(messages)
+}
+
+/// The digits of bytes.
+fn digits(alloc: Global, bytes: &[u8]) -> Result<String, AllocError> {
+    let mut text = String::new(alloc);
+    for byte in bytes {
+        write!(text, "{byte:02x}")?;
+    }
+    Ok(text)
+}
+
+/// Writes a header and the messages to a vector and to a sink, and prints the bytes.
+fn show_written(rt: &HostRuntime, messages: &[Message<'static>]) -> Result<Vec<u8>, Failure> {
+    let alloc = rt.alloc();
+    let mut sink = VecSink::new(alloc);
+    let header = Header2 {
+        version: 2,
+        flags: 1,
+        session: 99,
+    };
+    Writable::<LittleEndian>::write_to_stream(&make_start(alloc, &header)?, alloc, &mut sink)?;
+    let mut bytes = sink.bytes().to_vec(alloc)?;
+    println!(rt; "  {}", digits(alloc, &bytes)?)?;
+    for message in messages {
+        let frame = encode(alloc, message)?;
+        println!(rt; "  {}", digits(alloc, &frame)?)?;
+        bytes.extend_from_slice(&frame)?;
+        send(alloc, message, &mut sink)?;
+    }
+    let count = sink.bytes().len();
+    let same = bytes.as_slice() == sink.bytes();
+    println!(rt; "  the sink took {count} bytes, the same: {same}")?;
+    Ok(bytes)
+}
+
+/// Reads from a buffer: the messages show its bytes where they lie.
+fn show_lent(rt: &HostRuntime, bytes: &[u8]) -> Result<(), Failure> {
+    let alloc = rt.alloc();
+    let (start, size) = bytes.read_with_length::<Start>(alloc, LittleEndian {});
+    let start = start?;
+    println!(rt; "  {size:4}  {:?}", header_1(alloc, &start)?)?;
+    println!(rt; "  {size:4}  {:?}", header_2(alloc, &start)?)?;
+    let mut left = &bytes[size..];
+    for _i in 0..u64::MAX {
+        if left.is_empty() {
+            break;
+        }
+        let (message, behind) = decode(alloc, left)?;
+        println!(rt; "  {:4}  {message:?}", left.len() - behind.len())?;
+        left = behind;
+    }
+    Ok(())
+}
+
+/// Reads from a stream, one frame after the other.
+fn show_streamed<S: Source>(rt: &HostRuntime, source: &mut S) -> Result<(), Failure> {
+    let alloc = rt.alloc();
+    let mut reader = StreamReader::new(alloc, LittleEndian {}, source, true)?;
+    let start: Start = reader.read_value()?;
+    println!(rt; "        {:?}", header_2(alloc, &start)?)?;
+    for _i in 0..u64::MAX {
+        let Some(frame) = next_frame(&mut reader)? else {
+            break;
+        };
+        let (message, _) = decode(alloc, &frame)?;
+        println!(rt; "  {:4}  {message:?}", frame.len())?;
+    }
+    Ok(())
+}
+
+fn show(rt: &HostRuntime) -> Result<(), Failure> {
+    let messages = make_messages(rt.alloc())?;
+    println!(rt; "written")?;
+    let bytes = show_written(rt, &messages)?;
+    println!(rt; "read from a buffer, with no copy")?;
+    show_lent(rt, &bytes)?;
+    println!(rt; "read from a stream, in pieces")?;
+    show_streamed(rt, &mut Pieces { left: &bytes })?;
+    show_hostile(rt)
+}
+
+fn main(rt: HostRuntime) -> ExitCode {
+    match show(&rt) {
+        Ok(()) => ExitCode::SUCCESS,
+        Err(_) => ExitCode::FAILURE,
+    }
+}

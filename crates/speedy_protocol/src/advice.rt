@@ -1,0 +1,31 @@
+//! What to do about bytes that are no message.
+ghost use Rattle.std.specs.Prelude.{◌≡◌, IsTrue};
+ghost use Rattle.speedy.specs.Error.{is_eof_error};
+
+use speedy::error::{ErrorKind, get_error_kind};
+use speedy::{Error, IsEof};
+
+/// What a receiver does after an error.
+#[derive(Debug, PartialEq, Clone, Copy)]
+pub enum Advice {
+    /// The bytes are too few: wait for more.
+    Wait,
+    /// The message is broken, and its frame says where the next one begins.
+    Skip,
+    /// Where the next message begins is not known.
+    Close,
+}
+
+/// What to do after an error of a buffer.
+pub fn advise(error: &Error) -> Advice
+    ensures { IsTrue (is_eof_error error.now) → result ≡ Advice.Wait }
+{
+    match get_error_kind(error) {
+        ErrorKind::InputBufferIsTooSmall { .. } => Advice::Wait,
+        ErrorKind::InvalidEnumVariant | ErrorKind::InvalidUtf8 | ErrorKind::OutOfRangeLength => {
+            Advice::Skip
+        }
+        _ if error.is_eof() => Advice::Wait,
+        _ => Advice::Close,
+    }
+}

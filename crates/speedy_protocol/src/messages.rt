@@ -1,0 +1,307 @@
+//! Made from `messages.rs` by `tools/derive`: change that, and make this again.
+//!
+//! What a small protocol says: a header, and then messages.
+ghost use Rattle.std.specs.Prelude.{[], ◌∷◌, ◌≡◌};
+ghost use Rattle.std.proofs.Common.{inl, inr};
+
+use speedy::cases::Either::{Left, Right};
+use speedy::cases::{Case, Either};
+use speedy::magic::{Constant, Magic};
+use speedy::prefixed::{Prefixed, Told, WriteTold};
+use speedy::{Context, ItemByItem, Layout, LendingReader, Part, ReadFrom, Writable, Writer};
+use std::convert::AsSlice;
+use std::marker::PhantomData;
+
+/// What a stream begins with: a magic number, and a header of any version behind the number of its bytes.
+#[derive(Debug, PartialEq, Drop)]
+pub struct Start {
+    pub header: Vec<u8>,
+}
+
+/// The bytes before [`Start::header`].
+#[derive(Drop)]
+struct BeforeStartHeader {}
+
+impl Constant for BeforeStartHeader {
+    ghost bytes = { 77 ∷ 83 ∷ 71 ∷ 83 ∷ [] };
+
+    fn bytes() -> &'static [u8] {
+        b"MSGS"
+    }
+}
+
+/// What [`Start`] is read and written as.
+type StartParts = (Magic<BeforeStartHeader>, Prefixed<u8, Vec<u8>>);
+
+impl Layout for Start {
+    ghost Seen = { ⟦<StartParts as Layout>⟧.Seen };
+
+    ghost seen = { λ it. (⟦<BeforeStartHeader as Constant>⟧.bytes, ⟦<Vec<u8> as Layout>⟧.seen it.header) };
+
+    ghost layout = { ⟦<StartParts as Layout>⟧.layout };
+}
+
+impl<L: AsSlice<u8> + Drop, C: Context> ReadFrom<L, C> for Start {
+    type Strategy = ItemByItem<C>;
+
+    fn read_from<R: LendingReader<L, C>>(reader: &mut R) -> Result<Start, C::Error> {
+        match reader.read_value::<StartParts>() {
+            Ok((_, header)) => Ok(Start {
+                header: header.value,
+            }),
+            Err(error) => Err(error),
+        }
+    }
+
+    fn minimum_bytes_needed() -> usize {
+        <StartParts as ReadFrom<L, C>>::minimum_bytes_needed()
+    }
+}
+
+impl<C: Context> Writable<C> for Start {
+    fn write_to<W: Writer<C>>(&self, writer: &mut W) -> Result<(), C::Error> {
+        let header: Prefixed<u8, _> = Prefixed {
+            value: Part(&self.header),
+            number: PhantomData,
+        };
+        writer.write_value(&(Magic::<BeforeStartHeader>::new(), header))
+    }
+}
+
+/// The header of version 1.
+#[derive(Debug, PartialEq, Drop)]
+pub struct Header {
+    pub version: u16,
+    pub flags: u16,
+}
+
+/// What [`Header`] is read and written as.
+type HeaderParts = (u16, u16);
+
+impl Layout for Header {
+    ghost Seen = { ⟦<HeaderParts as Layout>⟧.Seen };
+
+    ghost seen = { λ it. ⟦<HeaderParts as Layout>⟧.seen (it.version, it.flags) };
+
+    ghost layout = { ⟦<HeaderParts as Layout>⟧.layout };
+}
+
+impl<L: AsSlice<u8> + Drop, C: Context> ReadFrom<L, C> for Header {
+    type Strategy = ItemByItem<C>;
+
+    fn read_from<R: LendingReader<L, C>>(reader: &mut R) -> Result<Header, C::Error> {
+        match reader.read_value() {
+            Ok((version, flags)) => Ok(Header { version, flags }),
+            Err(error) => Err(error),
+        }
+    }
+
+    fn minimum_bytes_needed() -> usize {
+        <HeaderParts as ReadFrom<L, C>>::minimum_bytes_needed()
+    }
+}
+
+impl<C: Context> Writable<C> for Header {
+    fn write_to<W: Writer<C>>(&self, writer: &mut W) -> Result<(), C::Error> {
+        writer.write_value(&(Part(&self.version), Part(&self.flags)))
+    }
+}
+
+/// The header of version 2 has a field more, at its end.
+#[derive(Debug, PartialEq, Drop)]
+pub struct Header2 {
+    pub version: u16,
+    pub flags: u16,
+    pub session: u64,
+}
+
+/// What [`Header2`] is read and written as.
+type Header2Parts = (u16, u16, u64);
+
+impl Layout for Header2 {
+    ghost Seen = { ⟦<Header2Parts as Layout>⟧.Seen };
+
+    ghost seen = { λ it. ⟦<Header2Parts as Layout>⟧.seen (it.version, it.flags, it.session) };
+
+    ghost layout = { ⟦<Header2Parts as Layout>⟧.layout };
+}
+
+impl<L: AsSlice<u8> + Drop, C: Context> ReadFrom<L, C> for Header2 {
+    type Strategy = ItemByItem<C>;
+
+    fn read_from<R: LendingReader<L, C>>(reader: &mut R) -> Result<Header2, C::Error> {
+        match reader.read_value() {
+            Ok((version, flags, session)) => Ok(Header2 {
+                version,
+                flags,
+                session,
+            }),
+            Err(error) => Err(error),
+        }
+    }
+
+    fn minimum_bytes_needed() -> usize {
+        <Header2Parts as ReadFrom<L, C>>::minimum_bytes_needed()
+    }
+}
+
+impl<C: Context> Writable<C> for Header2 {
+    fn write_to<W: Writer<C>>(&self, writer: &mut W) -> Result<(), C::Error> {
+        writer.write_value(&(Part(&self.version), Part(&self.flags), Part(&self.session)))
+    }
+}
+
+/// What a sensor measured.
+#[derive(Debug, PartialEq, Drop)]
+pub struct Reading {
+    pub second: u32,
+    pub value: i32,
+}
+
+/// What [`Reading`] is read and written as.
+type ReadingParts = (u32, i32);
+
+impl Layout for Reading {
+    ghost Seen = { ⟦<ReadingParts as Layout>⟧.Seen };
+
+    ghost seen = { λ it. ⟦<ReadingParts as Layout>⟧.seen (it.second, it.value) };
+
+    ghost layout = { ⟦<ReadingParts as Layout>⟧.layout };
+}
+
+impl<L: AsSlice<u8> + Drop, C: Context> ReadFrom<L, C> for Reading {
+    type Strategy = ItemByItem<C>;
+
+    fn read_from<R: LendingReader<L, C>>(reader: &mut R) -> Result<Reading, C::Error> {
+        match reader.read_value() {
+            Ok((second, value)) => Ok(Reading { second, value }),
+            Err(error) => Err(error),
+        }
+    }
+
+    fn minimum_bytes_needed() -> usize {
+        <ReadingParts as ReadFrom<L, C>>::minimum_bytes_needed()
+    }
+}
+
+impl<C: Context> Writable<C> for Reading {
+    fn write_to<W: Writer<C>>(&self, writer: &mut W) -> Result<(), C::Error> {
+        writer.write_value(&(Part(&self.second), Part(&self.value)))
+    }
+}
+
+/// A message. Its texts and bytes lie in what it is read from.
+#[derive(Debug, PartialEq, Drop)]
+pub enum Message<'a> {
+    Ping,
+    Hello {
+        name: &'a str,
+        mail: Option<&'a str>,
+    },
+    Readings {
+        sensor: u16,
+        list: Vec<Reading>,
+    },
+    Blob(&'a [u8]),
+    Failure {
+        code: u32,
+        text: &'a str,
+    },
+    Bye,
+}
+
+/// The cases of [`Message`], each with its tag.
+type MessageCases<'a> = Either<
+    Either<Case<1, ()>, Either<Case<2, (&'a str, Option<&'a str>)>, Case<3, (u16, Vec<Reading>)>>>,
+    Either<Case<4, &'a [u8]>, Either<Case<5, (u32, &'a str)>, Case<255, ()>>>,
+>;
+
+/// What [`Message`] is written as: its parts where they lie.
+type MessageParts<'a, 't> = Either<
+    Either<
+        Case<1, ()>,
+        Either<
+            Case<2, (Part<'t, &'a str>, Part<'t, Option<&'a str>>)>,
+            Case<3, (Part<'t, u16>, Part<'t, Vec<Reading>>)>,
+        >,
+    >,
+    Either<
+        Case<4, Part<'t, &'a [u8]>>,
+        Either<Case<5, (Part<'t, u32>, Part<'t, &'a str>)>, Case<255, ()>>,
+    >,
+>;
+
+impl<'a> Layout for Message<'a> {
+    ghost use Rattle.speedy_protocol.specs.declared.messages.Message.{Message};
+
+    ghost Seen = { ⟦<Prefixed<u8, MessageCases<'a>> as Layout>⟧.Seen };
+
+    ghost seen = { λ it. elim it [
+      | Message.Ping ↦ inl (inl tt)
+      | Message.Hello t0 t1 ↦ inl (inr (inl (⟦<(&'a str, Option<&'a str>) as Layout>⟧.seen (t0, t1))))
+      | Message.Readings t0 t1 ↦ inl (inr (inr (⟦<(u16, Vec<Reading>) as Layout>⟧.seen (t0, t1))))
+      | Message.Blob t0 ↦ inr (inl (⟦<&'a [u8] as Layout>⟧.seen t0))
+      | Message.Failure t0 t1 ↦ inr (inr (inl (⟦<(u32, &'a str) as Layout>⟧.seen (t0, t1))))
+      | Message.Bye ↦ inr (inr (inr tt))
+    ] };
+
+    ghost layout = { ⟦<Prefixed<u8, MessageCases<'a>> as Layout>⟧.layout };
+}
+
+impl<'a> Message<'a> {
+    fn from_cases(cases: MessageCases<'a>) -> Message<'a>
+        ensures { ◌≡◌ {A = ⟦<Message<'a> as Layout>⟧.Seen}
+            (⟦<Message<'a> as Layout>⟧.seen result)
+            (⟦<MessageCases<'a> as Told>⟧.seen cases.entry) }
+    {
+        match cases {
+            Left(Left(Case(()))) => Message::Ping,
+            Left(Right(Left(Case((name, mail))))) => Message::Hello { name, mail },
+            Left(Right(Right(Case((sensor, list))))) => Message::Readings { sensor, list },
+            Right(Left(Case(t0))) => Message::Blob(t0),
+            Right(Right(Left(Case((code, text))))) => Message::Failure { code, text },
+            Right(Right(Right(Case(())))) => Message::Bye,
+        }
+    }
+
+    fn parts<'t>(&'t self) -> MessageParts<'a, 't>
+        ensures { ◌≡◌ {A = ⟦<Message<'a> as Layout>⟧.Seen}
+            (⟦<MessageParts<'a, 't> as Told>⟧.seen result)
+            (⟦<Message<'a> as Layout>⟧.seen self.now) }
+    {
+        match self {
+            Message::Ping => Left(Left(Case(()))),
+            Message::Hello { name, mail } => Left(Right(Left(Case((Part(name), Part(mail)))))),
+            Message::Readings { sensor, list } => Left(Right(Right(Case((
+                Part(sensor),
+                Part(list),
+            ))))),
+            Message::Blob(t0) => Right(Left(Case(Part(t0)))),
+            Message::Failure { code, text } => Right(Right(Left(Case((Part(code), Part(text)))))),
+            Message::Bye => Right(Right(Right(Case(())))),
+        }
+    }
+}
+
+impl<'a, C: Context> ReadFrom<&'a [u8], C> for Message<'a> {
+    type Strategy = ItemByItem<C>;
+
+    fn read_from<R: LendingReader<&'a [u8], C>>(reader: &mut R) -> Result<Message<'a>, C::Error> {
+        match reader.read_value::<Prefixed<u8, MessageCases<'a>>>() {
+            Ok(cases) => Ok(Message::from_cases(cases.value)),
+            Err(error) => Err(error),
+        }
+    }
+
+    fn minimum_bytes_needed() -> usize
+        ensures { result ≡ ⟦<Prefixed<u8, MessageCases<'a>> as Layout>⟧.layout.least }
+    {
+        <Prefixed<u8, MessageCases<'a>> as ReadFrom<&'a [u8], C>>::minimum_bytes_needed()
+    }
+}
+
+impl<'a, C: Context> Writable<C> for Message<'a> {
+    fn write_to<W: Writer<C>>(&self, writer: &mut W) -> Result<(), C::Error> {
+        self.parts().write_behind::<u8, W>(writer)
+    }
+}
