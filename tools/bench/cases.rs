@@ -103,6 +103,7 @@ impl Bench {
         self.vec("Vec<record> 1k", 1_000, Rng::record);
         self.one("struct", Rng::own);
         self.vec("Vec<struct> 1k", 1_000, Rng::own);
+        self.vec("Vec<enum> 10k", 10_000, Rng::event);
     }
 
     fn add_lists_of_numbers(&mut self) {

@@ -1,6 +1,6 @@
 //! The types of the cases, and what the port exports for each (gen.py).
 
-use speedy::private::VarInt64;
+use speedy::private::{error_invalid_enum_variant, VarInt64};
 use speedy::{Context, Endianness, Readable, Reader, Writable, Writer};
 use std::collections::{BTreeMap, BTreeSet, HashMap};
 use std::net::IpAddr;
@@ -45,6 +45,95 @@ structs! {
     Entry, 12 { offset: u32, length: u32, kind: u16, flags: u16, }
     Header, 12 { magic: u32, version: u16, flags: u16, entries: Vec<Entry>, }
     Account, 16 { name: String, balance: u64, groups: Vec<u16>, }
+}
+
+/// An enum of one's own, that of event.rs.in, with the impls as the original's derive writes them.
+pub enum Event {
+    Started,
+    Stopped,
+    Moved(u32, u32),
+    Resized { width: u16, height: u16 },
+    Named(String),
+    Key(u32),
+    Data(Vec<u8>),
+    Scores(Vec<u16>),
+    Level(u8),
+    Paid { amount: u64, to: String },
+}
+
+impl<'a, C: Context> Readable<'a, C> for Event {
+    #[inline]
+    fn read_from<R: Reader<'a, C>>(reader: &mut R) -> Result<Self, C::Error> {
+        Ok(match reader.read_value::<u32>()? {
+            0 => Event::Started,
+            1 => Event::Stopped,
+            2 => Event::Moved(reader.read_value()?, reader.read_value()?),
+            3 => Event::Resized {
+                width: reader.read_value()?,
+                height: reader.read_value()?,
+            },
+            4 => Event::Named(reader.read_value()?),
+            5 => Event::Key(reader.read_value()?),
+            6 => Event::Data(reader.read_value()?),
+            7 => Event::Scores(reader.read_value()?),
+            8 => Event::Level(reader.read_value()?),
+            9 => Event::Paid {
+                amount: reader.read_value()?,
+                to: reader.read_value()?,
+            },
+            _ => return Err(error_invalid_enum_variant()),
+        })
+    }
+
+    #[inline]
+    fn minimum_bytes_needed() -> usize {
+        4
+    }
+}
+
+impl<C: Context> Writable<C> for Event {
+    #[inline]
+    fn write_to<W: ?Sized + Writer<C>>(&self, writer: &mut W) -> Result<(), C::Error> {
+        match self {
+            Event::Started => writer.write_value(&0u32),
+            Event::Stopped => writer.write_value(&1u32),
+            Event::Moved(x, y) => {
+                writer.write_value(&2u32)?;
+                writer.write_value(x)?;
+                writer.write_value(y)
+            }
+            Event::Resized { width, height } => {
+                writer.write_value(&3u32)?;
+                writer.write_value(width)?;
+                writer.write_value(height)
+            }
+            Event::Named(name) => {
+                writer.write_value(&4u32)?;
+                writer.write_value(name)
+            }
+            Event::Key(key) => {
+                writer.write_value(&5u32)?;
+                writer.write_value(key)
+            }
+            Event::Data(bytes) => {
+                writer.write_value(&6u32)?;
+                writer.write_value(bytes)
+            }
+            Event::Scores(scores) => {
+                writer.write_value(&7u32)?;
+                writer.write_value(scores)
+            }
+            Event::Level(level) => {
+                writer.write_value(&8u32)?;
+                writer.write_value(level)
+            }
+            Event::Paid { amount, to } => {
+                writer.write_value(&9u32)?;
+                writer.write_value(amount)?;
+                writer.write_value(to)
+            }
+        }
+    }
 }
 
 pub type ReadFn = unsafe extern "C" fn(*const u8, usize, bool, usize) -> usize;
@@ -160,6 +249,7 @@ ports! {
     BTreeSet<u32>: "tree_set",
     Own: "own",
     Vec<Own>: "vec_own",
+    Vec<Event>: "vec_event",
     LogLine: "log_line",
     Header: "header",
     BTreeMap<u32, Account>: "snapshot",

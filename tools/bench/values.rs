@@ -1,6 +1,6 @@
 //! The values of the cases, which are the same in each run.
 
-use crate::ports::{Account, Entry, Header, LogLine, Own, Record};
+use crate::ports::{Account, Entry, Event, Header, LogLine, Own, Record};
 use std::collections::BTreeMap;
 use std::net::{IpAddr, Ipv4Addr, Ipv6Addr};
 
@@ -73,6 +73,28 @@ impl Rng {
             bytes,
             numbers,
             level,
+        }
+    }
+
+    pub fn event(&mut self) -> Event {
+        let number = self.next();
+        match number % 10 {
+            0 => Event::Started,
+            1 => Event::Stopped,
+            2 => Event::Moved(number as u32, (number >> 32) as u32),
+            3 => Event::Resized {
+                width: (number >> 8) as u16,
+                height: (number >> 32) as u16,
+            },
+            4 => Event::Named(self.short_text()),
+            5 => Event::Key((number >> 16) as u32),
+            6 => Event::Data(vec![1, 2, 3]),
+            7 => Event::Scores(vec![400, 500, 600]),
+            8 => Event::Level((number >> 24) as u8),
+            _ => Event::Paid {
+                amount: number >> 20,
+                to: self.short_text(),
+            },
         }
     }
 
