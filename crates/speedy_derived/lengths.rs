@@ -1,5 +1,6 @@
-//! Lists behind lengths of each width.
+//! Texts, lists, maps and sets behind lengths of each width, and options of these.
 use speedy::{Readable, Writable};
+use std::collections::{BTreeMap, HashSet};
 
 #[derive(Debug, Readable, Writable)]
 pub struct LengthU7 {
@@ -35,4 +36,28 @@ pub struct LengthU64 {
 pub struct LengthVarint {
     #[speedy(length_type = u64_varint)]
     pub data: Vec<u8>,
+}
+
+#[derive(Debug, Readable, Writable)]
+pub struct LengthsOfMaps {
+    #[speedy(length_type = u8)]
+    pub tree: BTreeMap<u8, u16>,
+    #[speedy(length_type = u64_varint)]
+    pub hashed: HashSet<u16>,
+}
+
+#[derive(Debug, Readable, Writable)]
+pub struct LengthOfOption {
+    #[speedy(length_type = u16)]
+    pub data: Option<Vec<u8>>,
+}
+
+#[derive(Debug, Readable, Writable)]
+pub enum LengthsInCases {
+    A,
+    B(#[speedy(length_type = u16)] Option<String>, u8),
+    C {
+        #[speedy(length_type = u7)]
+        held: Option<BTreeMap<u8, u16>>,
+    },
 }

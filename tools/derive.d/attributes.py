@@ -22,6 +22,8 @@ class Options:
     """What `#[speedy(..)]` says of a field."""
     length: object = None
     length_type: object = None
+    # Whether what stands behind the length is in an option.
+    of_option: bool = False
     varint: bool = False
     constant: object = None
     skip: bool = False

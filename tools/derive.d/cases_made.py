@@ -113,6 +113,28 @@ struct Frame {
       "⟦<BeforeFrameParts as Constant>⟧.bytes,", "Ok((_, parts, note, _, end)) => Ok(Frame {", "parts: parts.value,",
       "let note: Prefixed<u8, _> = Prefixed {\n            value: Part(&self.note),",
       "Magic::<BeforeFrameParts>::new(),"]),
+    ("lengths of maps and sets", """use std::collections::{BTreeMap, HashSet};
+#[derive(Readable, Writable)]
+struct Index<K, V> {
+    #[speedy(length_type = u16)]
+    places: BTreeMap<K, Vec<V>>,
+    #[speedy(length_type = u7)]
+    seen: HashSet<u32>,
+}
+""", ["type IndexParts<K, V> = (\n    Prefixed<u16, BTreeMap<K, Vec<V>>>,\n    Prefixed<U7, HashSet<u32>>,\n);",
+      "impl<K: SameKey + Ord, V: Layout> Layout for Index<K, V> {", "places: places.value,",
+      "let seen: Prefixed<U7, _> = Prefixed {\n            value: Part(&self.seen),"]),
+    ("lengths of options", DERIVES + """enum Note {
+    A(#[speedy(length_type = u8)] Option<String>, u8),
+    B { #[speedy(length_type = u16)] text: Option<Vec<u8>> },
+}
+""" + DERIVES + "struct C { #[speedy(length_type = u16)] text: Option<Vec<u8>> }\n",
+     ["Case<0, (Option<Prefixed<u8, String>>, u8)>", "Case<0, (Option<Prefixed<u8, Part<'t, String>>>, Part<'t, u8>)>",
+      "=> Note::A(\n                match t0 {\n                    Some(t0) => Some(t0.value),",
+      "text: match text {\n                    Some(text) => Some(text.value),",
+      "Note::B { text } => Right(Case(match text {\n                Some(text) => Some(Prefixed {",
+      "type CParts = Option<Prefixed<u16, Vec<u8>>>;",
+      "let text: Option<Prefixed<u16, _>> = match &self.text {\n            Some(text) => Some(Prefixed {"]),
     ("constants of each kind", DERIVES + "struct A(" + ", ".join(
         f"#[speedy(constant_prefix = {it})] ()" for it in ("'é'", "-1_i8", "true", "b'x'", "7u8")) + ");\n",
      ["{ 195 ∷ 169 ∷ [] }", "{ 255 ∷ [] }", "{ 1 ∷ [] }", "{ 120 ∷ [] }", "{ 7 ∷ [] }"]),

@@ -6,8 +6,8 @@ from layout import call, lines, pattern, pattern_braces, written_call
 from refusal import Refusal
 from scope import names_in, text
 from structs import (NUMBERS, Access, arm_lines, as_passed, asked_of, built, clause_lines, fold, is_nested,
-                     layout_lines, least_lines, number_of, parts_of, prefixed, read_head, seen_clause, seen_of_parts,
-                     split, taken_apart, type_node, without_skips, write_head)
+                     layout_lines, least_lines, number_of, parts_of, prefixed, prefixed_type, read_head, seen_clause,
+                     seen_of_parts, split, taken_apart, type_node, without_skips, write_head)
 
 
 class Case:
@@ -163,7 +163,9 @@ def parts_alias_lines(shape):
 
     def of_part(part):
         if part.before:
-            return syntax.Named(line, ("Prefixed",), (part.type.arguments[0], lent(part.type.arguments[1])))
+            behind = part.type.arguments[0] if part.of_option else part.type
+            behind = prefixed_type(line, behind.arguments[0], lent(behind.arguments[1]))
+            return syntax.Named(line, ("Option",), (behind,)) if part.of_option else behind
         return lent(part.type) if part.written_type else part.type
 
     kinds = shape.either(lambda case: case.kind(of_part))

@@ -39,7 +39,12 @@ def written_call(text):
 
 def braces(head, items):
     """A struct of named fields."""
-    return Node(head + " {", items, "}", BRACES_WIDTH, " ")
+    return Node(head + " {", items, "}", BRACES_WIDTH, " ", last=False)
+
+
+def matched(head, arms):
+    """A `match`, an arm a line."""
+    return Node(head + " {", arms, "}", 0, " ", last=False)
 
 
 def pattern(head, items):

@@ -4,7 +4,7 @@ from dataclasses import dataclass
 import syntax
 from generics import Generics, impl_lines
 from known import PART
-from layout import WIDTH, Node, binding, braces, call, flat, generic, lines, pattern, written_call
+from layout import WIDTH, Node, binding, braces, call, flat, generic, lines, matched, pattern, written_call
 from refusal import Refusal
 from scope import asks, names_in, text
 
@@ -12,7 +12,8 @@ from scope import asks, names_in, text
 NUMBERS = {"u7": ("U7", 1 << 7), "u8": ("u8", 1 << 8), "u16": ("u16", 1 << 16), "u32": ("u32", 1 << 32),
            "u64": ("u64", 1 << 64), "u64_varint": ("VarInt64", 1 << 64)}
 # What may stand behind a length of another width.
-COUNTED = ("String", "Vec", "BoxedStr", "BoxedSlice", "SmallVec")
+COUNTED = ("String", "Vec", "BoxedStr", "BoxedSlice", "SmallVec", "BTreeMap", "HashMap", "IndexMap", "BTreeSet",
+           "HashSet", "IndexSet")
 # So many parts stand in one tuple. More are split into tuples of so many, since else the search for proofs meets its
 # step limit.
 MOST_PARTS = 6
@@ -34,6 +35,8 @@ class Part:
     written_type: object = None
     # A statement before it is written, and the name that this binds.
     before: object = None
+    # Whether it is an option of what stands behind a length.
+    of_option: bool = False
 
 
 def split(parts):
@@ -178,18 +181,28 @@ def varint_part(scope, field, access, kind):
 
 
 def prefixed_part(scope, field, access, kind):
-    """A text or a list behind a length of its own width."""
-    if not isinstance(kind, syntax.Named) or kind.path[-1] not in COUNTED:
-        raise Refusal(field.line, "`length_type` is taken of `String`, `Vec`, `Box<str>`, `Box<[T]>` and `SmallVec`: "
-                                  f"write a `Prefixed` of `{text(kind)}` by hand")
+    """A text, a list, a map or a set behind a length of its own width, or an option of that."""
+    field.options.of_option = isinstance(kind, syntax.Named) and kind.path[-1] == "Option"
+    held = kind.arguments[0] if field.options.of_option else kind
+    if not isinstance(held, syntax.Named) or held.path[-1] not in COUNTED:
+        raise Refusal(field.line, "`length_type` is taken of `String`, `Vec`, `Box<str>`, `Box<[T]>`, `SmallVec`, "
+                                  f"maps, sets and options of these: write a `Prefixed` of `{text(kind)}` by hand")
     number = number_of(scope, field.options.length_type, field.line)
     scope.need("speedy::prefixed", "Prefixed", field.line)
     scope.need("std::marker", "PhantomData", field.line)
     line = field.line
     name = access.bound if access.bound not in ("writer", "self") else access.bound + "_"
-    return Part(syntax.Named(line, ("Prefixed",), (syntax.Named(line, (number,)), kind)), access.bound, access.seen,
-                f"Part({access.reference})", f"⟦<{text(kind)} as Layout>⟧.seen {access.seen}",
-                before=(name, f"Prefixed<{number}, _>"))
+    behind, before = prefixed_type(line, syntax.Named(line, (number,)), held), f"Prefixed<{number}, _>"
+    if field.options.of_option:
+        behind, before = syntax.Named(line, ("Option",), (behind,)), f"Option<{before}>"
+    return Part(behind, access.bound, access.seen, f"Part({access.reference})",
+                f"⟦<{text(kind)} as Layout>⟧.seen {access.seen}", before=(name, before),
+                of_option=field.options.of_option)
+
+
+def prefixed_type(line, number, held):
+    """The type of what stands behind a length."""
+    return syntax.Named(line, ("Prefixed",), (number, held))
 
 
 def number_of(scope, width, line):
@@ -236,6 +249,11 @@ def built(name, shape, fields, accesses):
             value = "Default::default()"
         elif field.options.varint:
             value = f"{access.bound}.0"
+        elif field.options.of_option:
+            label, some = f"{field.name}: " if field.name else "", f"Some({access.bound})"
+            arms = [f"{some} => Some({access.bound}.value)", "None => None"]
+            values.append(matched(f"{label}match {access.bound}", arms))
+            continue
         elif field.options.length_type:
             value = f"{access.bound}.value"
         values.append(value if not field.name or value == field.name else f"{field.name}: {value}")
@@ -470,9 +488,13 @@ def written(shape):
 
 
 def prefixed(part):
-    """A text or a list behind its length. It is no call of `new`, since an equation from a contract leaves the proof of
+    """What has a length, behind it. It is no call of `new`, since an equation from a contract leaves the proof of
     a write open."""
-    return braces("Prefixed", [f"value: {part.written}", "number: PhantomData"])
+    if not part.of_option:
+        return braces("Prefixed", [f"value: {part.written}", "number: PhantomData"])
+    held, option = part.before[0], part.written[len("Part("):-1]
+    some = call(f"Some({held}) => Some(", [braces("Prefixed", [f"value: Part({held})", "number: PhantomData"])])
+    return matched(f"match {option}", [some, "None => None"])
 
 
 def need_part(shape):

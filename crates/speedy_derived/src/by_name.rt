@@ -5,7 +5,10 @@ use crate::constants::{
     BehindU8,
 };
 use crate::generic::{ArrayOf, Generic, GenericWithDefault};
-use crate::lengths::{LengthU7, LengthU8, LengthU16, LengthU32, LengthU64, LengthVarint};
+use crate::lengths::{
+    LengthOfOption, LengthU7, LengthU8, LengthU16, LengthU32, LengthU64, LengthVarint,
+    LengthsInCases, LengthsOfMaps,
+};
 use crate::lent::{CowOfBytes, CowOfText, LentBytes, LentText, TwoCows};
 use crate::representations::{
     CByte, CNested, CNumber, CPair, CUneven, CUnit, PackedNumber, PackedPair, PackedPairs,
@@ -122,6 +125,9 @@ fn answer_lengths(
         "LengthU32" => answer::<LengthU32>(alloc, order, bytes)?,
         "LengthU64" => answer::<LengthU64>(alloc, order, bytes)?,
         "LengthVarint" => answer::<LengthVarint>(alloc, order, bytes)?,
+        "LengthsOfMaps" => answer::<LengthsOfMaps>(alloc, order, bytes)?,
+        "LengthOfOption" => answer::<LengthOfOption>(alloc, order, bytes)?,
+        "LengthsInCases" => answer::<LengthsInCases>(alloc, order, bytes)?,
         _ => return Ok(None),
     };
     Ok(Some(text))

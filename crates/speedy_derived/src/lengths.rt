@@ -1,9 +1,15 @@
 //! Made from `lengths.rs` by `tools/derive`: change that, and make this again.
 //!
-//! Lists behind lengths of each width.
-use speedy::prefixed::{Prefixed, U7};
+//! Texts, lists, maps and sets behind lengths of each width, and options of these.
+ghost use Rattle.std.specs.Prelude.{◌≡◌};
+ghost use Rattle.std.proofs.Common.{inl, inr};
+
+use speedy::cases::Either::{Left, Right};
+use speedy::cases::{Case, Either};
+use speedy::prefixed::{Prefixed, Told, U7, WriteTold};
 use speedy::varint::VarInt64;
 use speedy::{Context, ItemByItem, Layout, LendingReader, Part, ReadFrom, Writable, Writer};
+use std::collections::{BTreeMap, HashSet};
 use std::convert::AsSlice;
 use std::marker::PhantomData;
 
@@ -235,5 +241,218 @@ impl<C: Context> Writable<C> for LengthVarint {
             number: PhantomData,
         };
         writer.write_value(&data)
+    }
+}
+
+#[derive(Debug, Drop)]
+pub struct LengthsOfMaps {
+    pub tree: BTreeMap<u8, u16>,
+    pub hashed: HashSet<u16>,
+}
+
+/// What [`LengthsOfMaps`] is read and written as.
+type LengthsOfMapsParts = (
+    Prefixed<u8, BTreeMap<u8, u16>>,
+    Prefixed<VarInt64, HashSet<u16>>,
+);
+
+impl Layout for LengthsOfMaps {
+    ghost Seen = { ⟦<LengthsOfMapsParts as Layout>⟧.Seen };
+
+    ghost seen = { λ it. (⟦<BTreeMap<u8, u16> as Layout>⟧.seen it.tree, ⟦<HashSet<u16> as Layout>⟧.seen it.hashed) };
+
+    ghost layout = { ⟦<LengthsOfMapsParts as Layout>⟧.layout };
+}
+
+impl<L: AsSlice<u8> + Drop, C: Context> ReadFrom<L, C> for LengthsOfMaps {
+    type Strategy = ItemByItem<C>;
+
+    fn read_from<R: LendingReader<L, C>>(reader: &mut R) -> Result<LengthsOfMaps, C::Error> {
+        match reader.read_value::<LengthsOfMapsParts>() {
+            Ok((tree, hashed)) => Ok(LengthsOfMaps {
+                tree: tree.value,
+                hashed: hashed.value,
+            }),
+            Err(error) => Err(error),
+        }
+    }
+
+    fn minimum_bytes_needed() -> usize {
+        <LengthsOfMapsParts as ReadFrom<L, C>>::minimum_bytes_needed()
+    }
+}
+
+impl<C: Context> Writable<C> for LengthsOfMaps {
+    fn write_to<W: Writer<C>>(&self, writer: &mut W) -> Result<(), C::Error> {
+        let tree: Prefixed<u8, _> = Prefixed {
+            value: Part(&self.tree),
+            number: PhantomData,
+        };
+        let hashed: Prefixed<VarInt64, _> = Prefixed {
+            value: Part(&self.hashed),
+            number: PhantomData,
+        };
+        writer.write_value(&(tree, hashed))
+    }
+}
+
+#[derive(Debug, Drop)]
+pub struct LengthOfOption {
+    pub data: Option<Vec<u8>>,
+}
+
+/// What [`LengthOfOption`] is read and written as.
+type LengthOfOptionParts = Option<Prefixed<u16, Vec<u8>>>;
+
+impl Layout for LengthOfOption {
+    ghost Seen = { ⟦<LengthOfOptionParts as Layout>⟧.Seen };
+
+    ghost seen = { λ it. ⟦<Option<Vec<u8>> as Layout>⟧.seen it.data };
+
+    ghost layout = { ⟦<LengthOfOptionParts as Layout>⟧.layout };
+}
+
+impl<L: AsSlice<u8> + Drop, C: Context> ReadFrom<L, C> for LengthOfOption {
+    type Strategy = ItemByItem<C>;
+
+    fn read_from<R: LendingReader<L, C>>(reader: &mut R) -> Result<LengthOfOption, C::Error> {
+        match reader.read_value::<LengthOfOptionParts>() {
+            Ok(data) => Ok(LengthOfOption {
+                data: match data {
+                    Some(data) => Some(data.value),
+                    None => None,
+                },
+            }),
+            Err(error) => Err(error),
+        }
+    }
+
+    fn minimum_bytes_needed() -> usize {
+        <LengthOfOptionParts as ReadFrom<L, C>>::minimum_bytes_needed()
+    }
+}
+
+impl<C: Context> Writable<C> for LengthOfOption {
+    fn write_to<W: Writer<C>>(&self, writer: &mut W) -> Result<(), C::Error> {
+        let data: Option<Prefixed<u16, _>> = match &self.data {
+            Some(data) => Some(Prefixed {
+                value: Part(data),
+                number: PhantomData,
+            }),
+            None => None,
+        };
+        writer.write_value(&data)
+    }
+}
+
+#[derive(Debug, Drop)]
+pub enum LengthsInCases {
+    A,
+    B(Option<String>, u8),
+    C { held: Option<BTreeMap<u8, u16>> },
+}
+
+/// The cases of [`LengthsInCases`], each with its tag.
+type LengthsInCasesCases = Either<
+    Case<0, ()>,
+    Either<
+        Case<1, (Option<Prefixed<u16, String>>, u8)>,
+        Case<2, Option<Prefixed<U7, BTreeMap<u8, u16>>>>,
+    >,
+>;
+
+/// What [`LengthsInCases`] is written as: its parts where they lie.
+type LengthsInCasesParts<'t> = Either<
+    Case<0, ()>,
+    Either<
+        Case<1, (Option<Prefixed<u16, Part<'t, String>>>, Part<'t, u8>)>,
+        Case<2, Option<Prefixed<U7, Part<'t, BTreeMap<u8, u16>>>>>,
+    >,
+>;
+
+impl Layout for LengthsInCases {
+    ghost use Rattle.speedy_derived.specs.declared.lengths.LengthsInCases.{LengthsInCases};
+
+    ghost Seen = { ⟦<Prefixed<u32, LengthsInCasesCases> as Layout>⟧.Seen };
+
+    ghost seen = { λ it. elim it [
+      | LengthsInCases.A ↦ inl tt
+      | LengthsInCases.B t0 t1 ↦ inr (inl (⟦<Option<String> as Layout>⟧.seen t0, ⟦<u8 as Layout>⟧.seen t1))
+      | LengthsInCases.C t0 ↦ inr (inr (⟦<Option<BTreeMap<u8, u16>> as Layout>⟧.seen t0))
+    ] };
+
+    ghost layout = { ⟦<Prefixed<u32, LengthsInCasesCases> as Layout>⟧.layout };
+}
+
+impl LengthsInCases {
+    fn from_cases(cases: LengthsInCasesCases) -> LengthsInCases
+        ensures { ◌≡◌ {A = ⟦<LengthsInCases as Layout>⟧.Seen}
+            (⟦<LengthsInCases as Layout>⟧.seen result)
+            (⟦<LengthsInCasesCases as Told>⟧.seen cases) }
+    {
+        match cases {
+            Left(Case(())) => LengthsInCases::A,
+            Right(Left(Case((t0, t1)))) => LengthsInCases::B(
+                match t0 {
+                    Some(t0) => Some(t0.value),
+                    None => None,
+                },
+                t1,
+            ),
+            Right(Right(Case(held))) => LengthsInCases::C {
+                held: match held {
+                    Some(held) => Some(held.value),
+                    None => None,
+                },
+            },
+        }
+    }
+
+    fn parts<'t>(&'t self) -> LengthsInCasesParts<'t>
+        ensures { ◌≡◌ {A = ⟦<LengthsInCases as Layout>⟧.Seen}
+            (⟦<LengthsInCasesParts<'t> as Told>⟧.seen result)
+            (⟦<LengthsInCases as Layout>⟧.seen self.now) }
+    {
+        match self {
+            LengthsInCases::A => Left(Case(())),
+            LengthsInCases::B(t0, t1) => Right(Left(Case((
+                match t0 {
+                    Some(t0) => Some(Prefixed {
+                        value: Part(t0),
+                        number: PhantomData,
+                    }),
+                    None => None,
+                },
+                Part(t1),
+            )))),
+            LengthsInCases::C { held } => Right(Right(Case(match held {
+                Some(held) => Some(Prefixed {
+                    value: Part(held),
+                    number: PhantomData,
+                }),
+                None => None,
+            }))),
+        }
+    }
+}
+
+impl<L: AsSlice<u8> + Drop, C: Context> ReadFrom<L, C> for LengthsInCases {
+    type Strategy = ItemByItem<C>;
+
+    fn read_from<R: LendingReader<L, C>>(reader: &mut R) -> Result<LengthsInCases, C::Error> {
+        match reader.read_value::<Prefixed<u32, LengthsInCasesCases>>() {
+            Ok(cases) => Ok(LengthsInCases::from_cases(cases.value)),
+            Err(error) => Err(error),
+        }
+    }
+
+    fn minimum_bytes_needed() -> usize {
+        <Prefixed<u32, LengthsInCasesCases> as ReadFrom<L, C>>::minimum_bytes_needed()
+    }
+}
+
+impl<C: Context> Writable<C> for LengthsInCases {
+    fn write_to<W: Writer<C>>(&self, writer: &mut W) -> Result<(), C::Error> {
+        self.parts().write_behind::<u32, W>(writer)
     }
 }
