@@ -65,7 +65,7 @@ BROKEN = [
     ("a tag at a field", struct("    #[speedy(tag = 1)]\n    a: u8"), 4, "no setting `tag`"),
     ("a length of a number", struct("    #[speedy(length_type = u8)]\n    a: u32"), 5, "`length_type` is taken of"),
     # Types.
-    ("a float", struct("    a: f32"), 4, "hold its bits"),
+    ("a reference to floats", HEAD + DERIVES + "struct A<'a>(&'a [f64]);", 3, "SliceView<'a, F64>"),
     ("an atomic", "use std::sync::atomic::AtomicU8;\n" + struct("    a: AtomicU8"), 5, "hold the number"),
     ("a time of the system", struct("    a: std::time::SystemTime"), 4, "`Duration` since the epoch"),
     ("a reference count", "use std::rc::Rc;\n" + struct("    a: Rc<u8>"), 5, "hold the value"),

@@ -140,8 +140,15 @@ struct Index<K, V> {
      ["{ 195 ∷ 169 ∷ [] }", "{ 255 ∷ [] }", "{ 1 ∷ [] }", "{ 120 ∷ [] }", "{ 7 ∷ [] }"]),
 ]
 
+# Each has a line of the source that is noted, words of the note, and lines of what is made.
 NOTED = [
-    ("a layout in memory", "\n#[repr(packed)]\n" + DERIVES + "struct A(u16);\n", 3, "left out"),
+    ("a layout in memory", "\n#[repr(packed)]\n" + DERIVES + "struct A(u16);\n", 3, "left out", ["struct A(u16);"]),
+    ("floats", "use std::collections::BTreeMap;\nconst HALF: f64 = 0.5;\ntype Real = f64;\n" + DERIVES
+     + "struct A<T> {\n    one: f32,\n    all: Vec<f64>,\n    some: (Option<[Real; 2]>, BTreeMap<u8, f32>),\n"
+     "    more: T,\n}\n#[derive(Writable)]\nenum B<'a> { C(&'a [f32]), D { x: A<f64> } }\n", 7, "`F32`",
+     ["F32,", "F64,", "const HALF: f64 = 0.5;", "type Real = F64;", "    one: F32,", "    all: Vec<F64>,",
+      "    some: (Option<[F64; 2]>, BTreeMap<u8, F32>),", "Part(&self.one)", "    C(&'a [F32]),",
+      "    D { x: A<F64> },"]),
 ]
 
 

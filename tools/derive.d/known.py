@@ -16,7 +16,9 @@ class Known:
 
 PRIMITIVES = ("u8", "u16", "u32", "u64", "u128", "usize", "i8", "i16", "i32", "i64", "i128", "bool", "char")
 # Those that are filled in place, and lent by views.
-NUMBERS = ("u8", "u16", "u32", "u64", "u128", "i8", "i16", "i32", "i64", "i128")
+NUMBERS = ("u8", "u16", "u32", "u64", "u128", "i8", "i16", "i32", "i64", "i128", "F32", "F64")
+# What floats become, which holds their bits.
+FLOATS = {"f32": "F32", "f64": "F64"}
 
 KNOWN = {
     "std::string::String": Known("String"),
@@ -70,8 +72,6 @@ PRELUDE_BOUNDS = {"Eq": "std::cmp::Eq", "PartialEq": "std::cmp::PartialEq", "Ord
 
 # Why a type is neither read nor written, and what to take.
 NONE_OF_OURS = {
-    "f32": "a float is not taken: hold its bits, as a `u32` of `to_bits`, which are the same bytes",
-    "f64": "a float is not taken: hold its bits, as a `u64` of `to_bits`, which are the same bytes",
     "isize": "`isize` is neither read nor written: take an `i64`",
     "str": "`str` has no size: take `String`, `Box<str>`, `Cow<'a, str>` or `&'a str`",
     "std::time::SystemTime": "`SystemTime` is not taken: hold the `Duration` since the epoch, of the same bytes",

@@ -23,6 +23,7 @@ class Made:
         self.place = place
         file = parse(source)
         self.scope = Scope(file)
+        self.scope.notes = self.notes
         # What clauses import from `Prelude` and from `Common`, and the constants before fields.
         self.scope.ghosts = set()
         self.scope.sides = set()
@@ -94,7 +95,7 @@ class Made:
     def item_lines(self, item):
         """An item and its impls."""
         if isinstance(item, syntax.Constant):
-            kind = text(self.scope.convert(item.type, (), True))
+            kind = text(self.scope.of_constant(item.type))
             value = expressions.written(item.value, text)
             return docs(item, "") + [f"{item.visibility}const {item.name}: {kind} = {value};"]
         if isinstance(item, syntax.Alias):

@@ -1,8 +1,8 @@
 """What the names of a file stand for, and its types as Rattle writes them."""
 import expressions
 import syntax
-from known import (BOUNDS, HASHED, ITEM, KNOWN, NONE_OF_OURS, NUMBERS, ORDERED, PART, PRELUDE, PRELUDE_BOUNDS,
-                   PRIMITIVES)
+from known import (BOUNDS, FLOATS, HASHED, ITEM, KNOWN, NONE_OF_OURS, NUMBERS, ORDERED, PART, PRELUDE,
+                   PRELUDE_BOUNDS, PRIMITIVES)
 from refusal import Refusal
 
 
@@ -23,6 +23,8 @@ class Scope:
         self.constants = {it.name: it.value for it in file.items if isinstance(it, syntax.Constant)}
         # By visibility and module, the names that the made module imports.
         self.imports = {}
+        # What is not as the source has it, each with its line.
+        self.notes = []
         # What asks of the parameters of each type of this file, by its name.
         self.asked = {}
         for item in file.items:
@@ -130,6 +132,8 @@ class Scope:
                 raise Refusal(kind.line, NONE_OF_OURS[path[0]])
             if path[0] in PRIMITIVES:
                 return kind
+            if path[0] in FLOATS:
+                return self.float(kind)
         full = self.full_path(path)
         name = "::".join(full)
         if name in KNOWN:
@@ -141,6 +145,21 @@ class Scope:
             raise Refusal(kind.line, reason or f"`{name}` is neither read nor written: take one of the listed types, "
                                                "or write the impls of this type by hand")
         return self.foreign(kind, full, again, {it.name for it in parameters if it.kind == "type"})
+
+    def float(self, kind):
+        """A float, which is held as its bits."""
+        name = FLOATS[kind.path[0]]
+        self.need("speedy", name, kind.line)
+        note = f"`{kind.path[0]}` becomes `{name}`, which holds the bits: make one by `from`, and call `get`"
+        if (kind.line, note) not in self.notes:
+            self.notes.append((kind.line, note))
+        return syntax.Named(kind.line, (name,))
+
+    def of_constant(self, kind):
+        """The type of a constant, as Rattle writes it: here a float is one."""
+        if isinstance(kind, syntax.Named) and kind.path[0] in FLOATS and kind.path[0] not in self.uses:
+            return kind
+        return self.convert(kind, (), True)
 
     def own(self, kind, again):
         """A type that this file declares."""

@@ -4,6 +4,7 @@ use crate::constants::{
     BehindByte, BehindBytes, BehindCharacter, BehindFalse, BehindI8, BehindText, BehindTrue,
     BehindU8,
 };
+use crate::floats::{Floats, Measured};
 use crate::generic::{ArrayOf, Generic, GenericWithDefault};
 use crate::lengths::{
     LengthOfOption, LengthU7, LengthU8, LengthU16, LengthU32, LengthU64, LengthVarint,
@@ -154,6 +155,21 @@ fn answer_constants(
     Ok(Some(text))
 }
 
+/// The answer to bytes as a type of `floats`, or `None` where it has none of this name.
+fn answer_floats(
+    alloc: Global,
+    order: Endianness,
+    name: &str,
+    bytes: &[u8],
+) -> Result<Option<String>, AllocError> {
+    let text = match name {
+        "Measured" => answer::<Measured<'_>>(alloc, order, bytes)?,
+        "Floats" => answer::<Floats>(alloc, order, bytes)?,
+        _ => return Ok(None),
+    };
+    Ok(Some(text))
+}
+
 /// The answer to bytes as a type of `tags`, or `None` where it has none of this name.
 fn answer_tags(
     alloc: Global,
@@ -199,6 +215,9 @@ pub fn answer_by_name(
         return Ok(Some(text));
     }
     if let Some(text) = answer_constants(alloc, order, name, bytes)? {
+        return Ok(Some(text));
+    }
+    if let Some(text) = answer_floats(alloc, order, name, bytes)? {
         return Ok(Some(text));
     }
     answer_tags(alloc, order, name, bytes)

@@ -5,6 +5,7 @@
 pub mod answer;
 pub mod by_name;
 pub mod constants;
+pub mod floats;
 pub mod generic;
 pub mod lengths;
 pub mod lent;

@@ -1,0 +1,189 @@
+//! Made from `floats.rs` by `tools/derive`: change that, and make this again.
+//!
+//! Floats, by themselves and within other parts.
+ghost use Rattle.std.specs.Prelude.{◌≡◌};
+ghost use Rattle.std.proofs.Common.{inl, inr};
+
+use speedy::cases::Either::{Left, Right};
+use speedy::cases::{Case, Either};
+use speedy::prefixed::{Prefixed, Told, WriteTold};
+use speedy::{
+    Context, F32, F64, ItemByItem, Layout, LendingReader, Part, ReadFrom, Writable, Writer,
+};
+use std::borrow::CowSlice;
+use std::convert::AsSlice;
+
+#[derive(Debug, Drop)]
+pub enum Place {
+    First,
+    Second,
+    Third,
+}
+
+/// The cases of [`Place`], each with its tag.
+type PlaceCases = Either<Case<0, ()>, Either<Case<1, ()>, Case<2, ()>>>;
+
+impl Layout for Place {
+    ghost use Rattle.speedy_derived.specs.declared.floats.Place.{Place};
+
+    ghost Seen = { ⟦<Prefixed<u32, PlaceCases> as Layout>⟧.Seen };
+
+    ghost seen = { λ it. elim it [
+      | Place.First ↦ inl tt
+      | Place.Second ↦ inr (inl tt)
+      | Place.Third ↦ inr (inr tt)
+    ] };
+
+    ghost layout = { ⟦<Prefixed<u32, PlaceCases> as Layout>⟧.layout };
+}
+
+impl Place {
+    fn from_cases(cases: PlaceCases) -> Place
+        ensures { ◌≡◌ {A = ⟦<Place as Layout>⟧.Seen}
+            (⟦<Place as Layout>⟧.seen result)
+            (⟦<PlaceCases as Told>⟧.seen cases) }
+    {
+        match cases {
+            Left(Case(())) => Place::First,
+            Right(Left(Case(()))) => Place::Second,
+            Right(Right(Case(()))) => Place::Third,
+        }
+    }
+
+    fn parts(&self) -> PlaceCases
+        ensures { ◌≡◌ {A = ⟦<Place as Layout>⟧.Seen}
+            (⟦<PlaceCases as Told>⟧.seen result)
+            (⟦<Place as Layout>⟧.seen self.now) }
+    {
+        match self {
+            Place::First => Left(Case(())),
+            Place::Second => Right(Left(Case(()))),
+            Place::Third => Right(Right(Case(()))),
+        }
+    }
+}
+
+impl<L: AsSlice<u8> + Drop, C: Context> ReadFrom<L, C> for Place {
+    type Strategy = ItemByItem<C>;
+
+    fn read_from<R: LendingReader<L, C>>(reader: &mut R) -> Result<Place, C::Error> {
+        match reader.read_value::<Prefixed<u32, PlaceCases>>() {
+            Ok(cases) => Ok(Place::from_cases(cases.value)),
+            Err(error) => Err(error),
+        }
+    }
+
+    fn minimum_bytes_needed() -> usize {
+        <Prefixed<u32, PlaceCases> as ReadFrom<L, C>>::minimum_bytes_needed()
+    }
+}
+
+impl<C: Context> Writable<C> for Place {
+    fn write_to<W: Writer<C>>(&self, writer: &mut W) -> Result<(), C::Error> {
+        self.parts().write_behind::<u32, W>(writer)
+    }
+}
+
+/// A number, a text, bytes, numbers that may be lent, a float, and an enum.
+#[derive(Debug, Drop)]
+pub struct Measured<'a> {
+    pub number: u64,
+    pub name: String,
+    pub bytes: Vec<u8>,
+    pub numbers: CowSlice<'a, i64>,
+    pub ratio: F32,
+    pub place: Place,
+}
+
+/// What [`Measured`] is read and written as.
+type MeasuredParts<'a> = (u64, String, Vec<u8>, CowSlice<'a, i64>, F32, Place);
+
+impl<'a> Layout for Measured<'a> {
+    ghost Seen = { ⟦<MeasuredParts<'a> as Layout>⟧.Seen };
+
+    ghost seen = { λ it. ⟦<MeasuredParts<'a> as Layout>⟧.seen (
+      it.number,
+      it.name,
+      it.bytes,
+      it.numbers,
+      it.ratio,
+      it.place,
+    ) };
+
+    ghost layout = { ⟦<MeasuredParts<'a> as Layout>⟧.layout };
+}
+
+impl<'a, C: Context> ReadFrom<&'a [u8], C> for Measured<'a> {
+    type Strategy = ItemByItem<C>;
+
+    fn read_from<R: LendingReader<&'a [u8], C>>(reader: &mut R) -> Result<Measured<'a>, C::Error> {
+        match reader.read_value() {
+            Ok((number, name, bytes, numbers, ratio, place)) => Ok(Measured {
+                number,
+                name,
+                bytes,
+                numbers,
+                ratio,
+                place,
+            }),
+            Err(error) => Err(error),
+        }
+    }
+
+    fn minimum_bytes_needed() -> usize
+        ensures { result ≡ ⟦<MeasuredParts<'a> as Layout>⟧.layout.least }
+    {
+        <MeasuredParts<'a> as ReadFrom<&'a [u8], C>>::minimum_bytes_needed()
+    }
+}
+
+impl<'a, C: Context> Writable<C> for Measured<'a> {
+    fn write_to<W: Writer<C>>(&self, writer: &mut W) -> Result<(), C::Error> {
+        writer.write_value(&(
+            Part(&self.number),
+            Part(&self.name),
+            Part(&self.bytes),
+            Part(&self.numbers),
+            Part(&self.ratio),
+            Part(&self.place),
+        ))
+    }
+}
+
+#[derive(Debug, Drop)]
+pub struct Floats {
+    pub all: Vec<F32>,
+    pub some: (Option<F64>, [F64; 2]),
+}
+
+/// What [`Floats`] is read and written as.
+type FloatsParts = (Vec<F32>, (Option<F64>, [F64; 2]));
+
+impl Layout for Floats {
+    ghost Seen = { ⟦<FloatsParts as Layout>⟧.Seen };
+
+    ghost seen = { λ it. ⟦<FloatsParts as Layout>⟧.seen (it.all, it.some) };
+
+    ghost layout = { ⟦<FloatsParts as Layout>⟧.layout };
+}
+
+impl<L: AsSlice<u8> + Drop, C: Context> ReadFrom<L, C> for Floats {
+    type Strategy = ItemByItem<C>;
+
+    fn read_from<R: LendingReader<L, C>>(reader: &mut R) -> Result<Floats, C::Error> {
+        match reader.read_value() {
+            Ok((all, some)) => Ok(Floats { all, some }),
+            Err(error) => Err(error),
+        }
+    }
+
+    fn minimum_bytes_needed() -> usize {
+        <FloatsParts as ReadFrom<L, C>>::minimum_bytes_needed()
+    }
+}
+
+impl<C: Context> Writable<C> for Floats {
+    fn write_to<W: Writer<C>>(&self, writer: &mut W) -> Result<(), C::Error> {
+        writer.write_value(&(Part(&self.all), Part(&self.some)))
+    }
+}
