@@ -1,0 +1,80 @@
+//! The protocol for callers in C and in Rust: `speedy_protocol.h` in the folder `examples` declares what stands here.
+#![tactic(auto)]
+
+ghost use Rattle.std.specs.Prelude.{◌≡◌, ◌≤◌, ◌+◌, ℕ, List, length};
+ghost use Rattle.speedy.specs.Encoding.{plain_encoding};
+ghost use Rattle.speedy_protocol.specs.Refusals.{BeginsWith};
+
+use speedy::{Endianness, Layout};
+use speedy_protocol::advice::{Advice, advise};
+use speedy_protocol::frames::{Frame, decode, skip};
+use speedy_protocol::messages::Message;
+use std::alloc::Global;
+
+/// Where the parts of a message in its frame lie, in bytes from where the frame begins.
+#[repr(C)]
+pub struct Places {
+    /// How many bytes the frame has: behind them begins the next one.
+    pub size: usize,
+    /// The tag of the message.
+    pub tag: u32,
+    /// Where its text or bytes begin, of `Hello` the name, and how many bytes these are. Others have 0 of them, at 0.
+    pub text_at: usize,
+    pub text_length: usize,
+}
+
+/// The tag of a message, and the place of its text.
+fn place<'a>(message: &Message<'a>) -> (u32, usize, usize) {
+    match message {
+        Message::Ping => (1, 0, 0),
+        Message::Hello { name, .. } => (2, 7, name.len()),
+        Message::Readings { .. } => (3, 0, 0),
+        Message::Blob(bytes) => (4, 7, bytes.len()),
+        Message::Failure { text, .. } => (5, 11, text.len()),
+        Message::Bye => (255, 0, 0),
+    }
+}
+
+/// Looks at the frame that the bytes begin with, and says where its parts lie.
+///
+/// The answer is 0 for a message, 1 where more bytes have to come, 2 for a broken message, of which `size` says how
+/// many bytes to skip, and 3 where it is not known how to go on. Where it is 1 or 3, `places` stays as it is.
+#[unsafe(no_mangle)]
+pub extern "C" fn speedy_protocol_check<'a>(
+    alloc: Global,
+    bytes: &'a [u8],
+    places: &mut Places,
+) -> u32
+    ensures message { let it = ⟦<Frame<'a> as Layout>⟧ in
+        result ≡ 0 → (message : it.Seen) × (rest : List ℕ)
+        × BeginsWith (it.layout.format (plain_encoding Endianness.LittleEndian)) message bytes.now rest
+        × (places.new.size + length rest ≡ length bytes.now) }
+    ensures within { result ≡ 0 → places.new.text_at + places.new.text_length ≤ places.new.size }
+{
+    match decode(alloc, bytes) {
+        Ok((message, behind)) => {
+            let size = bytes.len() - behind.len();
+            let (tag, text_at, text_length) = place(&message);
+            // Never so, by the layout. A caller in C reads there, so it is tested and not only meant.
+            if text_at > size || text_length > size - text_at {
+                return 3;
+            }
+            places.size = size;
+            places.tag = tag;
+            places.text_at = text_at;
+            places.text_length = text_length;
+            0
+        }
+        Err(error) => match advise(&error) {
+            Advice::Wait => 1,
+            Advice::Skip => match skip(alloc, bytes) {
+                Ok(behind) => {
+                    places.size = bytes.len() - behind.len();
+                    2
+                }
+                Err(_) => 3,
+            },
+            Advice::Close => 3,
+        },
+    }
+}
