@@ -86,6 +86,19 @@ pub enum Message {
       "Right(Left(Case((t0, t1)))) => Message::Named(t0, t1),",
       "Message::Point { x, y } => Right(Right(Case((Part(x), Part(y))))),",
       "match reader.read_value::<Prefixed<u32, MessageCases>>() {", "self.parts().write_behind::<u32, W>(writer)"]),
+    ("an enum of many variants", "#[derive(Readable, Writable)]\nenum A<'a> { " + ", ".join(
+        f"V{it}" + ("(&'a str)" if it < 5 else "(u8)" if it < 10 else "") for it in range(20)) + " }\n",
+     ["use speedy::cases::{Case, Cases, Either, ReadCases, WriteCases};", "type AGroup1Cases<'a> = Either<",
+      "struct AGroup1<'a>(AGroup1Cases<'a>);", "impl<'a> Cases for AGroup1<'a> {",
+      "ensures { result ≡ ⟦<AGroup1Cases<'a> as Cases>⟧.choices.has tag }",
+      "impl<'a, C: Context> ReadCases<&'a [u8], C> for AGroup1<'a> {", "type AGroup2Cases = Either<",
+      "impl<L: AsSlice<u8> + Drop, C: Context> ReadCases<L, C> for AGroup2 {",
+      "impl<C: Context> WriteCases<C> for AGroup2 {", "type ALent1Cases<'a, 't> = Either<",
+      "impl<'a, 't, C: Context> WriteCases<C> for ALent1<'a, 't> {", "type ACases<'a> = Either<AGroup1<'a>, AGroup2>;",
+      "type AParts<'a, 't> = Either<ALent1<'a, 't>, AGroup2>;", "fn from_group1(group: AGroup1<'a>) -> A<'a>",
+      "(inl (⟦<AGroup1<'a> as Cases>⟧.seen group.entry)) }", "(inr (⟦<AGroup2 as Cases>⟧.seen group)) }",
+      "Left(group) => A::from_group1(group),",
+      "A::V0(t0) => Left(ALent1(Left(Left(Left(Case(Part(t0))))))),"]),
     ("tags of an enum", "const FIRST: u8 = 3;\n#[derive(Readable, Writable)]\n#[speedy(tag_type = u8)]\n"
      "enum Kind { A = FIRST as isize, B, #[speedy(tag = 2 * 10)] C = 10, D, E = 0xfe }\n",
      ["    A = FIRST as isize,\n    B,\n    C = 10,\n    D,\n    E = 0xfe,", "Case<3, ()>", "Case<4, ()>",
@@ -182,7 +195,7 @@ class Random:
     def enum(self, place):
         """An enum."""
         variants = []
-        for it in range(self.random.choice([1, 2, 3, 4, 5, 8, 11, 16])):
+        for it in range(self.random.choice([1, 2, 3, 4, 5, 8, 11, 16, 17, 40])):
             name = f"{self.name().capitalize()}{it}"
             count = self.random.choice([1, 1, 2, 3, 6, 9])
             kinds = [self.kind(self.random.randrange(3), False, []) for _ in range(count)]

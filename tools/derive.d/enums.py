@@ -1,7 +1,9 @@
 """The impls of an enum: it has the layout of its cases, each behind its tag, is read as those and written as those."""
 import expressions
+import groups
 import syntax
 from generics import Generics, impl_lines
+from groups import halved, leaves, sided
 from layout import call, lines, pattern, pattern_braces, written_call
 from refusal import Refusal
 from scope import names_in, text
@@ -19,6 +21,11 @@ class Case:
         self.accesses = accesses
         self.path = path
         self.tree = split(parts)
+        self.group = None
+
+    def lends(self):
+        """Whether what is written of it borrows from the value."""
+        return any(part.written_type or part.before for part in self.parts)
 
     def kind(self, of_part):
         """The type of its parts, each as `of_part` says."""
@@ -53,47 +60,33 @@ def accesses_of(fields):
     return found
 
 
-def halved(items):
-    """A tree of pairs, as deep as it has to be."""
-    if len(items) == 1:
-        return items[0]
-    half = len(items) // 2
-    return (halved(items[:half]), halved(items[half:]))
-
-
-def paths_of(tree, path=""):
-    """Where each leaf stands in a tree of pairs: `0` for left and `1` for right."""
-    if not isinstance(tree, tuple):
-        return [path]
-    return paths_of(tree[0], path + "0") + paths_of(tree[1], path + "1")
-
-
 class Shape:
     """What the impls of an enum are made of."""
 
     def __init__(self, item, scope, of_field):
         self.item = item
         self.scope = scope
-        paths = paths_of(halved(list(range(len(item.variants)))))
         self.cases, skipped = [], []
-        for variant, path in zip(item.variants, paths):
+        for path, variant in leaves(halved(item.variants)):
             accesses = accesses_of(variant.fields)
             parts, left_out = parts_of(item, scope, variant.fields, accesses, of_field, f"{item.name}::{variant.name}")
             self.cases.append(Case(variant, parts, accesses, path))
             skipped += left_out
+        self.tree, self.groups = groups.grouped(self.cases)
         every = [part for case in self.cases for part in case.parts]
         self.generics = Generics(item, scope, [part.type for part in every] + skipped)
         self.asked = asked_of(item, scope, every, skipped)
         self.self_type = item.name + self.generics.arguments()
-        for alias in (f"{item.name}Cases", f"{item.name}Parts"):
+        made = [f"{item.name}{word}{group.place}{cases}" for word in ("Group", "Lent") for cases in ("", "Cases")
+                for group in self.groups]
+        for alias in [f"{item.name}Cases", f"{item.name}Parts", *made]:
             if alias in scope.items or alias in scope.uses:
                 raise Refusal(item.line, f"the made module names the cases `{alias}`: give that item another name")
         self.loan = self.generics.fresh("'t", {it.name for it in item.parameters})
         self.number = number_of(scope, item.tag_type, item.line)
-        used = set().union(*(names_in(part.type) for part in every))
+        used = used_by(self.cases)
         self.cases_type = f"{item.name}Cases{self.generics.used(used)}"
-        # Where no variant has a part, nothing is lent.
-        self.lends = any(case.parts for case in self.cases)
+        self.lends = any(case.lends() for case in self.cases)
         self.parts_alias = self.with_loan(f"{item.name}Parts", used, self.loan) if self.lends else self.cases_type
         self.parts_type = f"Prefixed<{self.number}, {self.cases_type}>"
         self.imports()
@@ -107,7 +100,7 @@ class Shape:
     def imports(self):
         """Imports what cases are made of."""
         line = self.item.line
-        names = ["Case"]
+        names = ["Case"] + ["Cases"] * bool(self.groups)
         if len(self.cases) > 1:
             names.append("Either")
             for name in ("Left", "Right"):
@@ -117,33 +110,49 @@ class Shape:
         for name in ("Prefixed", "Told"):
             self.scope.need("speedy::prefixed", name, line)
 
-    def either(self, of_case):
-        """The tree of cases as a type."""
+    def kinds(self, tree, of_case, of_group):
+        """A tree of cases as a type."""
         line = self.item.line
+        if isinstance(tree, tuple):
+            return syntax.Named(line, ("Either",), tuple(self.kinds(it, of_case, of_group) for it in tree))
+        if isinstance(tree, groups.Group):
+            return syntax.Mention(line, (of_group(tree),))
+        tag = syntax.Mention(line, (str(tree.variant.tag),))
+        return syntax.Named(line, ("Case",), (tag, of_case(tree)))
 
-        def build(tree):
-            if isinstance(tree, tuple):
-                return syntax.Named(line, ("Either",), (build(tree[0]), build(tree[1])))
-            tag = syntax.Mention(line, (str(tree.variant.tag),))
-            return syntax.Named(line, ("Case",), (tag, of_case(tree)))
+    def read_group(self, group):
+        """The type that a group is read as."""
+        return f"{self.item.name}Group{group.place}{self.generics.used(used_by(group.cases))}"
 
-        return build(halved(self.cases))
+    def written_group(self, group):
+        """The type that a group is written as."""
+        if not group.lends():
+            return self.read_group(group)
+        return self.with_loan(f"{self.item.name}Lent{group.place}", used_by(group.cases), self.loan)
+
+
+def used_by(cases):
+    """The names that the parts of cases name."""
+    return set().union(*(names_in(part.type) for case in cases for part in case.parts))
 
 
 def enum_lines(item, scope, of_field, of_variant, place):
     """The aliases and the impls of an enum."""
     if any(it.kind == "type" for it in item.parameters):
         raise Refusal(item.line, f"`{item.name}` is generic in a type, of which the check does not know that cases of "
-                                 "it have room in memory: name the type, or write the impls by hand with `OneOf2`")
+                                 "it have room in memory: name the type, or write the impls by hand")
     if not item.variants:
         raise Refusal(item.line, f"`{item.name}` has no variant, and so no value that is read or written")
     tags_of(item, scope.constants, of_variant)
     shape = Shape(item, scope, of_field)
-    kinds = shape.either(lambda case: case.kind(lambda part: part.type))
-    found = [f"/// The cases of [`{item.name}`], each with its tag."]
+    found = group_lines(shape)
+    kinds = shape.kinds(shape.tree, read_kind, shape.read_group)
+    found += [f"/// The cases of [`{item.name}`], each with its tag."]
     found += lines(type_node(kinds), 0, f"type {shape.cases_type} = ", ";") + [""]
     if item.writable and shape.lends:
-        found += parts_alias_lines(shape) + [""]
+        kinds = shape.kinds(shape.tree, written_kind(shape), shape.written_group)
+        found += [f"/// What [`{item.name}`] is written as: its parts where they lie."]
+        found += lines(type_node(kinds), 0, f"type {shape.parts_alias} = ", ";") + [""]
     found += with_import(layout_lines(shape, seen_lines(shape)), item, place)
     found += [""] + method_lines(shape)
     if item.readable:
@@ -153,8 +162,13 @@ def enum_lines(item, scope, of_field, of_variant, place):
     return found
 
 
-def parts_alias_lines(shape):
-    """The alias of what is written of an enum: its cases, with the parts where they lie."""
+def read_kind(case):
+    """The type of what is read of a case."""
+    return case.kind(lambda part: part.type)
+
+
+def written_kind(shape):
+    """What gives the type of what is written of a case, with the parts where they lie."""
     line = shape.item.line
 
     def lent(kind):
@@ -168,9 +182,26 @@ def parts_alias_lines(shape):
             return syntax.Named(line, ("Option",), (behind,)) if part.of_option else behind
         return lent(part.type) if part.written_type else part.type
 
-    kinds = shape.either(lambda case: case.kind(of_part))
-    return [f"/// What [`{shape.item.name}`] is written as: its parts where they lie."] \
-        + lines(type_node(kinds), 0, f"type {shape.parts_alias} = ", ";")
+    return lambda case: case.kind(of_part)
+
+
+def group_lines(shape):
+    """The groups of a large enum: those that are read, and those that are written."""
+    found, item = [], shape.item
+    for group in shape.groups:
+        kinds = type_node(shape.kinds(group.tree, read_kind, None))
+        found += groups.type_lines(shape, shape.read_group(group), kinds)
+        if item.readable:
+            found += groups.read_lines(shape, shape.read_group(group))
+        if item.writable and not group.lends():
+            found += groups.write_lines(shape, shape.read_group(group))
+        found.append("")
+    for group in shape.groups if item.writable else []:
+        if group.lends():
+            kinds = type_node(shape.kinds(group.tree, written_kind(shape), None))
+            found += groups.type_lines(shape, shape.written_group(group), kinds)
+            found += groups.write_lines(shape, shape.written_group(group)) + [""]
+    return found
 
 
 def with_import(found, item, place):
@@ -228,27 +259,43 @@ def method_lines(shape):
 
 
 def from_cases_lines(shape):
-    """`fn from_cases`."""
+    """`fn from_cases`, and for each group a function of its own."""
+    found = []
+    for group in shape.groups:
+        found += from_group_lines(shape, group) + [""]
     clause = seen_clause(shape, lambda own: f"{own}.seen result",
-                         lambda own: f"⟦<{shape.cases_type} as Told>⟧.seen {as_passed(shape, 'cases')}")
-    found = [f"    fn from_cases(cases: {shape.cases_type}) -> {shape.self_type}", *clause, "    {"]
+                         lambda own: f"⟦<{shape.cases_type} as Told>⟧.seen {as_passed(shape.cases_type, 'cases')}")
+    found += [f"    fn from_cases(cases: {shape.cases_type}) -> {shape.self_type}", *clause, "    {"]
     found.append("        match cases {")
-    for case in shape.cases:
-        inner = "()" if not case.parts else fold(case.tree, lambda part: part.bound, lambda its: pattern("(", its))
-        variant = case.variant
-        value = built(f"{shape.item.name}::{variant.name}", variant.shape, variant.fields, case.accesses)
-        if is_nested(case.tree):
-            found += taken_apart(sided(case, pattern("Case(", ["parts"]), pattern), case.tree, value)
-        else:
-            found += arm_lines(sided(case, pattern("Case(", [inner]), pattern), value)
+    for case in shape.cases if not shape.groups else []:
+        found += from_arm(shape, case, case.path)
+    for group in shape.groups:
+        value = call(f"{shape.item.name}::from_group{group.place}(", ["group"])
+        found += arm_lines(sided(group.path, "group", pattern), value)
     return found + ["        }", "    }"]
 
 
-def sided(case, inner, node):
-    """The case at its place in the tree."""
-    for side in reversed(case.path):
-        inner = node("Left(" if side == "0" else "Right(", [inner])
-    return inner
+def from_group_lines(shape, group):
+    """The function that turns a group into the enum."""
+    kind = shape.read_group(group)
+    sides = "".join("inl (" if side == "0" else "inr (" for side in group.path)
+    seen = f"{sides}⟦<{kind} as Cases>⟧.seen {as_passed(kind, 'group')}" + ")" * len(group.path)
+    clause = seen_clause(shape, lambda own: f"{own}.seen result", lambda own: seen)
+    found = [f"    fn from_group{group.place}(group: {kind}) -> {shape.self_type}", *clause, "    {",
+             "        match group.0 {"]
+    for case in group.cases:
+        found += from_arm(shape, case, case.path[len(group.path):])
+    return found + ["        }", "    }"]
+
+
+def from_arm(shape, case, path):
+    """An arm of it."""
+    inner = "()" if not case.parts else fold(case.tree, lambda part: part.bound, lambda its: pattern("(", its))
+    variant = case.variant
+    value = built(f"{shape.item.name}::{variant.name}", variant.shape, variant.fields, case.accesses)
+    if is_nested(case.tree):
+        return taken_apart(sided(path, pattern("Case(", ["parts"]), pattern), case.tree, value)
+    return arm_lines(sided(path, pattern("Case(", [inner]), pattern), value)
 
 
 def to_parts_lines(shape):
@@ -258,20 +305,30 @@ def to_parts_lines(shape):
     head = f"    fn parts<{shape.loan}>(&{shape.loan} self)" if shape.lends else "    fn parts(&self)"
     found = [f"{head} -> {shape.parts_alias}", *clause, "    {", "        match self {"]
     for case in shape.cases:
-        found += parts_arm(shape.item, case)
+        found += parts_arm(shape, case)
     return found + ["        }", "    }"]
 
 
-def parts_arm(item, case):
+def parts_arm(shape, case):
     """An arm of it. Of many parts the tuple is made first."""
-    bound, inner = variant_pattern(item, case), "()"
+    bound, inner = variant_pattern(shape.item, case), "()"
     if case.parts:
         inner = fold(case.tree, lambda part: prefixed(part) if part.before else written_call(part.written),
                      lambda its: call("(", its))
     if not is_nested(case.tree):
-        return arm_lines(bound, sided(case, call("Case(", [inner]), call))
+        return arm_lines(bound, placed(shape, case, call("Case(", [inner])))
     made = lines(inner, 16, "let parts = ", ";")
-    return lines(bound, 12, "", " => {") + made + lines(sided(case, "Case(parts)", call), 16) + ["            }"]
+    return lines(bound, 12, "", " => {") + made + lines(placed(shape, case, "Case(parts)"), 16) + ["            }"]
+
+
+def placed(shape, case, inner):
+    """What is written of a case, at its place in the tree."""
+    group = case.group
+    if group is None:
+        return sided(case.path, inner, call)
+    inner = sided(case.path[len(group.path):], inner, call)
+    kind = shape.written_group(group).partition("<")[0]
+    return sided(group.path, call(f"{kind}(", [inner]), call)
 
 
 def variant_pattern(item, case):

@@ -397,9 +397,9 @@ def read_body(shape, value):
     return [f"        match {read} {{", *arm, "            Err(error) => Err(error),", "        }"]
 
 
-def as_passed(shape, name):
-    """A parameter by value in an `ensures`, which has another name where it holds a reference."""
-    return f"{name}.entry" if shape.generics.lifetimes else name
+def as_passed(kind, name):
+    """A parameter by value in an `ensures`, which has another name where its type names a lifetime."""
+    return f"{name}.entry" if "'" in kind else name
 
 
 def without_skips(asked):
