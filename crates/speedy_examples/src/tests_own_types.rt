@@ -1,11 +1,12 @@
 //! Types of one's own: bytes that come from outside.
-use crate::own_maps::Directory;
+use crate::own_maps::{Directory, Place};
 use crate::own_numbers::{Colour, Packet};
 use crate::own_struct::Contact;
 use crate::tests::assert_refused;
 use speedy::readable::BufferReader;
 use speedy::{LendingReader, LittleEndian, Writable};
 use std::alloc::Global;
+use std::collections::BTreeMap;
 
 /// A reader of the bytes.
 fn make_reader(alloc: Global, bytes: &[u8]) -> BufferReader<'_, LittleEndian> {
@@ -38,6 +39,18 @@ fn a_struct_may_hold_a_map_and_a_set(rt: HostRuntime) {
     assert!(rt; directory.numbers.len() == 1 && directory.marked.contains(&9));
     let again = Writable::<LittleEndian>::write_to_vec(&directory, alloc).expect(&rt, "bytes");
     let expected = b"\x01\0\0\0\x01\0\0\0a\x08\0\0\0\x01\0\0\0\x09\0\0\0";
+    assert!(rt; again.as_slice() == expected.as_slice());
+}
+
+#[test]
+fn a_key_may_be_a_type_of_ones_own(rt: HostRuntime) {
+    let alloc = rt.alloc();
+    // Of two pairs with one key the second counts, and the keys are written in ascending order.
+    let bytes = b"\x03\0\0\0\x02\0\x01\0\0\0\x07\x01\0\x09\0\0\0\x08\x02\0\x01\0\0\0\x05";
+    let pieces: BTreeMap<Place, u8> = make_reader(alloc, bytes).read_value().expect(&rt, "it");
+    assert!(rt; pieces.get(&Place { row: 2, column: 1 }) == Some(&5));
+    let again = Writable::<LittleEndian>::write_to_vec(&pieces, alloc).expect(&rt, "bytes");
+    let expected = b"\x02\0\0\0\x01\0\x09\0\0\0\x08\x02\0\x01\0\0\0\x05";
     assert!(rt; again.as_slice() == expected.as_slice());
 }
 
