@@ -1,4 +1,4 @@
-"""What the scripts of this folder share: the built programs, their lines, and rows of spellings."""
+"""What the scripts of this folder share: the built programs, their lines, and rows of encodings."""
 import os
 import subprocess
 import sys
@@ -110,21 +110,21 @@ class Programs:
 
 
 class Row:
-    """A spelling, and the written form of the value that it spells."""
+    """An encoding, and the canonical encoding of the value that it encodes."""
 
-    def __init__(self, order, name, spelling, written):
-        self.order, self.name, self.spelling, self.written = order, name, spelling, written
+    def __init__(self, order, name, encoding, written):
+        self.order, self.name, self.encoding, self.written = order, name, encoding, written
 
     def asked(self, digits=None):
         """The line of the answering program."""
-        digits = self.spelling if digits is None else digits
+        digits = self.encoding if digits is None else digits
         return f'{self.order} {self.name} {digits or "-"}'
 
     def line(self, withheld, way, digits=None):
         return f"{withheld} {way} {self.asked(digits)}"
 
     def size(self):
-        return len(self.spelling) // 2
+        return len(self.encoding) // 2
 
     def answer(self, is_counted=True):
         return f'ok {self.size() if is_counted else "?"} {self.written or "-"}'
@@ -142,7 +142,7 @@ def test_rows():
     return rows
 
 
-def spelled(digits):
+def encoded(digits):
     """Digits with their repetitions written out."""
     parts = []
     for part in digits.split(","):
@@ -157,13 +157,13 @@ def own_rows():
     for line in open(HERE + "/rows.txt"):
         if line.strip() and not line.startswith("#"):
             order, name, digits = line.split()
-            digits = spelled(digits.strip("-"))
+            digits = encoded(digits.strip("-"))
             rows.append(Row(order, name, digits, digits))
     return rows
 
 
 def varint(number):
-    """The shortest spelling of a number as an integer of variable length."""
+    """The shortest encoding of a number as an integer of variable length."""
     count = next(k for k in range(9) if k == 8 or number < 1 << 7 * (k + 1))
     first = 256 - (1 << 8 - count) + (number >> 8 * count if count < 8 else 0)
     return bytes([first]) + (number % (1 << 8 * count)).to_bytes(count, "little")
@@ -176,8 +176,8 @@ def varint_rows():
         power = 1 << n
         numbers |= {power, power - 1, (power - 1) << 1, n * 0x9E3779B97F4A7C15}
         numbers |= {power * odd for odd in (2, 5, 10, 21, 42, 85, 170)}
-    spellings = sorted({varint(number % (1 << 64)).hex() for number in numbers})
-    return [Row(order, "varint", digits, digits) for digits in spellings for order in ("le", "be")]
+    encodings = sorted({varint(number % (1 << 64)).hex() for number in numbers})
+    return [Row(order, "varint", digits, digits) for digits in encodings for order in ("le", "be")]
 
 
 def all_rows():
@@ -185,7 +185,7 @@ def all_rows():
 
 
 def places(size):
-    """Where a spelling is cut: at each byte, and of a long one at its first and last bytes and some between."""
+    """Where an encoding is cut: at each byte, and of a long one at its first and last bytes and some between."""
     if size <= 100:
         return range(size)
     return sorted(

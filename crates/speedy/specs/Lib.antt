@@ -4,7 +4,7 @@ pub use Rattle.speedy_base.specs.DeviceLemmas
 pub use Rattle.speedy_base.specs.MemoryDevices
 pub use Rattle.speedy_base.specs.Digits
 pub use Rattle.speedy_base.specs.DigitsLemmas
-pub use Rattle.speedy_base.specs.Encoding
+pub use Rattle.speedy_base.specs.Mode
 pub use Rattle.speedy_base.specs.Error
 pub use Rattle.speedy_base.specs.ErrorKind
 pub use Rattle.speedy_base.specs.FailedCalls
@@ -18,7 +18,7 @@ pub use Rattle.speedy_layout.specs.Codecs
 pub use Rattle.speedy_layout.specs.Codes
 pub use Rattle.speedy_layout.specs.Collecting
 pub use Rattle.speedy_layout.specs.Collections
-pub use Rattle.speedy_layout.specs.EachEncoding
+pub use Rattle.speedy_layout.specs.EachMode
 pub use Rattle.speedy_layout.specs.IndexMaps
 pub use Rattle.speedy_layout.specs.StdMaps
 pub use Rattle.speedy_layout.specs.StdSets
@@ -71,6 +71,7 @@ pub use Rattle.speedy_read.specs.Streams
 pub use Rattle.speedy_read.specs.UntilEnd
 pub use Rattle.speedy_read.specs.WaysOfReading
 pub use Rattle.speedy_read.proofs.ListLemmas as ReadItems
+pub use Rattle.speedy_write.specs.Buffering
 pub use Rattle.speedy_write.specs.Codes as WriteCodes
 pub use Rattle.speedy_write.specs.Collections as WriteCollections
 pub use Rattle.speedy_write.specs.CollectorLemmas
@@ -79,7 +80,6 @@ pub use Rattle.speedy_write.specs.Collectors
 pub use Rattle.speedy_write.specs.Counted as WriteCounted
 pub use Rattle.speedy_write.specs.Counting
 pub use Rattle.speedy_write.specs.FixedBytes
-pub use Rattle.speedy_write.specs.Gathering as WriteGathering
 pub use Rattle.speedy_write.specs.Lengths
 pub use Rattle.speedy_write.specs.Prefixed as WritePrefixed
 pub use Rattle.speedy_write.specs.Pushing

@@ -97,9 +97,9 @@ pub(crate) fn assert_kind(rt: &impl Abort, alloc: Global, error: &Error, kind: &
 }
 
 /// The encoding: all of the bytes but the last, which follows it.
-fn spelling_of<'a>(rt: &impl Abort, followed: &'a [u8]) -> &'a [u8] {
-    let (_, spelling) = followed.split_last().expect(rt, "a byte that follows");
-    spelling
+fn encoding_of<'a>(rt: &impl Abort, followed: &'a [u8]) -> &'a [u8] {
+    let (_, encoding) = followed.split_last().expect(rt, "a byte that follows");
+    encoding
 }
 
 /// A buffer of so many bytes, each of them 9.
@@ -108,9 +108,9 @@ fn make_buffer(rt: &impl Abort, alloc: Global, length: usize) -> Vec<u8> {
 }
 
 /// Asserts that the buffer holds the encoding, and that the byte after it is left as it was made.
-fn assert_at_front(rt: &impl Abort, buffer: &[u8], spelling: &[u8]) {
-    let (last, front) = buffer.split_last().expect(rt, "a byte that follows");
-    assert_bytes(rt, front, spelling);
+fn assert_at_front(rt: &impl Abort, buffer: &[u8], encoding: &[u8]) {
+    let (last, prefix) = buffer.split_last().expect(rt, "a byte that follows");
+    assert_bytes(rt, prefix, encoding);
     assert_same(rt, *last, 9);
 }
 
@@ -125,16 +125,16 @@ fn assert_written_to_vec<C: Context + Copy, T: Writable<C>>(
 where
     C::Error: Debug,
 {
-    let spelling = spelling_of(rt, followed);
+    let encoding = encoding_of(rt, followed);
     let written = value
         .write_to_vec_with_ctx(alloc, context)
         .expect(rt, "a vector");
-    assert_bytes(rt, written.as_slice(), spelling);
+    assert_bytes(rt, written.as_slice(), encoding);
     let mut held = context;
     let written = value
         .write_to_vec_with_ctx_mut(alloc, &mut held)
         .expect(rt, "a vector");
-    assert_bytes(rt, written.as_slice(), spelling);
+    assert_bytes(rt, written.as_slice(), encoding);
 }
 
 /// Asserts that under the context the value is written as all but the last of the bytes, to a buffer.
@@ -148,16 +148,16 @@ fn assert_written_to_buffer<C: Context + Copy, T: Writable<C>>(
 where
     C::Error: Debug,
 {
-    let spelling = spelling_of(rt, followed);
+    let encoding = encoding_of(rt, followed);
     let mut buffer = make_buffer(rt, alloc, followed.len());
     let outcome = value.write_to_buffer_with_ctx(context, buffer.as_mut_slice());
     outcome.expect(rt, "a write");
-    assert_at_front(rt, buffer.as_slice(), spelling);
+    assert_at_front(rt, buffer.as_slice(), encoding);
     let mut held = context;
     let mut buffer = make_buffer(rt, alloc, followed.len());
     let outcome = value.write_to_buffer_with_ctx_mut(&mut held, buffer.as_mut_slice());
     outcome.expect(rt, "a write");
-    assert_at_front(rt, buffer.as_slice(), spelling);
+    assert_at_front(rt, buffer.as_slice(), encoding);
 }
 
 /// Asserts that under the context the value is written as all but the last of the bytes, in each way of writing.
@@ -173,7 +173,7 @@ where
 {
     let mut held = context;
     let needed = value.bytes_needed(&mut held).expect(rt, "a size");
-    assert_same(rt, needed, spelling_of(rt, followed).len());
+    assert_same(rt, needed, encoding_of(rt, followed).len());
     assert_written_to_vec(rt, alloc, context, value, followed);
     assert_written_to_buffer(rt, alloc, context, value, followed);
 }
@@ -199,7 +199,7 @@ where
     let (outcome, count) = T::read_with_length_from_buffer_with_ctx(alloc, context, followed);
     let read = outcome.expect(rt, "a value");
     assert_value(rt, &read, value, followed);
-    assert_same(rt, count, spelling_of(rt, followed).len());
+    assert_same(rt, count, encoding_of(rt, followed).len());
 }
 
 /// Asserts the same of the forms that copy.
@@ -219,13 +219,13 @@ where
         alloc, context, followed,
     );
     assert_value(rt, &outcome.expect(rt, "a value"), value, followed);
-    assert_same(rt, count, spelling_of(rt, followed).len());
+    assert_same(rt, count, encoding_of(rt, followed).len());
     let mut held = context;
     let (outcome, count) = T::read_with_length_from_buffer_copying_data_with_ctx_mut(
         alloc, &mut held, followed,
     );
     assert_value(rt, &outcome.expect(rt, "a value"), value, followed);
-    assert_same(rt, count, spelling_of(rt, followed).len());
+    assert_same(rt, count, encoding_of(rt, followed).len());
 }
 
 /// Asserts that each value and its bytes in the little and in the big order belong together, in each way of writing to

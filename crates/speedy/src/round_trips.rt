@@ -18,9 +18,9 @@ fn read_written<'a, C: Context, T: Readable<'a, C>>(
     context: C,
     bytes: &'a [u8],
 ) -> Result<T, C::Error>
-    ensures same { (v : T.Seen) → (T.layout.format (C.encoding context)).writes v bytes.now
+    ensures same { (v : T.Seen) → (T.layout.format (C.mode context)).writes v bytes.now
         → IfOk result (λ x. T.seen x ≡ v) }
-    ensures refused { (v : T.Seen) → (T.layout.format (C.encoding context)).writes v bytes.now
+    ensures refused { (v : T.Seen) → (T.layout.format (C.mode context)).writes v bytes.now
         → IfErr result (C.Error.from_gives (error_of ErrorKind.OutOfMemory)) }
 {
     written_is_answered::<T, C>();
@@ -28,16 +28,16 @@ fn read_written<'a, C: Context, T: Readable<'a, C>>(
 }
 
 /// Reads a value that was written to the beginning, and says how many bytes are left.
-fn read_front<'a, C: Context, T: ReadFrom<&'a [u8], C>>(
+fn read_prefix<'a, C: Context, T: ReadFrom<&'a [u8], C>>(
     alloc: Global,
     context: C,
     bytes: &'a [u8],
 ) -> Result<(T, usize), C::Error>
-    ensures same { (v : T.Seen) (front rest : List ℕ) →
-        (T.layout.format (C.encoding context)).writes v front → bytes.now ≡ front ++ rest
+    ensures same { (v : T.Seen) (prefix rest : List ℕ) →
+        (T.layout.format (C.mode context)).writes v prefix → bytes.now ≡ prefix ++ rest
         → IfOk result (λ x. (T.seen x.0 ≡ v) × (x.1 ≡ count rest)) }
-    ensures refused { (v : T.Seen) (front rest : List ℕ) →
-        (T.layout.format (C.encoding context)).writes v front → bytes.now ≡ front ++ rest
+    ensures refused { (v : T.Seen) (prefix rest : List ℕ) →
+        (T.layout.format (C.mode context)).writes v prefix → bytes.now ≡ prefix ++ rest
         → IfErr result (C.Error.from_gives (error_of ErrorKind.OutOfMemory)) }
 {
     written_is_read::<T, C>();
@@ -71,7 +71,7 @@ fn what_was_written_is_read(rt: HostRuntime) {
     let order = Endianness::BigEndian;
     let bytes = [0, 0, 0, 2, 9];
     assert_ok(&rt, read_written::<_, u32>(alloc, order, &bytes[..4]), 2);
-    assert_ok(&rt, read_front::<_, u32>(alloc, order, &bytes), (2, 1));
+    assert_ok(&rt, read_prefix::<_, u32>(alloc, order, &bytes), (2, 1));
 }
 
 #[test]

@@ -1,4 +1,4 @@
-//! Frames: what fills them, what does not, and what is still to come.
+//! Frames: what fills them, what does not, and what is still there.
 use crate::asserting::{assert_bytes, assert_refused, assert_same};
 use crate::context::{LittleEndian, StrictLittleEndian};
 use crate::endianness::Endianness;
@@ -182,7 +182,7 @@ fn a_value_past_its_frame_is_not_written(rt: HostRuntime) {
 }
 
 #[test]
-fn a_longer_encoding_fills_a_longer_frame(rt: HostRuntime) {
+fn a_longer_mode_fills_a_longer_frame(rt: HostRuntime) {
     let alloc = rt.alloc();
     let bytes = [2, 0x80, 5];
     let mut reader = BufferReader::new(alloc, LittleEndian {}, &bytes);

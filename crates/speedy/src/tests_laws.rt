@@ -1,10 +1,10 @@
 //! Each law of layouts and of reading can be cited, at a leaf or at types within each other.
 use crate::context::LittleEndian;
 use crate::laws::{
-    copied_is_answered, equal_as_seen, no_spelling_begins_another, no_spelling_is_below_least,
-    one_front, one_value, one_written_form, spelled_is_written, until_end_is_decided,
-    until_end_of_cow_is_decided, written_form_alone, written_is_shortest, written_is_streamed,
-    written_length_is_read,
+    canonical_alone, copied_is_answered, encoded_is_written, equal_as_seen,
+    no_encoding_begins_another, no_encoding_is_below_least, one_canonical_encoding, one_prefix,
+    one_value, until_end_is_decided, until_end_of_cow_is_decided, written_is_shortest,
+    written_is_streamed, written_length_is_read,
 };
 use indexmap::{IndexMap, IndexSet};
 use std::borrow::CowSlice;
@@ -19,17 +19,17 @@ fn keys_are_equal_as_they_are_seen() {
 #[test]
 fn layouts_have_their_laws_within_each_other() {
     one_value::<HashMap<String, BTreeMap<u8, IndexSet<u16>>>>();
-    one_front::<IndexMap<String, HashSet<u16>>>();
-    no_spelling_begins_another::<Vec<String>>();
-    no_spelling_is_below_least::<BTreeMap<String, Vec<u16>>>();
+    one_prefix::<IndexMap<String, HashSet<u16>>>();
+    no_encoding_begins_another::<Vec<String>>();
+    no_encoding_is_below_least::<BTreeMap<String, Vec<u16>>>();
 }
 
 #[test]
-fn written_forms_have_their_laws() {
+fn canonical_encodings_have_their_laws() {
     written_is_shortest::<HashMap<String, Vec<u16>>>();
-    spelled_is_written::<Vec<String>>();
-    one_written_form::<BTreeMap<String, Vec<u16>>>();
-    written_form_alone::<Vec<String>>();
+    encoded_is_written::<Vec<String>>();
+    one_canonical_encoding::<BTreeMap<String, Vec<u16>>>();
+    canonical_alone::<Vec<String>>();
 }
 
 #[test]

@@ -67,7 +67,7 @@ fn a_reader_takes_its_bytes_in_turn(rt: HostRuntime) {
 }
 
 #[test]
-fn a_reader_says_what_is_to_come(rt: HostRuntime) {
+fn a_reader_says_what_remains(rt: HostRuntime) {
     let reader = BufferReader::new(rt.alloc(), Endianness::LittleEndian, &BYTES);
     assert_same(&rt, reader.len(), 25);
     assert!(rt; !reader.is_empty());

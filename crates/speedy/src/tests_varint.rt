@@ -38,14 +38,14 @@ const WRITTEN: [(u64, &[u8]); 18] = [
 ];
 
 /// Asserts that the number is written as these bytes.
-fn assert_written_as(rt: &impl Abort, number: u64, spelling: &[u8]) {
+fn assert_written_as(rt: &impl Abort, number: u64, encoding: &[u8]) {
     let (bytes, count) = VarInt64::from(number).encode();
-    assert_bytes(rt, &bytes[..count], spelling);
+    assert_bytes(rt, &bytes[..count], encoding);
 }
 
 /// Asserts that the bytes are as many as the first one says, that they encode the number, and whether they are what is
 /// written of it.
-fn assert_spells(rt: &impl Abort, bytes: &[u8], number: u64, is_written: bool) {
+fn assert_encodes(rt: &impl Abort, bytes: &[u8], number: u64, is_written: bool) {
     let (first, rest) = bytes.split_first().expect(rt, "a first byte");
     let more = VarInt64::length_of(*first);
     assert!(rt; rest.len() == more, "at {bytes:?}");
@@ -56,9 +56,9 @@ fn assert_spells(rt: &impl Abort, bytes: &[u8], number: u64, is_written: bool) {
 
 /// Asserts that each number becomes its bytes, and these become the number again.
 fn assert_become_each_other(rt: &impl Abort, rows: &[(u64, &[u8])]) {
-    for (number, spelling) in rows {
-        assert_written_as(rt, *number, spelling);
-        assert_spells(rt, spelling, *number, true);
+    for (number, encoding) in rows {
+        assert_written_as(rt, *number, encoding);
+        assert_encodes(rt, encoding, *number, true);
     }
 }
 

@@ -60,7 +60,7 @@ fn assert_array_shows<T: ViewItem + PartialEq + Debug, const N: usize>(
 }
 
 #[test]
-fn views_show_what_their_bytes_spell(rt: HostRuntime) {
+fn views_show_what_their_bytes_encode(rt: HostRuntime) {
     let view: SliceView<u8> = SliceView::over(&[1, 2, 255]);
     assert_shows(&rt, &view, &[1, 2, 255]);
     let view: SliceView<i8> = SliceView::over(&[255, 128]);
@@ -105,7 +105,7 @@ fn assert_pair_read(rt: &impl Abort, alloc: Global, bytes: &[u8]) {
 #[test]
 fn views_are_read_where_they_are_lent(rt: HostRuntime) {
     let alloc = rt.alloc();
-    // The spelling lies twice, so that one of the two lies at an odd address.
+    // The encoding lies twice, so that one of the two lies at an odd address.
     let bytes = [9, 2, 0, 0, 0, 1, 2, 3, 4, 9, 2, 0, 0, 0, 1, 2, 3, 4];
     assert_pair_read(&rt, alloc, &bytes[1..]);
     assert_pair_read(&rt, alloc, &bytes[10..]);

@@ -9,11 +9,11 @@ use Rattle.std.specs.Int.{Width, byte_len, byte_worth, sum_through, from_le_byte
 use Rattle.std.specs.Int.{swap_bytes}
 use Rattle.speedy_base.specs.declared.endianness.Endianness.{Endianness}
 use Rattle.speedy_base.specs.declared.endianness.Endianness.TheVariants.{LittleEndian, BigEndian}
-use Rattle.speedy_base.specs.Digits.{little_number, number, little_digits, digits, AreBytes, SpellsNumber, swapped}
+use Rattle.speedy_base.specs.Digits.{little_number, number, little_digits, digits, AreBytes, EncodesNumber, swapped}
 use Rattle.speedy_base.specs.DigitsLemmas.{sum_first, sum_same, reverse-cons, little_number-append, byte_len-above}
 use Rattle.speedy_base.specs.DigitsLemmas.{little_number-from_le_bytes, to_le_bytes-little_digits, length-little_digits}
 use Rattle.speedy_base.specs.DigitsLemmas.{AreBytes-little_digits, AreBytes-append, AreBytes-reverse}
-use Rattle.speedy_base.specs.DigitsLemmas.{little_digits-little_number, SpellsNumber-digits, SpellsNumber-to_le_bytes}
+use Rattle.speedy_base.specs.DigitsLemmas.{little_digits-little_number, EncodesNumber-digits, EncodesNumber-to_le_bytes}
 use Rattle.speedy_base.specs.DigitsLemmas.{pow-byte_len}
 
 worth_is : (i b : ℕ) → byte_worth i b ≡ b * 256 ^ i
@@ -45,22 +45,22 @@ pub little_number-from_be_bytes : (w : Width) (bytes : List ℕ) → length byte
 little_number-from_be_bytes w bytes e = from_high_first (byte_len w - 1) bytes (e ∙ byte_len-above w)
 
 -- a number that was read from a slice, byte by byte
-pub SpellsNumber-from_le_bytes : (w : Width) (order : Endianness) (n : ℕ) (bytes items : List ℕ) → order ≡ LittleEndian
+pub EncodesNumber-from_le_bytes : (w : Width) (order : Endianness) (n : ℕ) (bytes items : List ℕ) → order ≡ LittleEndian
     → items ≡ bytes
-    → length bytes ≡ byte_len w → AreBytes bytes → n ≡ from_le_bytes w items → SpellsNumber (byte_len w) order n bytes
+    → length bytes ≡ byte_len w → AreBytes bytes → n ≡ from_le_bytes w items → EncodesNumber (byte_len w) order n bytes
 unfolding number
-SpellsNumber-from_le_bytes w order n bytes items is same len are e = record {
+EncodesNumber-from_le_bytes w order n bytes items is same len are e = record {
   width_is = len;
   are_bytes = are;
   value_is = ap (λ (o : Endianness). number o bytes) is
       ∙ sym (e ∙ ap (from_le_bytes w) same ∙ little_number-from_le_bytes w bytes len);
 }
 
-pub SpellsNumber-from_be_bytes : (w : Width) (order : Endianness) (n : ℕ) (bytes items : List ℕ) → order ≡ BigEndian
+pub EncodesNumber-from_be_bytes : (w : Width) (order : Endianness) (n : ℕ) (bytes items : List ℕ) → order ≡ BigEndian
     → items ≡ bytes
-    → length bytes ≡ byte_len w → AreBytes bytes → n ≡ from_be_bytes w items → SpellsNumber (byte_len w) order n bytes
+    → length bytes ≡ byte_len w → AreBytes bytes → n ≡ from_be_bytes w items → EncodesNumber (byte_len w) order n bytes
 unfolding number
-SpellsNumber-from_be_bytes w order n bytes items is same len are e = record {
+EncodesNumber-from_be_bytes w order n bytes items is same len are e = record {
   width_is = len;
   are_bytes = are;
   value_is = ap (λ (o : Endianness). number o bytes) is
@@ -68,58 +68,58 @@ SpellsNumber-from_be_bytes w order n bytes items is same len are e = record {
 }
 
 -- a number that was turned into the order, and then written least digit first
-pub SpellsNumber-turned : (w : Width) (order : Endianness) (n turned : ℕ) (bytes : List ℕ)
+pub EncodesNumber-turned : (w : Width) (order : Endianness) (n turned : ℕ) (bytes : List ℕ)
     → turned ≡ swapped order (byte_len w) n → n < 2 ^ bits w
-    → bytes ≡ to_le_bytes w turned → SpellsNumber (byte_len w) order n bytes
+    → bytes ≡ to_le_bytes w turned → EncodesNumber (byte_len w) order n bytes
 unfolding digits number swapped
-SpellsNumber-turned w LittleEndian n turned bytes is l e =
-    SpellsNumber-to_le_bytes w LittleEndian n bytes refl l (e ∙ ap (to_le_bytes w) is)
-SpellsNumber-turned w BigEndian n turned bytes is l e =
+EncodesNumber-turned w LittleEndian n turned bytes is l e =
+    EncodesNumber-to_le_bytes w LittleEndian n bytes refl l (e ∙ ap (to_le_bytes w) is)
+EncodesNumber-turned w BigEndian n turned bytes is l e =
     let width = byte_len w in
     let low = little_digits width n in
     let sized : length (reverse low) ≡ width = length-reverse low ∙ length-little_digits width n in
     let same : little_digits width (little_number (reverse low)) ≡ reverse low =
     ap (λ (k : ℕ). little_digits k (little_number (reverse low))) (sym sized)
     ∙ little_digits-little_number (reverse low) (AreBytes-reverse low (AreBytes-little_digits width n)) in
-    subst (SpellsNumber width BigEndian n)
+    subst (EncodesNumber width BigEndian n)
     (sym (e ∙ (to_le_bytes-little_digits w turned ∙ (ap (little_digits width) is ∙ same))))
-    (SpellsNumber-digits width BigEndian n (subst (λ (m : ℕ). n < m) (pow-byte_len w) l))
+    (EncodesNumber-digits width BigEndian n (subst (λ (m : ℕ). n < m) (pow-byte_len w) l))
 
 -- what is put into either half of a list
 pub halves_put : (a zeros b : List ℕ) → length a ≡ 8 → length zeros ≡ 8 → put_mid 8 8 (a ++ zeros) b ≡ a ++ b
-halves_put a zeros b front back =
+halves_put a zeros b prefix suffix =
     let whole = length-append a zeros in
     let rest : post_of 8 8 (a ++ zeros) ≡ [] =
-    drop_all 8 (drop 8 (a ++ zeros)) (omega (arith, length-drop 8 (a ++ zeros), whole, front, back)) in
-    ap₂ (λ x y. x ++ (b ++ y)) (take_at a zeros 8 front) rest ∙ ap (λ y. a ++ y) (append-nil b)
+    drop_all 8 (drop 8 (a ++ zeros)) (omega (arith, length-drop 8 (a ++ zeros), whole, prefix, suffix)) in
+    ap₂ (λ x y. x ++ (b ++ y)) (take_at a zeros 8 prefix) rest ∙ ap (λ y. a ++ y) (append-nil b)
 
 -- the digits of a number are those of its halves, the lower first under little and the higher under big
-pub SpellsNumber-low_first : (half n low high : ℕ) (order : Endianness) (xs ys : List ℕ) → order ≡ LittleEndian
-    → SpellsNumber half order low xs → SpellsNumber half order high ys
-    → n ≡ low + 256 ^ half * high → SpellsNumber (half + half) order n (xs ++ ys)
+pub EncodesNumber-low_first : (half n low high : ℕ) (order : Endianness) (xs ys : List ℕ) → order ≡ LittleEndian
+    → EncodesNumber half order low xs → EncodesNumber half order high ys
+    → n ≡ low + 256 ^ half * high → EncodesNumber (half + half) order n (xs ++ ys)
 unfolding number
-SpellsNumber-low_first half n low high order xs ys is h k e =
-    let a = subst (λ (o : Endianness). SpellsNumber half o low xs) is h in
-    let b = subst (λ (o : Endianness). SpellsNumber half o high ys) is k in
+EncodesNumber-low_first half n low high order xs ys is h k e =
+    let a = subst (λ (o : Endianness). EncodesNumber half o low xs) is h in
+    let b = subst (λ (o : Endianness). EncodesNumber half o high ys) is k in
     let value : little_number (xs ++ ys) ≡ n =
     little_number-append xs ys ∙ (ap₂ ◌+◌ a.value_is (ap₂ (λ w m. 256 ^ w * m) a.width_is b.value_is) ∙ sym e) in
-    subst (λ (o : Endianness). SpellsNumber (half + half) o n (xs ++ ys)) (sym is) (record {
+    subst (λ (o : Endianness). EncodesNumber (half + half) o n (xs ++ ys)) (sym is) (record {
       width_is = length-append xs ys ∙ ap₂ ◌+◌ a.width_is b.width_is;
       are_bytes = AreBytes-append xs ys a.are_bytes b.are_bytes;
       value_is = value;
     })
 
-pub SpellsNumber-high_first : (half n low high : ℕ) (order : Endianness) (xs ys : List ℕ) → order ≡ BigEndian
-    → SpellsNumber half order high xs → SpellsNumber half order low ys
-    → n ≡ low + 256 ^ half * high → SpellsNumber (half + half) order n (xs ++ ys)
+pub EncodesNumber-high_first : (half n low high : ℕ) (order : Endianness) (xs ys : List ℕ) → order ≡ BigEndian
+    → EncodesNumber half order high xs → EncodesNumber half order low ys
+    → n ≡ low + 256 ^ half * high → EncodesNumber (half + half) order n (xs ++ ys)
 unfolding number
-SpellsNumber-high_first half n low high order xs ys is h k e =
-    let a = subst (λ (o : Endianness). SpellsNumber half o high xs) is h in
-    let b = subst (λ (o : Endianness). SpellsNumber half o low ys) is k in
+EncodesNumber-high_first half n low high order xs ys is h k e =
+    let a = subst (λ (o : Endianness). EncodesNumber half o high xs) is h in
+    let b = subst (λ (o : Endianness). EncodesNumber half o low ys) is k in
     let value : little_number (reverse (xs ++ ys)) ≡ n =
     ap little_number (reverse-append xs ys) ∙ (little_number-append (reverse ys) (reverse xs)
     ∙ (ap₂ ◌+◌ b.value_is (ap₂ (λ w m. 256 ^ w * m) (length-reverse ys ∙ b.width_is) a.value_is) ∙ sym e)) in
-    subst (λ (o : Endianness). SpellsNumber (half + half) o n (xs ++ ys)) (sym is) (record {
+    subst (λ (o : Endianness). EncodesNumber (half + half) o n (xs ++ ys)) (sym is) (record {
       width_is = length-append xs ys ∙ ap₂ ◌+◌ a.width_is b.width_is;
       are_bytes = AreBytes-append xs ys a.are_bytes b.are_bytes;
       value_is = value;

@@ -59,7 +59,7 @@ module _ (xs w rest : List ℕ) (end : ℕ) (inside : end ≤ length xs) where
   written_is : written ≡ take end xs ++ take (length xs - end) tail
   written_is =
       let size : length xs ≡ end + (length xs - end) = omega arith in
-      let front : length (take end xs) ≡ end = length-take-le end xs inside in
+      let prefix : length (take end xs) ≡ end = length-take-le end xs inside in
       let long : length xs ≤ length (take end xs ++ tail) = omega (
         arith,
         length-append (take end xs) tail,
@@ -68,7 +68,7 @@ module _ (xs w rest : List ℕ) (end : ℕ) (inside : end ≤ length xs) where
         length-drop end xs,
       ) in
       take-append-le (length xs) (take end xs ++ tail) rest long
-      ∙ ap (λ k. take k (take end xs ++ tail)) (size ∙ ap (λ k. k + (length xs - end)) (sym front))
+      ∙ ap (λ k. take k (take end xs ++ tail)) (size ∙ ap (λ k. k + (length xs - end)) (sym prefix))
       ∙ take-append-add (take end xs) tail (length xs - end)
 
   -- what lay before it stays

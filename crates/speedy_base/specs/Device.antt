@@ -8,7 +8,7 @@ use Rattle.speedy_base.specs.FailedCalls.{OneFailed}
 -- a source: whether it tells which bytes it will give, those bytes where it does, and its failed calls
 pub record SourceState : Type 0 where
   pub tells : Bool
-  pub to_come : List ℕ
+  pub remaining : List ℕ
   pub faults : Faults
 
 -- a sink: whether it tells which bytes it took, those bytes where it does, its failed calls, and whether all that it
@@ -33,9 +33,9 @@ SourceKept old new = DeviceKept old.tells new.tells old.faults new.faults
 abbrev pub SinkKept : SinkState → SinkState → Type 0
 SinkKept old new = DeviceKept old.tells new.tells old.faults new.faults
 
--- the source tells its bytes, and at least so many are to come
+-- the source tells its bytes, and at least so many remain
 abbrev pub Holds : SourceState → ℕ → Type 0
-Holds source size = IsTrue source.tells × (size ≤ length source.to_come)
+Holds source size = IsTrue source.tells × (size ≤ length source.remaining)
 
 -- one call of `pull`, which left this output
 pub record Pulls (result : Result ℕ StdIoError) (old new : SourceState) (output : List ℕ) : Type 0 where
@@ -44,14 +44,14 @@ pub record Pulls (result : Result ℕ StdIoError) (old new : SourceState) (outpu
   pub within : IfOk result (λ n. n ≤ length output)
   -- what succeeds is no failed call
   pub no_fault : OnOk result (new.faults ≡ old.faults)
-  -- the first n bytes to come are at the front of the output, and the others are still to come
-  pub moved : IfOk result (λ n. IsTrue old.tells → old.to_come ≡ take n output ++ new.to_come)
-  -- none are given only where none are to come, or where there is no room
-  pub ends : IfOk result (λ n. IsTrue old.tells → n ≡ 0 → 0 < length output → old.to_come ≡ [])
+  -- the first n remaining bytes are at the front of the output, and the others are still there
+  pub moved : IfOk result (λ n. IsTrue old.tells → old.remaining ≡ take n output ++ new.remaining)
+  -- none are given only where none remain, or where there is no room
+  pub ends : IfOk result (λ n. IsTrue old.tells → n ≡ 0 → 0 < length output → old.remaining ≡ [])
   -- what fails is counted, and its error is kept as the last
   pub fault : IfErr result (λ error. OneFailed error old.faults new.faults)
-  -- and takes no byte from those to come
-  pub unmoved : OnErr result (IsTrue old.tells → new.to_come ≡ old.to_come)
+  -- and takes none of the remaining bytes
+  pub unmoved : OnErr result (IsTrue old.tells → new.remaining ≡ old.remaining)
 
 -- one call of `push` with these bytes
 pub record Pushes (result : Result ℕ StdIoError) (old new : SinkState) (bytes : List ℕ) : Type 0 where

@@ -1,4 +1,4 @@
--- How numbers are spelled: base 256 digits, in either byte order.
+-- How numbers are encoded: base 256 digits, in either byte order.
 use Rattle.std.specs.Prelude.{◌≡◌, ℕ, zero, suc, ◌+◌, ◌*◌, ◌/◌, ◌%◌, ◌<◌, List, [], ◌∷◌, length, reverse}
 use Rattle.std.specs.List.{AllByRecursion}
 use Rattle.speedy_base.specs.declared.endianness.Endianness.{Endianness}
@@ -29,7 +29,7 @@ abbrev pub AreBytes : List ℕ → Type 0
 AreBytes bytes = AllByRecursion (λ b. b < 256) bytes
 
 -- README, "as-is": so many digits, each a byte, with this value in this order
-pub record SpellsNumber (width : ℕ) (order : Endianness) (n : ℕ) (bytes : List ℕ) : Type 0 where
+pub record EncodesNumber (width : ℕ) (order : Endianness) (n : ℕ) (bytes : List ℕ) : Type 0 where
   pub width_is : length bytes ≡ width
   pub are_bytes : AreBytes bytes
   pub value_is : number order bytes ≡ n

@@ -9,7 +9,7 @@ use Rattle.std.specs.Int.{Width, w8, w16, w32, w64, w128, byte_len, byte_at, byt
 use Rattle.std.specs.Int.{from_le_bytes, to_le_bytes}
 use Rattle.speedy_base.specs.declared.endianness.Endianness.{Endianness}
 use Rattle.speedy_base.specs.declared.endianness.Endianness.TheVariants.{LittleEndian, BigEndian}
-use Rattle.speedy_base.specs.Digits.{little_number, number, little_digits, digits, AreBytes, SpellsNumber, swapped}
+use Rattle.speedy_base.specs.Digits.{little_number, number, little_digits, digits, AreBytes, EncodesNumber, swapped}
 
 -- ---- sums
 
@@ -177,41 +177,42 @@ number-below LittleEndian bytes h = little_number-below bytes h
 number-below BigEndian bytes h = subst (λ (width : ℕ). little_number (reverse bytes) < 256 ^ width)
     (length-reverse bytes) (little_number-below (reverse bytes) (AreBytes-reverse bytes h))
 
--- ---- spellings
+-- ---- encodings
 
--- each number that is small enough has a spelling
-pub SpellsNumber-digits : (width : ℕ) (order : Endianness) (n : ℕ) → n < 256 ^ width
-    → SpellsNumber width order n (digits order width n)
-SpellsNumber-digits width order n l = record {
+-- each number that is small enough has an encoding
+pub EncodesNumber-digits : (width : ℕ) (order : Endianness) (n : ℕ) → n < 256 ^ width
+    → EncodesNumber width order n (digits order width n)
+EncodesNumber-digits width order n l = record {
   width_is = length-digits order width n;
   are_bytes = AreBytes-digits order width n;
   value_is = number-digits order width n l;
 }
 
 -- and no other
-pub SpellsNumber-unique : (width : ℕ) (order : Endianness) (n : ℕ) (bytes : List ℕ) → SpellsNumber width order n bytes
+pub EncodesNumber-unique : (width : ℕ) (order : Endianness) (n : ℕ) (bytes : List ℕ) → EncodesNumber width order n bytes
     → bytes ≡ digits order width n
-SpellsNumber-unique width order n bytes s =
+EncodesNumber-unique width order n bytes s =
     sym (digits-number order bytes s.are_bytes) ∙ ap₂ (digits order) s.width_is s.value_is
 
--- the same bytes spell one number
-pub SpellsNumber-same_value : (width : ℕ) (order : Endianness) (m n : ℕ) (bytes : List ℕ)
-    → SpellsNumber width order m bytes
-    → SpellsNumber width order n bytes → m ≡ n
-SpellsNumber-same_value width order m n bytes s t = sym s.value_is ∙ t.value_is
+-- the same bytes encode one number
+pub EncodesNumber-same_value : (width : ℕ) (order : Endianness) (m n : ℕ) (bytes : List ℕ)
+    → EncodesNumber width order m bytes
+    → EncodesNumber width order n bytes → m ≡ n
+EncodesNumber-same_value width order m n bytes s t = sym s.value_is ∙ t.value_is
 
--- the same number has one spelling
-pub SpellsNumber-same_bytes : (width : ℕ) (order : Endianness) (n : ℕ) (xs ys : List ℕ) → SpellsNumber width order n xs
-    → SpellsNumber width order n ys → xs ≡ ys
-SpellsNumber-same_bytes width order n xs ys s t =
-    SpellsNumber-unique width order n xs s ∙ sym (SpellsNumber-unique width order n ys t)
+-- the same number has one encoding
+pub EncodesNumber-same_bytes : (width : ℕ) (order : Endianness) (n : ℕ) (xs ys : List ℕ)
+    → EncodesNumber width order n xs
+    → EncodesNumber width order n ys → xs ≡ ys
+EncodesNumber-same_bytes width order n xs ys s t =
+    EncodesNumber-unique width order n xs s ∙ sym (EncodesNumber-unique width order n ys t)
 
-pub SpellsNumber-below : (width : ℕ) (order : Endianness) (n : ℕ) (bytes : List ℕ) → SpellsNumber width order n bytes
+pub EncodesNumber-below : (width : ℕ) (order : Endianness) (n : ℕ) (bytes : List ℕ) → EncodesNumber width order n bytes
     → n < 256 ^ width
-SpellsNumber-below width order n bytes s =
+EncodesNumber-below width order n bytes s =
     subst₂ (λ (m w : ℕ). m < 256 ^ w) s.value_is s.width_is (number-below order bytes s.are_bytes)
 
--- ---- spellings by std's conversions
+-- ---- encodings by std's conversions
 
 -- the items of a list from index i onward, so many of them
 abbrev pub listed : List ℕ → ℕ → ℕ → List ℕ
@@ -237,14 +238,14 @@ pow-byte_len w64 = refl
 pow-byte_len w128 = refl
 
 -- a number of the type, written
-pub SpellsNumber-to_le_bytes : (w : Width) (order : Endianness) (n : ℕ) (bytes : List ℕ) → order ≡ LittleEndian
+pub EncodesNumber-to_le_bytes : (w : Width) (order : Endianness) (n : ℕ) (bytes : List ℕ) → order ≡ LittleEndian
     → n < 2 ^ bits w
-    → bytes ≡ to_le_bytes w n → SpellsNumber (byte_len w) order n bytes
+    → bytes ≡ to_le_bytes w n → EncodesNumber (byte_len w) order n bytes
 unfolding digits
-SpellsNumber-to_le_bytes w order n bytes is l e =
-    subst₂ (λ (o : Endianness) (bs : List ℕ). SpellsNumber (byte_len w) o n bs) (sym is)
+EncodesNumber-to_le_bytes w order n bytes is l e =
+    subst₂ (λ (o : Endianness) (bs : List ℕ). EncodesNumber (byte_len w) o n bs) (sym is)
     (sym (e ∙ to_le_bytes-little_digits w n))
-    (SpellsNumber-digits (byte_len w) LittleEndian n (subst (λ (m : ℕ). n < m) (pow-byte_len w) l))
+    (EncodesNumber-digits (byte_len w) LittleEndian n (subst (λ (m : ℕ). n < m) (pow-byte_len w) l))
 
 -- ---- std's reversal of a number's bytes
 
@@ -255,18 +256,18 @@ swapped-little order width n is = ap (λ (o : Endianness). swapped o width n) is
 -- ---- one byte
 
 -- a byte is a number of one digit
-pub SpellsNumber-one_byte : (order : Endianness) (b : ℕ) → b < 256 → SpellsNumber 1 order b (b ∷ [])
+pub EncodesNumber-one_byte : (order : Endianness) (b : ℕ) → b < 256 → EncodesNumber 1 order b (b ∷ [])
 unfolding number
-SpellsNumber-one_byte LittleEndian b l = record { width_is = refl; are_bytes = (l, tt); value_is = omega arith }
-SpellsNumber-one_byte BigEndian b l = record { width_is = refl; are_bytes = (l, tt); value_is = omega arith }
+EncodesNumber-one_byte LittleEndian b l = record { width_is = refl; are_bytes = (l, tt); value_is = omega arith }
+EncodesNumber-one_byte BigEndian b l = record { width_is = refl; are_bytes = (l, tt); value_is = omega arith }
 
--- which has no other spelling
-pub SpellsNumber-is_one_byte : (order : Endianness) (n : ℕ) (bytes : List ℕ) → SpellsNumber 1 order n bytes
+-- which has no other encoding
+pub EncodesNumber-is_one_byte : (order : Endianness) (n : ℕ) (bytes : List ℕ) → EncodesNumber 1 order n bytes
     → bytes ≡ n ∷ []
 unfolding number
-SpellsNumber-is_one_byte order n [] h = let l = h.width_is in absurd (omega arith)
-SpellsNumber-is_one_byte LittleEndian n (b ∷ []) h =
+EncodesNumber-is_one_byte order n [] h = let l = h.width_is in absurd (omega arith)
+EncodesNumber-is_one_byte LittleEndian n (b ∷ []) h =
     ap (λ (x : ℕ). x ∷ []) (let e : b + 256 * 0 ≡ n = h.value_is in omega arith)
-SpellsNumber-is_one_byte BigEndian n (b ∷ []) h =
+EncodesNumber-is_one_byte BigEndian n (b ∷ []) h =
     ap (λ (x : ℕ). x ∷ []) (let e : b + 256 * 0 ≡ n = h.value_is in omega arith)
-SpellsNumber-is_one_byte order n (b ∷ c ∷ bytes) h = let l = h.width_is in absurd (omega arith)
+EncodesNumber-is_one_byte order n (b ∷ c ∷ bytes) h = let l = h.width_is in absurd (omega arith)

@@ -6,7 +6,7 @@ pub mod FailedCalls
 pub mod DigitsLemmas
 pub mod Error
 pub mod ErrorKind
-pub mod Encoding
+pub mod Mode
 pub mod Ring
 pub mod Signed
 pub mod SignedLemmas

@@ -11,7 +11,7 @@ no_faults = record { count = 0; last = None }
 
 -- a list of bytes that is read to its end
 abbrev pub bytes_source : List ℕ → SourceState
-bytes_source bytes = record { tells = true; to_come = bytes; faults = no_faults }
+bytes_source bytes = record { tells = true; remaining = bytes; faults = no_faults }
 
 -- the bytes that a `VecSink` took
 abbrev pub vec_sink_bytes : VecSink → List ℕ
@@ -39,7 +39,7 @@ counted_settled counted = counted.settled
 
 -- the same, as a source and as a sink that tell no byte
 abbrev pub counted_source : {S : Type 0} → Counted S → SourceState
-counted_source counted = record { tells = false; to_come = []; faults = counted.faults }
+counted_source counted = record { tells = false; remaining = []; faults = counted.faults }
 
 abbrev pub counted_sink : {S : Type 0} → Counted S → SinkState
 counted_sink counted = record { tells = false; taken = []; faults = counted.faults; settled = counted.settled }

@@ -7,42 +7,43 @@ use Rattle.std.specs.Int.{Width, byte_len, cast_unsigned, cast_signed}
 use Rattle.std.specs.Int.RustNames.{FitsSigned}
 use Rattle.speedy_base.specs.declared.endianness.Endianness.{Endianness}
 use Rattle.speedy_base.specs.declared.endianness.Endianness.TheVariants.{LittleEndian}
-use Rattle.speedy_base.specs.Digits.{SpellsNumber}
-use Rattle.speedy_base.specs.DigitsLemmas.{SpellsNumber-below, SpellsNumber-same_value, pow-byte_len}
-use Rattle.speedy_base.specs.Signed.{SpellsSigned, swapped_signed}
+use Rattle.speedy_base.specs.Digits.{EncodesNumber}
+use Rattle.speedy_base.specs.DigitsLemmas.{EncodesNumber-below, EncodesNumber-same_value, pow-byte_len}
+use Rattle.speedy_base.specs.Signed.{EncodesSigned, swapped_signed}
 
--- a number that has a spelling fits the width
-fits : (w : Width) (order : Endianness) (n : ℕ) (bytes : List ℕ) → SpellsNumber (byte_len w) order n bytes → Fits w n
+-- a number that has an encoding fits the width
+fits : (w : Width) (order : Endianness) (n : ℕ) (bytes : List ℕ) → EncodesNumber (byte_len w) order n bytes → Fits w n
 fits w order n bytes s =
-    record { fits = subst (λ (m : ℕ). n < m) (sym (pow-byte_len w)) (SpellsNumber-below (byte_len w) order n bytes s) }
+    record { fits = subst (λ (m : ℕ). n < m) (sym (pow-byte_len w)) (EncodesNumber-below (byte_len w) order n bytes s) }
 
--- the signed number of the same bits has the same spelling
-pub SpellsSigned-cast_signed : (w : Width) (order : Endianness) (n : ℕ) (bytes : List ℕ)
-    → SpellsNumber (byte_len w) order n bytes
-    → SpellsSigned w order (cast_signed w n) bytes
-SpellsSigned-cast_signed w order n bytes s = record {
+-- the signed number of the same bits has the same encoding
+pub EncodesSigned-cast_signed : (w : Width) (order : Endianness) (n : ℕ) (bytes : List ℕ)
+    → EncodesNumber (byte_len w) order n bytes
+    → EncodesSigned w order (cast_signed w n) bytes
+EncodesSigned-cast_signed w order n bytes s = record {
   range = to_z-Fits w n (fits w order n bytes s);
-  digits = subst (λ (m : ℕ). SpellsNumber (byte_len w) order m bytes) (sym (of_z-to_z w n (fits w order n bytes s))) s;
+  digits = subst (λ (m : ℕ). EncodesNumber (byte_len w) order m bytes) (sym (of_z-to_z w n (fits w order n bytes s))) s;
 }
 
 -- and so where a function answers it
-pub SpellsSigned-answered : (w : Width) (order : Endianness) (n : ℕ) (z : ℤ) (bytes : List ℕ) → z ≡ cast_signed w n
-    → SpellsNumber (byte_len w) order n bytes → SpellsSigned w order (cast_signed w (cast_unsigned w z)) bytes
-SpellsSigned-answered w order n z bytes e s =
+pub EncodesSigned-answered : (w : Width) (order : Endianness) (n : ℕ) (z : ℤ) (bytes : List ℕ) → z ≡ cast_signed w n
+    → EncodesNumber (byte_len w) order n bytes → EncodesSigned w order (cast_signed w (cast_unsigned w z)) bytes
+EncodesSigned-answered w order n z bytes e s =
     let same : cast_unsigned w z ≡ n = ap (cast_unsigned w) e ∙ of_z-to_z w n (fits w order n bytes s) in
-    subst (λ (m : ℕ). SpellsSigned w order (cast_signed w m) bytes) (sym same)
-    (SpellsSigned-cast_signed w order n bytes s)
+    subst (λ (m : ℕ). EncodesSigned w order (cast_signed w m) bytes) (sym same)
+    (EncodesSigned-cast_signed w order n bytes s)
 
 -- signed numbers of the same bits are the same
 pub cast_unsigned-same : (w : Width) (y z : ℤ) → FitsSigned w y → FitsSigned w z
     → cast_unsigned w y ≡ cast_unsigned w z → y ≡ z
 cast_unsigned-same w y z f g e = sym (to_z-of_z w y f) ∙ (ap (cast_signed w) e ∙ to_z-of_z w z g)
 
--- the same bytes spell one number
-pub SpellsSigned-same_value : (w : Width) (order : Endianness) (y z : ℤ) (bytes : List ℕ) → SpellsSigned w order y bytes
-    → SpellsSigned w order z bytes → y ≡ z
-SpellsSigned-same_value w order y z bytes s t = cast_unsigned-same w y z s.range t.range
-    (SpellsNumber-same_value (byte_len w) order (cast_unsigned w y) (cast_unsigned w z) bytes s.digits t.digits)
+-- the same bytes encode one number
+pub EncodesSigned-same_value : (w : Width) (order : Endianness) (y z : ℤ) (bytes : List ℕ)
+    → EncodesSigned w order y bytes
+    → EncodesSigned w order z bytes → y ≡ z
+EncodesSigned-same_value w order y z bytes s t = cast_unsigned-same w y z s.range t.range
+    (EncodesNumber-same_value (byte_len w) order (cast_unsigned w y) (cast_unsigned w z) bytes s.digits t.digits)
 
 -- ---- std's reversal of a signed number's bytes
 

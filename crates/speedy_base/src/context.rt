@@ -1,7 +1,7 @@
 //! The contexts of reads and writes: byte order, error, and whether only canonical encodings are read.
 ghost use Rattle.std.specs.Prelude.{◌≡◌};
 ghost use Rattle.std.proofs.Common.{ap};
-ghost use Rattle.speedy_base.specs.Encoding.{Encoding, plain_encoding, strict_encoding};
+ghost use Rattle.speedy_base.specs.Mode.{Mode, plain_mode, strict_mode};
 ghost use Rattle.speedy_base.specs.Error.{is_eof_error, Error as Refusal};
 ghost use Rattle.speedy_base.specs.declared.endianness.Endianness.TheVariants.{LittleEndian as LittleOrder};
 ghost use Rattle.speedy_base.specs.declared.endianness.Endianness.TheVariants.{BigEndian as BigOrder};
@@ -16,16 +16,16 @@ pub trait Context: Drop {
     /// The error of reads and writes under this context.
     type Error: From<Error> + IsEof + Drop;
 
-    /// The encoding under this context: the byte order, and whether only canonical encodings are read.
-    ghost encoding: { Self → Encoding };
+    /// The mode of this context: the byte order, and whether only canonical encodings are read.
+    ghost mode: { Self → Mode };
 
     /// The byte order of numbers.
     fn endianness(&self) -> Endianness
-        ensures { result ≡ (encoding self.now).order };
+        ensures { result ≡ (mode self.now).order };
 
     /// Whether only canonical encodings are read. Any other encoding is then the error `NotWrittenForm`.
     fn demands_written_form(&self) -> bool
-        ensures { result ≡ (encoding self.now).strict };
+        ensures { result ≡ (mode self.now).strict };
 
     /// An end of input stays one when it is converted, and nothing else becomes one.
     ghost keeps_eof: { (e : Refusal) (x : Self.Error) → Self.Error.from_gives e x → Self.Error.eof x ≡ is_eof_error e };
@@ -35,13 +35,13 @@ pub trait Context: Drop {
 pub trait PlainContext: Context {
     /// The context itself: little endian, and any encoding is read.
     fn plain() -> Self
-        ensures { Self.encoding result ≡ plain_encoding Endianness.LittleEndian };
+        ensures { Self.mode result ≡ plain_mode Endianness.LittleEndian };
 }
 
 impl Context for Endianness {
     type Error = Error;
 
-    ghost encoding = { plain_encoding };
+    ghost mode = { plain_mode };
 
     ghost keeps_eof = { λ e x h. ap is_eof_error h };
 
@@ -67,7 +67,7 @@ pub struct BigEndian {}
 impl Context for LittleEndian {
     type Error = Error;
 
-    ghost encoding = { λ _. plain_encoding LittleOrder };
+    ghost mode = { λ _. plain_mode LittleOrder };
 
     ghost keeps_eof = { λ e x h. ap is_eof_error h };
 
@@ -85,7 +85,7 @@ impl Context for LittleEndian {
 impl Context for BigEndian {
     type Error = Error;
 
-    ghost encoding = { λ _. plain_encoding BigOrder };
+    ghost mode = { λ _. plain_mode BigOrder };
 
     ghost keeps_eof = { λ e x h. ap is_eof_error h };
 
@@ -111,7 +111,7 @@ pub struct StrictBigEndian {}
 impl Context for StrictLittleEndian {
     type Error = Error;
 
-    ghost encoding = { λ _. strict_encoding LittleOrder };
+    ghost mode = { λ _. strict_mode LittleOrder };
 
     ghost keeps_eof = { λ e x h. ap is_eof_error h };
 
@@ -129,7 +129,7 @@ impl Context for StrictLittleEndian {
 impl Context for StrictBigEndian {
     type Error = Error;
 
-    ghost encoding = { λ _. strict_encoding BigOrder };
+    ghost mode = { λ _. strict_mode BigOrder };
 
     ghost keeps_eof = { λ e x h. ap is_eof_error h };
 

@@ -55,7 +55,7 @@ pub trait Source {
     fn pull(&mut self, output: &mut [u8]) -> Result<usize, io::Error>
         ensures { Pulls result (source self.old) (source self.new) output.new };
 
-    /// Whether at least `size` bytes are to come, as only a source may say that tells its bytes to the contracts. A
+    /// Whether at least `size` bytes remain, as only a source may say that tells its bytes to the contracts. A
     /// reader then makes room for a long list at once. This body says nothing of the kind.
     #[inline(always)]
     fn can_pull_at_least(&self, _size: usize) -> bool

@@ -1,8 +1,8 @@
 //! Byte orders: how the digits of a number lie in bytes.
 ghost use Rattle.std.specs.Prelude.{◌≡◌, ◌↔◌, ◌++◌, length, IsTrue};
 ghost use Rattle.std.specs.Int.{w16, w32, w64, w128};
-ghost use Rattle.speedy_base.specs.Digits.{SpellsNumber};
-ghost use Rattle.speedy_base.specs.Signed.{SpellsSigned};
+ghost use Rattle.speedy_base.specs.Digits.{EncodesNumber};
+ghost use Rattle.speedy_base.specs.Signed.{EncodesSigned};
 
 /// A byte order: the order in which the base 256 digits of a number are written.
 #[derive(Clone, Copy, Debug, PartialEq, Eq, PartialOrd, Ord, Hash)]
@@ -29,7 +29,7 @@ impl Endianness {
     #[inline]
     pub fn read_u16(self, slice: &[u8]) -> u16
         requires { length slice.now ≡ 2 }
-        ensures { SpellsNumber 2 self result slice.now }
+        ensures { EncodesNumber 2 self result slice.now }
     {
         let bytes = [slice[0], slice[1]];
         match self {
@@ -42,7 +42,7 @@ impl Endianness {
     #[inline]
     pub fn read_u32(self, slice: &[u8]) -> u32
         requires { length slice.now ≡ 4 }
-        ensures { SpellsNumber 4 self result slice.now }
+        ensures { EncodesNumber 4 self result slice.now }
     {
         let bytes = [slice[0], slice[1], slice[2], slice[3]];
         match self {
@@ -55,7 +55,7 @@ impl Endianness {
     #[inline]
     pub fn read_u64(self, slice: &[u8]) -> u64
         requires { length slice.now ≡ 8 }
-        ensures { SpellsNumber 8 self result slice.now }
+        ensures { EncodesNumber 8 self result slice.now }
     {
         let mut bytes = [0; 8];
         bytes.copy_from_slice(slice);
@@ -69,7 +69,7 @@ impl Endianness {
     #[inline]
     pub fn read_u128(self, slice: &[u8]) -> u128
         requires { length slice.now ≡ 16 }
-        ensures { SpellsNumber 16 self result slice.now }
+        ensures { EncodesNumber 16 self result slice.now }
     {
         let mut bytes = [0; 16];
         bytes.copy_from_slice(slice);
@@ -83,7 +83,7 @@ impl Endianness {
     #[inline]
     pub fn read_i16(self, slice: &[u8]) -> i16
         requires { length slice.now ≡ 2 }
-        ensures { SpellsSigned w16 self result slice.now }
+        ensures { EncodesSigned w16 self result slice.now }
     {
         self.read_u16(slice).cast_signed()
     }
@@ -92,7 +92,7 @@ impl Endianness {
     #[inline]
     pub fn read_i32(self, slice: &[u8]) -> i32
         requires { length slice.now ≡ 4 }
-        ensures { SpellsSigned w32 self result slice.now }
+        ensures { EncodesSigned w32 self result slice.now }
     {
         self.read_u32(slice).cast_signed()
     }
@@ -101,7 +101,7 @@ impl Endianness {
     #[inline]
     pub fn read_i64(self, slice: &[u8]) -> i64
         requires { length slice.now ≡ 8 }
-        ensures { SpellsSigned w64 self result slice.now }
+        ensures { EncodesSigned w64 self result slice.now }
     {
         self.read_u64(slice).cast_signed()
     }
@@ -110,7 +110,7 @@ impl Endianness {
     #[inline]
     pub fn read_i128(self, slice: &[u8]) -> i128
         requires { length slice.now ≡ 16 }
-        ensures { SpellsSigned w128 self result slice.now }
+        ensures { EncodesSigned w128 self result slice.now }
     {
         self.read_u128(slice).cast_signed()
     }
@@ -118,7 +118,7 @@ impl Endianness {
     /// The two bytes that encode a number in this order.
     #[inline]
     pub fn bytes_of_u16(self, value: u16) -> [u8; 2]
-        ensures { SpellsNumber 2 self value result }
+        ensures { EncodesNumber 2 self value result }
     {
         let mut turned = value;
         self.swap_u16(&mut turned);
@@ -128,7 +128,7 @@ impl Endianness {
     /// The four bytes that encode a number in this order.
     #[inline]
     pub fn bytes_of_u32(self, value: u32) -> [u8; 4]
-        ensures { SpellsNumber 4 self value result }
+        ensures { EncodesNumber 4 self value result }
     {
         let mut turned = value;
         self.swap_u32(&mut turned);
@@ -138,7 +138,7 @@ impl Endianness {
     /// The eight bytes that encode a number in this order.
     #[inline]
     pub fn bytes_of_u64(self, value: u64) -> [u8; 8]
-        ensures { SpellsNumber 8 self value result }
+        ensures { EncodesNumber 8 self value result }
     {
         let mut turned = value;
         self.swap_u64(&mut turned);
@@ -148,7 +148,7 @@ impl Endianness {
     /// The sixteen bytes that encode a number in this order.
     #[inline]
     pub fn bytes_of_u128(self, value: u128) -> [u8; 16]
-        ensures { SpellsNumber 16 self value result }
+        ensures { EncodesNumber 16 self value result }
     {
         // Two numbers of 64 bits are turned much faster than one of 128.
         let low = self.bytes_of_u64((value % (1 << 64)) as u64);

@@ -67,7 +67,7 @@ pub(crate) fn make_pieces(bytes: &[u8], most: usize) -> Failing<&[u8]> {
 }
 
 impl<D: Source> Source for Failing<D> {
-    ghost source = { λ s. record { tells = false; to_come = []; faults = s.faults } };
+    ghost source = { λ s. record { tells = false; remaining = []; faults = s.faults } };
 
     fn pull(&mut self, output: &mut [u8]) -> Result<usize, io::Error> {
         if let Some(error) = self.plan.next_call() {

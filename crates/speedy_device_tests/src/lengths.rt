@@ -106,8 +106,8 @@ fn lengths_are_read_as_they_were_written(rt: HostRuntime) {
         assert_ok(&rt, write_as(width, length, &mut writer), ());
         let count = writer.finish();
         assert!(rt; count <= 9);
-        let (_, spelling) = bytes.split_last().expect(&rt, "a byte that follows");
-        assert_bytes(&rt, &buffer[..count], spelling);
+        let (_, encoding) = bytes.split_last().expect(&rt, "a byte that follows");
+        assert_bytes(&rt, &buffer[..count], encoding);
         read_by_each(&rt, rt.alloc(), big, bytes, &ReadLength { width, length });
     }
 }

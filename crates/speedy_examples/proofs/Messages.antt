@@ -12,7 +12,7 @@ use Rattle.speedy.specs.declared.error.ErrorKind.{ErrorKind}
 use Rattle.speedy.specs.declared.error.ErrorKind.TheVariants as kinds
 use Rattle.speedy.specs.Codes.{coding}
 use Rattle.speedy.specs.Digits.{AreBytes}
-use Rattle.speedy.specs.Encoding.{Encoding, plain_encoding}
+use Rattle.speedy.specs.Mode.{Mode, plain_mode}
 use Rattle.speedy.specs.Error.{error_of, is_eof_error, IsNamed}
 use Rattle.speedy.specs.ErrorKind.{EndsInput}
 use Rattle.speedy.specs.Format.{Format}
@@ -33,22 +33,22 @@ Message = ℕ × List ℕ
 abbrev pub seen_message : ℕ × String Global → Message
 seen_message message = (message.0, string_bytes message.1)
 
-abbrev pub message_in : Encoding → Format Message
-message_in encoding = pair (unsigned_number 2 encoding) (text encoding)
+abbrev pub message_in : Mode → Format Message
+message_in mode = pair (unsigned_number 2 mode) (text mode)
 
 abbrev pub message : Format Message
-message = message_in (plain_encoding LittleEndian)
+message = message_in (plain_mode LittleEndian)
 
-pub message_laws : (encoding : Encoding) → Laws encoding.strict 6 (message_in encoding)
+pub message_laws : (mode : Mode) → Laws mode.strict 6 (message_in mode)
 message_laws = (pair_codec (unsigned_codec 2) text_codec).laws
 
-pub message_lends_nothing : (encoding : Encoding) → (message_in encoding).asks.lending ≡ false
+pub message_lends_nothing : (mode : Mode) → (message_in mode).asks.lending ≡ false
 unfolding sequence unsigned_number text
-message_lends_nothing encoding = refl
+message_lends_nothing mode = refl
 
-pub message_asks_memory : (encoding : Encoding) → IsTrue (message_in encoding).asks.memory
+pub message_asks_memory : (mode : Mode) → IsTrue (message_in mode).asks.memory
 unfolding sequence unsigned_number text
-message_asks_memory encoding = refl
+message_asks_memory mode = refl
 
 -- bytes in memory end as `UnexpectedEndOfInput`
 memory_end : {e : Error} (kind : ErrorKind) → EndsInput false kind → e ≡ error_of kind
@@ -59,8 +59,8 @@ memory_end _ ends is = absurd ends
 
 -- a message whose text is borrowed names one kind of refusal
 pub lent_message_names : (kind : ErrorKind)
-    → (pair (unsigned_number 2 (plain_encoding LittleEndian))
-    (borrowed_content (text (plain_encoding LittleEndian)))).names kind
+    → (pair (unsigned_number 2 (plain_mode LittleEndian))
+    (borrowed_content (text (plain_mode LittleEndian)))).names kind
     → kind ≡ kinds.InvalidUtf8
 unfolding sequence unsigned_number text text_of_length raw_bytes coding owned_content borrowed_content
 lent_message_names kind (inl none) = absurd none
@@ -71,8 +71,8 @@ lent_message_names kind (inr (n, inr (count, inr (inr demand)))) = absurd (let n
 
 -- which kinds a message is refused with whose text is borrowed from the bytes
 pub message_kind : {A : Type 0} {seen : A → Message} {count : ℕ} {bytes : List ℕ} (result : Result A Error)
-    → (let encoding = plain_encoding LittleEndian in
-    let format = pair (unsigned_number 2 encoding) (borrowed_content (text encoding)) in
+    → (let mode = plain_mode LittleEndian in
+    let format = pair (unsigned_number 2 mode) (borrowed_content (text mode)) in
     AnswersBufferIf itself is_eof_error (Unit {0}) format.names seen 6 format result count bytes)
     → IfErr result (λ e. (e ≡ error_of kinds.InvalidUtf8)
     ⊎ ((e ≡ error_of kinds.UnexpectedEndOfInput) ⊎ (e ≡ error_of (kinds.InputBufferIsTooSmall (length bytes) 6))))
@@ -87,8 +87,8 @@ message_kind {bytes = bytes} (Err e) a =
       ]
     ] where
       of_kind : IsEnd itself is_eof_error false e
-          ⊎ IsNamed itself (pair (unsigned_number 2 (plain_encoding LittleEndian))
-          (borrowed_content (text (plain_encoding LittleEndian)))).names e
+          ⊎ IsNamed itself (pair (unsigned_number 2 (plain_mode LittleEndian))
+          (borrowed_content (text (plain_mode LittleEndian)))).names e
           → (e ≡ error_of kinds.InvalidUtf8)
           ⊎ ((e ≡ error_of kinds.UnexpectedEndOfInput)
           ⊎ (e ≡ error_of (kinds.InputBufferIsTooSmall (length bytes) 6)))
@@ -96,31 +96,31 @@ message_kind {bytes = bytes} (Err e) a =
       of_kind (inr named) = inl (named.2 ∙ ap error_of (lent_message_names named.0 named.1))
 
 -- no message has no bytes, and no bytes are malformed as one
-pub no_empty_message : (encoding : Encoding) (m : Message) (front rest : List ℕ) → (message_in encoding).spells m front
-    → front ++ rest ≢ []
-no_empty_message encoding m front rest h none =
-    let least = (message_laws encoding).least_size m front h in
+pub no_empty_message : (mode : Mode) (m : Message) (prefix rest : List ℕ) → (message_in mode).encodes m prefix
+    → prefix ++ rest ≢ []
+no_empty_message mode m prefix rest h none =
+    let least = (message_laws mode).least_size m prefix h in
     let size = ap length none in
-    let sizes = length-append front rest in
+    let sizes = length-append prefix rest in
     absurd (omega arith)
 
-pub nothing_malformed : (encoding : Encoding) → (message_in encoding).malformed [] → ⊥
+pub nothing_malformed : (mode : Mode) → (message_in mode).malformed [] → ⊥
 unfolding sequence unsigned_number text
-nothing_malformed encoding (inl none) = none
-nothing_malformed encoding (inr (n, parts)) =
+nothing_malformed mode (inl none) = none
+nothing_malformed mode (inr (n, parts)) =
     let size = ap length parts.whole_is in
-    let sizes = length-append parts.front parts.back in
+    let sizes = length-append parts.prefix parts.suffix in
     let two = parts.first_is.width_is in
     absurd (omega arith)
 
 -- a reader that tells its bytes tells those of messages, which borrow nothing
-pub told_message : (encoding : Encoding) {state : ReaderState} → IsTrue state.fixed.tells → AreBytes state.to_come
-    → length state.to_come < 2 ^ 64 - 1 → IsTold (message_in encoding) state
-told_message encoding tells are_bytes fit = record {
+pub told_message : (mode : Mode) {state : ReaderState} → IsTrue state.fixed.tells → AreBytes state.remaining
+    → length state.remaining < 2 ^ 64 - 1 → IsTold (message_in mode) state
+told_message mode tells are_bytes fit = record {
   tells = tells;
   are_bytes = are_bytes;
   fit = fit;
-  lends = λ h. absurd (let none : IsTrue false = subst IsTrue (message_lends_nothing encoding) h in cc);
+  lends = λ h. absurd (let none : IsTrue false = subst IsTrue (message_lends_nothing mode) h in cc);
 }
 
 -- an end is `UnexpectedEndOfInput`, or the error of a device

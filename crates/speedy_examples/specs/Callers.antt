@@ -10,12 +10,12 @@ use Rattle.speedy.specs.declared.error.ErrorKind.TheVariants as kinds
 
 -- some bytes encode the value, so few that they can be counted
 abbrev pub HasEncoding : {V : Type 0} → Format V → V → Type 0
-HasEncoding format v = (bytes : List ℕ) × format.spells v bytes × (length bytes < 2 ^ 64 - 1)
+HasEncoding format v = (bytes : List ℕ) × format.encodes v bytes × (length bytes < 2 ^ 64 - 1)
 
 -- a prefix of the bytes encodes some value
-abbrev pub HasFront : {V : Type 0} → Format V → List ℕ → Type 0
-HasFront {V = V} format bytes =
-    (v : V) × (front : List ℕ) × (rest : List ℕ) × format.spells v front × (bytes ≡ front ++ rest)
+abbrev pub HasPrefix : {V : Type 0} → Format V → List ℕ → Type 0
+HasPrefix {V = V} format bytes =
+    (v : V) × (prefix : List ℕ) × (rest : List ℕ) × format.encodes v prefix × (bytes ≡ prefix ++ rest)
 
 -- an error of the crate becomes no other one
 abbrev pub itself : Error → Error → Type 0

@@ -1,6 +1,6 @@
 //! A file of records, one behind the other.
 ghost use Rattle.std.specs.Prelude.{◌⊎◌, ℕ, List, map, MatchResult};
-ghost use Rattle.speedy.specs.Encoding.{plain_encoding};
+ghost use Rattle.speedy.specs.Mode.{plain_mode};
 ghost use Rattle.speedy.specs.Format.{Each};
 ghost use Rattle.speedy.specs.WaysOfWriting.{WritesAndFlushes, WritesToFile};
 ghost use Rattle.speedy_examples.specs.Callers.{IsFailure, IsRefusal};
@@ -16,7 +16,7 @@ use std::fs::{File, Files, OpenOptions};
 pub fn put_record<S: Sink>(alloc: Global, sink: &mut S, entry: &(u16, String)) -> Result<(), Error>
     ensures { let it = ⟦<(u16, String) as Layout>⟧ in
         WritesAndFlushes ⟦<Error as From<Error>>⟧.from_gives S.sink it.seen it.layout
-        (plain_encoding Endianness.LittleEndian) entry.now result sink.old sink.new }
+        (plain_mode Endianness.LittleEndian) entry.now result sink.old sink.new }
 {
     write_to_stream_and_flush_with_ctx(entry, alloc, LittleEndian {}, sink)
 }
@@ -30,7 +30,7 @@ pub fn append_record<R: Files>(
 ) -> Result<(), Error>
     ensures { let it = ⟦<(u16, String) as Layout>⟧ in
         WritesToFile ⟦<Error as From<Error>>⟧.from_gives it.seen it.layout
-        (plain_encoding Endianness.LittleEndian) entry.now result }
+        (plain_mode Endianness.LittleEndian) entry.now result }
 {
     match OpenOptions::new().append(true).create(true).open(rt, path) {
         Ok(file) => put_record(alloc, &mut Counted::new(file), entry),
@@ -45,9 +45,9 @@ pub fn read_records<R: Files>(
     path: &str,
 ) -> Result<Vec<(u16, String)>, Error>
     ensures { let it = ⟦<(u16, String) as Layout>⟧ in
-        let format = it.layout.format (plain_encoding Endianness.LittleEndian) in
+        let format = it.layout.format (plain_mode Endianness.LittleEndian) in
         MatchResult result (λ records. (bytes : List ℕ)
-        × Each format.spells (map it.seen records.items) bytes)
+        × Each format.encodes (map it.seen records.items) bytes)
         (λ e. IsFailure e ⊎ IsRefusal format e) }
 {
     match File::open(rt, path) {

@@ -1,7 +1,7 @@
 //! A fixed header: a magic number, a version, and a length.
 ghost use Rattle.std.specs.Prelude.{◌≡◌, ◌<◌, ◌++◌, ℕ, List, codes, length, map, IfOk, OnOk, IsErrAnd, IsTrue};
 ghost use Rattle.speedy.specs.Buffers.{bytes_state};
-ghost use Rattle.speedy.specs.Encoding.{plain_encoding};
+ghost use Rattle.speedy.specs.Mode.{plain_mode};
 ghost use Rattle.speedy.specs.Error.{is_eof_error};
 ghost use Rattle.speedy.specs.Format.{Each};
 ghost use Rattle.speedy.specs.UntilEnd.{ReadsValuesUntilEnd};
@@ -82,13 +82,13 @@ pub fn begins_header(alloc: Global, bytes: &[u8]) -> Result<(), Error>
 /// The records of a log, at most so many, without a last one that was cut short.
 pub fn read_log(alloc: Global, bytes: &[u8], greatest: usize) -> Result<Vec<(u16, String)>, Error>
     ensures records { let it = ⟦<(u16, String) as Layout>⟧ in
-        let format = it.layout.format (plain_encoding Endianness.LittleEndian) in
-        IfOk result (λ records. (front : List ℕ) × (rest : List ℕ)
-        × Each format.spells (map it.seen records.items) front × (bytes.now ≡ front ++ rest)) }
+        let format = it.layout.format (plain_mode Endianness.LittleEndian) in
+        IfOk result (λ records. (prefix : List ℕ) × (rest : List ℕ)
+        × Each format.encodes (map it.seen records.items) prefix × (bytes.now ≡ prefix ++ rest)) }
     // No record begins the rest, and an error says why there are no records.
     ensures until_end { let it = ⟦<(u16, String) as Layout>⟧ in
-        let encoding = plain_encoding Endianness.LittleEndian in
-        (left : List ℕ) × ReadsValuesUntilEnd ⟦<Error as IsEof>⟧ (λ b. bytes_state b encoding) it.seen
+        let mode = plain_mode Endianness.LittleEndian in
+        (left : List ℕ) × ReadsValuesUntilEnd ⟦<Error as IsEof>⟧ (λ b. bytes_state b mode) it.seen
         (λ items records. records.items ≡ items) it.layout greatest result bytes.now left }
 {
     let mut reader = BufferReader::new(alloc, LittleEndian {}, bytes);

@@ -2,17 +2,17 @@
 ghost use Rattle.std.specs.Prelude.{◌≡◌, ◌<◌, ◌≤◌, ◌-◌, ◌^◌, ◌++◌, ℕ, List, length as count, map, IsTrue, IfOk, IfErr};
 ghost use Rattle.std.specs.Prelude.{IsOkUnless};
 ghost use Rattle.speedy.specs.Codecs.{vector_codec};
-ghost use Rattle.speedy.specs.Encoding.{plain_encoding, strict_encoding};
+ghost use Rattle.speedy.specs.Mode.{plain_mode, strict_mode};
 ghost use Rattle.speedy.specs.Error.{error_of};
 ghost use Rattle.speedy.specs.Format.{Each};
 ghost use Rattle.speedy.specs.Lists.{vector};
 ghost use Rattle.speedy.specs.Reading.{ReadsValue};
 ghost use Rattle.speedy.specs.RoundTrip.{ReadsWritten};
 ghost use Rattle.speedy.specs.WaysOfReading.{AnswersBuffer};
-ghost use Rattle.speedy_examples.specs.Callers.{HasEncoding, HasFront};
+ghost use Rattle.speedy_examples.specs.Callers.{HasEncoding, HasPrefix};
 
 use speedy::laws::{
-    no_spelling_is_below_least, written_form_alone, written_is_answered, written_items_are_read,
+    canonical_alone, no_encoding_is_below_least, written_is_answered, written_items_are_read,
 };
 use speedy::private::ErrorKind;
 use speedy::{
@@ -31,7 +31,7 @@ pub fn again(
     ensures same { let seen = ⟦<Option<String> as Layout>⟧.seen in
         IfOk result (λ x. seen x ≡ seen value.now) }
     ensures refused { let it = ⟦<Option<String> as Layout>⟧ in
-        HasEncoding (it.layout.format (plain_encoding order)) (it.seen value.now)
+        HasEncoding (it.layout.format (plain_mode order)) (it.seen value.now)
         → IsOkUnless result (error_of ErrorKind.OutOfMemory) }
 {
     written_is_answered::<Option<String>, Endianness>();
@@ -49,7 +49,7 @@ pub fn again_in<'a, C: Context + Copy, T: Writable<C> + Readable<'a, C>>(
 ) -> Result<T, C::Error>
     ensures same { IfOk result (λ x. T.seen x ≡ T.seen value.now) }
     ensures refused { (bytes : List ℕ) →
-        (T.layout.format (C.encoding context)).writes (T.seen value.now) bytes
+        (T.layout.format (C.mode context)).writes (T.seen value.now) bytes
         → count bytes < 2 ^ 64 - 1 → count bytes ≤ count buffer.old
         → IfErr result (C.Error.from_gives (error_of ErrorKind.OutOfMemory)) }
 {
@@ -66,7 +66,7 @@ pub fn again_owned<T: Writable<Endianness> + ReadableOwned<Endianness>>(
     value: &T,
 ) -> Result<T, Error>
     ensures same { IfOk result (λ x. T.seen x ≡ T.seen value.now) }
-    ensures refused { HasEncoding (T.layout.format (plain_encoding order)) (T.seen value.now)
+    ensures refused { HasEncoding (T.layout.format (plain_mode order)) (T.seen value.now)
         → IsOkUnless result (error_of ErrorKind.OutOfMemory) }
 {
     written_is_answered::<T, Endianness>();
@@ -80,10 +80,10 @@ pub fn load<L: Buffer<Endianness>, T: ReadFrom<L, Endianness>>(
     order: Endianness,
     bytes: L,
 ) -> Result<T, Error>
-    ensures { (size : ℕ) × AnswersBuffer ⟦<Error as IsEof>⟧ T.seen T.layout (plain_encoding order)
+    ensures { (size : ℕ) × AnswersBuffer ⟦<Error as IsEof>⟧ T.seen T.layout (plain_mode order)
         result size (L.items bytes) }
 {
-    bytes.read_front(alloc, order)
+    bytes.read_prefix(alloc, order)
 }
 
 /// Reads items one after the other, from any reader, and leaves what comes after them. What was written is read: the
@@ -96,10 +96,10 @@ pub fn read_slice<L: AsSlice<u8> + Drop, C: Context, R: LendingReader<L, C>, T: 
         (vector_codec length T.layout) result reader.old reader.new }
     ensures written { let before = R.state reader.old in
         (items : List T.Seen) (bytes rest : List ℕ) →
-        Each (T.layout.format before.encoding).writes items bytes → length ≡ count items
-        → IsTrue before.fixed.tells → before.to_come ≡ bytes ++ rest
+        Each (T.layout.format before.mode).writes items bytes → length ≡ count items
+        → IsTrue before.fixed.tells → before.remaining ≡ bytes ++ rest
         → ReadsWritten C.Error.from_gives (λ v. map T.seen v.items)
-        (vector length (T.layout.format before.encoding)) items rest result before (R.state reader.new) }
+        (vector length (T.layout.format before.mode)) items rest result before (R.state reader.new) }
 {
     written_items_are_read::<T, C>();
     reader.read_vec(length)
@@ -109,15 +109,15 @@ pub fn read_slice<L: AsSlice<u8> + Drop, C: Context, R: LendingReader<L, C>, T: 
 /// are the very bytes that were read. If a prefix is one, the only error is out of memory.
 pub fn again_the_same_bytes(alloc: Global, bytes: &[u8]) -> Result<Vec<u8>, Error>
     ensures same { let it = ⟦<Option<String> as Layout>⟧ in
-        let format = it.layout.format (strict_encoding Endianness.LittleEndian) in
+        let format = it.layout.format (strict_mode Endianness.LittleEndian) in
         IfOk result (λ written. (value : it.Seen) × (rest : List ℕ)
-        × format.spells value written.items × (bytes.now ≡ written.items ++ rest)) }
+        × format.encodes value written.items × (bytes.now ≡ written.items ++ rest)) }
     ensures refused { let it = ⟦<Option<String> as Layout>⟧ in
-        HasFront (it.layout.format (strict_encoding Endianness.LittleEndian)) bytes.now
+        HasPrefix (it.layout.format (strict_mode Endianness.LittleEndian)) bytes.now
         → IsOkUnless result (error_of ErrorKind.OutOfMemory) }
 {
-    written_form_alone::<Option<String>>();
-    no_spelling_is_below_least::<Option<String>>();
+    canonical_alone::<Option<String>>();
+    no_encoding_is_below_least::<Option<String>>();
     let context = StrictLittleEndian {};
     let value = <Option<String> as Readable<StrictLittleEndian>>::read_from_buffer_with_ctx(
         alloc, context, bytes,

@@ -4,7 +4,7 @@ ghost use Rattle.speedy.specs.Error.{error_of};
 ghost use Rattle.speedy.specs.declared.error.ErrorKind.TheVariants.{OutOfMemory};
 ghost use Rattle.std.specs.Prelude.{◌⊎◌, IfErr};
 ghost use Rattle.speedy.specs.declared.error.ErrorKind.TheVariants as kinds;
-ghost use Rattle.speedy.specs.Encoding.{plain_encoding};
+ghost use Rattle.speedy.specs.Mode.{plain_mode};
 ghost use Rattle.speedy.specs.WaysOfReading.{AnswersBuffer, AnswersStream};
 
 use speedy::device::Source;
@@ -28,7 +28,7 @@ pub fn round_trip(alloc: Global, numbers: &Vec<u16>) -> Result<Vec<u16>, Error>
 pub fn parse_message<'a>(alloc: Global, bytes: &'a [u8]) -> Result<(u16, &'a str), Error>
     ensures answers { let it = ⟦<(u16, &'a str) as Layout>⟧ in
         (size : ℕ) × AnswersBuffer ⟦<Error as IsEof>⟧ it.seen it.layout
-        (plain_encoding Endianness.LittleEndian) result size bytes.now }
+        (plain_mode Endianness.LittleEndian) result size bytes.now }
     // The text is no UTF-8, or the bytes are too few.
     ensures kind { IfErr result (λ e. (e ≡ error_of kinds.InvalidUtf8)
         ⊎ ((e ≡ error_of kinds.UnexpectedEndOfInput)
@@ -42,7 +42,7 @@ pub fn parse_message<'a>(alloc: Global, bytes: &'a [u8]) -> Result<(u16, &'a str
 pub fn next_message<S: Source>(alloc: Global, source: &mut S) -> Result<(u16, String), Error>
     ensures { let it = ⟦<(u16, String) as Layout>⟧ in
         AnswersStream ⟦<Error as IsEof>⟧ S.source it.seen it.layout
-        (plain_encoding Endianness.LittleEndian) false result source.old source.new }
+        (plain_mode Endianness.LittleEndian) false result source.old source.new }
 {
     <(u16, String) as Readable<LittleEndian>>::read_from_stream_unbuffered(alloc, source)
 }

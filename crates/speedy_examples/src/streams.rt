@@ -2,7 +2,7 @@
 ghost use Rattle.std.specs.Prelude.{◌≡◌, ◌⊎◌, ◌-◌, ◌^◌, ◌<◌, [], ◌++◌, ℕ, List, length as count, map, false, IsTrue};
 ghost use Rattle.std.specs.Prelude.{IfOk, OnOk, IfErr, IsOkUnless, MatchOption};
 ghost use Rattle.speedy.specs.Digits.{AreBytes};
-ghost use Rattle.speedy.specs.Encoding.{plain_encoding};
+ghost use Rattle.speedy.specs.Mode.{plain_mode};
 ghost use Rattle.speedy.specs.Error.{error_of, is_eof_error};
 ghost use Rattle.speedy.specs.Format.{Each};
 ghost use Rattle.speedy.specs.Reading.{Excused, IsTold, PeekWants, Refused};
@@ -27,7 +27,7 @@ pub fn again_through_a_sink(
     ensures same { let seen = ⟦<Option<String> as Layout>⟧.seen in
         IfOk result (λ x. seen x ≡ seen value.now) }
     ensures refused { let it = ⟦<Option<String> as Layout>⟧ in
-        HasEncoding (it.layout.format (plain_encoding order)) (it.seen value.now)
+        HasEncoding (it.layout.format (plain_mode order)) (it.seen value.now)
         → IfErr result IsFailure }
 {
     written_is_answered::<Option<String>, Endianness>();
@@ -42,7 +42,7 @@ pub fn again_through_a_sink(
 pub fn next_message<S: Source>(alloc: Global, source: &mut S) -> Result<(u16, String), Error>
     ensures { let it = ⟦<(u16, String) as Layout>⟧ in
         AnswersStream ⟦<Error as IsEof>⟧ S.source it.seen it.layout
-        (plain_encoding Endianness.LittleEndian) false result source.old source.new }
+        (plain_mode Endianness.LittleEndian) false result source.old source.new }
 {
     <(u16, String) as Readable<LittleEndian>>::read_from_stream_unbuffered(alloc, source)
 }
@@ -57,14 +57,14 @@ pub fn read_nothing<S: Source>(alloc: Global, source: &mut S) -> Result<(), Erro
 /// Two messages that were written one behind the other. The only error is then out of memory.
 pub fn two_messages(alloc: Global, bytes: &[u8]) -> Result<((u16, String), (u16, String)), Error>
     ensures same { let it = ⟦<(u16, String) as Layout>⟧ in
-        let format = it.layout.format (plain_encoding Endianness.LittleEndian) in
-        (first second : it.Seen) (front back : List ℕ) →
-        format.writes first front → format.writes second back → bytes.now ≡ front ++ back
+        let format = it.layout.format (plain_mode Endianness.LittleEndian) in
+        (first second : it.Seen) (prefix suffix : List ℕ) →
+        format.writes first prefix → format.writes second suffix → bytes.now ≡ prefix ++ suffix
         → IfOk result (λ both. (it.seen both.0 ≡ first) × (it.seen both.1 ≡ second)) }
     ensures refused { let it = ⟦<(u16, String) as Layout>⟧ in
-        let format = it.layout.format (plain_encoding Endianness.LittleEndian) in
-        (first second : it.Seen) (front back : List ℕ) →
-        format.writes first front → format.writes second back → bytes.now ≡ front ++ back
+        let format = it.layout.format (plain_mode Endianness.LittleEndian) in
+        (first second : it.Seen) (prefix suffix : List ℕ) →
+        format.writes first prefix → format.writes second suffix → bytes.now ≡ prefix ++ suffix
         → IsOkUnless result (error_of ErrorKind.OutOfMemory) }
 {
     written_is_streamed::<(u16, String), LittleEndian>();
@@ -84,7 +84,7 @@ pub fn two_messages_again(
     ensures same { let seen = ⟦<(u16, String) as Layout>⟧.seen in
         IfOk result (λ again. (seen again.0 ≡ seen first.now) × (seen again.1 ≡ seen second.now)) }
     ensures refused { let it = ⟦<(u16, String) as Layout>⟧ in
-        let format = it.layout.format (plain_encoding Endianness.LittleEndian) in
+        let format = it.layout.format (plain_mode Endianness.LittleEndian) in
         HasEncoding format (it.seen first.now) → HasEncoding format (it.seen second.now)
         → IfErr result IsFailure }
 {
@@ -101,27 +101,27 @@ pub fn next_or_end<L: AsSlice<u8> + Drop, R: LendingReader<L, LittleEndian>>(
 ) -> Result<Option<(u16, String)>, Error>
     ensures kept { let before = R.state reader.old in
         let after = R.state reader.new in
-        (after.fixed ≡ before.fixed) × (after.encoding ≡ before.encoding) }
+        (after.fixed ≡ before.fixed) × (after.mode ≡ before.mode) }
     ensures next { let it = ⟦<(u16, String) as Layout>⟧ in
         let before = R.state reader.old in
         let after = R.state reader.new in
-        let format = it.layout.format before.encoding in
+        let format = it.layout.format before.mode in
         IfOk result (λ next. MatchOption next
-        (IsTold format before → IsTrue before.fixed.tells_faults → before.to_come ≡ [])
-        (λ message. (front : List ℕ) × format.spells (it.seen message) front
-        × (IsTrue before.fixed.tells → before.to_come ≡ front ++ after.to_come)
+        (IsTold format before → IsTrue before.fixed.tells_faults → before.remaining ≡ [])
+        (λ message. (prefix : List ℕ) × format.encodes (it.seen message) prefix
+        × (IsTrue before.fixed.tells → before.remaining ≡ prefix ++ after.remaining)
         × (after.faults ≡ before.faults))) }
     ensures refused { let before = R.state reader.old in
         let after = R.state reader.new in
         let itself = ⟦<Error as From<Error>>⟧.from_gives in
-        let format = ⟦<(u16, String) as Layout>⟧.layout.format before.encoding in
+        let format = ⟦<(u16, String) as Layout>⟧.layout.format before.mode in
         IfErr result (λ e. PeekWants itself e before after
         ⊎ (Excused itself format.asks.memory e before after
         ⊎ Refused itself is_eof_error format e before after)) }
     // Where no byte is left, only memory or the device is at fault.
     ensures ended { let before = R.state reader.old in
-        IsTold (⟦<(u16, String) as Layout>⟧.layout.format before.encoding) before
-        → IsTrue before.fixed.tells_faults → before.to_come ≡ [] → IfErr result IsFailure }
+        IsTold (⟦<(u16, String) as Layout>⟧.layout.format before.mode) before
+        → IsTrue before.fixed.tells_faults → before.remaining ≡ [] → IfErr result IsFailure }
 {
     match reader.peek_u8() {
         Ok(_) => Ok(Some(reader.read_value()?)),
@@ -136,19 +136,19 @@ pub fn next_or_end<L: AsSlice<u8> + Drop, R: LendingReader<L, LittleEndian>>(
 /// memory and that of the source.
 pub fn all_messages<S: Source>(alloc: Global, source: &mut S) -> Result<Vec<(u16, String)>, Error>
     ensures all { let it = ⟦<(u16, String) as Layout>⟧ in
-        let format = it.layout.format (plain_encoding Endianness.LittleEndian) in
+        let format = it.layout.format (plain_mode Endianness.LittleEndian) in
         let before = S.source source.old in
         IfOk result (λ messages. (bytes : List ℕ)
-        × Each format.spells (map it.seen messages.items) bytes
-        × (IsTrue before.tells → AreBytes before.to_come → count before.to_come < 2 ^ 64 - 1
-        → before.to_come ≡ bytes)) }
+        × Each format.encodes (map it.seen messages.items) bytes
+        × (IsTrue before.tells → AreBytes before.remaining → count before.remaining < 2 ^ 64 - 1
+        → before.remaining ≡ bytes)) }
     ensures refused { let it = ⟦<(u16, String) as Layout>⟧ in
-        let format = it.layout.format (plain_encoding Endianness.LittleEndian) in
+        let format = it.layout.format (plain_mode Endianness.LittleEndian) in
         let before = S.source source.old in
-        (messages : List it.Seen) → Each format.spells messages before.to_come
-        → IsTrue before.tells → AreBytes before.to_come → count before.to_come < 2 ^ 64 - 1
+        (messages : List it.Seen) → Each format.encodes messages before.remaining
+        → IsTrue before.tells → AreBytes before.remaining → count before.remaining < 2 ^ 64 - 1
         → IfErr result IsFailure }
-    ensures kind { let format = ⟦<(u16, String) as Layout>⟧.layout.format (plain_encoding Endianness.LittleEndian) in
+    ensures kind { let format = ⟦<(u16, String) as Layout>⟧.layout.format (plain_mode Endianness.LittleEndian) in
         IfErr result (λ e. IsFailure e ⊎ IsRefusal format e) }
 {
     let mut messages = Vec::new(alloc);

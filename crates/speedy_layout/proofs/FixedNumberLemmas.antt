@@ -15,8 +15,8 @@ use Rattle.speedy_base.specs.declared.endianness.Endianness.{Endianness}
 use Rattle.speedy_base.specs.declared.endianness.Endianness.TheVariants.{LittleEndian, BigEndian}
 use Rattle.speedy_base.specs.Digits.{AreBytes, number}
 use Rattle.speedy_base.specs.DigitsLemmas.{AreBytes-append_parts}
-use Rattle.speedy_base.specs.Encoding.{Encoding}
-use Rattle.speedy_layout.specs.FixedNumbers.{Decodes, spelled_in}
+use Rattle.speedy_base.specs.Mode.{Mode}
+use Rattle.speedy_layout.specs.FixedNumbers.{Decodes, encoded_in}
 use Rattle.speedy_layout.specs.Format.{Format, Each}
 use Rattle.speedy_layout.specs.Lists.{each_more}
 
@@ -52,21 +52,21 @@ are_parts : (n : ℕ) (bytes : List ℕ) → AreBytes bytes → AreBytes (take n
 are_parts n bytes are =
     AreBytes-append_parts (take n bytes) (drop n bytes) (subst AreBytes (sym (take-append-drop n bytes)) are)
 
--- what a number is encoded as spells it, and so do the bytes that it was decoded of
-module _ {A V : Type 0} {size : ℕ} (F : Encoding → Format V) (seen : A → V) {decoded : Endianness → List ℕ → A}
+-- what a number is encoded as encodes it, and so do the bytes that it was decoded of
+module _ {A V : Type 0} {size : ℕ} (F : Mode → Format V) (seen : A → V) {decoded : Endianness → List ℕ → A}
     (decodes : Decodes size F seen decoded) (order : Endianness) where
-  pub encoded_spells : {n : A} (bytes : List ℕ) → length bytes ≡ size → AreBytes bytes → decoded order bytes ≡ n
-      → spelled_in F order (seen n) bytes
-  encoded_spells bytes sized are is =
-      subst (λ (n : A). spelled_in F order (seen n) bytes) is (decodes order bytes sized are)
+  pub encoding_stands : {n : A} (bytes : List ℕ) → length bytes ≡ size → AreBytes bytes → decoded order bytes ≡ n
+      → encoded_in F order (seen n) bytes
+  encoding_stands bytes sized are is =
+      subst (λ (n : A). encoded_in F order (seen n) bytes) is (decodes order bytes sized are)
 
-  pub taken_spells : {n : A} (bytes : List ℕ) (at some : ℕ) → at + some ≤ length bytes → some ≡ size → AreBytes bytes
-      → let chunk = take (at + some - at) (drop at bytes) in n ≡ decoded order chunk → spelled_in F order (seen n) chunk
-  taken_spells bytes at some room same are is =
+  pub taken_encodes : {n : A} (bytes : List ℕ) (at some : ℕ) → at + some ≤ length bytes → some ≡ size → AreBytes bytes
+      → let chunk = take (at + some - at) (drop at bytes) in n ≡ decoded order chunk → encoded_in F order (seen n) chunk
+  taken_encodes bytes at some room same are is =
       let chunk = take (at + some - at) (drop at bytes) in
       let sized : length chunk ≡ size =
       length-take-le (at + some - at) (drop at bytes) (omega (arith, length-drop at bytes)) ∙ omega (arith, same) in
-      encoded_spells chunk sized (are_parts (at + some - at) (drop at bytes) (are_parts at bytes are).1).0 (sym is)
+      encoding_stands chunk sized (are_parts (at + some - at) (drop at bytes) (are_parts at bytes are).1).0 (sym is)
 
 module _ {A V : Type 0} (S : V → List ℕ → Type 0) (seen : A → V) where
   -- all are put
@@ -109,15 +109,15 @@ module _ {A V : Type 0} (S : V → List ℕ → Type 0) (seen : A → V) where
       → S (seen x) digits → Each S (map seen (take i xs)) (take at output)
       → Each S (map seen (take (i + 1) xs)) (take (at + width) (put_mid at (at + width - at) output digits))
   one_more_put xs i width at output digits within is fits sized put h =
-      let front = take at output in
+      let prefix = take at output in
       let rest = post_of at (at + width - at) output in
-      let whole : length (front ++ digits) ≡ at + width =
-      length-append front digits ∙ (let l = length-take-le at output (omega arith) in omega (arith, l, sized)) in
-      let bytes : take (at + width) (put_mid at (at + width - at) output digits) ≡ front ++ digits =
-      ap (take (at + width)) (sym (append_assoc front digits rest))
-      ∙ take_at (front ++ digits) rest (at + width) whole in
+      let whole : length (prefix ++ digits) ≡ at + width =
+      length-append prefix digits ∙ (let l = length-take-le at output (omega arith) in omega (arith, l, sized)) in
+      let bytes : take (at + width) (put_mid at (at + width - at) output digits) ≡ prefix ++ digits =
+      ap (take (at + width)) (sym (append_assoc prefix digits rest))
+      ∙ take_at (prefix ++ digits) rest (at + width) whole in
       subst (λ (b : List ℕ). Each S (map seen (take (i + 1) xs)) b) (sym bytes)
-      (one_more xs i front digits within is put h)
+      (one_more xs i prefix digits within is put h)
 
 -- one byte is its number, in each order
 number_of_one : (order : Endianness) (b : ℕ) → number order (b ∷ []) ≡ b
@@ -171,8 +171,8 @@ module _ {A F V : Type 0} (S : V → List ℕ → Type 0) (seen : A → V) (widt
       let made = called step.0 x (map_callee j) sized call in
       let l = ap length step.1.1.0 ∙ length-append chunk left in
       record {
-        front = chunk;
-        back = left;
+        prefix = chunk;
+        suffix = left;
         whole_is = step.1.1.0;
         first_is = subst (λ (y : A). S (seen y) chunk) (sym made.1) (decodes chunk sized parts.0);
         second_is = each_taken j count xs made.0 (step.1.0 ∙ size) (omega (arith, l, sized, whole)) parts.1

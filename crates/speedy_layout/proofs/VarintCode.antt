@@ -9,10 +9,10 @@ use Rattle.std.proofs.lemmas.Nat.{leading_length, mod-mul-add, div_below, shl_wh
 use lib.Count.{count_leading_zeros}
 use Rattle.std.proofs.lemmas.List.{take-append-drop, length-take-le, length-append, length-drop}
 use Rattle.speedy_base.specs.declared.endianness.Endianness.TheVariants.{LittleEndian}
-use Rattle.speedy_base.specs.Digits.{SpellsNumber, number, little_number, AreBytes}
+use Rattle.speedy_base.specs.Digits.{EncodesNumber, number, little_number, AreBytes}
 use Rattle.speedy_base.specs.DigitsLemmas.{little_number-append, little_number-from_le_bytes, AreBytes-append_parts}
 use Rattle.speedy_base.specs.DigitsLemmas.{little_number-below}
-use Rattle.speedy_base.specs.Encoding.{Encoding}
+use Rattle.speedy_base.specs.Mode.{Mode}
 use Rattle.speedy_layout.specs.Varint.{IsFirstByte, StartsVarint, HasNoShorter, varint, capacity}
 use Rattle.speedy_layout.proofs.VarintForms.{varint-written}
 
@@ -118,11 +118,11 @@ no_shorter_bytes k n m e l = no_shorter_from_power k n (λ some.
 
 -- ---- encoding
 
--- the front of the digits spells the low part of the number
-pub SpellsNumber-front : (k w n : ℕ) (bytes : List ℕ) → k ≤ w → SpellsNumber w LittleEndian n bytes
-    → SpellsNumber k LittleEndian (n % 256 ^ k) (take k bytes)
+-- the front of the digits encodes the low part of the number
+pub EncodesNumber-prefix : (k w n : ℕ) (bytes : List ℕ) → k ≤ w → EncodesNumber w LittleEndian n bytes
+    → EncodesNumber k LittleEndian (n % 256 ^ k) (take k bytes)
 unfolding number
-SpellsNumber-front k w n bytes l h =
+EncodesNumber-prefix k w n bytes l h =
     let parts = take-append-drop k bytes in
     let width : length (take k bytes) ≡ k = length-take-le k bytes (let e = h.width_is in omega arith) in
     let each = AreBytes-append_parts (take k bytes) (drop k bytes) (subst AreBytes (sym parts) h.are_bytes) in
@@ -153,22 +153,22 @@ no_low k n l m small =
     let below = low_below k n small in
     omega arith
 
-pub written : (encoding : Encoding) (n k low : ℕ) (bytes items : List ℕ) → k ≤ 8 → n < 2 ^ (7 - k) * 256 ^ k
-    → HasNoShorter k n → low ≡ n / 256 ^ k → SpellsNumber 8 LittleEndian n bytes → items ≡ bytes
-    → (varint encoding).writes n (take (k + 1) (((256 - 256 / 2 ^ k) + low) ∷ items))
-written encoding n k low bytes items l small no_shorter low_is digits same =
+pub written : (mode : Mode) (n k low : ℕ) (bytes items : List ℕ) → k ≤ 8 → n < 2 ^ (7 - k) * 256 ^ k
+    → HasNoShorter k n → low ≡ n / 256 ^ k → EncodesNumber 8 LittleEndian n bytes → items ≡ bytes
+    → (varint mode).writes n (take (k + 1) (((256 - 256 / 2 ^ k) + low) ∷ items))
+written mode n k low bytes items l small no_shorter low_is digits same =
     let first = (256 - 256 / 2 ^ k) + low in
     let below = subst (λ (i : ℕ). i < 2 ^ (7 - k)) (sym low_is) (low_below k n small) in
     let whole : take (k + 1) (first ∷ items) ≡ first ∷ take k bytes =
     ap₂ (λ (i : ℕ) (xs : List ℕ). take i (first ∷ xs)) (add-one k) same in
-    subst ((varint encoding).writes n) (sym whole)
-    (varint-written encoding k n first (take k bytes) (record {
+    subst ((varint mode).writes n) (sym whole)
+    (varint-written mode k n first (take k bytes) (record {
       at_most_eight = l;
       enough = small;
       no_shorter = no_shorter;
     })
     (subst (λ (i : ℕ). IsFirstByte k i first) low_is (first_byte_is k low l below))
-    (SpellsNumber-front k 8 n bytes l digits))
+    (EncodesNumber-prefix k 8 n bytes l digits))
 
 -- ---- decoding
 
@@ -188,10 +188,10 @@ zeros_add_nothing (suc (suc (suc (suc (suc (suc (suc (suc zero)))))))) = refl
 zeros_add_nothing (suc (suc (suc (suc (suc (suc (suc (suc (suc k))))))))) = refl
 
 -- digits that are filled up with zeros
-pub SpellsNumber-padded : (n : ℕ) (bytes : List ℕ) → length bytes ≤ 8 → AreBytes bytes
-    → n ≡ from_le_bytes w64 (bytes ++ drop (length bytes) zeros) → SpellsNumber (length bytes) LittleEndian n bytes
+pub EncodesNumber-padded : (n : ℕ) (bytes : List ℕ) → length bytes ≤ 8 → AreBytes bytes
+    → n ≡ from_le_bytes w64 (bytes ++ drop (length bytes) zeros) → EncodesNumber (length bytes) LittleEndian n bytes
 unfolding number
-SpellsNumber-padded n bytes l are e =
+EncodesNumber-padded n bytes l are e =
     let width : length (bytes ++ drop (length bytes) zeros) ≡ 8 = simp (length-append, length-drop) (omega arith) in
     let none = zeros_add_nothing (length bytes) in
     let sum = little_number-append bytes (drop (length bytes) zeros) in

@@ -63,10 +63,10 @@ module _ {A : Type 0} (decoded : List ℕ → A) (size : ℕ) where
   pub item_taken : (bytes first rest : List ℕ) (n : ℕ) (x : A) → n ≡ size → 0 < size → n ≤ length bytes
       → first ≡ take n bytes
       → rest ≡ drop n bytes → x ≡ decoded first → shown_items decoded size bytes ≡ x ∷ shown_items decoded size rest
-  item_taken bytes first rest n x same some enough front back is =
+  item_taken bytes first rest n x same some enough prefix suffix is =
       shown_items-more bytes some (subst (λ k. k ≤ length bytes) same enough)
-      ∙ ap₂ (λ y ys. y ∷ ys) (ap (λ k. decoded (take k bytes)) (sym same) ∙ (ap decoded (sym front) ∙ sym is))
-      (ap (λ k. shown_items decoded size (drop k bytes)) (sym same) ∙ ap (shown_items decoded size) (sym back))
+      ∙ ap₂ (λ y ys. y ∷ ys) (ap (λ k. decoded (take k bytes)) (sym same) ∙ (ap decoded (sym prefix) ∙ sym is))
+      (ap (λ k. shown_items decoded size (drop k bytes)) (sym same) ∙ ap (shown_items decoded size) (sym suffix))
 
 -- a whole number of items
 pub whole_items : (size whole : ℕ) → whole % size ≡ 0 → whole ≡ whole / size * size

@@ -14,18 +14,18 @@ module _ {S A : Type 0} (rest : S → List A) where
   walked_in_order p s =
       as_is p (rest p.from) (from_front (YieldsFirst rest) (λ x. x) rest (λ s t h. ap length h.0) (λ s x t h. h) p s)
 
-  walked_front : (xs : List A) (s t : S) → Yields (YieldsFirst rest) s xs t → rest s ≡ xs ++ rest t
-  walked_front [] s t e = ap rest e
-  walked_front (x ∷ xs) s t y = y.1 ∙ ap (λ ys. x ∷ ys) (walked_front xs y.0 t y.2)
+  walked_prefix : (xs : List A) (s t : S) → Yields (YieldsFirst rest) s xs t → rest s ≡ xs ++ rest t
+  walked_prefix [] s t e = ap rest e
+  walked_prefix (x ∷ xs) s t y = y.1 ∙ ap (λ ys. x ∷ ys) (walked_prefix xs y.0 t y.2)
 
   module _ (eq : A → A → Bool) where
-    alike_front : (xs ys more others : List A) → AllZip (λ x y. eq x y ≡ true) xs ys
+    alike_prefix : (xs ys more others : List A) → AllZip (λ x y. eq x y ≡ true) xs ys
         → pointwise eq (xs ++ more) (ys ++ others) ≡ pointwise eq more others
-    alike_front [] [] more others h = refl
-    alike_front [] (y ∷ ys) more others h = absurd h
-    alike_front (x ∷ xs) [] more others h = absurd h
-    alike_front (x ∷ xs) (y ∷ ys) more others h =
-        ap (λ b. b && pointwise eq (xs ++ more) (ys ++ others)) h.0 ∙ alike_front xs ys more others h.1
+    alike_prefix [] [] more others h = refl
+    alike_prefix [] (y ∷ ys) more others h = absurd h
+    alike_prefix (x ∷ xs) [] more others h = absurd h
+    alike_prefix (x ∷ xs) (y ∷ ys) more others h =
+        ap (λ b. b && pointwise eq (xs ++ more) (ys ++ others)) h.0 ∙ alike_prefix xs ys more others h.1
 
     alike_ends : (o p : Option A) (s t u v : S) (r : Bool) → YieldsFirst rest s o u → YieldsFirst rest t p v
         → MatchOption o (MatchOption p (r ≡ true) (λ _. r ≡ false)) (λ x. (r ≡ false) × IfSome p (λ y. eq x y ≡ false))
@@ -46,6 +46,6 @@ module _ {S A : Type 0} (rest : S → List A) where
         let mine = h.8 in
         let theirs = h.9 in
         alike_ends h.3 h.4 mine.0 theirs.0 h.5 h.6 r mine.2 theirs.2 h.11
-        ∙ sym (alike_front xs ys (rest mine.0) (rest theirs.0) h.10)
-        ∙ ap₂ (λ vs ws. pointwise eq vs ws) (sym (walked_front xs s mine.0 mine.1))
-        (sym (walked_front ys h.0 theirs.0 theirs.1) ∙ ap rest h.7)
+        ∙ sym (alike_prefix xs ys (rest mine.0) (rest theirs.0) h.10)
+        ∙ ap₂ (λ vs ws. pointwise eq vs ws) (sym (walked_prefix xs s mine.0 mine.1))
+        (sym (walked_prefix ys h.0 theirs.0 theirs.1) ∙ ap rest h.7)

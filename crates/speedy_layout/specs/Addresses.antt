@@ -6,9 +6,9 @@ use Rattle.std.specs.declared.net.ip_addr.IpAddr.TheVariants.{V4, V6}
 use Rattle.std.proofs.Common.{sym, ◌∙◌, ap₂, arith, inl, inr}
 use Rattle.speedy_base.specs.declared.endianness.Endianness.TheVariants.{BigEndian}
 use Rattle.speedy_base.specs.declared.error.ErrorKind.TheVariants as kinds
-use Rattle.speedy_base.specs.Digits.{SpellsNumber, AreBytes}
-use Rattle.speedy_base.specs.DigitsLemmas.{SpellsNumber-same_bytes, SpellsNumber-same_value}
-use Rattle.speedy_base.specs.Encoding.{Encoding}
+use Rattle.speedy_base.specs.Digits.{EncodesNumber, AreBytes}
+use Rattle.speedy_base.specs.DigitsLemmas.{EncodesNumber-same_bytes, EncodesNumber-same_value}
+use Rattle.speedy_base.specs.Mode.{Mode}
 use Rattle.speedy_layout.specs.Format.{Format}
 use Rattle.speedy_layout.specs.Laws.{Codec}
 use Rattle.speedy_layout.specs.Codes.{Code, IsCode, coding_codec, exact_code, exact_is_code, one_kind}
@@ -17,18 +17,18 @@ use Rattle.speedy_layout.specs.Numbers.{unsigned_number, unsigned_codec}
 
 -- octets, whose number has them as its digits, greatest first
 abbrev pub octets_code : ℕ → Code ℕ (List ℕ)
-octets_code width = exact_code (SpellsNumber width BigEndian) (λ kind. ⊥)
+octets_code width = exact_code (EncodesNumber width BigEndian) (λ kind. ⊥)
 
-pub octets_is_code : (width : ℕ) (encoding : Encoding) → IsCode (octets_code width) (unsigned_number width encoding)
-octets_is_code width encoding =
-    exact_is_code (λ kind h. absurd h) (λ n v w h k. SpellsNumber-same_bytes width BigEndian n v w h k)
-    (λ n m v h k. SpellsNumber-same_value width BigEndian n m v h k)
+pub octets_is_code : (width : ℕ) (mode : Mode) → IsCode (octets_code width) (unsigned_number width mode)
+octets_is_code width mode =
+    exact_is_code (λ kind h. absurd h) (λ n v w h k. EncodesNumber-same_bytes width BigEndian n v w h k)
+    (λ n m v h k. EncodesNumber-same_value width BigEndian n m v h k)
 
 -- addresses of so many octets: their number
 abbrev pub address_codec : ℕ → Codec (List ℕ)
 address_codec width = coding_codec (octets_code width) (unsigned_codec width) (octets_is_code width)
 
-abbrev pub address : ℕ → Encoding → Format (List ℕ)
+abbrev pub address : ℕ → Mode → Format (List ℕ)
 address width = (address_codec width).format
 
 -- octets that are joined in twos and taken apart again
@@ -55,8 +55,8 @@ one_tag false false e = refl
 one_tag true false e = absurd (cc)
 one_tag false true e = absurd (cc)
 
-pub address_tag_is_code : (encoding : Encoding) → IsCode address_tag_code (unsigned_number 1 encoding)
-address_tag_is_code encoding =
+pub address_tag_is_code : (mode : Mode) → IsCode address_tag_code (unsigned_number 1 mode)
+address_tag_is_code mode =
     exact_is_code (one_kind kinds.InvalidEnumVariant tt) (λ n v w h k. one_tag v w (sym h ∙ k)) (λ n m v h k. h ∙ sym k)
 
 -- the kind of an address: one byte, which has the number of one
@@ -86,5 +86,5 @@ ip_address_codec =
     variant_codec ip_parts ip_join ip_back address_tag (address_codec 16) (address_codec 4) 4 (omega arith)
     (omega arith)
 
-abbrev pub ip_address : Encoding → Format (List ℕ ⊎ List ℕ)
+abbrev pub ip_address : Mode → Format (List ℕ ⊎ List ℕ)
 ip_address = ip_address_codec.format

@@ -13,7 +13,7 @@ use Rattle.speedy_layout.specs.Sequences.{AsksAtMost, asks_same, asks_nothing_mo
 -- no value, and the refusal of a tag that no case has
 abbrev pub no_value : {V : Type 0} → Format V
 no_value = record {
-  spells = λ _ _. ⊥;
+  encodes = λ _ _. ⊥;
   writes = λ _ _. ⊥;
   names = λ kind. kind ≡ kinds.InvalidEnumVariant;
   refuses_writing = λ _. ⊥;
@@ -26,10 +26,10 @@ abbrev pub only_if : {V : Type 0} → Bool → Format V → Format V
 only_if true F = F
 only_if false F = no_value
 
--- the values that are made of those of a format, spelled as these
+-- the values that are made of those of a format, encoded as these
 abbrev pub made_of : {V S : Type 0} → (V → S) → Format V → Format S
 made_of {V = V} make F = record {
-  spells = λ s b. (v : V) × (make v ≡ s) × F.spells v b;
+  encodes = λ s b. (v : V) × (make v ≡ s) × F.encodes v b;
   writes = λ s b. (v : V) × (make v ≡ s) × F.writes v b;
   names = F.names;
   refuses_writing = F.refuses_writing;
@@ -53,13 +53,13 @@ no_value_laws : {V : Type 0} {strict : Bool} {least : ℕ} → Laws strict least
 no_value_laws = record {
   decodes = λ v w s t r q h k e. absurd h;
   tells = λ v w s t h k. absurd h;
-  written_spells = λ v b h. absurd h;
+  written_encodes = λ v b h. absurd h;
   written_alone = λ s v b h. absurd h;
   shortest = λ v b c h k. absurd h;
   least_size = λ v b h. absurd h;
   has_written = λ v b h. absurd h;
   one_written = λ u v b c h k. absurd h;
-  malformed_unspelled = λ v front rest m h. h;
+  malformed_undecodable = λ v prefix rest m h. h;
   names_own = λ kind h. subst IsOwnKind (sym h) tt;
   refuses_own = λ kind h. absurd h;
 }
@@ -78,7 +78,7 @@ pub is_tag : (n tag : ℕ) → nat_eq n tag ≡ true → n ≡ tag
 is_tag n tag e = elim (eqb_tells n tag) [ inl h ↦ h.1 | inr h ↦ absurd (let f = h.0 in cc) ]
 
 pub only_tag : {V : Type 0} (F : Format V) (tag n : ℕ) (b : Bool) → (b ≡ true → n ≡ tag) → (v : V) (s : List ℕ)
-    → (only_if b F).spells v s → tag ≡ n
+    → (only_if b F).encodes v s → tag ≡ n
 only_tag F tag n true same v s h = sym (same refl)
 only_tag F tag n false same v s h = absurd h
 
@@ -98,14 +98,14 @@ made_of_laws {F = F} make one laws = record {
       let d = laws.decodes h.0 k.0 s t r q h.2 k.2 e in
       (sym h.1 ∙ (ap make d.0 ∙ k.1), d.1, d.2);
   tells = λ v w s t h k. made_tells make h.0 k.0 (one h.0 k.0) (laws.tells h.0 k.0 s t h.2 k.2) v w h.1 k.1;
-  written_spells = λ v b h. (h.0, h.1, laws.written_spells h.0 b h.2);
+  written_encodes = λ v b h. (h.0, h.1, laws.written_encodes h.0 b h.2);
   written_alone = λ s v b h. (h.0, h.1, laws.written_alone s h.0 b h.2);
-  shortest = λ v b c h k. laws.shortest h.0 b c h.2 (subst (λ x. F.spells x c) (one k.0 h.0 (k.1 ∙ sym h.1)) k.2);
+  shortest = λ v b c h k. laws.shortest h.0 b c h.2 (subst (λ x. F.encodes x c) (one k.0 h.0 (k.1 ∙ sym h.1)) k.2);
   least_size = λ v b h. laws.least_size h.0 b h.2;
   has_written = λ v b h. let w = laws.has_written h.0 b h.2 in (w.0, (h.0, h.1, w.1));
   one_written = λ u v b c h k.
       laws.one_written u h.0 b c h.2 (subst (λ x. F.writes x c) (one k.0 h.0 (k.1 ∙ sym h.1)) k.2);
-  malformed_unspelled = λ v front rest m h. laws.malformed_unspelled h.0 front rest m h.2;
+  malformed_undecodable = λ v prefix rest m h. laws.malformed_undecodable h.0 prefix rest m h.2;
   names_own = laws.names_own;
   refuses_own = laws.refuses_own;
 }
@@ -128,8 +128,8 @@ either_within F G asks more true first second = asks_after first (asks_left asks
 either_within F G asks more false first second = asks_after second (asks_right asks more)
 
 pub either_is_tag : {V W : Type 0} (F : Format V) (G : Format W) (n : ℕ) (first : V → ℕ) (second : W → ℕ) (b : Bool)
-    → ((v : V) (s : List ℕ) → F.spells v s → first v ≡ n) → ((w : W) (s : List ℕ) → G.spells w s → second w ≡ n)
-    → (v : V ⊎ W) (s : List ℕ) → (either b F G).spells v s → either_tag first second v ≡ n
+    → ((v : V) (s : List ℕ) → F.encodes v s → first v ≡ n) → ((w : W) (s : List ℕ) → G.encodes w s → second w ≡ n)
+    → (v : V ⊎ W) (s : List ℕ) → (either b F G).encodes v s → either_tag first second v ≡ n
 either_is_tag F G n first second true one other v s h = ap (either_tag first second) (sym h.1) ∙ one h.0 s h.2
 either_is_tag F G n first second false one other v s h = ap (either_tag first second) (sym h.1) ∙ other h.0 s h.2
 

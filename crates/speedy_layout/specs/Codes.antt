@@ -1,9 +1,9 @@
--- Values that are spelled as values of another format, which they pass a test of, or are mapped to.
+-- Values that are encoded as values of another format, which they pass a test of, or are mapped to.
 use Rattle.std.specs.Prelude.{◌≡◌, ℕ, ◌≤◌, List, ◌++◌, length, Bool, true, false, IsTrue, ◌⊎◌, refl}
 use Rattle.std.proofs.Common.{sym, ◌∙◌, subst, inl, inr}
 use Rattle.speedy_base.specs.declared.error.ErrorKind.{ErrorKind}
 use Rattle.speedy_base.specs.declared.error.ErrorKind.TheVariants as kinds
-use Rattle.speedy_base.specs.Encoding.{Encoding}
+use Rattle.speedy_base.specs.Mode.{Mode}
 use Rattle.speedy_layout.specs.Format.{Format, IsOwnKind}
 use Rattle.speedy_layout.specs.Laws.{Laws, Codec, Decided}
 
@@ -17,23 +17,24 @@ pub record Code (U V : Type 0) : Type 1 where
   pub refusals : ErrorKind → Type 0
 
 -- the bytes are those of a code that stands for the value
-pub record Coded {U V : Type 0} (spelled : U → List ℕ → Type 0) (stands_for : U → V → Type 0) (v : V)
+pub record Coded {U V : Type 0} (encoded : U → List ℕ → Type 0) (stands_for : U → V → Type 0) (v : V)
     (bytes : List ℕ) : Type 0 where
   pub code : U
-  pub code_is : spelled code bytes
+  pub code_is : encoded code bytes
   pub stands : stands_for code v
 
--- a code that is accepted as no value is spelled by a front of the bytes
-pub record MeansNothing {U V : Type 0} (spells : U → List ℕ → Type 0) (means : U → V → Type 0)
+-- a code that is accepted as no value is encoded by a prefix of the bytes
+pub record MeansNothing {U V : Type 0} (encodes : U → List ℕ → Type 0) (means : U → V → Type 0)
     (bytes : List ℕ) : Type 0 where
   pub code : U
-  pub front : List ℕ
+  pub prefix : List ℕ
   pub rest : List ℕ
-  pub whole_is : bytes ≡ front ++ rest
-  pub code_is : spells code front
+  pub whole_is : bytes ≡ prefix ++ rest
+  pub code_is : encodes code prefix
   pub nothing : (v : V) → means code v → ⊥
 
--- the code is accepted as the value: each that means it, or the chosen one alone, under a demand for the written form
+-- the code is accepted as the value: each that means it, or the chosen one alone, under a demand for the canonical
+-- encoding
 abbrev pub Accepts : {U V : Type 0} → Bool → Code U V → U → V → Type 0
 Accepts false c = c.means
 Accepts true c = c.chosen
@@ -45,19 +46,19 @@ pub record ReadsWider {U V : Type 0} (c : Code U V) : Type 0 where
   pub meant : c.means code value
   pub not_chosen : c.chosen code value → ⊥
 
--- the kind of what is no written form, where there may be such and the written form is demanded
+-- the kind of what is no canonical encoding, where there may be such and the canonical encoding is demanded
 abbrev pub IsDemand : {U V : Type 0} → Bool → Code U V → ErrorKind → Type 0
 IsDemand strict c kind = IsTrue strict × (kind ≡ kinds.NotWrittenForm) × ReadsWider c
 
--- Values that are spelled as their codes. This alone reads wider than it writes, and here alone a demand for the
--- written form narrows what is read.
-unfoldable pub coding : {U V : Type 0} → Encoding → Code U V → Format U → Format V
-coding encoding c F = record {
-  spells = Coded F.spells (Accepts encoding.strict c);
+-- Values that are encoded as their codes. This alone reads wider than it writes, and here alone a demand for the
+-- canonical encoding narrows what is read.
+unfoldable pub coding : {U V : Type 0} → Mode → Code U V → Format U → Format V
+coding mode c F = record {
+  encodes = Coded F.encodes (Accepts mode.strict c);
   writes = Coded F.writes c.chosen;
-  names = λ kind. F.names kind ⊎ (c.refusals kind ⊎ IsDemand encoding.strict c kind);
+  names = λ kind. F.names kind ⊎ (c.refusals kind ⊎ IsDemand mode.strict c kind);
   refuses_writing = F.refuses_writing;
-  malformed = λ bytes. F.malformed bytes ⊎ MeansNothing F.spells (Accepts encoding.strict c) bytes;
+  malformed = λ bytes. F.malformed bytes ⊎ MeansNothing F.encodes (Accepts mode.strict c) bytes;
   asks = F.asks;
 }
 
@@ -69,16 +70,16 @@ pub record IsCode {U V : Type 0} (c : Code U V) (F : Format U) : Type 0 where
   pub one_chosen : F.asks.hashed ≡ false → (u w : U) (v : V) → c.chosen u v → c.chosen w v → u ≡ w
   -- whether two values are the same is decided where it is of codes; where nothing is hashed, that follows from the
   -- chosen ones
-  pub tells : F.asks.hashed ≡ true → ((u w : U) (s t : List ℕ) → F.spells u s → F.spells w t → Decided (u ≡ w))
-      → (v w : V) (s t : List ℕ) → Coded F.spells c.means v s → Coded F.spells c.means w t → Decided (v ≡ w)
+  pub tells : F.asks.hashed ≡ true → ((u w : U) (s t : List ℕ) → F.encodes u s → F.encodes w t → Decided (u ≡ w))
+      → (v w : V) (s t : List ℕ) → Coded F.encodes c.means v s → Coded F.encodes c.means w t → Decided (v ≡ w)
   -- and it means the value
   pub chosen_means : (u : U) (v : V) → c.chosen u v → c.means u v
-  -- one is chosen where the value has a spelling
-  pub has_chosen : (v : V) (bytes : List ℕ) → Coded F.spells c.means v bytes
-      → (b : List ℕ) × Coded F.spells c.chosen v b
-  -- no spelling of the value is shorter than those of the chosen code that are written, where none of a code is
-  pub chosen_shortest : ((u : U) (b d : List ℕ) → F.writes u b → F.spells u d → length b ≤ length d)
-      → (v : V) (b d : List ℕ) → Coded F.writes c.chosen v b → Coded F.spells c.means v d → length b ≤ length d
+  -- one is chosen where the value has an encoding
+  pub has_chosen : (v : V) (bytes : List ℕ) → Coded F.encodes c.means v bytes
+      → (b : List ℕ) × Coded F.encodes c.chosen v b
+  -- no encoding of the value is shorter than those of the chosen code that are written, where none of a code is
+  pub chosen_shortest : ((u : U) (b d : List ℕ) → F.writes u b → F.encodes u d → length b ≤ length d)
+      → (v : V) (b d : List ℕ) → Coded F.writes c.chosen v b → Coded F.encodes c.means v d → length b ≤ length d
   pub refusals_own : (kind : ErrorKind) → c.refusals kind → IsOwnKind kind
 
 -- what is chosen is accepted
@@ -109,12 +110,12 @@ Accepts-is true c u v h f = f refl
 demand_own : {U V : Type 0} (strict : Bool) (c : Code U V) (kind : ErrorKind) → IsDemand strict c kind → IsOwnKind kind
 demand_own strict c kind h = subst IsOwnKind (sym h.1) tt
 
--- the laws of values that are spelled as their codes
-pub coding_laws : {U V : Type 0} (encoding : Encoding) {c : Code U V} {least : ℕ} {F : Format U}
-    → Laws encoding.strict least F → IsCode c F
-    → Laws encoding.strict least (coding encoding c F)
+-- the laws of values that are encoded as their codes
+pub coding_laws : {U V : Type 0} (mode : Mode) {c : Code U V} {least : ℕ} {F : Format U}
+    → Laws mode.strict least F → IsCode c F
+    → Laws mode.strict least (coding mode c F)
 unfolding coding
-coding_laws {U = U} {V = V} encoding {c = c} {F = F} laws is = record {
+coding_laws {U = U} {V = V} mode {c = c} {F = F} laws is = record {
   decodes = λ v w s t r q h k e.
       let same = laws.decodes h.code k.code s t r q h.code_is k.code_is e in (
         is.one_meaning k.code v w (subst (λ (u : U). c.means u v) same.0 (means h.code v h.stands))
@@ -123,9 +124,9 @@ coding_laws {U = U} {V = V} encoding {c = c} {F = F} laws is = record {
         same.2,
       );
   tells = λ v w s t h k. by_hashed F.asks.hashed refl v w s t (meant v s h) (meant w t k);
-  written_spells = λ v b h. record {
+  written_encodes = λ v b h. record {
     code = h.code;
-    code_is = laws.written_spells h.code b h.code_is;
+    code_is = laws.written_encodes h.code b h.code_is;
     stands = Accepts-chosen strict c h.code v (is.chosen_means h.code v) h.stands;
   };
   written_alone = λ s v b h. record {
@@ -142,11 +143,11 @@ coding_laws {U = U} {V = V} encoding {c = c} {F = F} laws is = record {
   one_written = λ u v b d h k.
       let same = is.one_chosen u h.code k.code v h.stands k.stands in
       laws.one_written u k.code b d (subst (λ (x : U). F.writes x b) same h.code_is) k.code_is;
-  malformed_unspelled = λ v front rest f h.
+  malformed_undecodable = λ v prefix rest f h.
       elim f [
-        | inl x ↦ laws.malformed_unspelled h.code front rest x h.code_is
+        | inl x ↦ laws.malformed_undecodable h.code prefix rest x h.code_is
         | inr x ↦
-            let same = laws.decodes x.code h.code x.front front x.rest rest x.code_is h.code_is (sym x.whole_is) in
+            let same = laws.decodes x.code h.code x.prefix prefix x.rest rest x.code_is h.code_is (sym x.whole_is) in
             x.nothing v (subst (λ (u : U). Accepts strict c u v) (sym same.0) h.stands)
       ];
   names_own = λ kind n. elim n [
@@ -156,16 +157,16 @@ coding_laws {U = U} {V = V} encoding {c = c} {F = F} laws is = record {
   refuses_own = laws.refuses_own;
 } where
   strict : Bool
-  strict = encoding.strict
+  strict = mode.strict
 
   means : (u : U) (v : V) → Accepts strict c u v → c.means u v
   means u v h = Accepts-means strict c u v (is.chosen_means u v) h
 
-  meant : (v : V) (b : List ℕ) → Coded F.spells (Accepts strict c) v b → Coded F.spells c.means v b
+  meant : (v : V) (b : List ℕ) → Coded F.encodes (Accepts strict c) v b → Coded F.encodes c.means v b
   meant v b h = record { code = h.code; code_is = h.code_is; stands = means h.code v h.stands }
 
-  by_hashed : (b : Bool) → F.asks.hashed ≡ b → (v w : V) (s t : List ℕ) → Coded F.spells c.means v s
-      → Coded F.spells c.means w t → Decided (v ≡ w)
+  by_hashed : (b : Bool) → F.asks.hashed ≡ b → (v w : V) (s t : List ℕ) → Coded F.encodes c.means v s
+      → Coded F.encodes c.means w t → Decided (v ≡ w)
   by_hashed true hashed v w s t h k = is.tells hashed laws.tells v w s t h k
   by_hashed false hashed v w s t h k =
       let x = is.has_chosen v s h in
@@ -179,7 +180,7 @@ coding_laws {U = U} {V = V} encoding {c = c} {F = F} laws is = record {
       ]
 
 abbrev pub coding_codec : {U V : Type 0} (c : Code U V) (codes : Codec U)
-    → ((f : Encoding) → IsCode c (codes.format f)) → Codec V
+    → ((f : Mode) → IsCode c (codes.format f)) → Codec V
 coding_codec c codes is = record {
   least = codes.least;
   format = λ f. coding f c (codes.format f);
@@ -222,7 +223,7 @@ exact_is_code {U = U} {V = V} {means = means} {F = F} own one_meaning one_code =
   has_chosen = λ v b h. (b, h);
   chosen_shortest = λ shortest v b d h k.
       let same = one_code k.code h.code v k.stands h.stands in
-      shortest h.code b d h.code_is (subst (λ (u : U). F.spells u d) same k.code_is);
+      shortest h.code b d h.code_is (subst (λ (u : U). F.encodes u d) same k.code_is);
   refusals_own = own;
 }
 
@@ -237,8 +238,8 @@ abbrev pub subset_code : {V : Type 0} → (V → Type 0) → ErrorKind → Code 
 subset_code pass refusal = exact_code (λ u v. (u ≡ v) × pass v) (λ kind. kind ≡ refusal)
 
 -- the values of a format that pass the test; the others are refused with the one kind
-abbrev pub subset : {V : Type 0} → Encoding → (V → Type 0) → ErrorKind → Format V → Format V
-subset encoding pass refusal F = coding encoding (subset_code pass refusal) F
+abbrev pub subset : {V : Type 0} → Mode → (V → Type 0) → ErrorKind → Format V → Format V
+subset mode pass refusal F = coding mode (subset_code pass refusal) F
 
 pub subset_is_code : {V : Type 0} {F : Format V} (pass : V → Type 0) (refusal : ErrorKind) → IsOwnKind refusal
     → IsCode (subset_code pass refusal) F

@@ -5,52 +5,52 @@ use Rattle.std.proofs.lemmas.List.{length-append}
 use Rattle.std.specs.Int.{Width, w8, w16, w32, w64, w128, byte_len, cast_signed}
 use Rattle.speedy_base.specs.declared.endianness.Endianness.{Endianness}
 use Rattle.speedy_base.specs.Digits.{AreBytes, number}
-use Rattle.speedy_base.specs.Encoding.{Encoding, plain_encoding}
-use Rattle.speedy_base.specs.SignedLemmas.{SpellsSigned-cast_signed}
+use Rattle.speedy_base.specs.Mode.{Mode, plain_mode}
+use Rattle.speedy_base.specs.SignedLemmas.{EncodesSigned-cast_signed}
 use Rattle.speedy_base.specs.DigitsLemmas.{byte_len-above}
 use Rattle.speedy_layout.specs.Format.{Format, Each}
 use Rattle.speedy_layout.specs.Numbers.{unsigned_number, signed_number}
 
--- how values are spelled in an order, whatever else is asked of the bytes
-abbrev pub spelled_in : {V : Type 0} → (Encoding → Format V) → Endianness → V → List ℕ → Type 0
-spelled_in F order = (F (plain_encoding order)).spells
+-- how values are encoded in an order, whatever else is asked of the bytes
+abbrev pub encoded_in : {V : Type 0} → (Mode → Format V) → Endianness → V → List ℕ → Type 0
+encoded_in F order = (F (plain_mode order)).encodes
 
--- values that are spelled by so many bytes, which the order alone decides
-pub record IsFixed {V : Type 0} (size : ℕ) (F : Encoding → Format V) : Type 0 where
+-- values that are encoded by so many bytes, which the order alone decides
+pub record IsFixed {V : Type 0} (size : ℕ) (F : Mode → Format V) : Type 0 where
   pub has_bytes : 0 < size
   pub at_most : size ≤ 16
-  pub spells : (encoding : Encoding) (v : V) (bytes : List ℕ) → (F encoding).spells v bytes
-      → spelled_in F encoding.order v bytes
-  pub writes : (encoding : Encoding) (v : V) (bytes : List ℕ) → spelled_in F encoding.order v bytes
-      → (F encoding).writes v bytes
-  pub length_is : (order : Endianness) (v : V) (bytes : List ℕ) → spelled_in F order v bytes → length bytes ≡ size
+  pub encodes : (mode : Mode) (v : V) (bytes : List ℕ) → (F mode).encodes v bytes
+      → encoded_in F mode.order v bytes
+  pub writes : (mode : Mode) (v : V) (bytes : List ℕ) → encoded_in F mode.order v bytes
+      → (F mode).writes v bytes
+  pub length_is : (order : Endianness) (v : V) (bytes : List ℕ) → encoded_in F order v bytes → length bytes ≡ size
   -- no bytes are refused but for their number
-  pub none_malformed : (encoding : Encoding) (bytes : List ℕ) → (F encoding).malformed bytes → ⊥
+  pub none_malformed : (mode : Mode) (bytes : List ℕ) → (F mode).malformed bytes → ⊥
 
--- any bytes of that size spell the number that is decoded of them
-abbrev pub Decodes : {A V : Type 0} → ℕ → (Encoding → Format V) → (A → V) → (Endianness → List ℕ → A) → Type 0
+-- any bytes of that size encode the number that is decoded of them
+abbrev pub Decodes : {A V : Type 0} → ℕ → (Mode → Format V) → (A → V) → (Endianness → List ℕ → A) → Type 0
 Decodes size F seen decoded = (order : Endianness) (bytes : List ℕ) → length bytes ≡ size → AreBytes bytes
-    → spelled_in F order (seen (decoded order bytes)) bytes
+    → encoded_in F order (seen (decoded order bytes)) bytes
 
 -- so many values have so many times their bytes
-pub each_length : {V : Type 0} {size : ℕ} {F : Encoding → Format V} → IsFixed size F
-    → (order : Endianness) (vs : List V) (bytes : List ℕ) → Each (spelled_in F order) vs bytes
+pub each_length : {V : Type 0} {size : ℕ} {F : Mode → Format V} → IsFixed size F
+    → (order : Endianness) (vs : List V) (bytes : List ℕ) → Each (encoded_in F order) vs bytes
     → length bytes ≡ length vs * size
 each_length fixed order [] bytes h = ap length h ∙ omega arith
 each_length {size = size} fixed order (v ∷ vs) bytes h =
-    let one = fixed.length_is order v h.front h.first_is in
-    let more = each_length fixed order vs h.back h.second_is in
-    let l = ap length h.whole_is ∙ length-append h.front h.back in
+    let one = fixed.length_is order v h.prefix h.first_is in
+    let more = each_length fixed order vs h.suffix h.second_is in
+    let l = ap length h.whole_is ∙ length-append h.prefix h.suffix in
     omega (arith, one, more, l)
 
 -- ---- what views ask of them
 
-pub few_bytes : {V : Type 0} {size : ℕ} {F : Encoding → Format V} → IsFixed size F → size < 2 ^ 32
+pub few_bytes : {V : Type 0} {size : ℕ} {F : Mode → Format V} → IsFixed size F → size < 2 ^ 32
 few_bytes fixed = omega (arith, fixed.at_most)
 
-pub size_of_fixed : {V : Type 0} {size : ℕ} {F : Encoding → Format V} → IsFixed size F
-    → (encoding : Encoding) (v : V) (bytes : List ℕ) → (F encoding).spells v bytes → length bytes ≡ size
-size_of_fixed fixed encoding v bytes h = fixed.length_is encoding.order v bytes (fixed.spells encoding v bytes h)
+pub size_of_fixed : {V : Type 0} {size : ℕ} {F : Mode → Format V} → IsFixed size F
+    → (mode : Mode) (v : V) (bytes : List ℕ) → (F mode).encodes v bytes → length bytes ≡ size
+size_of_fixed fixed mode v bytes h = fixed.length_is mode.order v bytes (fixed.encodes mode v bytes h)
 
 byte_len-at_most : (w : Width) → byte_len w ≤ 16
 byte_len-at_most w8 = omega arith
@@ -66,8 +66,8 @@ unfolding unsigned_number
 unsigned_fixed w = record {
   has_bytes = let l = byte_len-above w in omega arith;
   at_most = byte_len-at_most w;
-  spells = λ encoding v bytes h. h;
-  writes = λ encoding v bytes h. h;
+  encodes = λ mode v bytes h. h;
+  writes = λ mode v bytes h. h;
   length_is = λ order v bytes h. h.width_is;
   none_malformed = λ _ _ h. h;
 }
@@ -81,8 +81,8 @@ unfolding signed_number
 signed_fixed w = record {
   has_bytes = let l = byte_len-above w in omega arith;
   at_most = byte_len-at_most w;
-  spells = λ encoding v bytes h. h;
-  writes = λ encoding v bytes h. h;
+  encodes = λ mode v bytes h. h;
+  writes = λ mode v bytes h. h;
   length_is = λ order v bytes h. h.digits.width_is;
   none_malformed = λ _ _ h. h;
 }
@@ -90,7 +90,7 @@ signed_fixed w = record {
 pub signed_decodes : (w : Width)
     → Decodes (byte_len w) (signed_number w) (λ (z : ℤ). z) (λ order bytes. cast_signed w (number order bytes))
 unfolding signed_number
-signed_decodes w order bytes l are = SpellsSigned-cast_signed w order (number order bytes) bytes (record {
+signed_decodes w order bytes l are = EncodesSigned-cast_signed w order (number order bytes) bytes (record {
   width_is = l;
   are_bytes = are;
   value_is = refl;

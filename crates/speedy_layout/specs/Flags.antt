@@ -2,8 +2,8 @@
 use Rattle.std.specs.Prelude.{◌≡◌, ℕ, ◌+◌, ◌^◌, ◌<◌, ◌≤◌, Bool, true, false, Option, Some, None, Result, Ok, Err, refl}
 use Rattle.std.proofs.Common.{sym, ◌∙◌, subst, arith}
 use Rattle.speedy_base.specs.Digits.{digits}
-use Rattle.speedy_base.specs.DigitsLemmas.{SpellsNumber-digits}
-use Rattle.speedy_base.specs.Encoding.{Encoding}
+use Rattle.speedy_base.specs.DigitsLemmas.{EncodesNumber-digits}
+use Rattle.speedy_base.specs.Mode.{Mode}
 use Rattle.speedy_layout.specs.Format.{either_asks, Format}
 use Rattle.speedy_layout.specs.Laws.{Codec, Laws-less}
 use Rattle.speedy_layout.specs.Codes.{ReadsWider, Code, IsCode, coding_codec}
@@ -45,18 +45,18 @@ written_flag-below : (b : Bool) → written_flag b < 256 ^ 1
 written_flag-below true = omega arith
 written_flag-below false = omega arith
 
-pub flag_is_code : (encoding : Encoding) → IsCode flag_code (unsigned_number 1 encoding)
+pub flag_is_code : (mode : Mode) → IsCode flag_code (unsigned_number 1 mode)
 unfolding unsigned_number
-flag_is_code encoding = record {
+flag_is_code mode = record {
   one_meaning = λ n v w h k. one_flag v w n h k;
   one_chosen = λ _ n m v h k. h ∙ sym k;
   tells = λ e. absurd (cc);
   chosen_means = λ n v h. subst (IsFlag v) (sym h) (written_flag_is v);
   has_chosen = λ v b h. (
-    digits encoding.order 1 (written_flag v),
+    digits mode.order 1 (written_flag v),
     record {
       code = written_flag v;
-      code_is = SpellsNumber-digits 1 encoding.order (written_flag v) (written_flag-below v);
+      code_is = EncodesNumber-digits 1 mode.order (written_flag v) (written_flag-below v);
       stands = refl;
     },
   );
@@ -68,7 +68,7 @@ flag_is_code encoding = record {
 abbrev pub flag_codec : Codec Bool
 flag_codec = coding_codec flag_code (unsigned_codec 1) flag_is_code
 
-abbrev pub flag : Encoding → Format Bool
+abbrev pub flag : Mode → Format Bool
 flag = flag_codec.format
 
 -- ---- a value that a flag or a tag chooses
@@ -95,12 +95,12 @@ branch_asks L M false = asks_right L.asks M.asks
 abbrev pub variant_codec : {U V W : Type 0} (split : U → (b : Bool) × Branch V W b)
     (join : (b : Bool) → Branch V W b → U) → ((v : U) → join (split v).0 (split v).1 ≡ v) → Codec Bool
     → (first : Codec V) (second : Codec W) (n : ℕ) → n ≤ first.least → n ≤ second.least → Codec U
-variant_codec split join back tags first second n in_first in_second = record {
+variant_codec split join suffix tags first second n in_first in_second = record {
   least = tags.least + n;
   format = λ f. variant split (tags.format f) (first.format f) (second.format f);
   laws = λ f. sequence_laws (tags.laws f)
       (elim [ true ↦ Laws-less in_first (first.laws f) | false ↦ Laws-less in_second (second.laws f) ])
-      (branch_asks (first.format f) (second.format f)) (told_apart split join back);
+      (branch_asks (first.format f) (second.format f)) (told_apart split join suffix);
 }
 
 -- ---- options and results
@@ -114,8 +114,8 @@ abbrev pub option_join : {V : Type 0} → (b : Bool) → Branch V (Unit {0}) b �
 option_join true v = Some v
 option_join false _ = None
 
-abbrev pub option : {V : Type 0} → Encoding → Format V → Format (Option V)
-option encoding L = variant option_parts (flag encoding) L unit
+abbrev pub option : {V : Type 0} → Mode → Format V → Format (Option V)
+option mode L = variant option_parts (flag mode) L unit
 
 -- one of two values: true and the first, or false and the second
 abbrev pub alternative_parts : {V W : Type 0} → Result V W → (b : Bool) × Branch V W b
@@ -126,8 +126,8 @@ abbrev pub alternative_join : {V W : Type 0} → (b : Bool) → Branch V W b →
 alternative_join true v = Ok v
 alternative_join false w = Err w
 
-abbrev pub alternative : {V W : Type 0} → Encoding → Format V → Format W → Format (Result V W)
-alternative encoding L M = variant alternative_parts (flag encoding) L M
+abbrev pub alternative : {V W : Type 0} → Mode → Format V → Format W → Format (Result V W)
+alternative mode L M = variant alternative_parts (flag mode) L M
 
 pub option_back : {V : Type 0} (v : Option V) → option_join (option_parts v).0 (option_parts v).1 ≡ v
 option_back (Some v) = refl

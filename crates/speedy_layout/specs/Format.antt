@@ -7,7 +7,7 @@ use Rattle.speedy_base.specs.declared.error.ErrorKind.TheVariants as kinds
 pub record Asks : Type 0 where
   -- values that borrow, and so can be read only from a reader that lends
   pub lending : Bool
-  -- a part has no order of its own, so that several spellings may be written
+  -- a part has no order of its own, so that several encodings may be written
   pub hashed : Bool
   -- reading a value asks for memory
   pub memory : Bool
@@ -23,25 +23,25 @@ either_asks a b = record {
   memory = a.memory || b.memory;
 }
 
--- The format of a type: a whole value is spelled by a whole list of bytes.
+-- The format of a type: a whole value is encoded by a whole list of bytes.
 pub record Format (V : Type 0) : Type 1 where
-  -- the bytes spell the value
-  pub spells : V → List ℕ → Type 0
-  -- the spellings that are written
+  -- the bytes encode the value
+  pub encodes : V → List ℕ → Type 0
+  -- the encodings that are written
   pub writes : V → List ℕ → Type 0
   -- the kinds of refusals that the type adds itself in reading, and those of its parts
   pub names : ErrorKind → Type 0
   -- the kinds of refusals that the type adds itself in writing, and those of its parts; of the listed types none
   pub refuses_writing : ErrorKind → Type 0
-  -- bytes at whose front stands what the type itself refuses
+  -- bytes at whose start stands what the type itself refuses
   pub malformed : List ℕ → Type 0
   pub asks : Asks
 
--- a format whose spellings are all written, and which refuses nothing itself and asks for nothing
+-- a format whose encodings are all written, and which refuses nothing itself and asks for nothing
 abbrev pub plain_format : {V : Type 0} → (V → List ℕ → Type 0) → Format V
-plain_format spells = record {
-  spells = spells;
-  writes = spells;
+plain_format encodes = record {
+  encodes = encodes;
+  writes = encodes;
   names = λ _. ⊥;
   refuses_writing = λ _. ⊥;
   malformed = λ _. ⊥;
@@ -50,16 +50,16 @@ plain_format spells = record {
 
 -- the bytes are two parts, one after the other
 pub record Parts (first second : List ℕ → Type 0) (bytes : List ℕ) : Type 0 where
-  pub front : List ℕ
-  pub back : List ℕ
-  pub whole_is : bytes ≡ front ++ back
-  pub first_is : first front
-  pub second_is : second back
+  pub prefix : List ℕ
+  pub suffix : List ℕ
+  pub whole_is : bytes ≡ prefix ++ suffix
+  pub first_is : first prefix
+  pub second_is : second suffix
 
--- the bytes are a spelling of each item, one after the other
+-- the bytes are an encoding of each item, one after the other
 abbrev pub Each : {V : Type 0} → (V → List ℕ → Type 0) → List V → List ℕ → Type 0
-Each spells [] bytes = bytes ≡ []
-Each spells (v ∷ vs) bytes = Parts (spells v) (Each spells vs) bytes
+Each encodes [] bytes = bytes ≡ []
+Each encodes (v ∷ vs) bytes = Parts (encodes v) (Each encodes vs) bytes
 
 -- a kind that a type may name: an end of input, a buffer that is too small, want of memory and a device's failure are
 -- no type's

@@ -5,7 +5,7 @@ use Rattle.std.proofs.Common.{sym, ◌∙◌, ap, subst, arith, inl, inr}
 use Rattle.std.proofs.lemmas.List.{length-append}
 use Rattle.speedy_base.specs.declared.error.ErrorKind.{ErrorKind}
 use Rattle.speedy_base.specs.declared.error.ErrorKind.TheVariants as kinds
-use Rattle.speedy_base.specs.Encoding.{Encoding}
+use Rattle.speedy_base.specs.Mode.{Mode}
 use Rattle.speedy_layout.specs.Codecs.{Codec}
 use Rattle.speedy_layout.specs.Codes.{Code, IsCode, coding, coding_laws}
 use Rattle.speedy_layout.specs.Format.{Asks, Format, IsOwnKind}
@@ -19,19 +19,19 @@ use Rattle.speedy_layout.specs.Texts.{raw_bytes, raw_bytes_laws}
 abbrev pub frame_parts : List ℕ → ℕ × List ℕ
 frame_parts bytes = (length bytes, bytes)
 
--- a number of bytes, which is spelled as a format of numbers says, and then so many
-abbrev pub counted_bytes : Format ℕ → Asks → Format (List ℕ)
-counted_bytes number asks = sequence frame_parts number asks raw_bytes
+-- a number of bytes, which is encoded as a format of numbers says, and then so many
+abbrev pub prefixed_bytes : Format ℕ → Asks → Format (List ℕ)
+prefixed_bytes number asks = sequence frame_parts number asks raw_bytes
 
 -- the bytes can be counted
 abbrev pub AreCounted : List ℕ → Type 0
 AreCounted bytes = length bytes < 2 ^ 64 - 1
 
--- What the bytes of a frame stand for: a value that all of them spell. Others are refused as a value is, or as bytes
+-- What the bytes of a frame stand for: a value that all of them encode. Others are refused as a value is, or as bytes
 -- that are too many or too few for one.
 abbrev pub frame_code : {V : Type 0} → Format V → Code (List ℕ) V
 frame_code F = record {
-  means = λ bytes v. F.spells v bytes × AreCounted bytes;
+  means = λ bytes v. F.encodes v bytes × AreCounted bytes;
   chosen = λ bytes v. F.writes v bytes × AreCounted bytes;
   refusals = λ kind. F.names kind ⊎ (kind ≡ kinds.OutOfRangeLength);
 }
@@ -41,11 +41,11 @@ abbrev pub frame_asks : Asks → Asks
 frame_asks asks = record asks { memory = true }
 
 -- the bytes of a frame, as a value
-abbrev pub frame_coding : {V : Type 0} → Encoding → Format ℕ → Format V → Format V
-frame_coding f number F = coding f (frame_code F) (counted_bytes number (frame_asks F.asks))
+abbrev pub frame_coding : {V : Type 0} → Mode → Format ℕ → Format V → Format V
+frame_coding f number F = coding f (frame_code F) (prefixed_bytes number (frame_asks F.asks))
 
 -- A value behind the number of its bytes, which are fewer than `usize::MAX`.
-unfoldable pub frame : {V : Type 0} → Encoding → Format ℕ → Format V → Format V
+unfoldable pub frame : {V : Type 0} → Mode → Format ℕ → Format V → Format V
 frame f number F = record (frame_coding f number F) {
   refuses_writing = λ kind. number.refuses_writing kind ⊎ F.refuses_writing kind;
 }
@@ -56,9 +56,9 @@ pub raw_asks : (asks : Asks) (n : ℕ) → AsksAtMost (raw_bytes n).asks asks
 unfolding raw_bytes
 raw_asks asks n = asks_nothing_more
 
-pub counted_bytes_laws : {strict : Bool} {least : ℕ} {number : Format ℕ} (asks : Asks) → Laws strict least number
-    → Laws strict least (counted_bytes number asks)
-counted_bytes_laws {least = least} asks laws =
+pub prefixed_bytes_laws : {strict : Bool} {least : ℕ} {number : Format ℕ} (asks : Asks) → Laws strict least number
+    → Laws strict least (prefixed_bytes number asks)
+prefixed_bytes_laws {least = least} asks laws =
     Laws-less {n = least + 0} (omega arith)
     (sequence_laws {n = least} {m = 0} laws (λ n. Laws-less (omega arith) (raw_bytes_laws n)) (raw_asks asks)
     (λ v w e. ap (λ (p : ℕ × List ℕ). p.1) e))
@@ -68,53 +68,53 @@ second_unasked : (a b : Bool) → (a || b) ≡ false → b ≡ false
 second_unasked true b e = absurd (cc)
 second_unasked false b e = e
 
-counted_unhashed : (number : Format ℕ) (asks : Asks) → (counted_bytes number asks).asks.hashed ≡ false
+counted_unhashed : (number : Format ℕ) (asks : Asks) → (prefixed_bytes number asks).asks.hashed ≡ false
     → asks.hashed ≡ false
 unfolding sequence
 counted_unhashed number asks e = second_unasked number.asks.hashed asks.hashed e
 
 -- bytes that are no more than those of a frame are written behind their number in no more bytes than it has
 pub shorter_frame : {strict : Bool} {least : ℕ} {number : Format ℕ} (asks : Asks) → Laws strict least number
-    → WritesSmaller number → (u w s : List ℕ) → length u ≤ length w → (counted_bytes number asks).spells w s
-    → (b : List ℕ) × (counted_bytes number asks).writes u b × (length b ≤ length s)
+    → WritesSmaller number → (u w s : List ℕ) → length u ≤ length w → (prefixed_bytes number asks).encodes w s
+    → (b : List ℕ) × (prefixed_bytes number asks).writes u b × (length b ≤ length s)
 unfolding sequence raw_bytes
 shorter_frame asks laws smaller u w s fewer h =
-    let n = smaller (length u) (length w) h.front fewer h.first_is in
+    let n = smaller (length u) (length w) h.prefix fewer h.first_is in
     let less = n.2 in
     let joined = length-append n.0 u in
-    let whole = ap length h.whole_is ∙ length-append h.front h.back in
-    let back = h.second_is.1 in (
+    let whole = ap length h.whole_is ∙ length-append h.prefix h.suffix in
+    let suffix = h.second_is.1 in (
       n.0 ++ u,
-      record { front = n.0; back = u; whole_is = refl; first_is = n.1; second_is = (refl, refl) },
+      record { prefix = n.0; suffix = u; whole_is = refl; first_is = n.1; second_is = (refl, refl) },
       omega arith,
     )
 
 -- bytes of as many are written behind their number in as many bytes
 pub written_frame : {strict : Bool} {least : ℕ} {number : Format ℕ} (asks : Asks) → Laws strict least number
-    → WritesSmaller number → (u w b d : List ℕ) → length u ≤ length w → (counted_bytes number asks).writes u b
-    → (counted_bytes number asks).spells w d → length b ≤ length d
+    → WritesSmaller number → (u w b d : List ℕ) → length u ≤ length w → (prefixed_bytes number asks).writes u b
+    → (prefixed_bytes number asks).encodes w d → length b ≤ length d
 written_frame asks laws smaller u w b d fewer h k =
-    let own = counted_bytes_laws asks laws in
+    let own = prefixed_bytes_laws asks laws in
     let other = shorter_frame asks laws smaller u w d fewer k in
-    let first = own.shortest u b other.0 h (own.written_spells u other.0 other.1) in
+    let first = own.shortest u b other.0 h (own.written_encodes u other.0 other.1) in
     let second = other.2 in
     omega arith
 
 module _ {V : Type 0} {strict : Bool} {least more : ℕ} {number : Format ℕ} {F : Format V}
     (numbers : Laws strict least number) (smaller : WritesSmaller number) (laws : Laws strict more F) where
-  pub frame_is_code : IsCode (frame_code F) (counted_bytes number (frame_asks F.asks))
+  pub frame_is_code : IsCode (frame_code F) (prefixed_bytes number (frame_asks F.asks))
   frame_is_code = record {
     one_meaning = λ u v w h k. (laws.decodes v w u u [] [] h.0 k.0 refl).0;
     one_chosen = λ none u w v h k. laws.one_written (counted_unhashed number (frame_asks F.asks) none) v u w h.0 k.0;
     tells = λ _ decided v w s t h k. laws.tells v w h.code k.code h.stands.0 k.stands.0;
-    chosen_means = λ u v h. (laws.written_spells v u h.0, h.1);
+    chosen_means = λ u v h. (laws.written_encodes v u h.0, h.1);
     has_chosen = λ v bytes h.
         let w = laws.has_written v h.code h.stands.0 in
         let fewer = laws.shortest v w.0 h.code w.1 h.stands.0 in
         let b = shorter_frame (frame_asks F.asks) numbers smaller w.0 h.code bytes fewer h.code_is in
-        let whole = counted_bytes_laws (frame_asks F.asks) numbers in
+        let whole = prefixed_bytes_laws (frame_asks F.asks) numbers in
         let are = h.stands.1 in
-        (b.0, record { code = w.0; code_is = whole.written_spells w.0 b.0 b.1; stands = (w.1, omega arith) });
+        (b.0, record { code = w.0; code_is = whole.written_encodes w.0 b.0 b.1; stands = (w.1, omega arith) });
     chosen_shortest = λ _ v b d h k.
         written_frame (frame_asks F.asks) numbers smaller h.code k.code b d
         (laws.shortest v h.code k.code h.stands.0 k.stands.0) h.code_is k.code_is;
@@ -131,13 +131,13 @@ refused_own : {V : Type 0} {strict : Bool} {least more : ℕ} {number : Format �
 refused_own numbers laws kind (inl h) = numbers.refuses_own kind h
 refused_own numbers laws kind (inr h) = laws.refuses_own kind h
 
-pub frame_laws : {V : Type 0} (f : Encoding) {least more : ℕ} {number : Format ℕ} {F : Format V}
+pub frame_laws : {V : Type 0} (f : Mode) {least more : ℕ} {number : Format ℕ} {F : Format V}
     → Laws f.strict least number → WritesSmaller number → Laws f.strict more F
     → Laws f.strict least (frame f number F)
 unfolding frame
 frame_laws f {number = number} {F = F} numbers smaller laws =
     Laws-refusing (λ kind. number.refuses_writing kind ⊎ F.refuses_writing kind) (refused_own numbers laws)
-    (coding_laws f (counted_bytes_laws (frame_asks F.asks) numbers) (frame_is_code numbers smaller laws))
+    (coding_laws f (prefixed_bytes_laws (frame_asks F.asks) numbers) (frame_is_code numbers smaller laws))
 
 -- a value behind the number of its bytes
 abbrev pub frame_behind : {V : Type 0} → Codec V → (numbers : Numbers) → Behind numbers V

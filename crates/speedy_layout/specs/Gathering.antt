@@ -3,7 +3,7 @@
 use Rattle.std.specs.Prelude.{◌≡◌, ℕ, ◌+◌, ◌≤◌, List, [], ◌∷◌, ◌++◌, length, Bool, true, false, refl}
 use Rattle.std.proofs.Common.{sym, ◌∙◌, ap, subst, inl, inr, arith}
 use Rattle.std.proofs.lemmas.List.{length-append}
-use Rattle.speedy_base.specs.Encoding.{Encoding}
+use Rattle.speedy_base.specs.Mode.{Mode}
 use Rattle.speedy_layout.specs.Format.{Format, Each}
 use Rattle.speedy_layout.specs.Laws.{Laws, Codec, Laws-asking, Decided}
 use Rattle.speedy_layout.specs.Codes.{Code, Coded, IsCode, coding, coding_laws}
@@ -11,7 +11,7 @@ use Rattle.speedy_layout.specs.Numbers.{WritesSmaller}
 use Rattle.speedy_layout.specs.Owned.{owned_content}
 use Rattle.speedy_layout.specs.Prefixed.{Numbers, Behind}
 use Rattle.speedy_layout.specs.Sequences.{sequence}
-use Rattle.speedy_layout.specs.Lists.{counted_list, counted_list_laws, repeat, vector, each_shortest}
+use Rattle.speedy_layout.specs.Lists.{prefixed_list, prefixed_list_laws, repeat, vector, each_shortest}
 use Rattle.speedy_layout.specs.Members.{IsIn, AreDistinct, IsIn-left, IsIn-right, IsIn-either, IsIn-around}
 
 -- What makes it lawful that lists stand for things, and that some lists are written. A list that stands for a thing and
@@ -31,10 +31,10 @@ pub record IsGathering {E S : Type 0} (hashed : Bool) (stands : List E → S →
   pub one_hashed : hashed ≡ true → (xs ys : List E) (s t : S) → written xs → written ys → stands xs s → stands ys t
       → ((e : E) → IsIn e xs → IsIn e ys) → ((e : E) → IsIn e ys → IsIn e xs) → s ≡ t
 
--- a thing that some list with a spelling stands for has a form
+-- a thing that some list with an encoding stands for has a form
 abbrev pub HasForms : {E S : Type 0} → Format E → (List E → S → Type 0) → (List E → Type 0) → Type 0
 HasForms {E = E} {S = S} L stands written =
-    (ys : List E) (bytes : List ℕ) (s : S) → Each L.spells ys bytes → stands ys s → (xs : List E) × stands xs s
+    (ys : List E) (bytes : List ℕ) (s : S) → Each L.encodes ys bytes → stands ys s → (xs : List E) × stands xs s
     × written xs
 
 -- a list is read as the thing that it stands for, and one that is a form is written
@@ -45,60 +45,60 @@ gathering stands written = record { means = stands; chosen = λ xs s. stands xs 
 unfoldable pub hashed_items : {V : Type 0} → Format V → Format V
 hashed_items F = record F { asks = record F.asks { hashed = true } }
 
--- the list of the items, with a count before it, which is spelled as a format of numbers says
+-- the list of the items, with a count before it, which is encoded as a format of numbers says
 abbrev pub items_of : {E : Type 0} → Bool → Format ℕ → Format E → Format (List E)
-items_of false count L = counted_list count L
-items_of true count L = hashed_items (counted_list count L)
+items_of false count L = prefixed_list count L
+items_of true count L = hashed_items (prefixed_list count L)
 
--- things that are spelled as the counted list of some items that gather to them
-abbrev pub gathered : {E S : Type 0} → Bool → Encoding → Format ℕ → (List E → S → Type 0) → (List E → Type 0)
+-- things that are encoded as the counted list of some items that gather to them
+abbrev pub gathered : {E S : Type 0} → Bool → Mode → Format ℕ → (List E → S → Type 0) → (List E → Type 0)
     → Format E → Format S
-gathered hashed encoding count stands written L = coding encoding (gathering stands written) (items_of hashed count L)
+gathered hashed mode count stands written L = coding mode (gathering stands written) (items_of hashed count L)
 
 pub hashed_items_laws : {V : Type 0} {strict : Bool} {least : ℕ} {F : Format V} → Laws strict least F
     → Laws strict least (hashed_items F)
 unfolding hashed_items
 hashed_items_laws {F = F} laws = Laws-asking (record F.asks { hashed = true }) (λ e. absurd (cc)) (omega arith) laws
 
--- ---- the spelling of what lies inside a list
+-- ---- the encoding of what lies inside a list
 
--- the spelling of one item of a list, and of the others
-record Taken {V : Type 0} (spells : V → List ℕ → Type 0) (v : V) (others : List V) (bytes : List ℕ) : Type 0 where
+-- the encoding of one item of a list, and of the others
+record Taken {V : Type 0} (encodes : V → List ℕ → Type 0) (v : V) (others : List V) (bytes : List ℕ) : Type 0 where
   item : List ℕ
-  item_is : spells v item
+  item_is : encodes v item
   rest : List ℕ
-  rest_is : Each spells others rest
+  rest_is : Each encodes others rest
   size_is : length bytes ≡ length item + length rest
 
--- a spelling of these items, no longer than the bytes
-record Within {V : Type 0} (spells : V → List ℕ → Type 0) (xs ys : List V) (bytes : List ℕ) : Type 0 where
+-- an encoding of these items, no longer than the bytes
+record Within {V : Type 0} (encodes : V → List ℕ → Type 0) (xs ys : List V) (bytes : List ℕ) : Type 0 where
   shorter : List ℕ
-  spelled : Each spells xs shorter
+  encoded : Each encodes xs shorter
   size : length shorter ≤ length bytes
   count : length xs ≤ length ys
 
-module _ {V : Type 0} (spells : V → List ℕ → Type 0) where
-  take_item : (v : V) (before after : List V) (bytes : List ℕ) → Each spells (before ++ v ∷ after) bytes
-      → Taken spells v (before ++ after) bytes
+module _ {V : Type 0} (encodes : V → List ℕ → Type 0) where
+  take_item : (v : V) (before after : List V) (bytes : List ℕ) → Each encodes (before ++ v ∷ after) bytes
+      → Taken encodes v (before ++ after) bytes
   take_item v [] after bytes h = record {
-    item = h.front;
+    item = h.prefix;
     item_is = h.first_is;
-    rest = h.back;
+    rest = h.suffix;
     rest_is = h.second_is;
-    size_is = ap length h.whole_is ∙ length-append h.front h.back;
+    size_is = ap length h.whole_is ∙ length-append h.prefix h.suffix;
   }
   take_item v (u ∷ before) after bytes h =
-      let t = take_item v before after h.back h.second_is in
-      let l = ap length h.whole_is ∙ length-append h.front h.back in
-      let m = length-append h.front t.rest in
+      let t = take_item v before after h.suffix h.second_is in
+      let l = ap length h.whole_is ∙ length-append h.prefix h.suffix in
+      let m = length-append h.prefix t.rest in
       let n = t.size_is in
       record {
         item = t.item;
         item_is = t.item_is;
-        rest = h.front ++ t.rest;
+        rest = h.prefix ++ t.rest;
         rest_is = record {
-          front = h.front;
-          back = t.rest;
+          prefix = h.prefix;
+          suffix = t.rest;
           whole_is = refl;
           first_is = h.first_is;
           second_is = t.rest_is;
@@ -115,21 +115,21 @@ module _ {V : Type 0} (spells : V → List ℕ → Type 0) where
         | inr x ↦ elim x [ inl e ↦ absurd (absent (subst (λ w. IsIn w xs) e h)) | inr y ↦ IsIn-right u before after y ]
       ]
 
-  -- distinct items that lie inside a list are spelled in no more bytes than the list, and are no more
-  spelled_within : (xs ys : List V) (bytes : List ℕ) → AreDistinct xs → ((v : V) → IsIn v xs → IsIn v ys)
-      → Each spells ys bytes
-      → Within spells xs ys bytes
-  spelled_within [] ys bytes d inside h = record {
+  -- distinct items that lie inside a list are encoded in no more bytes than the list, and are no more
+  encoded_within : (xs ys : List V) (bytes : List ℕ) → AreDistinct xs → ((v : V) → IsIn v xs → IsIn v ys)
+      → Each encodes ys bytes
+      → Within encodes xs ys bytes
+  encoded_within [] ys bytes d inside h = record {
     shorter = [];
-    spelled = refl;
+    encoded = refl;
     size = omega arith;
     count = omega arith;
   }
-  spelled_within (x ∷ xs) ys bytes d inside h =
+  encoded_within (x ∷ xs) ys bytes d inside h =
       let a = IsIn-around x ys (inside x (inl refl)) in
-      let t = take_item x a.before a.after bytes (subst (λ zs. Each spells zs bytes) a.whole_is h) in
+      let t = take_item x a.before a.after bytes (subst (λ zs. Each encodes zs bytes) a.whole_is h) in
       let w =
-      spelled_within xs (a.before ++ a.after) t.rest d.1
+      encoded_within xs (a.before ++ a.after) t.rest d.1
       (λ v k. beside x xs a.before a.after d.0 v k (subst (IsIn v) a.whole_is (inside v (inr k))))
       t.rest_is in
       let l = t.size_is in
@@ -140,12 +140,12 @@ module _ {V : Type 0} (spells : V → List ℕ → Type 0) where
       let q = length-append a.before a.after in
       record {
         shorter = t.item ++ w.shorter;
-        spelled = record {
-          front = t.item;
-          back = w.shorter;
+        encoded = record {
+          prefix = t.item;
+          suffix = w.shorter;
           whole_is = refl;
           first_is = t.item_is;
-          second_is = w.spelled;
+          second_is = w.encoded;
         };
         size = omega arith;
         count = omega arith;
@@ -154,13 +154,13 @@ module _ {V : Type 0} (spells : V → List ℕ → Type 0) where
 -- ---- whether an item is among others
 
 module _ {V : Type 0} {strict : Bool} {least : ℕ} {F : Format V} (laws : Laws strict least F) where
-  -- that is decided of items that have spellings
-  pub in_decided : (x : V) (ys : List V) (s t : List ℕ) → F.spells x s → Each F.spells ys t → Decided (IsIn x ys)
+  -- that is decided of items that have encodings
+  pub in_decided : (x : V) (ys : List V) (s t : List ℕ) → F.encodes x s → Each F.encodes ys t → Decided (IsIn x ys)
   in_decided x [] s t h k = inr (λ n. n)
   in_decided x (y ∷ ys) s t h k =
-      elim (laws.tells x y s k.front h k.first_is) [
+      elim (laws.tells x y s k.prefix h k.first_is) [
         | inl e ↦ inl (inl e)
-        | inr first ↦ elim (in_decided x ys s k.back h k.second_is) [
+        | inr first ↦ elim (in_decided x ys s k.suffix h k.second_is) [
           | inl i ↦ inl (inr i)
           | inr n
               ↦ inr (λ i. elim i [ inl e ↦ first e | inr j ↦ n j ])
@@ -168,13 +168,13 @@ module _ {V : Type 0} {strict : Bool} {least : ℕ} {F : Format V} (laws : Laws 
       ]
 
   -- and so it is of all of them
-  inside_decided : (xs ys : List V) (s t : List ℕ) → Each F.spells xs s → Each F.spells ys t
+  inside_decided : (xs ys : List V) (s t : List ℕ) → Each F.encodes xs s → Each F.encodes ys t
       → Decided ((x : V) → IsIn x xs → IsIn x ys)
   inside_decided [] ys s t h k = inl (λ x n. absurd n)
   inside_decided (x ∷ xs) ys s t h k =
-      elim (in_decided x ys h.front t h.first_is k) [
+      elim (in_decided x ys h.prefix t h.first_is k) [
         | inl first ↦
-            elim (inside_decided xs ys h.back t h.second_is k) [
+            elim (inside_decided xs ys h.suffix t h.second_is k) [
               | inl more ↦ inl (λ z i. elim i [ inl e ↦ subst (λ w. IsIn w ys) (sym e) first | inr j ↦ more z j ])
               | inr n ↦ inr (λ all. n (λ z i. all z (inr i)))
             ]
@@ -186,76 +186,77 @@ module _ {V : Type 0} {strict : Bool} {least : ℕ} {F : Format V} (laws : Laws 
 module _ {E S : Type 0} {hashed : Bool} {stands : List E → S → Type 0} {written : List E → Type 0}
     {strict : Bool} {width least : ℕ} {count : Format ℕ} {L : Format E} (numbers : Laws strict width count)
     (smaller : WritesSmaller count) (laws : Laws strict least L) (is : IsGathering hashed stands written) where
-  -- each form of a thing that is spelled is spelled
-  pub form_spelled : (s : S) (bytes : List ℕ) → Coded (counted_list count L).spells stands s bytes → (xs : List E)
-      → stands xs s → written xs → (b : List ℕ) × (counted_list count L).spells xs b
+  -- each form of a thing that is encoded is encoded
+  pub form_encoded : (s : S) (bytes : List ℕ) → Coded (prefixed_list count L).encodes stands s bytes → (xs : List E)
+      → stands xs s → written xs → (b : List ℕ) × (prefixed_list count L).encodes xs b
   unfolding sequence vector owned_content repeat
-  form_spelled s bytes h xs stands_for is_written =
-      let w = spelled_within L.spells xs h.code h.code_is.back (is.form_distinct xs is_written)
+  form_encoded s bytes h xs stands_for is_written =
+      let w = encoded_within L.encodes xs h.code h.code_is.suffix (is.form_distinct xs is_written)
       (is.form_inside xs h.code s is_written stands_for h.stands) h.code_is.second_is.1 in
-      let n = smaller (length xs) (length h.code) h.code_is.front w.count h.code_is.first_is in (
+      let n = smaller (length xs) (length h.code) h.code_is.prefix w.count h.code_is.first_is in (
         n.0 ++ w.shorter,
         record {
-          front = n.0;
-          back = w.shorter;
+          prefix = n.0;
+          suffix = w.shorter;
           whole_is = refl;
-          first_is = numbers.written_spells (length xs) n.0 n.1;
-          second_is = (refl, w.spelled);
+          first_is = numbers.written_encodes (length xs) n.0 n.1;
+          second_is = (refl, w.encoded);
         },
       )
 
   -- and there is one
-  some_form_spelled : HasForms L stands written → (s : S) (bytes : List ℕ)
-      → Coded (counted_list count L).spells stands s bytes
-      → (b : List ℕ) × Coded (counted_list count L).spells (gathering stands written).chosen s b
+  some_form_encoded : HasForms L stands written → (s : S) (bytes : List ℕ)
+      → Coded (prefixed_list count L).encodes stands s bytes
+      → (b : List ℕ) × Coded (prefixed_list count L).encodes (gathering stands written).chosen s b
   unfolding sequence vector owned_content repeat
-  some_form_spelled has s bytes h =
-      let f = has h.code h.code_is.back s h.code_is.second_is.1 h.stands in
-      let b = form_spelled s bytes h f.0 f.1 f.2 in
+  some_form_encoded has s bytes h =
+      let f = has h.code h.code_is.suffix s h.code_is.second_is.1 h.stands in
+      let b = form_encoded s bytes h f.0 f.1 f.2 in
       (b.0, record { code = f.0; code_is = b.1; stands = (f.1, f.2) })
 
-  -- and no list that stands for the thing is spelled in fewer bytes than a form is written in
-  pub form_shortest : (s : S) (b d : List ℕ) → Coded (counted_list count L).writes (gathering stands written).chosen s b
-      → Coded (counted_list count L).spells stands s d → length b ≤ length d
+  -- and no list that stands for the thing is encoded in fewer bytes than a form is written in
+  pub form_shortest : (s : S) (b d : List ℕ)
+      → Coded (prefixed_list count L).writes (gathering stands written).chosen s b
+      → Coded (prefixed_list count L).encodes stands s d → length b ≤ length d
   unfolding sequence vector owned_content repeat
   form_shortest s b d h k =
-      let w = spelled_within L.spells h.code k.code k.code_is.back (is.form_distinct h.code h.stands.1)
+      let w = encoded_within L.encodes h.code k.code k.code_is.suffix (is.form_distinct h.code h.stands.1)
       (is.form_inside h.code k.code s h.stands.1 h.stands.0 k.stands) k.code_is.second_is.1 in
-      let shortest = each_shortest laws h.code h.code_is.back w.shorter h.code_is.second_is.1 w.spelled in
+      let shortest = each_shortest laws h.code h.code_is.suffix w.shorter h.code_is.second_is.1 w.encoded in
       let size = w.size in
-      let n = smaller (length h.code) (length k.code) k.code_is.front w.count k.code_is.first_is in
-      let x = numbers.shortest (length h.code) h.code_is.front n.0 h.code_is.first_is
-      (numbers.written_spells (length h.code) n.0 n.1) in
+      let n = smaller (length h.code) (length k.code) k.code_is.prefix w.count k.code_is.first_is in
+      let x = numbers.shortest (length h.code) h.code_is.prefix n.0 h.code_is.first_is
+      (numbers.written_encodes (length h.code) n.0 n.1) in
       let y = n.2 in
-      let l = ap length h.code_is.whole_is ∙ length-append h.code_is.front h.code_is.back in
-      let m = ap length k.code_is.whole_is ∙ length-append k.code_is.front k.code_is.back in
+      let l = ap length h.code_is.whole_is ∙ length-append h.code_is.prefix h.code_is.suffix in
+      let m = ap length k.code_is.whole_is ∙ length-append k.code_is.prefix k.code_is.suffix in
       omega arith
 
   -- their forms tell things apart, and where things are hashed, the items of the forms
   things_tell : (unordered : Bool) → hashed ≡ unordered → HasForms L stands written → (s t : S) (b d : List ℕ)
-      → Coded (counted_list count L).spells stands s b → Coded (counted_list count L).spells stands t d
+      → Coded (prefixed_list count L).encodes stands s b → Coded (prefixed_list count L).encodes stands t d
       → Decided (s ≡ t)
   unfolding sequence vector owned_content repeat
   things_tell false ordered has s t b d h k =
-      let x = some_form_spelled has s b h in
-      let y = some_form_spelled has t d k in
-      elim ((counted_list_laws numbers laws).tells x.1.code y.1.code x.0 y.0 x.1.code_is y.1.code_is) [
+      let x = some_form_encoded has s b h in
+      let y = some_form_encoded has t d k in
+      elim ((prefixed_list_laws numbers laws).tells x.1.code y.1.code x.0 y.0 x.1.code_is y.1.code_is) [
         | inl e ↦ inl (is.one_thing y.1.code s t (subst (λ zs. stands zs s) e x.1.stands.0) y.1.stands.0)
         | inr n ↦ inr (λ e. n (is.one_form ordered x.1.code y.1.code t x.1.stands.1 y.1.stands.1
             (subst (stands x.1.code) e x.1.stands.0) y.1.stands.0))
       ]
   things_tell true unordered has s t b d h k =
-      let x = some_form_spelled has s b h in
-      let y = some_form_spelled has t d k in
+      let x = some_form_encoded has s b h in
+      let y = some_form_encoded has t d k in
       let xs = x.1.code in
       let ys = y.1.code in
       let left = x.1.code_is in
       let right = y.1.code_is in
-      elim (inside_decided laws xs ys left.back right.back left.second_is.1 right.second_is.1) [
+      elim (inside_decided laws xs ys left.suffix right.suffix left.second_is.1 right.second_is.1) [
         | inl there ↦
-            elim (inside_decided laws ys xs right.back left.back right.second_is.1 left.second_is.1) [
-              | inl back ↦ inl (is.one_hashed unordered xs ys s t x.1.stands.1 y.1.stands.1 x.1.stands.0 y.1.stands.0
-                  there back)
+            elim (inside_decided laws ys xs right.suffix left.suffix right.second_is.1 left.second_is.1) [
+              | inl suffix ↦ inl (is.one_hashed unordered xs ys s t x.1.stands.1 y.1.stands.1 x.1.stands.0 y.1.stands.0
+                  there suffix)
               | inr n ↦ inr (λ e. n (is.form_inside ys xs t y.1.stands.1 y.1.stands.0
                   (subst (stands xs) e x.1.stands.0)))
             ]
@@ -273,7 +274,7 @@ gathering_is_code false numbers smaller laws is has = record {
   one_chosen = λ _ xs ys s h k. is.one_form refl xs ys s h.1 k.1 h.0 k.0;
   tells = λ _ _. things_tell numbers smaller laws is false refl has;
   chosen_means = λ xs s h. h.0;
-  has_chosen = some_form_spelled numbers smaller laws is has;
+  has_chosen = some_form_encoded numbers smaller laws is has;
   chosen_shortest = λ _. form_shortest numbers smaller laws is;
   refusals_own = λ kind h. absurd h;
 }
@@ -282,20 +283,20 @@ gathering_is_code true numbers smaller laws is has = record {
   one_chosen = λ e. absurd (cc);
   tells = λ _ _. things_tell numbers smaller laws is true refl has;
   chosen_means = λ xs s h. h.0;
-  has_chosen = some_form_spelled numbers smaller laws is has;
+  has_chosen = some_form_encoded numbers smaller laws is has;
   chosen_shortest = λ _. form_shortest numbers smaller laws is;
   refusals_own = λ kind h. absurd h;
 }
 
 pub items_of_laws : {E : Type 0} (hashed : Bool) {strict : Bool} {width least : ℕ} {count : Format ℕ} {L : Format E}
     → Laws strict width count → Laws strict least L → Laws strict width (items_of hashed count L)
-items_of_laws false numbers laws = counted_list_laws numbers laws
-items_of_laws true numbers laws = hashed_items_laws (counted_list_laws numbers laws)
+items_of_laws false numbers laws = prefixed_list_laws numbers laws
+items_of_laws true numbers laws = hashed_items_laws (prefixed_list_laws numbers laws)
 
 -- things behind the number of items that gather to them
 abbrev pub gathered_behind : {E S : Type 0} (hashed : Bool) {stands : List E → S → Type 0} {written : List E → Type 0}
     → IsGathering hashed stands written → (item : Codec E)
-    → ((f : Encoding) → HasForms (item.format f) stands written) → (numbers : Numbers) → Behind numbers S
+    → ((f : Mode) → HasForms (item.format f) stands written) → (numbers : Numbers) → Behind numbers S
 gathered_behind hashed {stands = stands} {written = written} is item has numbers = record {
   format = λ f. gathered hashed f (numbers.codec.format f) stands written (item.format f);
   laws = λ f.

@@ -4,47 +4,47 @@ use Rattle.std.proofs.Common.{ap, ap₂, subst, inl, inr, arith}
 use Rattle.std.proofs.lemmas.Bool.Decides.{eqb_tells}
 use Rattle.std.proofs.Math.Nat.{min-le_left}
 use Rattle.speedy_base.specs.declared.error.ErrorKind.{ErrorKind}
-use Rattle.speedy_base.specs.Encoding.{Encoding}
+use Rattle.speedy_base.specs.Mode.{Mode}
 use Rattle.speedy_layout.specs.Format.{Asks, Format, plain_format, IsOwnKind}
 
 -- it holds or it does not, which is decided
 abbrev pub Decided : Type 0 → Type 0
 Decided P = P ⊎ (P → ⊥)
 
--- The laws of a format whose spellings have at least so many bytes, under a demand for the written form or none.
+-- The laws of a format whose encodings have at least so many bytes, under a demand for the canonical encoding or none.
 pub record Laws {V : Type 0} (strict : Bool) (least : ℕ) (F : Format V) : Type 0 where
-  -- one list of bytes spells at most one value, and no spelling begins another
-  pub decodes : (v w : V) (s t r q : List ℕ) → F.spells v s → F.spells w t → s ++ r ≡ t ++ q
+  -- one list of bytes encodes at most one value, and no encoding begins another
+  pub decodes : (v w : V) (s t r q : List ℕ) → F.encodes v s → F.encodes w t → s ++ r ≡ t ++ q
       → (v ≡ w) × (s ≡ t) × (r ≡ q)
-  -- whether two values that have spellings are the same is decided
-  pub tells : (v w : V) (s t : List ℕ) → F.spells v s → F.spells w t → Decided (v ≡ w)
-  -- what is written spells the value
-  pub written_spells : (v : V) (b : List ℕ) → F.writes v b → F.spells v b
-  -- and under a demand for the written form, what spells the value is written
-  pub written_alone : IsTrue strict → (v : V) (b : List ℕ) → F.spells v b → F.writes v b
-  -- no spelling is shorter than what is written
-  pub shortest : (v : V) (b c : List ℕ) → F.writes v b → F.spells v c → length b ≤ length c
-  -- a spelling has at least the type's least size
-  pub least_size : (v : V) (b : List ℕ) → F.spells v b → least ≤ length b
-  -- a value that has a spelling has a written one
-  pub has_written : (v : V) (b : List ℕ) → F.spells v b → (w : List ℕ) × F.writes v w
+  -- whether two values that have encodings are the same is decided
+  pub tells : (v w : V) (s t : List ℕ) → F.encodes v s → F.encodes w t → Decided (v ≡ w)
+  -- what is written encodes the value
+  pub written_encodes : (v : V) (b : List ℕ) → F.writes v b → F.encodes v b
+  -- and under a demand for the canonical encoding, what encodes the value is written
+  pub written_alone : IsTrue strict → (v : V) (b : List ℕ) → F.encodes v b → F.writes v b
+  -- no encoding is shorter than what is written
+  pub shortest : (v : V) (b c : List ℕ) → F.writes v b → F.encodes v c → length b ≤ length c
+  -- an encoding has at least the type's least size
+  pub least_size : (v : V) (b : List ℕ) → F.encodes v b → least ≤ length b
+  -- a value that has an encoding has a written one
+  pub has_written : (v : V) (b : List ℕ) → F.encodes v b → (w : List ℕ) × F.writes v w
   -- just one, where no part is hashed
   pub one_written : F.asks.hashed ≡ false → (v : V) (b c : List ℕ) → F.writes v b → F.writes v c → b ≡ c
-  -- malformed bytes begin with no spelling
-  pub malformed_unspelled : (v : V) (front rest : List ℕ) → F.malformed (front ++ rest) → F.spells v front → ⊥
+  -- malformed bytes begin with no encoding
+  pub malformed_undecodable : (v : V) (prefix rest : List ℕ) → F.malformed (prefix ++ rest) → F.encodes v prefix → ⊥
   -- the kinds that a type names are its own
   pub names_own : (kind : ErrorKind) → F.names kind → IsOwnKind kind
   -- and so are those that its writing is refused with
   pub refuses_own : (kind : ErrorKind) → F.refuses_writing kind → IsOwnKind kind
 
--- A format under each encoding, with its least size and its laws, as one value: what quotes a layout has its laws too.
+-- A format under each mode, with its least size and its laws, as one value: what quotes a layout has its laws too.
 pub record Codec (V : Type 0) : Type 1 where
   -- no value is encoded in fewer bytes
   pub least : ℕ
   -- which bytes encode which values
-  pub format : Encoding → Format V
+  pub format : Mode → Format V
   -- bytes encode at most one value, the encodings are prefix-free, and a shortest one is written
-  pub laws : (f : Encoding) → Laws f.strict least (format f)
+  pub laws : (f : Mode) → Laws f.strict least (format f)
 
 -- whether two lists of bytes are the same is decided
 same_bytes : (s t : List ℕ) → Decided (s ≡ t)
@@ -61,26 +61,26 @@ same_bytes (b ∷ s) (c ∷ t) =
       | inr h ↦ inr (λ e. h.1 (let heads : b ≡ c = cc in heads))
     ]
 
--- the laws of a plain format whose values have one spelling each
-pub plain_laws : {V : Type 0} {strict : Bool} {least : ℕ} {spells : V → List ℕ → Type 0}
-    → ((v w : V) (s t r q : List ℕ) → spells v s → spells w t → s ++ r ≡ t ++ q → (v ≡ w) × (s ≡ t) × (r ≡ q))
-    → ((v : V) (b : List ℕ) → spells v b → least ≤ length b)
-    → ((v : V) (b c : List ℕ) → spells v b → spells v c → b ≡ c)
-    → Laws strict least (plain_format spells)
-plain_laws {spells = spells} decodes least_size one = record {
+-- the laws of a plain format whose values have one encoding each
+pub plain_laws : {V : Type 0} {strict : Bool} {least : ℕ} {encodes : V → List ℕ → Type 0}
+    → ((v w : V) (s t r q : List ℕ) → encodes v s → encodes w t → s ++ r ≡ t ++ q → (v ≡ w) × (s ≡ t) × (r ≡ q))
+    → ((v : V) (b : List ℕ) → encodes v b → least ≤ length b)
+    → ((v : V) (b c : List ℕ) → encodes v b → encodes v c → b ≡ c)
+    → Laws strict least (plain_format encodes)
+plain_laws {encodes = encodes} decodes least_size one = record {
   decodes = decodes;
   tells = λ v w s t h k.
       elim (same_bytes s t) [
         | inl e ↦ inl ((decodes v w s t [] [] h k (ap (λ b. b ++ []) e)).0)
-        | inr n ↦ inr (λ e. n (one w s t (subst (λ x. spells x s) e h) k))
+        | inr n ↦ inr (λ e. n (one w s t (subst (λ x. encodes x s) e h) k))
       ];
-  written_spells = λ _ _ h. h;
+  written_encodes = λ _ _ h. h;
   written_alone = λ _ _ _ h. h;
   shortest = λ v b c h k. let e = ap length (one v b c h k) in omega arith;
   least_size = least_size;
   has_written = λ _ b h. (b, h);
   one_written = λ _ v b c h k. one v b c h k;
-  malformed_unspelled = λ _ _ _ h _. h;
+  malformed_undecodable = λ _ _ _ h _. h;
   names_own = λ kind h. absurd h;
   refuses_own = λ kind h. absurd h;
 }
@@ -92,13 +92,13 @@ pub Laws-refusing : {V : Type 0} {strict : Bool} {least : ℕ} {F : Format V} (r
 Laws-refusing refuses own laws = record {
   decodes = laws.decodes;
   tells = laws.tells;
-  written_spells = laws.written_spells;
+  written_encodes = laws.written_encodes;
   written_alone = laws.written_alone;
   shortest = laws.shortest;
   least_size = laws.least_size;
   has_written = laws.has_written;
   one_written = laws.one_written;
-  malformed_unspelled = laws.malformed_unspelled;
+  malformed_undecodable = laws.malformed_undecodable;
   names_own = laws.names_own;
   refuses_own = own;
 }
@@ -109,13 +109,13 @@ pub Laws-asking : {V : Type 0} {strict : Bool} {n m : ℕ} {F : Format V} (asks 
 Laws-asking asks hashed less laws = record {
   decodes = laws.decodes;
   tells = laws.tells;
-  written_spells = laws.written_spells;
+  written_encodes = laws.written_encodes;
   written_alone = laws.written_alone;
   shortest = laws.shortest;
   least_size = λ v b h. let l = laws.least_size v b h in omega arith;
   has_written = laws.has_written;
   one_written = λ h. laws.one_written (hashed h);
-  malformed_unspelled = laws.malformed_unspelled;
+  malformed_undecodable = laws.malformed_undecodable;
   names_own = laws.names_own;
   refuses_own = laws.refuses_own;
 }

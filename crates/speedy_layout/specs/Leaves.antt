@@ -8,8 +8,8 @@ use Rattle.speedy_base.specs.declared.endianness.Endianness.{Endianness}
 use Rattle.speedy_base.specs.declared.endianness.Endianness.TheVariants.{LittleEndian, BigEndian}
 use Rattle.speedy_base.specs.declared.error.ErrorKind.TheVariants as kinds
 use Rattle.speedy_base.specs.Digits.{digits}
-use Rattle.speedy_base.specs.DigitsLemmas.{SpellsNumber-digits}
-use Rattle.speedy_base.specs.Encoding.{Encoding}
+use Rattle.speedy_base.specs.DigitsLemmas.{EncodesNumber-digits}
+use Rattle.speedy_base.specs.Mode.{Mode}
 use Rattle.speedy_layout.specs.Format.{Format}
 use Rattle.speedy_layout.specs.Laws.{Codec}
 use Rattle.speedy_layout.specs.Codes.{Code, IsCode, ReadsWider, coding_codec, exact_code, exact_is_code, one_kind}
@@ -22,7 +22,7 @@ use Rattle.speedy_layout.specs.Tuples.{pair_codec}
 abbrev pub character_codec : Codec ℕ
 character_codec = subset_codec InScalarRange kinds.InvalidChar tt (unsigned_codec 4)
 
-abbrev pub character : Encoding → Format ℕ
+abbrev pub character : Mode → Format ℕ
 character = character_codec.format
 
 -- the number that stands for a byte order
@@ -39,8 +39,8 @@ one_order LittleEndian BigEndian e = absurd (cc)
 one_order BigEndian LittleEndian e = absurd (cc)
 one_order BigEndian BigEndian e = refl
 
-pub order_is_code : (encoding : Encoding) → IsCode order_code (unsigned_number 1 encoding)
-order_is_code encoding =
+pub order_is_code : (mode : Mode) → IsCode order_code (unsigned_number 1 mode)
+order_is_code mode =
     exact_is_code (one_kind kinds.InvalidEnumVariant tt) (λ n v w h k. one_order v w (sym h ∙ k))
     (λ n m v h k. h ∙ sym k)
 
@@ -48,14 +48,14 @@ order_is_code encoding =
 abbrev pub byte_order_codec : Codec Endianness
 byte_order_codec = coding_codec order_code (unsigned_codec 1) order_is_code
 
-abbrev pub byte_order : Encoding → Format Endianness
+abbrev pub byte_order : Mode → Format Endianness
 byte_order = byte_order_codec.format
 
 -- seconds in eight digits, then nanoseconds in four
 abbrev pub seconds_and_nanos_codec : Codec (ℕ × ℕ)
 seconds_and_nanos_codec = pair_codec (unsigned_codec 8) (unsigned_codec 4)
 
-abbrev pub seconds_and_nanos : Encoding → Format (ℕ × ℕ)
+abbrev pub seconds_and_nanos : Mode → Format (ℕ × ℕ)
 seconds_and_nanos = seconds_and_nanos_codec.format
 
 -- the seconds and the nanoseconds together, in nanoseconds
@@ -83,17 +83,17 @@ duration_reads_wider = record {
 pair_is : (p q : ℕ × ℕ) → p.0 ≡ q.0 → p.1 ≡ q.1 → p ≡ q
 pair_is p q h k = ap₂ (λ (a b : ℕ). let r : ℕ × ℕ = (a, b) in r) h k
 
-twelve : (encoding : Encoding) (p : ℕ × ℕ) (b : List ℕ) → (seconds_and_nanos encoding).spells p b → length b ≡ 12
+twelve : (mode : Mode) (p : ℕ × ℕ) (b : List ℕ) → (seconds_and_nanos mode).encodes p b → length b ≡ 12
 unfolding sequence unsigned_number
-twelve encoding p b h =
-    let l = ap length h.whole_is ∙ length-append h.front h.back in
+twelve mode p b h =
+    let l = ap length h.whole_is ∙ length-append h.prefix h.suffix in
     let x = h.first_is.width_is in
     let y = h.second_is.width_is in
     omega arith
 
-pub duration_is_code : (encoding : Encoding) → IsCode duration_code (seconds_and_nanos encoding)
+pub duration_is_code : (mode : Mode) → IsCode duration_code (seconds_and_nanos mode)
 unfolding sequence unsigned_number
-duration_is_code encoding = record {
+duration_is_code mode = record {
   one_meaning = λ p n m h k. h.0 ∙ sym k.0;
   one_chosen = λ _ p q n h k.
       let e = h.0 in
@@ -107,22 +107,22 @@ duration_is_code encoding = record {
       let s = n / 1_000_000_000 in
       let m = n % 1_000_000_000 in
       let fits = h.stands.1 in (
-        digits encoding.order 8 s ++ digits encoding.order 4 m,
+        digits mode.order 8 s ++ digits mode.order 4 m,
         record {
           code = (s, m);
           code_is = record {
-            front = digits encoding.order 8 s;
-            back = digits encoding.order 4 m;
+            prefix = digits mode.order 8 s;
+            suffix = digits mode.order 4 m;
             whole_is = refl;
-            first_is = SpellsNumber-digits 8 encoding.order s (omega arith);
-            second_is = SpellsNumber-digits 4 encoding.order m (omega arith);
+            first_is = EncodesNumber-digits 8 mode.order s (omega arith);
+            second_is = EncodesNumber-digits 4 mode.order m (omega arith);
           };
           stands = (omega arith, fits, omega arith);
         },
       );
   chosen_shortest = λ _ n b d h k.
-      let l = twelve encoding h.code b h.code_is in
-      let m = twelve encoding k.code d k.code_is in
+      let l = twelve mode h.code b h.code_is in
+      let m = twelve mode k.code d k.code_is in
       omega arith;
   refusals_own = one_kind kinds.InvalidSystemTime tt;
 }
@@ -130,5 +130,5 @@ duration_is_code encoding = record {
 abbrev pub duration_codec : Codec ℕ
 duration_codec = coding_codec duration_code seconds_and_nanos_codec duration_is_code
 
-abbrev pub duration : Encoding → Format ℕ
+abbrev pub duration : Mode → Format ℕ
 duration = duration_codec.format

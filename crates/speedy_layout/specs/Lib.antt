@@ -1,6 +1,6 @@
 pub mod Format
 pub mod Laws
-pub mod EachEncoding
+pub mod EachMode
 pub mod Codes
 pub mod Sequences
 pub mod Numbers

@@ -2,7 +2,7 @@
 use Rattle.std.specs.Prelude.{◌≡◌, ℕ, zero, suc, ◌+◌, ◌*◌, ◌≤◌, List, [], ◌∷◌, ◌++◌, length, Bool, true, false, refl}
 use Rattle.std.proofs.Common.{sym, ◌∙◌, ap, ap₂, subst, inl, inr, arith}
 use Rattle.std.proofs.lemmas.List.{append_assoc, append-nil, length-append}
-use Rattle.speedy_base.specs.Encoding.{Encoding}
+use Rattle.speedy_base.specs.Mode.{Mode}
 use Rattle.speedy_layout.specs.Format.{Format, Each}
 use Rattle.speedy_layout.specs.Laws.{Laws, Codec, Laws-less, saturated_size, saturated_laws, Decided}
 use Rattle.speedy_layout.specs.Numbers.{unsigned_number, unsigned_number_laws}
@@ -12,7 +12,7 @@ use Rattle.speedy_layout.specs.Sequences.{AsksAtMost, asks_same, sequence, seque
 -- so many items, one after the other
 unfoldable pub repeat : {V : Type 0} → ℕ → Format V → Format (List V)
 repeat n F = record {
-  spells = λ vs bytes. (length vs ≡ n) × Each F.spells vs bytes;
+  encodes = λ vs bytes. (length vs ≡ n) × Each F.encodes vs bytes;
   writes = λ vs bytes. (length vs ≡ n) × Each F.writes vs bytes;
   names = F.names;
   refuses_writing = F.refuses_writing;
@@ -28,32 +28,32 @@ vector n F = owned_content (repeat n F)
 abbrev pub list_parts : {V : Type 0} → List V → ℕ × List V
 list_parts vs = (length vs, vs)
 
--- a count, which is spelled as a format of numbers says, and then so many items
-abbrev pub counted_list : {V : Type 0} → Format ℕ → Format V → Format (List V)
-counted_list count F = sequence list_parts count (record F.asks { memory = true }) (λ n. vector n F)
+-- a count, which is encoded as a format of numbers says, and then so many items
+abbrev pub prefixed_list : {V : Type 0} → Format ℕ → Format V → Format (List V)
+prefixed_list count F = sequence list_parts count (record F.asks { memory = true }) (λ n. vector n F)
 
 -- README, `{length: u32, values: [T]}`: the number of items in four digits, then the items
-unfoldable pub list : {V : Type 0} → Encoding → Format V → Format (List V)
-list encoding F = counted_list (unsigned_number 4 encoding) F
+unfoldable pub list : {V : Type 0} → Mode → Format V → Format (List V)
+list mode F = prefixed_list (unsigned_number 4 mode) F
 
 -- items after others
-pub each_append : {V : Type 0} (spells : V → List ℕ → Type 0) (vs ws : List V) (s t : List ℕ) → Each spells vs s
-    → Each spells ws t → Each spells (vs ++ ws) (s ++ t)
-each_append spells [] ws s t h k = subst (λ b. Each spells ws b) (sym (ap (λ x. x ++ t) h)) k
-each_append spells (v ∷ vs) ws s t h k = record {
-  front = h.front;
-  back = h.back ++ t;
-  whole_is = ap (λ x. x ++ t) h.whole_is ∙ append_assoc h.front h.back t;
+pub each_append : {V : Type 0} (encodes : V → List ℕ → Type 0) (vs ws : List V) (s t : List ℕ) → Each encodes vs s
+    → Each encodes ws t → Each encodes (vs ++ ws) (s ++ t)
+each_append encodes [] ws s t h k = subst (λ b. Each encodes ws b) (sym (ap (λ x. x ++ t) h)) k
+each_append encodes (v ∷ vs) ws s t h k = record {
+  prefix = h.prefix;
+  suffix = h.suffix ++ t;
+  whole_is = ap (λ x. x ++ t) h.whole_is ∙ append_assoc h.prefix h.suffix t;
   first_is = h.first_is;
-  second_is = each_append spells vs ws h.back t h.second_is k;
+  second_is = each_append encodes vs ws h.suffix t h.second_is k;
 }
 
 -- and one item
-pub each_more : {V : Type 0} (spells : V → List ℕ → Type 0) (vs : List V) (v : V) (s t : List ℕ) → Each spells vs s
-    → spells v t → Each spells (vs ++ v ∷ []) (s ++ t)
-each_more spells vs v s t h k = each_append spells vs (v ∷ []) s t h (record {
-  front = t;
-  back = [];
+pub each_more : {V : Type 0} (encodes : V → List ℕ → Type 0) (vs : List V) (v : V) (s t : List ℕ) → Each encodes vs s
+    → encodes v t → Each encodes (vs ++ v ∷ []) (s ++ t)
+each_more encodes vs v s t h k = each_append encodes vs (v ∷ []) s t h (record {
+  prefix = t;
+  suffix = [];
   whole_is = sym (append-nil t);
   first_is = k;
   second_is = refl;
@@ -67,66 +67,66 @@ each_as f (v ∷ vs) b h = Parts-as (f v) (λ s k. each_as f vs s k) h
 
 module _ {V : Type 0} {strict : Bool} {least : ℕ} {F : Format V} (laws : Laws strict least F) where
   -- lists of one length decode item by item
-  pub each_decodes : (vs ws : List V) (s t r q : List ℕ) → length vs ≡ length ws → Each F.spells vs s
-      → Each F.spells ws t → s ++ r ≡ t ++ q
+  pub each_decodes : (vs ws : List V) (s t r q : List ℕ) → length vs ≡ length ws → Each F.encodes vs s
+      → Each F.encodes ws t → s ++ r ≡ t ++ q
       → (vs ≡ ws) × (s ≡ t) × (r ≡ q)
   each_decodes [] [] s t r q l h k e = (refl, h ∙ sym k, ap (λ x. x ++ r) (sym h) ∙ (e ∙ ap (λ x. x ++ q) k))
   each_decodes [] (w ∷ ws) s t r q l h k e = absurd (let z : zero ≡ suc (length ws) = l in (cc))
   each_decodes (v ∷ vs) [] s t r q l h k e = absurd (let z : suc (length vs) ≡ zero = l in (cc))
   each_decodes (v ∷ vs) (w ∷ ws) s t r q l h k e =
-      let joined = across s t r q h.front h.back k.front k.back h.whole_is k.whole_is e in
-      let first : (v ≡ w) × (h.front ≡ k.front) × (h.back ++ r ≡ k.back ++ q) =
-      laws.decodes v w h.front k.front (h.back ++ r) (k.back ++ q) h.first_is k.first_is joined in
+      let joined = across s t r q h.prefix h.suffix k.prefix k.suffix h.whole_is k.whole_is e in
+      let first : (v ≡ w) × (h.prefix ≡ k.prefix) × (h.suffix ++ r ≡ k.suffix ++ q) =
+      laws.decodes v w h.prefix k.prefix (h.suffix ++ r) (k.suffix ++ q) h.first_is k.first_is joined in
       let tails : length vs ≡ length ws = omega (arith, l) in
-      let more : (vs ≡ ws) × (h.back ≡ k.back) × (r ≡ q) =
-      each_decodes vs ws h.back k.back r q tails h.second_is k.second_is first.2 in (
+      let more : (vs ≡ ws) × (h.suffix ≡ k.suffix) × (r ≡ q) =
+      each_decodes vs ws h.suffix k.suffix r q tails h.second_is k.second_is first.2 in (
         let a = first.0 in let b = more.0 in (cc),
         h.whole_is ∙ (let a = first.1 in let b = more.1 in (cc)) ∙ sym k.whole_is,
         more.2,
       )
 
   -- and whether they are the same is decided
-  pub each_tells : (vs ws : List V) (s t : List ℕ) → Each F.spells vs s → Each F.spells ws t → Decided (vs ≡ ws)
+  pub each_tells : (vs ws : List V) (s t : List ℕ) → Each F.encodes vs s → Each F.encodes ws t → Decided (vs ≡ ws)
   each_tells [] [] s t h k = inl refl
   each_tells [] (w ∷ ws) s t h k = inr (λ e. absurd (cc))
   each_tells (v ∷ vs) [] s t h k = inr (λ e. absurd (cc))
   each_tells (v ∷ vs) (w ∷ ws) s t h k =
-      elim (laws.tells v w h.front k.front h.first_is k.first_is) [
+      elim (laws.tells v w h.prefix k.prefix h.first_is k.first_is) [
         | inl first ↦
-            elim (each_tells vs ws h.back k.back h.second_is k.second_is) [
+            elim (each_tells vs ws h.suffix k.suffix h.second_is k.second_is) [
               | inl more ↦ inl (ap₂ ◌∷◌ first more)
               | inr n ↦ inr (λ e. n (let tails : vs ≡ ws = cc in tails))
             ]
         | inr n ↦ inr (λ e. n (let heads : v ≡ w = cc in heads))
       ]
 
-  -- no spelling of the items is shorter than a written one
-  pub each_shortest : (vs : List V) (b c : List ℕ) → Each F.writes vs b → Each F.spells vs c → length b ≤ length c
+  -- no encoding of the items is shorter than a written one
+  pub each_shortest : (vs : List V) (b c : List ℕ) → Each F.writes vs b → Each F.encodes vs c → length b ≤ length c
   each_shortest [] b c h k = let l = ap length (h ∙ sym k) in omega arith
   each_shortest (v ∷ vs) b c h k =
-      let first = laws.shortest v h.front k.front h.first_is k.first_is in
-      let more = each_shortest vs h.back k.back h.second_is k.second_is in
-      let l = ap length h.whole_is ∙ length-append h.front h.back in
-      let m = ap length k.whole_is ∙ length-append k.front k.back in
+      let first = laws.shortest v h.prefix k.prefix h.first_is k.first_is in
+      let more = each_shortest vs h.suffix k.suffix h.second_is k.second_is in
+      let l = ap length h.whole_is ∙ length-append h.prefix h.suffix in
+      let m = ap length k.whole_is ∙ length-append k.prefix k.suffix in
       omega arith
 
   -- so many items have at least so many times the least size
-  pub each_size : (vs : List V) (b : List ℕ) → Each F.spells vs b → length vs * least ≤ length b
+  pub each_size : (vs : List V) (b : List ℕ) → Each F.encodes vs b → length vs * least ≤ length b
   each_size [] b h = omega arith
   each_size (v ∷ vs) b h =
-      let first = laws.least_size v h.front h.first_is in
-      let more = each_size vs h.back h.second_is in
-      let l = ap length h.whole_is ∙ length-append h.front h.back in
+      let first = laws.least_size v h.prefix h.first_is in
+      let more = each_size vs h.suffix h.second_is in
+      let l = ap length h.whole_is ∙ length-append h.prefix h.suffix in
       omega arith
 
-  -- items that have spellings have written ones
-  pub each_has_written : (vs : List V) (b : List ℕ) → Each F.spells vs b → (w : List ℕ) × Each F.writes vs w
+  -- items that have encodings have written ones
+  pub each_has_written : (vs : List V) (b : List ℕ) → Each F.encodes vs b → (w : List ℕ) × Each F.writes vs w
   each_has_written [] b h = ([], refl)
   each_has_written (v ∷ vs) b h =
-      let first = laws.has_written v h.front h.first_is in
-      let more = each_has_written vs h.back h.second_is in (
+      let first = laws.has_written v h.prefix h.first_is in
+      let more = each_has_written vs h.suffix h.second_is in (
         first.0 ++ more.0,
-        record { front = first.0; back = more.0; whole_is = refl; first_is = first.1; second_is = more.1 },
+        record { prefix = first.0; suffix = more.0; whole_is = refl; first_is = first.1; second_is = more.1 },
       )
 
   -- just one, where no item is hashed
@@ -134,8 +134,8 @@ module _ {V : Type 0} {strict : Bool} {least : ℕ} {F : Format V} (laws : Laws 
       → Each F.writes vs c → b ≡ c
   each_one_written u [] b c h k = h ∙ sym k
   each_one_written u (v ∷ vs) b c h k =
-      let first = laws.one_written u v h.front k.front h.first_is k.first_is in
-      let more = each_one_written u vs h.back k.back h.second_is k.second_is in
+      let first = laws.one_written u v h.prefix k.prefix h.first_is k.first_is in
+      let more = each_one_written u vs h.suffix k.suffix h.second_is k.second_is in
       h.whole_is ∙ (cc) ∙ sym k.whole_is
 
   pub repeat_laws : (n : ℕ) → Laws strict (n * least) (repeat n F)
@@ -143,13 +143,13 @@ module _ {V : Type 0} {strict : Bool} {least : ℕ} {F : Format V} (laws : Laws 
   repeat_laws n = record {
     decodes = λ v w s t r q h k e. each_decodes v w s t r q (h.0 ∙ sym k.0) h.1 k.1 e;
     tells = λ v w s t h k. each_tells v w s t h.1 k.1;
-    written_spells = λ v b h. (h.0, each_as laws.written_spells v b h.1);
+    written_encodes = λ v b h. (h.0, each_as laws.written_encodes v b h.1);
     written_alone = λ s v b h. (h.0, each_as (laws.written_alone s) v b h.1);
     shortest = λ v b c h k. each_shortest v b c h.1 k.1;
     least_size = λ v b h. subst (λ m. m * least ≤ length b) h.0 (each_size v b h.1);
     has_written = λ v b h. let w = each_has_written v b h.1 in (w.0, (h.0, w.1));
     one_written = λ u v b c h k. each_one_written u v b c h.1 k.1;
-    malformed_unspelled = λ _ _ _ h _. h;
+    malformed_undecodable = λ _ _ _ h _. h;
     names_own = laws.names_own;
     refuses_own = laws.refuses_own;
   }
@@ -162,17 +162,17 @@ pub vector_asks : {V : Type 0} (F : Format V) (n : ℕ) → AsksAtMost (vector n
 unfolding vector owned_content repeat
 vector_asks F n = asks_same
 
-pub counted_list_laws : {V : Type 0} {strict : Bool} {width least : ℕ} {count : Format ℕ} {F : Format V}
-    → Laws strict width count → Laws strict least F → Laws strict width (counted_list count F)
-counted_list_laws {V = V} {width = width} {F = F} count laws =
+pub prefixed_list_laws : {V : Type 0} {strict : Bool} {width least : ℕ} {count : Format ℕ} {F : Format V}
+    → Laws strict width count → Laws strict least F → Laws strict width (prefixed_list count F)
+prefixed_list_laws {V = V} {width = width} {F = F} count laws =
     Laws-less {n = width + 0} (omega arith)
     (sequence_laws {n = width} {m = 0} count (λ n. Laws-less (omega arith) (vector_laws laws n)) (vector_asks F)
     (λ v w e. ap (λ (p : ℕ × List V). p.1) e))
 
-pub list_laws : {V : Type 0} {least : ℕ} {F : Format V} (encoding : Encoding) → Laws encoding.strict least F
-    → Laws encoding.strict 4 (list encoding F)
+pub list_laws : {V : Type 0} {least : ℕ} {F : Format V} (mode : Mode) → Laws mode.strict least F
+    → Laws mode.strict 4 (list mode F)
 unfolding list
-list_laws encoding laws = counted_list_laws (unsigned_number_laws 4 encoding) laws
+list_laws mode laws = prefixed_list_laws (unsigned_number_laws 4 mode) laws
 
 abbrev pub vector_codec : {V : Type 0} → ℕ → Codec V → Codec (List V)
 vector_codec n item = record {
@@ -181,18 +181,18 @@ vector_codec n item = record {
   laws = λ f. saturated_laws (vector_laws (item.laws f) n);
 }
 
-abbrev pub counted_list_codec : {V : Type 0} → Codec ℕ → Codec V → Codec (List V)
-counted_list_codec count item = record {
+abbrev pub prefixed_list_codec : {V : Type 0} → Codec ℕ → Codec V → Codec (List V)
+prefixed_list_codec count item = record {
   least = count.least;
-  format = λ f. counted_list (count.format f) (item.format f);
-  laws = λ f. counted_list_laws (count.laws f) (item.laws f);
+  format = λ f. prefixed_list (count.format f) (item.format f);
+  laws = λ f. prefixed_list_laws (count.laws f) (item.laws f);
 }
 
 abbrev pub list_codec : {V : Type 0} → Codec V → Codec (List V)
 list_codec item = record { least = 4; format = λ f. list f (item.format f); laws = λ f. list_laws f (item.laws f) }
 
--- so many items are spelled
-pub vector_length : {V : Type 0} (n : ℕ) (F : Format V) (vs : List V) (bytes : List ℕ) → (vector n F).spells vs bytes
+-- so many items are encoded
+pub vector_length : {V : Type 0} (n : ℕ) (F : Format V) (vs : List V) (bytes : List ℕ) → (vector n F).encodes vs bytes
     → length vs ≡ n
 unfolding vector owned_content repeat
 vector_length n F vs bytes h = h.0

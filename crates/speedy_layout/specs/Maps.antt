@@ -3,7 +3,7 @@ use Rattle.std.specs.Prelude.{◌≡◌, ℕ, List, [], ◌∷◌, Bool, true, f
 use Rattle.std.specs.Map.{keys_of}
 use Rattle.std.specs.declared.cmp.Ordering.{Ordering}
 use Rattle.std.proofs.Common.{sym, ◌∙◌, ap, subst, inl, inr}
-use Rattle.speedy_base.specs.Encoding.{Encoding}
+use Rattle.speedy_base.specs.Mode.{Mode}
 use Rattle.speedy_layout.specs.Format.{Format, Each}
 use Rattle.speedy_layout.specs.Laws.{Laws, Codec, Decided}
 use Rattle.speedy_layout.specs.Numbers.{unsigned_number}
@@ -51,20 +51,20 @@ abbrev pub GathersToIndexMap : {K V : Type 0} → List (K × V) → List (K × V
 GathersToIndexMap items es = HasDistinctKeys es × HasLasts items es × InFirstOrder (keys_of items) (keys_of es)
 
 -- A map whose keys ascend is written in their order.
-abbrev pub tree_map : {K V : Type 0} → Encoding → (K → K → Type 0) → Format K → Format V → Format (List (K × V))
-tree_map encoding less L M =
-    gathered false encoding (unsigned_number 4 encoding) (GathersToTreeMap less) (Ascends (by_key less)) (pair L M)
+abbrev pub tree_map : {K V : Type 0} → Mode → (K → K → Type 0) → Format K → Format V → Format (List (K × V))
+tree_map mode less L M =
+    gathered false mode (unsigned_number 4 mode) (GathersToTreeMap less) (Ascends (by_key less)) (pair L M)
 
 -- One that finds values is written in any order, with each key once.
-abbrev pub hash_map : {K A V : Type 0} → Encoding → (K → A) → Format A → Format V → Format (K → Option V)
-hash_map encoding seen L M =
-    gathered true encoding (unsigned_number 4 encoding) (GathersToHashMap seen) HasDistinctKeys (pair L M)
+abbrev pub hash_map : {K A V : Type 0} → Mode → (K → A) → Format A → Format V → Format (K → Option V)
+hash_map mode seen L M =
+    gathered true mode (unsigned_number 4 mode) (GathersToHashMap seen) HasDistinctKeys (pair L M)
 
 -- One whose keys stand in the order of their first occurrences is written in that order, which is told by each key
 -- standing once.
-abbrev pub index_map : {K V : Type 0} → Encoding → Format K → Format V → Format (List (K × V))
-index_map encoding L M =
-    gathered false encoding (unsigned_number 4 encoding) GathersToIndexMap HasDistinctKeys (pair L M)
+abbrev pub index_map : {K V : Type 0} → Mode → Format K → Format V → Format (List (K × V))
+index_map mode L M =
+    gathered false mode (unsigned_number 4 mode) GathersToIndexMap HasDistinctKeys (pair L M)
 
 -- ---- their laws
 
@@ -156,31 +156,31 @@ same_option (Some v) p h = sym ((h v).0 refl)
 same_option None None h = refl
 same_option None (Some w) h = (h w).1 refl
 
--- whether a key is among others is decided of keys and pairs that have spellings
+-- whether a key is among others is decided of keys and pairs that have encodings
 key_decided : {A V : Type 0} {strict : Bool} {n : ℕ} {L : Format A} (M : Format V) → Laws strict n L
     → (a : A) (es : List (A × V)) (s t : List ℕ)
-    → L.spells a s → Each (pair L M).spells es t → Decided (IsIn a (keys_of es))
+    → L.encodes a s → Each (pair L M).encodes es t → Decided (IsIn a (keys_of es))
 unfolding sequence
 key_decided M laws a [] s t h k = inr (λ n. n)
 key_decided M laws a (e ∷ es) s t h k =
-    elim (laws.tells a e.0 s k.first_is.front h k.first_is.first_is) [
+    elim (laws.tells a e.0 s k.first_is.prefix h k.first_is.first_is) [
       | inl same ↦ inl (inl same)
-      | inr first ↦ elim (key_decided M laws a es s k.back h k.second_is) [
+      | inr first ↦ elim (key_decided M laws a es s k.suffix h k.second_is) [
         | inl i ↦ inl (inr i)
         | inr n
             ↦ inr (λ i. elim i [ inl same ↦ first same | inr j ↦ n j ])
       ]
     ]
 
--- the last pairs with their keys of a list with a spelling, each key once
+-- the last pairs with their keys of a list with an encoding, each key once
 lasts : {A V : Type 0} {strict : Bool} {n : ℕ} {L : Format A} (M : Format V) → Laws strict n L
-    → (es : List (A × V)) (bytes : List ℕ) → Each (pair L M).spells es bytes
+    → (es : List (A × V)) (bytes : List ℕ) → Each (pair L M).encodes es bytes
     → (kept : List (A × V)) × AreDistinct (keys_of kept) × HasLasts es kept
 unfolding sequence
 lasts M laws [] bytes h = ([], tt, λ e. (λ h. h, λ h. h))
 lasts {A = A} {V = V} M laws (f ∷ es) bytes h =
-    let rest = lasts M laws es h.back h.second_is in
-    elim (key_decided M laws f.0 es h.first_is.front h.back h.first_is.first_is h.second_is) [
+    let rest = lasts M laws es h.suffix h.second_is in
+    elim (key_decided M laws f.0 es h.first_is.prefix h.suffix h.first_is.first_is h.second_is) [
       | inl again ↦ (
         rest.0,
         rest.1,
@@ -233,14 +233,14 @@ module _ {K A V : Type 0} {seen : K → A} where
         let last = IsIn-last pair items d (subst (λ p. IsIn p items) same s) in
         subst (λ p. IsIn p others) (sym same) (IsLast-in pair others ((k.1 x.0 e.1).0 ((h.1 x.0 e.1).1 last)));
     one_form = λ e. absurd (cc);
-    one_hashed = λ _ xs ys f g d e h k there back. λ i x. same_option (f x) (g x)
-        (λ v. (finds_more xs ys f g e h k there x v, finds_more ys xs g f d k h back x v)) i;
+    one_hashed = λ _ xs ys f g d e h k there suffix. λ i x. same_option (f x) (g x)
+        (λ v. (finds_more xs ys f g e h k there x v, finds_more ys xs g f d k h suffix x v)) i;
   }
 
   pub hash_map_forms : {strict : Bool} {n : ℕ} {L : Format A} (M : Format V) → Laws strict n L
       → HasForms (pair L M) (GathersToHashMap {V = V} seen) HasDistinctKeys
-  hash_map_forms M laws items bytes f spelled h =
-      let kept = lasts M laws items bytes spelled in (
+  hash_map_forms M laws items bytes f encoded h =
+      let kept = lasts M laws items bytes encoded in (
         kept.0,
         (
           λ a s. let p = IsIn-pair a kept.0 s in
@@ -259,7 +259,7 @@ abbrev pub tree_map_behind : {K A B : Type 0} → (K → A) → (K → K → Ord
     → (numbers : Numbers) → Behind numbers (List (A × B))
 tree_map_behind seen cmp key value =
     gathered_behind false (tree_map_is (less_is_asymmetric seen cmp)) (pair_codec key value)
-    (λ f items bytes es spelled h. (es, own_tree_map (less_is_asymmetric seen cmp) es h.0, h.0))
+    (λ f items bytes es encoded h. (es, own_tree_map (less_is_asymmetric seen cmp) es h.0, h.0))
 
 abbrev pub hash_map_behind : {K A B : Type 0} → (K → A) → Codec A → Codec B
     → (numbers : Numbers) → Behind numbers (K → Option B)
@@ -270,7 +270,7 @@ hash_map_behind seen key value =
 abbrev pub index_map_behind : {A B : Type 0} → Codec A → Codec B → (numbers : Numbers) → Behind numbers (List (A × B))
 index_map_behind key value =
     gathered_behind false index_map_is (pair_codec key value)
-    (λ f items bytes es spelled h. (es, own_index_map es h.0, h.0))
+    (λ f items bytes es encoded h. (es, own_index_map es h.0, h.0))
 
 -- and by themselves behind that number in four bytes
 abbrev pub tree_map_codec : {K A B : Type 0} → (K → A) → (K → K → Ordering) → Codec A → Codec B → Codec (List (A × B))

@@ -4,7 +4,7 @@ use Rattle.std.proofs.Common.{ap, arith}
 use Rattle.std.specs.Int.{Width}
 use Rattle.std.specs.Int.RustNames.{unsigned_abs}
 use Rattle.speedy_base.specs.declared.error.ErrorKind.TheVariants as kinds
-use Rattle.speedy_base.specs.Encoding.{Encoding}
+use Rattle.speedy_base.specs.Mode.{Mode}
 use Rattle.speedy_layout.specs.Format.{Format}
 use Rattle.speedy_layout.specs.Laws.{Codec}
 use Rattle.speedy_layout.specs.Codes.{subset_codec}
@@ -14,14 +14,14 @@ use Rattle.speedy_layout.specs.Numbers.{unsigned_codec, signed_codec}
 abbrev pub non_zero_codec : ℕ → Codec ℕ
 non_zero_codec width = subset_codec (λ n. n ≢ 0) kinds.ZeroNonZero tt (unsigned_codec width)
 
-abbrev pub non_zero_number : ℕ → Encoding → Format ℕ
+abbrev pub non_zero_number : ℕ → Mode → Format ℕ
 non_zero_number width = (non_zero_codec width).format
 
 -- signed numbers of a width other than 0
 abbrev pub signed_non_zero_codec : Width → Codec ℤ
 signed_non_zero_codec w = subset_codec (λ z. z ≢ pos 0) kinds.ZeroNonZero tt (signed_codec w)
 
-abbrev pub signed_non_zero_number : Width → Encoding → Format ℤ
+abbrev pub signed_non_zero_number : Width → Mode → Format ℤ
 signed_non_zero_number w = (signed_non_zero_codec w).format
 
 pub not_zero : (n : ℕ) → 0 < n → n ≢ 0

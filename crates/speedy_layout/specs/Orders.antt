@@ -19,14 +19,14 @@ module _ {X : Type 0} {less : X → X → Type 0} (order : IsAsymmetric less) wh
   -- ascending lists of the same items are the same
   pub same_ascending : (xs ys : List X) → Ascends less xs → Ascends less ys → ((x : X) → IsIn x xs → IsIn x ys)
       → ((x : X) → IsIn x ys → IsIn x xs) → xs ≡ ys
-  same_ascending [] [] h k there back = refl
-  same_ascending [] (y ∷ ys) h k there back = absurd (back y (inl refl))
-  same_ascending (x ∷ xs) [] h k there back = absurd (there x (inl refl))
-  same_ascending (x ∷ xs) (y ∷ ys) h k there back =
+  same_ascending [] [] h k there suffix = refl
+  same_ascending [] (y ∷ ys) h k there suffix = absurd (suffix y (inl refl))
+  same_ascending (x ∷ xs) [] h k there suffix = absurd (there x (inl refl))
+  same_ascending (x ∷ xs) (y ∷ ys) h k there suffix =
       let first : x ≡ y =
       elim (there x (inl refl)) [
         | inl e ↦ e
-        | inr s ↦ elim (back y (inl refl)) [ inl e ↦ sym e | inr t ↦ absurd (order x y (h.0 y t) (k.0 x s)) ]
+        | inr s ↦ elim (suffix y (inl refl)) [ inl e ↦ sym e | inr t ↦ absurd (order x y (h.0 y t) (k.0 x s)) ]
       ]
       in
       let more =
@@ -36,7 +36,7 @@ module _ {X : Type 0} {less : X → X → Type 0} (order : IsAsymmetric less) wh
             ↦ absurd (let l = subst (less x) (e ∙ sym first) (h.0 z s) in order x x l l)
         | inr t ↦ t
       ])
-      (λ z s. elim (back z (inr s)) [
+      (λ z s. elim (suffix z (inr s)) [
         | inl e ↦ absurd (let l = subst (less y) (e ∙ first) (k.0 z s) in order y y l l)
         | inr t ↦ t
       ])
@@ -58,14 +58,14 @@ module _ {X : Type 0} where
   absent_before x (y ∷ earlier) later d (inr h) = absent_before x earlier later d.1 h
 
   -- of two items of one list either stands before the other, or they stand at one place
-  which_first : (x y : X) (before after front back : List X) → before ++ x ∷ after ≡ front ++ y ∷ back
-      → (x ≡ y) ⊎ (IsIn x front ⊎ IsIn y before)
-  which_first x y [] after [] back e = inl (cc)
-  which_first x y [] after (z ∷ front) back e = inr (inl (inl (cc)))
-  which_first x y (z ∷ before) after [] back e = inr (inr (inl (cc)))
-  which_first x y (z ∷ before) after (w ∷ front) back e =
-      let rest : before ++ x ∷ after ≡ front ++ y ∷ back = cc in
-      elim (which_first x y before after front back rest) [
+  which_first : (x y : X) (before after prefix suffix : List X) → before ++ x ∷ after ≡ prefix ++ y ∷ suffix
+      → (x ≡ y) ⊎ (IsIn x prefix ⊎ IsIn y before)
+  which_first x y [] after [] suffix e = inl (cc)
+  which_first x y [] after (z ∷ prefix) suffix e = inr (inl (inl (cc)))
+  which_first x y (z ∷ before) after [] suffix e = inr (inr (inl (cc)))
+  which_first x y (z ∷ before) after (w ∷ prefix) suffix e =
+      let rest : before ++ x ∷ after ≡ prefix ++ y ∷ suffix = cc in
+      elim (which_first x y before after prefix suffix rest) [
         | inl h ↦ inl h
         | inr h ↦ elim h [ inl k ↦ inr (inl (inr k)) | inr k ↦ inr (inr (inr k)) ]
       ]
@@ -83,12 +83,12 @@ module _ {X : Type 0} where
       → ((x : X) → IsIn x (earlier ++ xs) → IsIn x (earlier ++ ys))
       → ((x : X) → IsIn x (earlier ++ ys) → IsIn x (earlier ++ xs))
       → InFirstOrder items (earlier ++ xs) → InFirstOrder items (earlier ++ ys) → xs ≡ ys
-  same_later items earlier [] [] d e there back h k = refl
-  same_later items earlier [] (y ∷ ys) d e there back h k =
-      absurd (absent_before y earlier ys e (subst (IsIn y) (append-nil earlier) (back y (IsIn-middle y earlier ys))))
-  same_later items earlier (x ∷ xs) [] d e there back h k =
+  same_later items earlier [] [] d e there suffix h k = refl
+  same_later items earlier [] (y ∷ ys) d e there suffix h k =
+      absurd (absent_before y earlier ys e (subst (IsIn y) (append-nil earlier) (suffix y (IsIn-middle y earlier ys))))
+  same_later items earlier (x ∷ xs) [] d e there suffix h k =
       absurd (absent_before x earlier xs d (subst (IsIn x) (append-nil earlier) (there x (IsIn-middle x earlier xs))))
-  same_later items earlier (x ∷ xs) (y ∷ ys) d e there back h k =
+  same_later items earlier (x ∷ xs) (y ∷ ys) d e there suffix h k =
       let first : x ≡ y =
       same_next x y earlier items (absent_before x earlier xs d) (absent_before y earlier ys e)
       (h x (record { before = earlier; after = xs; whole_is = refl }))
@@ -100,7 +100,7 @@ module _ {X : Type 0} where
       let more : xs ≡ ys =
       same_later items (earlier ++ x ∷ []) xs ys (subst AreDistinct left d) (subst AreDistinct right e)
       (λ z s. subst (IsIn z) right (there z (subst (IsIn z) (sym left) s)))
-      (λ z s. subst (IsIn z) left (back z (subst (IsIn z) (sym right) s)))
+      (λ z s. subst (IsIn z) left (suffix z (subst (IsIn z) (sym right) s)))
       (subst (InFirstOrder items) left h)
       (subst (InFirstOrder items) right k)
       in

@@ -2,31 +2,31 @@
 -- cases behind its tag.
 use Rattle.std.specs.Prelude.{◌≡◌, ℕ, ◌+◌, List, Bool, refl}
 use Rattle.std.proofs.Common.{ap, arith}
-use Rattle.speedy_base.specs.Encoding.{Encoding}
+use Rattle.speedy_base.specs.Mode.{Mode}
 use Rattle.speedy_layout.specs.Codes.{coding}
 use Rattle.speedy_layout.specs.Format.{Asks, asks_nothing, Format}
 use Rattle.speedy_layout.specs.Laws.{Laws, Codec, Laws-less}
-use Rattle.speedy_layout.specs.Lists.{counted_list_codec}
+use Rattle.speedy_layout.specs.Lists.{prefixed_list_codec}
 use Rattle.speedy_layout.specs.Numbers.{unsigned_number, unsigned_codec, length_number, length_codec}
 use Rattle.speedy_layout.specs.Numbers.{WritesSmaller, unsigned_smaller, length_smaller}
 use Rattle.speedy_layout.specs.Owned.{borrowed_codec}
 use Rattle.speedy_layout.specs.Sequences.{AsksAtMost, sequence, sequence_laws}
-use Rattle.speedy_layout.specs.Texts.{counted_text_codec}
+use Rattle.speedy_layout.specs.Texts.{prefixed_text_codec}
 use Rattle.speedy_layout.specs.Varint.{varint, varint_codec, varint_smaller}
 
 -- Numbers that lengths and tags are encoded as.
 pub record Numbers : Type 1 where
   pub codec : Codec ℕ
   -- reading one asks for nothing
-  pub none_asked : (f : Encoding) → (codec.format f).asks ≡ asks_nothing
+  pub none_asked : (f : Mode) → (codec.format f).asks ≡ asks_nothing
   -- a smaller one is written in no more bytes
-  pub smaller : (f : Encoding) → WritesSmaller (codec.format f)
+  pub smaller : (f : Mode) → WritesSmaller (codec.format f)
 
 -- Values behind a number that tells of them: which bytes, those of the number among them, encode which values. The
 -- least size is that of the number.
 pub record Behind (numbers : Numbers) (V : Type 0) : Type 1 where
-  pub format : Encoding → Format V
-  pub laws : (f : Encoding) → Laws f.strict numbers.codec.least (format f)
+  pub format : Mode → Format V
+  pub laws : (f : Mode) → Laws f.strict numbers.codec.least (format f)
 
 abbrev pub prefixed_codec : {V : Type 0} {numbers : Numbers} → Behind numbers V → Codec V
 prefixed_codec {numbers = numbers} behind = record {
@@ -35,15 +35,15 @@ prefixed_codec {numbers = numbers} behind = record {
   laws = behind.laws;
 }
 
-pub unsigned_asks : (width : ℕ) (f : Encoding) → (unsigned_number width f).asks ≡ asks_nothing
+pub unsigned_asks : (width : ℕ) (f : Mode) → (unsigned_number width f).asks ≡ asks_nothing
 unfolding unsigned_number
 unsigned_asks width f = refl
 
-pub varint_asks : (f : Encoding) → (varint f).asks ≡ asks_nothing
+pub varint_asks : (f : Mode) → (varint f).asks ≡ asks_nothing
 unfolding varint coding sequence unsigned_number
 varint_asks f = refl
 
-pub length_asks : (width greatest : ℕ) (f : Encoding) → (length_number width greatest f).asks ≡ asks_nothing
+pub length_asks : (width greatest : ℕ) (f : Mode) → (length_number width greatest f).asks ≡ asks_nothing
 unfolding coding unsigned_number
 length_asks width greatest f = refl
 
@@ -69,12 +69,12 @@ length_numbers width greatest = record {
 
 -- a text behind its number of bytes
 abbrev pub text_behind : (numbers : Numbers) → Behind numbers (List ℕ)
-text_behind numbers = let text = counted_text_codec numbers.codec in record { format = text.format; laws = text.laws }
+text_behind numbers = let text = prefixed_text_codec numbers.codec in record { format = text.format; laws = text.laws }
 
 -- a list behind its number of items
 abbrev pub list_behind : {V : Type 0} → Codec V → (numbers : Numbers) → Behind numbers (List V)
 list_behind item numbers =
-    let list = counted_list_codec numbers.codec item in record { format = list.format; laws = list.laws }
+    let list = prefixed_list_codec numbers.codec item in record { format = list.format; laws = list.laws }
 
 abbrev pub borrowed_behind : {V : Type 0} {numbers : Numbers} → Behind numbers V → Behind numbers V
 borrowed_behind content =
@@ -89,23 +89,23 @@ pub record Choices (V : Type 0) : Type 1 where
   -- whether a case has the tag
   pub has : ℕ → Bool
   -- what any of the cases asks
-  pub asks : Encoding → Asks
+  pub asks : Mode → Asks
   -- what stands behind a tag
-  pub behind : Encoding → ℕ → Format V
-  pub laws : (f : Encoding) (n : ℕ) → Laws f.strict 0 (behind f n)
-  pub within : (f : Encoding) (n : ℕ) → AsksAtMost (behind f n).asks (asks f)
+  pub behind : Mode → ℕ → Format V
+  pub laws : (f : Mode) (n : ℕ) → Laws f.strict 0 (behind f n)
+  pub within : (f : Mode) (n : ℕ) → AsksAtMost (behind f n).asks (asks f)
   -- a value stands behind the tag of its own case alone
-  pub is_tag : (f : Encoding) (n : ℕ) (v : V) (s : List ℕ) → (behind f n).spells v s → tag v ≡ n
+  pub is_tag : (f : Mode) (n : ℕ) (v : V) (s : List ℕ) → (behind f n).encodes v s → tag v ≡ n
 
 -- a value's tag, and the value
 abbrev pub tagged_parts : {V : Type 0} → (V → ℕ) → V → ℕ × V
 tagged_parts tag v = (tag v, v)
 
--- a tag, which is spelled as a format of numbers says, and then a value of its case
-abbrev pub tagged : {V : Type 0} → (Encoding → Format ℕ) → Choices V → Encoding → Format V
+-- a tag, which is encoded as a format of numbers says, and then a value of its case
+abbrev pub tagged : {V : Type 0} → (Mode → Format ℕ) → Choices V → Mode → Format V
 tagged number choices f = sequence (tagged_parts choices.tag) (number f) (choices.asks f) (choices.behind f)
 
-pub tagged_laws : {V : Type 0} (number : Codec ℕ) (choices : Choices V) (f : Encoding)
+pub tagged_laws : {V : Type 0} (number : Codec ℕ) (choices : Choices V) (f : Mode)
     → Laws f.strict number.least (tagged number.format choices f)
 tagged_laws {V = V} number choices f =
     Laws-less {n = number.least + 0} (omega arith)

@@ -83,7 +83,7 @@ module _ {K S : Type 0} {seen : K → S}
     lower_is = refl;
     higher_is = refl;
     compared = h;
-    one_way = λ u v e f k. let back = alike y x v u f e k in let other = total.antisymm x y in absurd (cc);
+    one_way = λ u v e f k. let suffix = alike y x v u f e k in let other = total.antisymm x y in absurd (cc);
   }
 
   -- and one key is seen to be less than another exactly where it compares so

@@ -11,16 +11,16 @@ pub record AsksAtMost (few many : Asks) : Type 0 where
   pub hashed : IsTrue few.hashed → IsTrue many.hashed
   pub memory : IsTrue few.memory → IsTrue many.memory
 
--- a value that is split into two parts: a spelling of the first, then one of the second in the format that the first
+-- a value that is split into two parts: an encoding of the first, then one of the second in the format that the first
 -- chooses
 unfoldable pub sequence : {U V : Type 0} {W : U → Type 0} → (V → (u : U) × W u) → Format U → Asks
     → ((u : U) → Format (W u)) → Format V
 sequence {U = U} split L asks M = record {
-  spells = λ v. Parts (L.spells (split v).0) ((M (split v).0).spells (split v).1);
+  encodes = λ v. Parts (L.encodes (split v).0) ((M (split v).0).encodes (split v).1);
   writes = λ v. Parts (L.writes (split v).0) ((M (split v).0).writes (split v).1);
   names = λ kind. L.names kind ⊎ ((u : U) × (M u).names kind);
   refuses_writing = λ kind. L.refuses_writing kind ⊎ ((u : U) × (M u).refuses_writing kind);
-  malformed = λ bytes. L.malformed bytes ⊎ ((u : U) × Parts (L.spells u) (M u).malformed bytes);
+  malformed = λ bytes. L.malformed bytes ⊎ ((u : U) × Parts (L.encodes u) (M u).malformed bytes);
   asks = either_asks L.asks asks;
 }
 
@@ -82,33 +82,33 @@ across s t r q a b c d h k e =
 pub Parts-as : {P R Q S : List ℕ → Type 0} {b : List ℕ} → ((s : List ℕ) → P s → R s) → ((s : List ℕ) → Q s → S s)
     → Parts P Q b → Parts R S b
 Parts-as f g h = record {
-  front = h.front;
-  back = h.back;
+  prefix = h.prefix;
+  suffix = h.suffix;
   whole_is = h.whole_is;
-  first_is = f h.front h.first_is;
-  second_is = g h.back h.second_is;
+  first_is = f h.prefix h.first_is;
+  second_is = g h.suffix h.second_is;
 }
 
 -- once the first parts are the same, the second parts decode
 second_decodes : {U : Type 0} {W : U → Type 0} (M : (u : U) → Format (W u)) (strict : Bool) (m : ℕ)
-    → ((u : U) → Laws strict m (M u)) → (s t r q : List ℕ) (p : (u : U) × W u) → (M p.0).spells p.1 s → s ++ r ≡ t ++ q
-    → (u : U) → p.0 ≡ u → (w : W u) → (M u).spells w t
+    → ((u : U) → Laws strict m (M u)) → (s t r q : List ℕ) (p : (u : U) × W u) → (M p.0).encodes p.1 s → s ++ r ≡ t ++ q
+    → (u : U) → p.0 ≡ u → (w : W u) → (M u).encodes w t
     → let whole : (u : U) × W u = (u, w) in (p ≡ whole) × (s ≡ t) × (r ≡ q)
 second_decodes {U = U} {W = W} M strict m more s t r q p h e u same =
     subst
-    (λ (u : U). (w : W u) → (M u).spells w t → let whole : (u : U) × W u = (u, w) in (p ≡ whole) × (s ≡ t) × (r ≡ q))
+    (λ (u : U). (w : W u) → (M u).encodes w t → let whole : (u : U) × W u = (u, w) in (p ≡ whole) × (s ≡ t) × (r ≡ q))
     same
     (λ w k. let d = (more p.0).decodes p.1 w s t r q h k e in
     (ap (λ (x : W p.0). let whole : (u : U) × W u = (p.0, x) in whole) d.0, d.1, d.2))
 
 -- once the first parts are the same, it is decided whether the second parts are
 second_tells : {U : Type 0} {W : U → Type 0} (M : (u : U) → Format (W u)) (strict : Bool) (m : ℕ)
-    → ((u : U) → Laws strict m (M u)) → (s : List ℕ) (p : (u : U) × W u) → (M p.0).spells p.1 s
-    → (u : U) → p.0 ≡ u → (w : W u) (t : List ℕ) → (M u).spells w t
-    → let whole : (u : U) × W u = (u, w) in (p ≡ whole) ⊎ ((b : List ℕ) → (M p.0).spells p.1 b → (M u).spells w b → ⊥)
+    → ((u : U) → Laws strict m (M u)) → (s : List ℕ) (p : (u : U) × W u) → (M p.0).encodes p.1 s
+    → (u : U) → p.0 ≡ u → (w : W u) (t : List ℕ) → (M u).encodes w t
+    → let whole : (u : U) × W u = (u, w) in (p ≡ whole) ⊎ ((b : List ℕ) → (M p.0).encodes p.1 b → (M u).encodes w b → ⊥)
 second_tells {U = U} {W = W} M strict m more s p h u same =
-    subst (λ (u : U). (w : W u) (t : List ℕ) → (M u).spells w t → let whole : (u : U) × W u = (u, w) in
-    (p ≡ whole) ⊎ ((b : List ℕ) → (M p.0).spells p.1 b → (M u).spells w b → ⊥)) same
+    subst (λ (u : U). (w : W u) (t : List ℕ) → (M u).encodes w t → let whole : (u : U) × W u = (u, w) in
+    (p ≡ whole) ⊎ ((b : List ℕ) → (M p.0).encodes p.1 b → (M u).encodes w b → ⊥)) same
     (λ w t k.
     elim ((more p.0).tells p.1 w s t h k) [
       | inl e ↦ inl (ap (λ (x : W p.0). let whole : (u : U) × W u = (p.0, x) in whole) e)
@@ -123,63 +123,67 @@ module _ {U V : Type 0} {W : U → Type 0} {split : V → (u : U) × W u} {L : F
   unfolding sequence
   sequence_laws laws more within injective = record {
     decodes = λ v w s t r q h k e.
-        let joined = across s t r q h.front h.back k.front k.back h.whole_is k.whole_is e in
+        let joined = across s t r q h.prefix h.suffix k.prefix k.suffix h.whole_is k.whole_is e in
         let first =
-        laws.decodes (split v).0 (split w).0 h.front k.front (h.back ++ r) (k.back ++ q) h.first_is k.first_is joined in
-        let second = second_decodes M strict m more h.back k.back r q (split v) h.second_is first.2 (split w).0 first.0
+        laws.decodes (split v).0 (split w).0 h.prefix k.prefix (h.suffix ++ r) (k.suffix ++ q) h.first_is k.first_is
+            joined
+        in
+        let second = second_decodes M strict m more h.suffix k.suffix r q (split v) h.second_is first.2 (split w).0
+        first.0
         (split w).1 k.second_is in
         (injective v w second.0, h.whole_is ∙ (let a = first.1 in let b = second.1 in (cc)) ∙ sym k.whole_is, second.2);
     tells = λ v w s t h k.
-        elim (laws.tells (split v).0 (split w).0 h.front k.front h.first_is k.first_is) [
+        elim (laws.tells (split v).0 (split w).0 h.prefix k.prefix h.first_is k.first_is) [
           | inl same ↦
-              elim (second_tells M strict m more h.back (split v) h.second_is (split w).0 same (split w).1 k.back
+              elim (second_tells M strict m more h.suffix (split v) h.second_is (split w).0 same (split w).1 k.suffix
               k.second_is) [
                 | inl e ↦ inl (injective v w e)
                 | inr n ↦ inr (λ e. apart v w s n h
-                    (subst (λ (x : V). Parts (L.spells (split x).0) ((M (split x).0).spells (split x).1) s) e h))
+                    (subst (λ (x : V). Parts (L.encodes (split x).0) ((M (split x).0).encodes (split x).1) s) e h))
               ]
           | inr n ↦ inr (λ e. n (ap (λ (x : V). (split x).0) e))
         ];
-    written_spells = λ v b h.
-        Parts-as (laws.written_spells (split v).0) ((more (split v).0).written_spells (split v).1) h;
+    written_encodes = λ v b h.
+        Parts-as (laws.written_encodes (split v).0) ((more (split v).0).written_encodes (split v).1) h;
     written_alone = λ s v b h.
         Parts-as (laws.written_alone s (split v).0) ((more (split v).0).written_alone s (split v).1) h;
     shortest = λ v b c h k.
-        let first = laws.shortest (split v).0 h.front k.front h.first_is k.first_is in
-        let second = (more (split v).0).shortest (split v).1 h.back k.back h.second_is k.second_is in
-        let l = ap length h.whole_is ∙ length-append h.front h.back in
-        let o = ap length k.whole_is ∙ length-append k.front k.back in
+        let first = laws.shortest (split v).0 h.prefix k.prefix h.first_is k.first_is in
+        let second = (more (split v).0).shortest (split v).1 h.suffix k.suffix h.second_is k.second_is in
+        let l = ap length h.whole_is ∙ length-append h.prefix h.suffix in
+        let o = ap length k.whole_is ∙ length-append k.prefix k.suffix in
         omega arith;
     least_size = λ v b h.
-        let first = laws.least_size (split v).0 h.front h.first_is in
-        let second = (more (split v).0).least_size (split v).1 h.back h.second_is in
-        let l = ap length h.whole_is ∙ length-append h.front h.back in
+        let first = laws.least_size (split v).0 h.prefix h.first_is in
+        let second = (more (split v).0).least_size (split v).1 h.suffix h.second_is in
+        let l = ap length h.whole_is ∙ length-append h.prefix h.suffix in
         omega arith;
     has_written = λ v b h.
-        let first = laws.has_written (split v).0 h.front h.first_is in
-        let second = (more (split v).0).has_written (split v).1 h.back h.second_is in (
+        let first = laws.has_written (split v).0 h.prefix h.first_is in
+        let second = (more (split v).0).has_written (split v).1 h.suffix h.second_is in (
           first.0 ++ second.0,
-          record { front = first.0; back = second.0; whole_is = refl; first_is = first.1; second_is = second.1 },
+          record { prefix = first.0; suffix = second.0; whole_is = refl; first_is = first.1; second_is = second.1 },
         );
     one_written = λ u v b c h k.
         let no = neither L.asks.hashed asks.hashed u in
-        let first = laws.one_written no.0 (split v).0 h.front k.front h.first_is k.first_is in
+        let first = laws.one_written no.0 (split v).0 h.prefix k.prefix h.first_is k.first_is in
         let second = (more (split v).0).one_written
-        (not_asked (M (split v).0).asks.hashed asks.hashed (within (split v).0).hashed no.1) (split v).1 h.back k.back
+        (not_asked (M (split v).0).asks.hashed asks.hashed (within (split v).0).hashed no.1) (split v).1 h.suffix
+        k.suffix
         h.second_is k.second_is in
         h.whole_is ∙ (cc) ∙ sym k.whole_is;
-    malformed_unspelled = λ v front rest bad k.
-        let joined : front ++ rest ≡ k.front ++ (k.back ++ rest) =
-        ap (λ x. x ++ rest) k.whole_is ∙ append_assoc k.front k.back rest in
+    malformed_undecodable = λ v prefix rest bad k.
+        let joined : prefix ++ rest ≡ k.prefix ++ (k.suffix ++ rest) =
+        ap (λ x. x ++ rest) k.whole_is ∙ append_assoc k.prefix k.suffix rest in
         elim bad [
           | inl h ↦
-              laws.malformed_unspelled (split v).0 k.front (k.back ++ rest) (subst L.malformed joined h) k.first_is
+              laws.malformed_undecodable (split v).0 k.prefix (k.suffix ++ rest) (subst L.malformed joined h) k.first_is
           | inr h ↦
-              let first = laws.decodes h.0 (split v).0 h.1.front k.front h.1.back (k.back ++ rest) h.1.first_is
+              let first = laws.decodes h.0 (split v).0 h.1.prefix k.prefix h.1.suffix (k.suffix ++ rest) h.1.first_is
               k.first_is (sym h.1.whole_is ∙ joined) in
-              (more (split v).0).malformed_unspelled (split v).1 k.back rest
+              (more (split v).0).malformed_undecodable (split v).1 k.suffix rest
               (subst (λ (x : List ℕ). (M (split v).0).malformed x) first.2
-              (subst (λ (u : U). (M u).malformed h.1.back) first.0 h.1.second_is)) k.second_is
+              (subst (λ (u : U). (M u).malformed h.1.suffix) first.0 h.1.second_is)) k.second_is
         ];
     names_own = λ kind named.
         elim named [
@@ -194,15 +198,16 @@ module _ {U V : Type 0} {W : U → Type 0} {split : V → (u : U) × W u} {L : F
   } where
     -- no bytes are those of two values whose first parts are the same and whose second ones are not
     apart : (v w : V) (s : List ℕ)
-        → ((b : List ℕ) → (M (split v).0).spells (split v).1 b → (M (split w).0).spells (split w).1 b → ⊥)
-        → Parts (L.spells (split v).0) ((M (split v).0).spells (split v).1) s
-        → Parts (L.spells (split w).0) ((M (split w).0).spells (split w).1) s → ⊥
+        → ((b : List ℕ) → (M (split v).0).encodes (split v).1 b → (M (split w).0).encodes (split w).1 b → ⊥)
+        → Parts (L.encodes (split v).0) ((M (split v).0).encodes (split v).1) s
+        → Parts (L.encodes (split w).0) ((M (split w).0).encodes (split w).1) s → ⊥
     apart v w s n h k =
-        let first = laws.decodes (split v).0 (split w).0 h.front k.front h.back k.back h.first_is k.first_is
+        let first = laws.decodes (split v).0 (split w).0 h.prefix k.prefix h.suffix k.suffix h.first_is k.first_is
         (sym h.whole_is ∙ k.whole_is) in
-        n h.back h.second_is (subst ((M (split w).0).spells (split w).1) (sym first.2) k.second_is)
+        n h.suffix h.second_is (subst ((M (split w).0).encodes (split w).1) (sym first.2) k.second_is)
 
 -- values that can be put together again from their parts differ in their parts
 pub told_apart : {U V : Type 0} {W : U → Type 0} (split : V → (u : U) × W u) (join : (u : U) → W u → V)
     → ((v : V) → join (split v).0 (split v).1 ≡ v) → (v w : V) → split v ≡ split w → v ≡ w
-told_apart {U = U} {W = W} split join back v w e = sym (back v) ∙ (ap (λ (p : (u : U) × W u). join p.0 p.1) e ∙ back w)
+told_apart {U = U} {W = W} split join suffix v w e = sym (suffix v)
+    ∙ (ap (λ (p : (u : U) × W u). join p.0 p.1) e ∙ suffix w)

@@ -2,7 +2,7 @@
 use Rattle.std.specs.Prelude.{◌≡◌, ℕ, List, [], ◌∷◌, Bool, true, false, IsTrue, ◌↔◌, refl}
 use Rattle.std.proofs.Common.{sym, ◌∙◌, subst, inl, inr}
 use Rattle.std.specs.declared.cmp.Ordering.{Ordering}
-use Rattle.speedy_base.specs.Encoding.{Encoding}
+use Rattle.speedy_base.specs.Mode.{Mode}
 use Rattle.speedy_layout.specs.Format.{Format, Each}
 use Rattle.speedy_layout.specs.Laws.{Laws, Codec}
 use Rattle.speedy_layout.specs.Numbers.{unsigned_number}
@@ -30,17 +30,17 @@ abbrev pub GathersToIndexSet : {T : Type 0} → List T → List T → Type 0
 GathersToIndexSet items xs = AreDistinct xs × HasItems items xs × InFirstOrder items xs
 
 -- A set whose items ascend is written in their order.
-abbrev pub tree_set : {T : Type 0} → Encoding → (T → T → Type 0) → Format T → Format (List T)
-tree_set encoding less L = gathered false encoding (unsigned_number 4 encoding) (GathersToTreeSet less) (Ascends less) L
+abbrev pub tree_set : {T : Type 0} → Mode → (T → T → Type 0) → Format T → Format (List T)
+tree_set mode less L = gathered false mode (unsigned_number 4 mode) (GathersToTreeSet less) (Ascends less) L
 
 -- One that tells whether it holds an item is written in any order, with each item once.
-abbrev pub hash_set : {T A : Type 0} → Encoding → (T → A) → Format A → Format (T → Bool)
-hash_set encoding seen L = gathered true encoding (unsigned_number 4 encoding) (GathersToHashSet seen) AreDistinct L
+abbrev pub hash_set : {T A : Type 0} → Mode → (T → A) → Format A → Format (T → Bool)
+hash_set mode seen L = gathered true mode (unsigned_number 4 mode) (GathersToHashSet seen) AreDistinct L
 
 -- One whose items stand in the order of their first occurrences is written in that order, which is told by each item
 -- standing once.
-abbrev pub index_set : {T : Type 0} → Encoding → Format T → Format (List T)
-index_set encoding L = gathered false encoding (unsigned_number 4 encoding) GathersToIndexSet AreDistinct L
+abbrev pub index_set : {T : Type 0} → Mode → Format T → Format (List T)
+index_set mode L = gathered false mode (unsigned_number 4 mode) GathersToIndexSet AreDistinct L
 
 -- ---- their laws
 
@@ -93,14 +93,14 @@ same_test true b h = sym (h.0 refl)
 same_test false true h = h.1 refl
 same_test false false h = refl
 
--- the items of a list with a spelling, each once
+-- the items of a list with an encoding, each once
 once : {A : Type 0} {strict : Bool} {n : ℕ} {L : Format A} → Laws strict n L → (xs : List A) (bytes : List ℕ)
-    → Each L.spells xs bytes
+    → Each L.encodes xs bytes
     → (kept : List A) × AreDistinct kept × HasItems xs kept
 once laws [] bytes h = ([], tt, λ x. (λ h. h, λ h. h))
 once laws (a ∷ xs) bytes h =
-    let rest = once laws xs h.back h.second_is in
-    elim (in_decided laws a xs h.front h.back h.first_is h.second_is) [
+    let rest = once laws xs h.suffix h.second_is in
+    elim (in_decided laws a xs h.prefix h.suffix h.first_is h.second_is) [
       | inl again ↦ (
         rest.0,
         rest.1,
@@ -128,14 +128,14 @@ module _ {T A : Type 0} {seen : T → A} where
     form_inside = λ items others f d h k a s. let x = h.0 a s in
         subst (λ b. IsIn b others) x.1 ((k.1 x.0).0 ((h.1 x.0).1 (subst (λ b. IsIn b items) (sym x.1) s)));
     one_form = λ e. absurd (cc);
-    one_hashed = λ _ xs ys f g d e h k there back. λ i x. same_test (f x) (g x)
-        (λ s. (k.1 x).1 (there (seen x) ((h.1 x).0 s)), λ s. (h.1 x).1 (back (seen x) ((k.1 x).0 s))) i;
+    one_hashed = λ _ xs ys f g d e h k there suffix. λ i x. same_test (f x) (g x)
+        (λ s. (k.1 x).1 (there (seen x) ((h.1 x).0 s)), λ s. (h.1 x).1 (suffix (seen x) ((k.1 x).0 s))) i;
   }
 
   pub hash_set_forms : {strict : Bool} {n : ℕ} {L : Format A} → Laws strict n L
       → HasForms L (GathersToHashSet seen) AreDistinct
-  hash_set_forms laws items bytes f spelled h =
-      let kept = once laws items bytes spelled in (
+  hash_set_forms laws items bytes f encoded h =
+      let kept = once laws items bytes encoded in (
         kept.0,
         (
           λ a s. h.0 a ((kept.2 a).0 s),
@@ -149,14 +149,14 @@ abbrev pub tree_set_behind : {T A : Type 0} → (T → A) → (T → T → Order
     → (numbers : Numbers) → Behind numbers (List A)
 tree_set_behind seen cmp item =
     gathered_behind false (tree_set_is (less_is_asymmetric seen cmp)) item
-    (λ f items bytes xs spelled h. (xs, own_tree_set (IsLess seen cmp) xs h.0, h.0))
+    (λ f items bytes xs encoded h. (xs, own_tree_set (IsLess seen cmp) xs h.0, h.0))
 
 abbrev pub hash_set_behind : {T A : Type 0} → (T → A) → Codec A → (numbers : Numbers) → Behind numbers (T → Bool)
 hash_set_behind seen item = gathered_behind true (hash_set_is {seen = seen}) item (λ f. hash_set_forms (item.laws f))
 
 abbrev pub index_set_behind : {A : Type 0} → Codec A → (numbers : Numbers) → Behind numbers (List A)
 index_set_behind item =
-    gathered_behind false index_set_is item (λ f items bytes xs spelled h. (xs, own_index_set xs h.0, h.0))
+    gathered_behind false index_set_is item (λ f items bytes xs encoded h. (xs, own_index_set xs h.0, h.0))
 
 -- and by themselves behind that number in four bytes
 abbrev pub tree_set_codec : {T A : Type 0} → (T → A) → (T → T → Ordering) → Codec A → Codec (List A)

@@ -35,13 +35,13 @@ module _ {T A : Type 0} (seen : T → A) where
       λ h. let y = item_seen seen a ys h in
           subst (λ b. IsIn b (map seen xs)) (sym y.1) (there y.0 (subst (λ b. IsIn b (map seen ys)) y.1 h)),
       λ h. let x = item_seen seen a xs h in
-          subst (λ b. IsIn b (map seen ys)) (sym x.1) (back x.0 (subst (λ b. IsIn b (map seen xs)) x.1 h)),
+          subst (λ b. IsIn b (map seen ys)) (sym x.1) (suffix x.0 (subst (λ b. IsIn b (map seen xs)) x.1 h)),
     ) where
       there : (q : T) → IsIn (seen q) (map seen ys) → IsIn (seen q) (map seen xs)
       there q h = (member_seen q xs).0 (sym (finds q) ∙ (member_seen q ys).1 h)
 
-      back : (q : T) → IsIn (seen q) (map seen xs) → IsIn (seen q) (map seen ys)
-      back q h = (member_seen q ys).0 (finds q ∙ (member_seen q xs).1 h)
+      suffix : (q : T) → IsIn (seen q) (map seen xs) → IsIn (seen q) (map seen ys)
+      suffix q h = (member_seen q ys).0 (finds q ∙ (member_seen q xs).1 h)
 
 -- ---- `HashSet`
 

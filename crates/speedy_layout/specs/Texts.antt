@@ -6,13 +6,13 @@ use Rattle.std.specs.Str.{IsUtf8}
 use Rattle.speedy_base.specs.declared.error.ErrorKind.{ErrorKind}
 use Rattle.speedy_base.specs.declared.error.ErrorKind.TheVariants as kinds
 use Rattle.speedy_base.specs.declared.endianness.Endianness.{Endianness}
-use Rattle.speedy_base.specs.Digits.{SpellsNumber, AreBytes}
-use Rattle.speedy_base.specs.DigitsLemmas.{SpellsNumber-one_byte, SpellsNumber-is_one_byte}
-use Rattle.speedy_base.specs.Encoding.{Encoding}
+use Rattle.speedy_base.specs.Digits.{EncodesNumber, AreBytes}
+use Rattle.speedy_base.specs.DigitsLemmas.{EncodesNumber-one_byte, EncodesNumber-is_one_byte}
+use Rattle.speedy_base.specs.Mode.{Mode}
 use Rattle.speedy_layout.specs.Format.{asks_nothing, Format, plain_format, Each, IsOwnKind}
 use Rattle.speedy_layout.specs.Laws.{Laws, Codec, Laws-less, plain_laws}
 use Rattle.speedy_layout.specs.Codes.{subset, subset_codec, coding, coding_laws, exact_code, exact_is_code}
-use Rattle.speedy_layout.specs.Numbers.{unsigned_number, unsigned_codec, same_fronts}
+use Rattle.speedy_layout.specs.Numbers.{unsigned_number, unsigned_codec, same_prefixes}
 use Rattle.speedy_layout.specs.Owned.{owned_content, owned_codec}
 use Rattle.speedy_layout.specs.Sequences.{AsksAtMost, asks_same, sequence, sequence_laws}
 
@@ -30,32 +30,32 @@ IsExpected bytes (kinds.ExpectedConstant constant) = constant.now ≡ bytes
 IsExpected bytes _ = ⊥
 
 -- just these bytes; others of their number are refused
-unfoldable pub constant_bytes : Encoding → List ℕ → Format (List ℕ)
-constant_bytes encoding constant =
-    coding encoding (exact_code (λ u v. (u ≡ v) × (v ≡ constant)) (IsExpected constant)) (raw_bytes (length constant))
+unfoldable pub constant_bytes : Mode → List ℕ → Format (List ℕ)
+constant_bytes mode constant =
+    coding mode (exact_code (λ u v. (u ≡ v) × (v ≡ constant)) (IsExpected constant)) (raw_bytes (length constant))
 
 -- a text of so many bytes; others are refused
-unfoldable pub text_of_length : Encoding → ℕ → Format (List ℕ)
-text_of_length encoding n = owned_content (subset encoding IsUtf8 kinds.InvalidUtf8 (raw_bytes n))
+unfoldable pub text_of_length : Mode → ℕ → Format (List ℕ)
+text_of_length mode n = owned_content (subset mode IsUtf8 kinds.InvalidUtf8 (raw_bytes n))
 
 -- a text with its number of bytes before it
 abbrev pub text_parts : List ℕ → ℕ × List ℕ
 text_parts text = (length text, text)
 
--- a number of bytes, which is spelled as a format of numbers says, and then a text of so many
-abbrev pub counted_text : Encoding → Format ℕ → Format (List ℕ)
-counted_text encoding count =
-    sequence text_parts count (record asks_nothing { memory = true }) (text_of_length encoding)
+-- a number of bytes, which is encoded as a format of numbers says, and then a text of so many
+abbrev pub prefixed_text : Mode → Format ℕ → Format (List ℕ)
+prefixed_text mode count =
+    sequence text_parts count (record asks_nothing { memory = true }) (text_of_length mode)
 
 -- README, `{length: u32, bytes: [u8]}`: the number of bytes in four digits, then the UTF-8 bytes
-unfoldable pub text : Encoding → Format (List ℕ)
-text encoding = counted_text encoding (unsigned_number 4 encoding)
+unfoldable pub text : Mode → Format (List ℕ)
+text mode = prefixed_text mode (unsigned_number 4 mode)
 
 pub raw_bytes_laws : {strict : Bool} (n : ℕ) → Laws strict n (raw_bytes n)
 unfolding raw_bytes
 raw_bytes_laws n =
     plain_laws
-    (λ v w s t r q h k e. let same = same_fronts s t r q (h.1 ∙ sym k.1) e in
+    (λ v w s t r q h k e. let same = same_prefixes s t r q (h.1 ∙ sym k.1) e in
     (h.0 ∙ (same.0 ∙ sym k.0), same.0, same.1))
     (λ v b h. let l = h.1 in omega arith)
     (λ v b c h k. sym h.0 ∙ k.0)
@@ -67,11 +67,11 @@ expected_own : (constant : List ℕ) (kind : ErrorKind) → IsExpected constant 
 expected_own constant (kinds.ExpectedConstant c) h = tt
 expected_own constant _ h = absurd h
 
-pub constant_bytes_laws : (encoding : Encoding) (constant : List ℕ)
-    → Laws encoding.strict (length constant) (constant_bytes encoding constant)
+pub constant_bytes_laws : (mode : Mode) (constant : List ℕ)
+    → Laws mode.strict (length constant) (constant_bytes mode constant)
 unfolding constant_bytes
-constant_bytes_laws encoding constant =
-    coding_laws encoding (raw_bytes_laws (length constant))
+constant_bytes_laws mode constant =
+    coding_laws mode (raw_bytes_laws (length constant))
     (exact_is_code (expected_own constant) (λ u v w h k. sym h.0 ∙ k.0) (λ u w v h k. h.0 ∙ sym k.0))
 
 abbrev pub constant_codec : List ℕ → Codec (List ℕ)
@@ -81,28 +81,28 @@ constant_codec bytes = record {
   laws = λ f. constant_bytes_laws f bytes;
 }
 
-pub text_of_length_laws : (encoding : Encoding) (n : ℕ) → Laws encoding.strict n (text_of_length encoding n)
+pub text_of_length_laws : (mode : Mode) (n : ℕ) → Laws mode.strict n (text_of_length mode n)
 unfolding text_of_length
-text_of_length_laws encoding n =
-    (owned_codec (subset_codec IsUtf8 kinds.InvalidUtf8 tt (raw_bytes_codec n))).laws encoding
+text_of_length_laws mode n =
+    (owned_codec (subset_codec IsUtf8 kinds.InvalidUtf8 tt (raw_bytes_codec n))).laws mode
 
-pub text_asks : (encoding : Encoding) (n : ℕ)
-    → AsksAtMost (text_of_length encoding n).asks (record asks_nothing { memory = true })
+pub text_asks : (mode : Mode) (n : ℕ)
+    → AsksAtMost (text_of_length mode n).asks (record asks_nothing { memory = true })
 unfolding text_of_length owned_content coding raw_bytes
-text_asks encoding n = asks_same
+text_asks mode n = asks_same
 
-abbrev pub counted_text_codec : Codec ℕ → Codec (List ℕ)
-counted_text_codec count = record {
+abbrev pub prefixed_text_codec : Codec ℕ → Codec (List ℕ)
+prefixed_text_codec count = record {
   least = count.least;
-  format = λ f. counted_text f (count.format f);
+  format = λ f. prefixed_text f (count.format f);
   laws = λ f. Laws-less {n = count.least + 0} (omega arith)
       (sequence_laws {n = count.least} {m = 0} (count.laws f) (λ n. Laws-less (omega arith) (text_of_length_laws f n))
       (text_asks f) (λ v w e. ap (λ (p : ℕ × List ℕ). p.1) e));
 }
 
-pub text_laws : (encoding : Encoding) → Laws encoding.strict 4 (text encoding)
+pub text_laws : (mode : Mode) → Laws mode.strict 4 (text mode)
 unfolding text
-text_laws = (counted_text_codec (unsigned_codec 4)).laws
+text_laws = (prefixed_text_codec (unsigned_codec 4)).laws
 
 abbrev pub text_codec : Codec (List ℕ)
 text_codec = record { least = 4; format = text; laws = text_laws }
@@ -110,20 +110,20 @@ text_codec = record { least = 4; format = text; laws = text_laws }
 -- ---- bytes as numbers
 
 -- bytes are numbers of one digit each
-pub each_byte : (order : Endianness) (bytes : List ℕ) → AreBytes bytes → Each (SpellsNumber 1 order) bytes bytes
+pub each_byte : (order : Endianness) (bytes : List ℕ) → AreBytes bytes → Each (EncodesNumber 1 order) bytes bytes
 each_byte order [] h = refl
 each_byte order (b ∷ bytes) h = record {
-  front = b ∷ [];
-  back = bytes;
+  prefix = b ∷ [];
+  suffix = bytes;
   whole_is = refl;
-  first_is = SpellsNumber-one_byte order b h.0;
+  first_is = EncodesNumber-one_byte order b h.0;
   second_is = each_byte order bytes h.1;
 }
 
--- and such numbers are the bytes that spell them
-pub each_byte_is : (order : Endianness) (vs bytes : List ℕ) → Each (SpellsNumber 1 order) vs bytes → vs ≡ bytes
+-- and such numbers are the bytes that encode them
+pub each_byte_is : (order : Endianness) (vs bytes : List ℕ) → Each (EncodesNumber 1 order) vs bytes → vs ≡ bytes
 each_byte_is order [] bytes h = sym h
 each_byte_is order (v ∷ vs) bytes h =
-    let front = SpellsNumber-is_one_byte order v h.front h.first_is in
-    let more = each_byte_is order vs h.back h.second_is in
-    ap (λ x. v ∷ x) more ∙ (ap (λ x. x ++ h.back) (sym front) ∙ sym h.whole_is)
+    let prefix = EncodesNumber-is_one_byte order v h.prefix h.first_is in
+    let more = each_byte_is order vs h.suffix h.second_is in
+    ap (λ x. v ∷ x) more ∙ (ap (λ x. x ++ h.suffix) (sym prefix) ∙ sym h.whole_is)

@@ -7,10 +7,10 @@ use Rattle.std.proofs.Math.Pow.{pow_mono}
 use Rattle.std.proofs.lemmas.Bool.{cases_lt}
 use Rattle.std.proofs.lemmas.Nat.{div_below, mod_below, mul-le, div-add-mod', same_from_place}
 use Rattle.speedy_base.specs.declared.endianness.Endianness.TheVariants.{LittleEndian}
-use Rattle.speedy_base.specs.Digits.{SpellsNumber, digits}
-use Rattle.speedy_base.specs.DigitsLemmas.{SpellsNumber-below, SpellsNumber-digits, SpellsNumber-one_byte}
-use Rattle.speedy_base.specs.DigitsLemmas.{SpellsNumber-is_one_byte}
-use Rattle.speedy_base.specs.Encoding.{Encoding}
+use Rattle.speedy_base.specs.Digits.{EncodesNumber, digits}
+use Rattle.speedy_base.specs.DigitsLemmas.{EncodesNumber-below, EncodesNumber-digits, EncodesNumber-one_byte}
+use Rattle.speedy_base.specs.DigitsLemmas.{EncodesNumber-is_one_byte}
+use Rattle.speedy_base.specs.Mode.{Mode}
 use Rattle.speedy_layout.specs.Format.{asks_nothing, Format}
 use Rattle.speedy_layout.specs.Laws.{Laws, Codec, Laws-less}
 use Rattle.speedy_layout.specs.Codes.{Code, IsCode, coding, coding_codec, exact_code, exact_is_code}
@@ -30,8 +30,8 @@ abbrev pub first_byte_code : Code ℕ (ℕ × ℕ)
 first_byte_code = exact_code (λ byte p. IsFirstByte p.0 p.1 byte) (λ kind. ⊥)
 
 -- the same with digits least first
-abbrev pub low_first : Encoding → Encoding
-low_first encoding = record encoding { order = LittleEndian }
+abbrev pub low_first : Mode → Mode
+low_first mode = record mode { order = LittleEndian }
 
 -- no fewer bytes after the first one hold the number: j of them, up to 7, hold what is below 2 ^ (7 * (j + 1))
 abbrev pub HasNoShorter : ℕ → ℕ → Type 0
@@ -56,7 +56,7 @@ pub record VarintParts (first : ℕ) (tail : List ℕ) (n : ℕ) : Type 0 where
   pub low : ℕ
   pub rest : ℕ
   pub first_is : IsFirstByte (length tail) low first
-  pub tail_is : SpellsNumber (length tail) LittleEndian rest tail
+  pub tail_is : EncodesNumber (length tail) LittleEndian rest tail
   pub value_is : n ≡ low * 256 ^ length tail + rest
 
 -- a first byte after which so many bytes follow
@@ -178,7 +178,7 @@ IsFewest-same k j n h g =
     let down = IsFewest-least j k n g h.enough in
     omega arith
 
--- ---- codes and their spellings
+-- ---- codes and their encodings
 
 one_first_byte : (byte : ℕ) (p q : ℕ × ℕ) → IsFirstByte p.0 p.1 byte → IsFirstByte q.0 q.1 byte → p ≡ q
 one_first_byte byte p q h g =
@@ -193,10 +193,10 @@ first_byte_is_code =
 abbrev pub first_byte : Codec (ℕ × ℕ)
 first_byte = coding_codec first_byte_code (unsigned_codec 1) (λ _. first_byte_is_code)
 
-pub prefixed_asks : (encoding : Encoding) (p : ℕ × ℕ)
-    → AsksAtMost (unsigned_number p.0 (low_first encoding)).asks asks_nothing
+pub prefixed_asks : (mode : Mode) (p : ℕ × ℕ)
+    → AsksAtMost (unsigned_number p.0 (low_first mode)).asks asks_nothing
 unfolding unsigned_number
-prefixed_asks encoding p = asks_same
+prefixed_asks mode p = asks_same
 
 -- a first byte, and after it as many digits as it has leading ones, least first
 abbrev pub prefixed_digits : Codec ((ℕ × ℕ) × ℕ)
@@ -208,38 +208,38 @@ prefixed_digits = record {
 }
 
 -- numbers of a variable length
-unfoldable pub varint : Encoding → Format ℕ
-varint encoding = coding encoding varint_code (prefixed_digits.format encoding)
+unfoldable pub varint : Mode → Format ℕ
+varint mode = coding mode varint_code (prefixed_digits.format mode)
 
 -- no part of it is hashed
-prefixed_unhashed : (encoding : Encoding) → (prefixed_digits.format encoding).asks.hashed ≡ false
+prefixed_unhashed : (mode : Mode) → (prefixed_digits.format mode).asks.hashed ≡ false
 unfolding sequence coding unsigned_number
-prefixed_unhashed encoding = refl
+prefixed_unhashed mode = refl
 
 -- a first byte and its digits, as they are written
-pub prefixed_written : (encoding : Encoding) (k low rest first : ℕ) (tail : List ℕ) → IsFirstByte k low first
-    → SpellsNumber k LittleEndian rest tail → (prefixed_digits.format encoding).writes ((k, low), rest) (first ∷ tail)
+pub prefixed_written : (mode : Mode) (k low rest first : ℕ) (tail : List ℕ) → IsFirstByte k low first
+    → EncodesNumber k LittleEndian rest tail → (prefixed_digits.format mode).writes ((k, low), rest) (first ∷ tail)
 unfolding sequence coding unsigned_number
-prefixed_written encoding k low rest first tail h digits = record {
-  front = first ∷ [];
-  back = tail;
+prefixed_written mode k low rest first tail h digits = record {
+  prefix = first ∷ [];
+  suffix = tail;
   whole_is = refl;
   first_is = record {
     code = first;
-    code_is = SpellsNumber-one_byte encoding.order first (StartsVarint-byte k first (low, h));
+    code_is = EncodesNumber-one_byte mode.order first (StartsVarint-byte k first (low, h));
     stands = h;
   };
   second_is = digits;
 }
 
 -- and as they are read
-pub prefixed-spelled : (encoding : Encoding) (k low rest first : ℕ) (tail : List ℕ) → IsFirstByte k low first
-    → SpellsNumber k LittleEndian rest tail → (prefixed_digits.format encoding).spells ((k, low), rest) (first ∷ tail)
-prefixed-spelled encoding k low rest first tail h digits =
-    (prefixed_digits.laws encoding).written_spells ((k, low), rest) (first ∷ tail)
-    (prefixed_written encoding k low rest first tail h digits)
+pub prefixed-encoded : (mode : Mode) (k low rest first : ℕ) (tail : List ℕ) → IsFirstByte k low first
+    → EncodesNumber k LittleEndian rest tail → (prefixed_digits.format mode).encodes ((k, low), rest) (first ∷ tail)
+prefixed-encoded mode k low rest first tail h digits =
+    (prefixed_digits.laws mode).written_encodes ((k, low), rest) (first ∷ tail)
+    (prefixed_written mode k low rest first tail h digits)
 
--- what a spelling says of its code
+-- what an encoding says of its code
 pub record IsPrefixed (p : (ℕ × ℕ) × ℕ) (bytes : List ℕ) : Type 0 where
   pub first : ℕ
   pub tail : List ℕ
@@ -248,22 +248,22 @@ pub record IsPrefixed (p : (ℕ × ℕ) × ℕ) (bytes : List ℕ) : Type 0 wher
   pub first_is : IsFirstByte p.0.0 p.0.1 first
   pub holds : p.0.1 * 256 ^ p.0.0 + p.1 < 2 ^ (7 - p.0.0) * 256 ^ p.0.0
 
-pub prefixed-is : (encoding : Encoding) (p : (ℕ × ℕ) × ℕ) (bytes : List ℕ)
-    → (prefixed_digits.format encoding).spells p bytes → IsPrefixed p bytes
+pub prefixed-is : (mode : Mode) (p : (ℕ × ℕ) × ℕ) (bytes : List ℕ)
+    → (prefixed_digits.format mode).encodes p bytes → IsPrefixed p bytes
 unfolding sequence coding unsigned_number
-prefixed-is encoding p bytes h =
+prefixed-is mode p bytes h =
     let first = h.first_is in
-    let is = Accepts-exact_means encoding.strict (λ (byte : ℕ) (p : ℕ × ℕ). IsFirstByte p.0 p.1 byte) (λ kind. ⊥)
+    let is = Accepts-exact_means mode.strict (λ (byte : ℕ) (p : ℕ × ℕ). IsFirstByte p.0 p.1 byte) (λ kind. ⊥)
     first.code p.0 first.stands in
-    let small = SpellsNumber-below p.0.0 LittleEndian p.1 h.back h.second_is in
+    let small = EncodesNumber-below p.0.0 LittleEndian p.1 h.suffix h.second_is in
     let low = is.low_is_below in
     let lows : (p.0.1 + 1) * 256 ^ p.0.0 ≤ 2 ^ (7 - p.0.0) * 256 ^ p.0.0 =
     mul-le (p.0.1 + 1) (256 ^ p.0.0) (2 ^ (7 - p.0.0)) (256 ^ p.0.0) (omega arith) (omega arith) in
     record {
       first = first.code;
-      tail = h.back;
+      tail = h.suffix;
       whole_is =
-          h.whole_is ∙ ap (λ x. x ++ h.back) (SpellsNumber-is_one_byte encoding.order first.code h.front first.code_is);
+          h.whole_is ∙ ap (λ x. x ++ h.suffix) (EncodesNumber-is_one_byte mode.order first.code h.prefix first.code_is);
       width_is = h.second_is.width_is;
       first_is = is;
       holds = omega arith;
@@ -278,16 +278,16 @@ code_of n k = ((k, n / 256 ^ k), n % 256 ^ k)
 chosen_is : (p : (ℕ × ℕ) × ℕ) (n : ℕ) → varint_code.chosen p n → p ≡ code_of n p.0.0
 chosen_is p n h = ap₂ (λ (a b : ℕ). let r : (ℕ × ℕ) × ℕ = ((p.0.0, a), b) in r) h.1 h.2
 
-pub varint_is_code : (encoding : Encoding) → IsCode varint_code (prefixed_digits.format encoding)
-varint_is_code encoding = record {
+pub varint_is_code : (mode : Mode) → IsCode varint_code (prefixed_digits.format mode)
+varint_is_code mode = record {
   one_meaning = λ p n m h k. h ∙ sym k;
   one_chosen = λ _ p q n h k.
       let same = IsFewest-same p.0.0 q.0.0 n h.0 k.0 in
       chosen_is p n h ∙ (ap (code_of n) same ∙ sym (chosen_is q n k));
-  tells = λ e. absurd (let u = prefixed_unhashed encoding in (cc));
+  tells = λ e. absurd (let u = prefixed_unhashed mode in (cc));
   chosen_means = λ p n h. sym (ap₂ (λ (a b : ℕ). a * 256 ^ p.0.0 + b) h.1 h.2 ∙ div-add-mod' n (256 ^ p.0.0));
   has_chosen = λ n bytes h.
-      let is = prefixed-is encoding h.code bytes h.code_is in
+      let is = prefixed-is mode h.code bytes h.code_is in
       let below : n < 2 ^ (7 - h.code.0.0) * 256 ^ h.code.0.0 = let e = h.stands in let l = is.holds in omega arith in
       let f = fewest_from 8 0 n refl (λ j l. absurd (omega arith))
       (capacity-below_64 h.code.0.0 n is.first_is.at_most_eight below) in
@@ -298,18 +298,18 @@ varint_is_code encoding = record {
         first ∷ tail,
         record {
           code = code_of n k;
-          code_is = prefixed-spelled encoding k (n / 256 ^ k) (n % 256 ^ k) first tail (record {
+          code_is = prefixed-encoded mode k (n / 256 ^ k) (n % 256 ^ k) first tail (record {
             at_most_eight = f.1.at_most_eight;
             low_is_below = low;
             byte_is = refl;
           })
-              (SpellsNumber-digits k LittleEndian (n % 256 ^ k) (mod_below n (256 ^ k) (pow_above k)));
+              (EncodesNumber-digits k LittleEndian (n % 256 ^ k) (mod_below n (256 ^ k) (pow_above k)));
           stands = (f.1, refl, refl);
         },
       );
   chosen_shortest = λ _ n b d h k.
-      let own = prefixed-is encoding h.code b ((prefixed_digits.laws encoding).written_spells h.code b h.code_is) in
-      let other = prefixed-is encoding k.code d k.code_is in
+      let own = prefixed-is mode h.code b ((prefixed_digits.laws mode).written_encodes h.code b h.code_is) in
+      let other = prefixed-is mode k.code d k.code_is in
       let below : n < 2 ^ (7 - k.code.0.0) * 256 ^ k.code.0.0 =
       let e = k.stands in
       let l = other.holds in
@@ -323,19 +323,19 @@ varint_is_code encoding = record {
   refusals_own = λ kind h. absurd h;
 }
 
-pub varint_laws : (encoding : Encoding) → Laws encoding.strict 1 (varint encoding)
+pub varint_laws : (mode : Mode) → Laws mode.strict 1 (varint mode)
 unfolding varint
 varint_laws = (coding_codec varint_code prefixed_digits varint_is_code).laws
 
 abbrev pub varint_codec : Codec ℕ
 varint_codec = record { least = 1; format = varint; laws = varint_laws }
 
-pub varint_smaller : (encoding : Encoding) → WritesSmaller (varint encoding)
+pub varint_smaller : (mode : Mode) → WritesSmaller (varint mode)
 unfolding varint coding
-varint_smaller encoding n m s l h =
-    let other = prefixed-is encoding h.code s h.code_is in
+varint_smaller mode n m s l h =
+    let other = prefixed-is mode h.code s h.code_is in
     let j = h.code.0.0 in
-    let is = Accepts-means encoding.strict varint_code h.code m ((varint_is_code encoding).chosen_means h.code m)
+    let is = Accepts-means mode.strict varint_code h.code m ((varint_is_code mode).chosen_means h.code m)
     h.stands in
     let below : n < 2 ^ (7 - j) * 256 ^ j = let held = other.holds in omega arith in
     let f = fewest_from 8 0 n refl (λ j l. absurd (omega arith))
@@ -344,7 +344,7 @@ varint_smaller encoding n m s l h =
     let low = div_below n (256 ^ k) (2 ^ (7 - k)) (pow_above k) f.1.enough in
     let first = (256 - 2 ^ (8 - k)) + n / 256 ^ k in
     let tail = digits LittleEndian k (n % 256 ^ k) in
-    let after = SpellsNumber-digits k LittleEndian (n % 256 ^ k) (mod_below n (256 ^ k) (pow_above k)) in
+    let after = EncodesNumber-digits k LittleEndian (n % 256 ^ k) (mod_below n (256 ^ k) (pow_above k)) in
     let starts : IsFirstByte k (n / 256 ^ k) first =
     record { at_most_eight = f.1.at_most_eight; low_is_below = low; byte_is = refl } in
     let fewer = IsFewest-least k j n f.1 below in
@@ -354,7 +354,7 @@ varint_smaller encoding n m s l h =
       first ∷ tail,
       record {
         code = code_of n k;
-        code_is = prefixed_written encoding k (n / 256 ^ k) (n % 256 ^ k) first tail starts after;
+        code_is = prefixed_written mode k (n / 256 ^ k) (n % 256 ^ k) first tail starts after;
         stands = (f.1, refl, refl);
       },
       omega arith,
@@ -366,12 +366,12 @@ varint_smaller encoding n m s l h =
 pub StartsVarint-same : (k j x : ℕ) → StartsVarint k x → StartsVarint j x → k ≡ j
 StartsVarint-same k j x h g = IsFirstByte-same_ones k j h.0 g.0 x h.1 g.1
 
--- a spelling is a first byte and what it says follows
-pub varint-starts : (encoding : Encoding) (n : ℕ) (bytes : List ℕ) → (varint encoding).spells n bytes
+-- an encoding is a first byte and what it says follows
+pub varint-starts : (mode : Mode) (n : ℕ) (bytes : List ℕ) → (varint mode).encodes n bytes
     → (first : ℕ) × (tail : List ℕ) × (bytes ≡ first ∷ tail) × StartsVarint (length tail) first
 unfolding varint coding
-varint-starts encoding n bytes h =
-    let is = prefixed-is encoding h.code bytes h.code_is in (
+varint-starts mode n bytes h =
+    let is = prefixed-is mode h.code bytes h.code_is in (
       is.first,
       is.tail,
       is.whole_is,
@@ -383,18 +383,18 @@ pub varint-chosen : {first : ℕ} {tail : List ℕ} (n : ℕ) → (parts : Varin
     → varint_code.chosen ((length tail, parts.low), parts.rest) n
 varint-chosen {tail = tail} n parts fewest =
     let power = 256 ^ length tail in
-    let small = SpellsNumber-below (length tail) LittleEndian parts.rest tail parts.tail_is in
+    let small = EncodesNumber-below (length tail) LittleEndian parts.rest tail parts.tail_is in
     let same = same_from_place parts.low parts.rest (n / power) (n % power) power small
     (mod_below n power (pow_above (length tail))) (sym parts.value_is ∙ sym (div-add-mod' n power)) in
     (fewest, same.0, same.1)
 
--- so they are a spelling of it, under a demand for the written form too
-pub varint-accepted : (encoding : Encoding) (n first : ℕ) (tail : List ℕ) → VarintParts first tail n
-    → (IsTrue encoding.strict → IsFewest (length tail) n) → (varint encoding).spells n (first ∷ tail)
+-- so they are an encoding of it, under a demand for the canonical encoding too
+pub varint-accepted : (mode : Mode) (n first : ℕ) (tail : List ℕ) → VarintParts first tail n
+    → (IsTrue mode.strict → IsFewest (length tail) n) → (varint mode).encodes n (first ∷ tail)
 unfolding varint coding
-varint-accepted encoding n first tail parts fewest = record {
+varint-accepted mode n first tail parts fewest = record {
   code = ((length tail, parts.low), parts.rest);
-  code_is = prefixed-spelled encoding (length tail) parts.low parts.rest first tail parts.first_is parts.tail_is;
-  stands = Accepts-is encoding.strict varint_code ((length tail, parts.low), parts.rest) n parts.value_is
+  code_is = prefixed-encoded mode (length tail) parts.low parts.rest first tail parts.first_is parts.tail_is;
+  stands = Accepts-is mode.strict varint_code ((length tail, parts.low), parts.rest) n parts.value_is
       (λ strict. varint-chosen n parts (fewest strict));
 }

@@ -1,4 +1,4 @@
--- Views: bytes that are shown as the items that they spell under the little order.
+-- Views: bytes that are shown as the items that they encode under the little order.
 use Rattle.std.specs.Prelude.{◌≡◌, ℕ, zero, suc, ◌*◌, ◌/◌, ◌<◌, ◌≤◌, List, [], ◌∷◌, length, take, drop, map, ℤ, refl}
 use Rattle.std.proofs.Common.{sym, ◌∙◌, ap, subst, arith}
 use Rattle.std.proofs.Math.Nat.{mul-div_cancel}
@@ -6,9 +6,9 @@ use Rattle.std.proofs.lemmas.List.{take-append-drop, length-append, length-take-
 use Rattle.std.specs.Int.{w8, cast_unsigned}
 use Rattle.speedy_base.specs.declared.endianness.Endianness.{Endianness}
 use Rattle.speedy_base.specs.declared.endianness.Endianness.TheVariants.{LittleEndian}
-use Rattle.speedy_base.specs.Digits.{AreBytes, SpellsNumber}
-use Rattle.speedy_base.specs.DigitsLemmas.{AreBytes-append_parts, SpellsNumber-one_byte, SpellsNumber-is_one_byte}
-use Rattle.speedy_base.specs.Encoding.{Encoding, plain_encoding}
+use Rattle.speedy_base.specs.Digits.{AreBytes, EncodesNumber}
+use Rattle.speedy_base.specs.DigitsLemmas.{AreBytes-append_parts, EncodesNumber-one_byte, EncodesNumber-is_one_byte}
+use Rattle.speedy_base.specs.Mode.{Mode, plain_mode}
 use Rattle.speedy_layout.specs.Format.{Format, Each}
 use Rattle.speedy_layout.specs.Numbers.{unsigned_number, signed_number}
 
@@ -21,9 +21,9 @@ decode_each decoded size (suc n) bytes = decoded (take size bytes) ∷ decode_ea
 unfoldable pub shown_items : {A : Type 0} → (List ℕ → A) → ℕ → List ℕ → List A
 shown_items decoded size bytes = decode_each decoded size (length bytes / size) bytes
 
--- the bytes spell the items one after another, under the little order
-abbrev pub SpellsLittle : {A V : Type 0} → (Encoding → Format V) → (A → V) → List A → List ℕ → Type 0
-SpellsLittle F seen items bytes = Each (F (plain_encoding LittleEndian)).spells (map seen items) bytes
+-- the bytes encode the items one after another, under the little order
+abbrev pub EncodesLittle : {A V : Type 0} → (Mode → Format V) → (A → V) → List A → List ℕ → Type 0
+EncodesLittle F seen items bytes = Each (F (plain_mode LittleEndian)).encodes (map seen items) bytes
 
 -- ---- the items of a view
 
@@ -50,10 +50,10 @@ length-shown_many decoded size n bytes some l =
     length-shown_items decoded size bytes ∙ (ap (λ k. k / size) l ∙ so_many_items n size some)
 
 module _ {A V : Type 0} (decoded : List ℕ → A) (size : ℕ)
-    (seen : A → V) (spells : V → List ℕ → Type 0)
-    (decodes : (b : List ℕ) → length b ≡ size → AreBytes b → spells (seen (decoded b)) b) where
+    (seen : A → V) (encodes : V → List ℕ → Type 0)
+    (decodes : (b : List ℕ) → length b ≡ size → AreBytes b → encodes (seen (decoded b)) b) where
   each_decoded : (n : ℕ) (bytes : List ℕ) → length bytes ≡ n * size → AreBytes bytes
-      → Each spells (map seen (decode_each decoded size n bytes)) bytes
+      → Each encodes (map seen (decode_each decoded size n bytes)) bytes
   each_decoded zero [] l are = refl
   each_decoded zero (b ∷ bytes) l are = absurd (omega arith)
   each_decoded (suc n) bytes l are =
@@ -62,46 +62,46 @@ module _ {A V : Type 0} (decoded : List ℕ → A) (size : ℕ)
       let parts = AreBytes-append_parts (take size bytes) (drop size bytes)
       (subst AreBytes (sym (take-append-drop size bytes)) are) in
       record {
-        front = take size bytes;
-        back = drop size bytes;
+        prefix = take size bytes;
+        suffix = drop size bytes;
         whole_is = sym (take-append-drop size bytes);
         first_is = decodes (take size bytes) (length-take-le size bytes enough) parts.0;
         second_is = each_decoded n (drop size bytes) (omega arith) parts.1;
       }
 
-  -- bytes of a whole number of items spell the items that they show
-  pub shown_items_spelled : (n : ℕ) (bytes : List ℕ) → 0 < size → length bytes ≡ n * size → AreBytes bytes
-      → Each spells (map seen (shown_items decoded size bytes)) bytes
+  -- bytes of a whole number of items encode the items that they show
+  pub shown_items_encoded : (n : ℕ) (bytes : List ℕ) → 0 < size → length bytes ≡ n * size → AreBytes bytes
+      → Each encodes (map seen (shown_items decoded size bytes)) bytes
   unfolding shown_items
-  shown_items_spelled n bytes some l are =
+  shown_items_encoded n bytes some l are =
       let many : length bytes / size ≡ n = ap (λ k. k / size) l ∙ so_many_items n size some in
-      subst (λ k. Each spells (map seen (decode_each decoded size k bytes)) bytes) (sym many)
+      subst (λ k. Each encodes (map seen (decode_each decoded size k bytes)) bytes) (sym many)
       (each_decoded n bytes l are)
 
 -- ---- bytes under each order
 
 -- a byte is the same number under each order
-byte_alike : (order : Endianness) (n : ℕ) (bytes : List ℕ) → SpellsNumber 1 LittleEndian n bytes
-    → SpellsNumber 1 order n bytes
+byte_alike : (order : Endianness) (n : ℕ) (bytes : List ℕ) → EncodesNumber 1 LittleEndian n bytes
+    → EncodesNumber 1 order n bytes
 byte_alike order n [] h = let l = h.width_is in absurd (omega arith)
 byte_alike order n (b ∷ bytes) h =
-    let is = SpellsNumber-is_one_byte LittleEndian n (b ∷ bytes) h in
+    let is = EncodesNumber-is_one_byte LittleEndian n (b ∷ bytes) h in
     let below : n < 256 = (subst AreBytes is h.are_bytes).0 in
-    subst (SpellsNumber 1 order n) (sym is) (SpellsNumber-one_byte order n below)
+    subst (EncodesNumber 1 order n) (sym is) (EncodesNumber-one_byte order n below)
 
-pub byte_number_alike : (encoding : Encoding) (n : ℕ) (bytes : List ℕ)
-    → (unsigned_number 1 (plain_encoding LittleEndian)).spells n bytes
-    → (unsigned_number 1 encoding).spells n bytes
+pub byte_number_alike : (mode : Mode) (n : ℕ) (bytes : List ℕ)
+    → (unsigned_number 1 (plain_mode LittleEndian)).encodes n bytes
+    → (unsigned_number 1 mode).encodes n bytes
 unfolding unsigned_number
-byte_number_alike encoding n bytes h = byte_alike encoding.order n bytes h
+byte_number_alike mode n bytes h = byte_alike mode.order n bytes h
 
-pub signed_byte_alike : (encoding : Encoding) (z : ℤ) (bytes : List ℕ)
-    → (signed_number w8 (plain_encoding LittleEndian)).spells z bytes
-    → (signed_number w8 encoding).spells z bytes
+pub signed_byte_alike : (mode : Mode) (z : ℤ) (bytes : List ℕ)
+    → (signed_number w8 (plain_mode LittleEndian)).encodes z bytes
+    → (signed_number w8 mode).encodes z bytes
 unfolding signed_number
-signed_byte_alike encoding z bytes h = record {
+signed_byte_alike mode z bytes h = record {
   range = h.range;
-  digits = byte_alike encoding.order (cast_unsigned w8 z) bytes h.digits;
+  digits = byte_alike mode.order (cast_unsigned w8 z) bytes h.digits;
 }
 
 -- ---- for readers of views
@@ -112,7 +112,7 @@ pub each_one_size : {V : Type 0} {R : V → List ℕ → Type 0} {size : ℕ}
     → (vs : List V) (bytes : List ℕ) → Each R vs bytes → length bytes ≡ length vs * size
 each_one_size one [] bytes h = let none = ap length h in omega arith
 each_one_size one (v ∷ vs) bytes h =
-    let first = one v h.front h.first_is in
-    let more = each_one_size one vs h.back h.second_is in
-    let l = ap length h.whole_is ∙ length-append h.front h.back in
+    let first = one v h.prefix h.first_is in
+    let more = each_one_size one vs h.suffix h.second_is in
+    let l = ap length h.whole_is ∙ length-append h.prefix h.suffix in
     omega arith

@@ -2,7 +2,7 @@
 use Rattle.std.specs.Prelude.{ℕ, ◌+◌, ◌*◌, ℤ, pos, negsuc}
 use Rattle.speedy_layout.specs.declared.varint.VarInt64.{VarInt64}
 
--- the number that is spelled
+-- the number that is encoded
 abbrev pub varint_number : VarInt64 → ℕ
 varint_number v = v.0
 

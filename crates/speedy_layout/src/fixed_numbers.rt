@@ -3,7 +3,7 @@ ghost use Rattle.std.specs.Prelude.{◌≡◌, ◌*◌, ◌++◌, ℕ, List, len
 ghost use Rattle.std.specs.Int.{w8, w16, w32, w64, w128, cast_signed};
 ghost use Rattle.speedy_base.specs.declared.endianness.Endianness.{Endianness as Order};
 ghost use Rattle.speedy_base.specs.Digits.{AreBytes, number};
-ghost use Rattle.speedy_layout.specs.FixedNumbers.{spelled_in, IsFixed, Decodes, unsigned_fixed, unsigned_decodes};
+ghost use Rattle.speedy_layout.specs.FixedNumbers.{encoded_in, IsFixed, Decodes, unsigned_fixed, unsigned_decodes};
 ghost use Rattle.speedy_layout.specs.FixedNumbers.{signed_fixed, signed_decodes};
 ghost use Rattle.speedy_layout.specs.Format.{Each};
 
@@ -245,7 +245,7 @@ impl FixedNumber for i128 {
 #[inline(always)]
 pub fn number_of<T: FixedNumber>(order: Endianness, bytes: &[u8]) -> T
     requires { length bytes.now ≡ T.SIZE }
-    ensures { spelled_in T.layout.format order (T.seen result) bytes.now }
+    ensures { encoded_in T.layout.format order (T.seen result) bytes.now }
 {
     T::decode(order, bytes)
 }
@@ -259,7 +259,7 @@ pub fn append_each<T: FixedNumber>(
 ) -> Result<(), AllocError>
     requires { (count : ℕ) × (length bytes.now ≡ count * T.SIZE) }
     ensures { OnOk result ((more : List T) × (numbers.new.items ≡ numbers.old.items ++ more)
-        × Each (spelled_in T.layout.format order) (map T.seen more) bytes.now) }
+        × Each (encoded_in T.layout.format order) (map T.seen more) bytes.now) }
 {
     numbers.extend(
         bytes
@@ -272,7 +272,7 @@ pub fn append_each<T: FixedNumber>(
 #[inline]
 pub fn take_each<T: FixedNumber>(places: &mut [T], order: Endianness, bytes: &[u8])
     requires { length bytes.now ≡ length places.old * T.SIZE }
-    ensures { Each (spelled_in T.layout.format order) (map T.seen places.new) bytes.now }
+    ensures { Each (encoded_in T.layout.format order) (map T.seen places.new) bytes.now }
 {
     let mut at = 0;
     for place in places.iter_mut() {

@@ -109,7 +109,7 @@ impl FixedNumber for F32 {
 }
 
 impl ZeroCopyable<LittleEndian> for F32 {
-    ghost as_little = { λ context v bytes spelled. spelled };
+    ghost as_little = { λ context v bytes encoded. encoded };
 }
 
 impl SameKey for F32 {
@@ -205,7 +205,7 @@ impl FixedNumber for F64 {
 }
 
 impl ZeroCopyable<LittleEndian> for F64 {
-    ghost as_little = { λ context v bytes spelled. spelled };
+    ghost as_little = { λ context v bytes encoded. encoded };
 }
 
 impl SameKey for F64 {

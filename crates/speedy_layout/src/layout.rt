@@ -10,7 +10,7 @@ pub trait Layout {
 
     ghost seen: { Self → Seen };
 
-    /// Which bytes encode which values under a context's encoding (`format`), the least size of these (`least`),
+    /// Which bytes encode which values under a context's mode (`format`), the least size of these (`least`),
     /// and the laws: bytes encode at most one value, the encodings are prefix-free, and a shortest one is written.
     ghost layout: { Codec Seen };
 }

@@ -1,4 +1,4 @@
-//! The layout of numbers: so many digits, in the order of the encoding.
+//! The layout of numbers: so many digits, in the byte order of the mode.
 ghost use Rattle.std.specs.Prelude.{ℕ, ℤ};
 ghost use Rattle.std.specs.Int.{w8, w16, w32, w64, w128};
 ghost use Rattle.speedy_layout.specs.Codecs.{signed_codec, unsigned_codec, usize_codec};

@@ -1,6 +1,6 @@
 //! Integers of a variable length: one to nine bytes, the fewer the smaller the number.
 ghost use Rattle.std.specs.Prelude.{◌≡◌, ◌≤◌, ◌↔◌, ℕ, IsTrue, take, length};
-ghost use Rattle.speedy_base.specs.Encoding.{Encoding};
+ghost use Rattle.speedy_base.specs.Mode.{Mode};
 ghost use Rattle.speedy_layout.specs.Varint.{varint, IsFewest, StartsVarint, VarintParts};
 ghost use Rattle.speedy_layout.specs.Zigzag.{varint_number, zigzag};
 ghost use Rattle.speedy_layout.specs.Codecs.{varint_codec};
@@ -25,7 +25,7 @@ impl VarInt64 {
     pub fn encode(self) -> ([u8; 9], usize)
         ensures one_at_least { 1 ≤ result.1 }
         ensures nine_at_most { result.1 ≤ 9 }
-        ensures written { (e : Encoding) →
+        ensures written { (e : Mode) →
             (varint e).writes (varint_number self) (take result.1 result.0) }
     {
         let more = more_bytes(self.0);

@@ -1,7 +1,7 @@
 //! Which items a view may show, and how each is decoded.
 ghost use Rattle.std.specs.Prelude.{◌≡◌, ◌<◌, ◌^◌, ℕ, List, length};
 ghost use Rattle.speedy_base.specs.Digits.{AreBytes};
-ghost use Rattle.speedy_base.specs.Encoding.{Encoding, plain_encoding};
+ghost use Rattle.speedy_base.specs.Mode.{Mode, plain_mode};
 ghost use Rattle.speedy_base.specs.declared.endianness.Endianness.TheVariants.{LittleEndian as LittleOrder};
 ghost use Rattle.speedy_layout.specs.FixedNumbers.{few_bytes, size_of_fixed};
 ghost use Rattle.speedy_layout.specs.Views.{byte_number_alike, signed_byte_alike};
@@ -38,12 +38,12 @@ pub trait ViewItem: FixedSize + Layout + Copy + Drop {
     ghost least_is: { Self.layout.least ≡ Self.SIZE };
 
     /// Each encoding of an item has `SIZE` bytes.
-    ghost one_size: { (e : Encoding) (v : Self.Seen) (bytes : List ℕ) →
-        (Self.layout.format e).spells v bytes → length bytes ≡ Self.SIZE };
+    ghost one_size: { (e : Mode) (v : Self.Seen) (bytes : List ℕ) →
+        (Self.layout.format e).encodes v bytes → length bytes ≡ Self.SIZE };
 
     /// Bytes encode the item that is decoded from them.
     ghost decodes: { (bytes : List ℕ) → length bytes ≡ Self.SIZE → AreBytes bytes →
-        (Self.layout.format (plain_encoding LittleOrder)).spells (Self.seen (decoded bytes)) bytes };
+        (Self.layout.format (plain_mode LittleOrder)).encodes (Self.seen (decoded bytes)) bytes };
 }
 
 /// Items of views that are read under a context: what encodes one in little endian encodes it under the context too.
@@ -52,11 +52,11 @@ pub trait ViewItem: FixedSize + Layout + Copy + Drop {
 pub trait ZeroCopyable<C: Context>: ViewItem {
     /// An encoding in little endian is one under the context.
     ghost as_little: { (context : C) (v : Self.Seen) (bytes : List ℕ) →
-        (Self.layout.format (plain_encoding LittleOrder)).spells v bytes →
-        (Self.layout.format (C.encoding context)).spells v bytes };
+        (Self.layout.format (plain_mode LittleOrder)).encodes v bytes →
+        (Self.layout.format (C.mode context)).encodes v bytes };
 }
 
-// Any bytes of a number's width spell one.
+// Any bytes of a number's width encode one.
 impl<T: FixedNumber> ViewItem for T {
     ghost decoded = { T.decoded LittleOrder };
 
@@ -83,7 +83,7 @@ impl FixedSize for u8 {
 }
 
 impl<C: Context> ZeroCopyable<C> for u8 {
-    ghost as_little = { λ context. byte_number_alike (C.encoding context) };
+    ghost as_little = { λ context. byte_number_alike (C.mode context) };
 }
 
 impl FixedSize for i8 {
@@ -93,7 +93,7 @@ impl FixedSize for i8 {
 }
 
 impl<C: Context> ZeroCopyable<C> for i8 {
-    ghost as_little = { λ context. signed_byte_alike (C.encoding context) };
+    ghost as_little = { λ context. signed_byte_alike (C.mode context) };
 }
 
 impl FixedSize for u16 {
@@ -103,7 +103,7 @@ impl FixedSize for u16 {
 }
 
 impl ZeroCopyable<LittleEndian> for u16 {
-    ghost as_little = { λ context v bytes spelled. spelled };
+    ghost as_little = { λ context v bytes encoded. encoded };
 }
 
 impl FixedSize for i16 {
@@ -113,7 +113,7 @@ impl FixedSize for i16 {
 }
 
 impl ZeroCopyable<LittleEndian> for i16 {
-    ghost as_little = { λ context v bytes spelled. spelled };
+    ghost as_little = { λ context v bytes encoded. encoded };
 }
 
 impl FixedSize for u32 {
@@ -123,7 +123,7 @@ impl FixedSize for u32 {
 }
 
 impl ZeroCopyable<LittleEndian> for u32 {
-    ghost as_little = { λ context v bytes spelled. spelled };
+    ghost as_little = { λ context v bytes encoded. encoded };
 }
 
 impl FixedSize for i32 {
@@ -133,7 +133,7 @@ impl FixedSize for i32 {
 }
 
 impl ZeroCopyable<LittleEndian> for i32 {
-    ghost as_little = { λ context v bytes spelled. spelled };
+    ghost as_little = { λ context v bytes encoded. encoded };
 }
 
 impl FixedSize for u64 {
@@ -143,7 +143,7 @@ impl FixedSize for u64 {
 }
 
 impl ZeroCopyable<LittleEndian> for u64 {
-    ghost as_little = { λ context v bytes spelled. spelled };
+    ghost as_little = { λ context v bytes encoded. encoded };
 }
 
 impl FixedSize for i64 {
@@ -153,7 +153,7 @@ impl FixedSize for i64 {
 }
 
 impl ZeroCopyable<LittleEndian> for i64 {
-    ghost as_little = { λ context v bytes spelled. spelled };
+    ghost as_little = { λ context v bytes encoded. encoded };
 }
 
 impl FixedSize for u128 {
@@ -163,7 +163,7 @@ impl FixedSize for u128 {
 }
 
 impl ZeroCopyable<LittleEndian> for u128 {
-    ghost as_little = { λ context v bytes spelled. spelled };
+    ghost as_little = { λ context v bytes encoded. encoded };
 }
 
 impl FixedSize for i128 {
@@ -173,5 +173,5 @@ impl FixedSize for i128 {
 }
 
 impl ZeroCopyable<LittleEndian> for i128 {
-    ghost as_little = { λ context v bytes spelled. spelled };
+    ghost as_little = { λ context v bytes encoded. encoded };
 }

@@ -6,7 +6,7 @@ ghost use Rattle.std.specs.Iterator.{YieldsFirst, UpTo, item_count};
 ghost use Rattle.std.specs.Iterator.Runs.{YieldsInOrder};
 ghost use Rattle.std.specs.Iterator.SizeHint.{IsWithinCount};
 ghost use Rattle.speedy_layout.specs.ViewIters.{left_items};
-ghost use Rattle.speedy_layout.specs.Views.{shown_items, SpellsLittle};
+ghost use Rattle.speedy_layout.specs.Views.{shown_items, EncodesLittle};
 ghost use Rattle.speedy_layout.specs.Codecs.{borrowed_codec, list_codec, vector_codec};
 
 use crate::layout::Layout;
@@ -33,7 +33,7 @@ impl<'a, T: ViewItem> SliceView<'a, T> {
     pub fn over(bytes: &'a [u8]) -> SliceView<'a, T>
         requires { length bytes.now % T.SIZE ≡ 0 }
         ensures bytes { result.bytes.now ≡ bytes.now }
-        ensures spelled { SpellsLittle T.layout.format T.seen
+        ensures encoded { EncodesLittle T.layout.format T.seen
             (shown_items T.decoded T.SIZE result.bytes.now) bytes.now }
     {
         SliceView {
@@ -67,7 +67,7 @@ impl<'a, T: ViewItem> SliceView<'a, T> {
             ≡ shown_items T.decoded T.SIZE self.now.bytes.now }
         ensures runs { let left = left_items T.decoded T.SIZE in
             YieldsInOrder (YieldsFirst left) left }
-        ensures spelled { SpellsLittle T.layout.format T.seen
+        ensures encoded { EncodesLittle T.layout.format T.seen
             (shown_items T.decoded T.SIZE self.now.bytes.now) self.now.bytes.now }
     {
         items_of(self.bytes)
@@ -147,7 +147,7 @@ impl<'a, T: ViewItem, const N: usize> ArrayView<'a, T, N> {
     pub fn over(bytes: &'a [u8]) -> ArrayView<'a, T, N>
         requires { length bytes.now ≡ N * T.SIZE }
         ensures bytes { result.bytes.now ≡ bytes.now }
-        ensures spelled { SpellsLittle T.layout.format T.seen
+        ensures encoded { EncodesLittle T.layout.format T.seen
             (shown_items T.decoded T.SIZE result.bytes.now) bytes.now }
     {
         ArrayView {
@@ -182,7 +182,7 @@ impl<'a, T: ViewItem, const N: usize> ArrayView<'a, T, N> {
             ≡ shown_items T.decoded T.SIZE self.now.bytes.now }
         ensures runs { let left = left_items T.decoded T.SIZE in
             YieldsInOrder (YieldsFirst left) left }
-        ensures spelled { SpellsLittle T.layout.format T.seen
+        ensures encoded { EncodesLittle T.layout.format T.seen
             (shown_items T.decoded T.SIZE self.now.bytes.now) self.now.bytes.now }
     {
         items_of(self.bytes)
@@ -268,8 +268,8 @@ fn items_of<'a, T: ViewItem>(bytes: &'a [u8]) -> ViewIter<'a, T>
     ensures shown { left_items T.decoded T.SIZE result ≡ shown_items T.decoded T.SIZE bytes.now }
     ensures runs { let left = left_items T.decoded T.SIZE in
         YieldsInOrder (YieldsFirst left) left }
-    ensures spelled { (count : ℕ) → length bytes.now ≡ count * T.SIZE →
-        SpellsLittle T.layout.format T.seen (shown_items T.decoded T.SIZE bytes.now) bytes.now }
+    ensures encoded { (count : ℕ) → length bytes.now ≡ count * T.SIZE →
+        EncodesLittle T.layout.format T.seen (shown_items T.decoded T.SIZE bytes.now) bytes.now }
 {
     ViewIter {
         rest: bytes,

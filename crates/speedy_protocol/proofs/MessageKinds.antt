@@ -14,7 +14,7 @@ use Rattle.speedy.specs.Choices.{either, either_case, one_case, only_if}
 use Rattle.speedy.specs.Codecs.{Codec, borrowed_codec, list_codec, option_codec, pair_codec, signed_codec}
 use Rattle.speedy.specs.Codecs.{text_codec, unit_codec, unsigned_codec}
 use Rattle.speedy.specs.Codes.{coding}
-use Rattle.speedy.specs.Encoding.{plain_encoding, Encoding}
+use Rattle.speedy.specs.Mode.{plain_mode, Mode}
 use Rattle.speedy.specs.Error.{error_of, is_eof_error, IsNamed}
 use Rattle.speedy.specs.ErrorKind.{EndsInput}
 use Rattle.speedy.specs.Flags.{option}
@@ -24,15 +24,15 @@ use Rattle.speedy.specs.Lists.{list, repeat, vector}
 use Rattle.speedy.specs.Numbers.{unsigned_number, signed_number}
 use Rattle.speedy.specs.Owned.{owned_content, borrowed_content}
 use Rattle.speedy.specs.Prefixed.{Choices, choices_behind, prefixed_codec, unsigned_numbers}
-use Rattle.speedy.specs.Reading.{IsEnd, Unspelled}
+use Rattle.speedy.specs.Reading.{IsEnd, Undecodable}
 use Rattle.speedy.specs.Sequences.{sequence}
 use Rattle.speedy.specs.Texts.{raw_bytes, text_of_length, text}
 use Rattle.speedy.specs.Tuples.{pair, unit}
 use Rattle.speedy.specs.WaysOfReading.{AnswersBufferIf, Counts}
 use Rattle.speedy_protocol.specs.Refusals.{BeginsWith, BeginsWithNone, SaysWhy}
 
-abbrev little : Encoding
-little = plain_encoding LittleEndian
+abbrev little : Mode
+little = plain_mode LittleEndian
 
 abbrev pub itself : Error → Error → Type 0
 itself error e = e ≡ error
@@ -196,16 +196,16 @@ named size kind (inl is) e = inr (inl (e ∙ ap error_of is))
 named size kind (inr (inl is)) e = inr (inr (inl (e ∙ ap error_of is)))
 named size kind (inr (inr is)) e = inr (inr (inr (e ∙ ap error_of is)))
 
--- a front that was read, and what is left when it is dropped
-pub front_read : {spelled : List ℕ → Type 0} (count : ℕ) (bytes : List ℕ) → Counts spelled count bytes
-    → (front : List ℕ) × spelled front × (bytes ≡ front ++ drop count bytes)
-front_read count bytes read =
-    let rest = ap₂ drop read.count_is read.whole_is ∙ drop-append_seam read.front read.rest in
-    (read.front, read.front_is, read.whole_is ∙ ap (λ left. read.front ++ left) (sym rest))
+-- a prefix that was read, and what is left when it is dropped
+pub prefix_read : {encoded : List ℕ → Type 0} (count : ℕ) (bytes : List ℕ) → Counts encoded count bytes
+    → (prefix : List ℕ) × encoded prefix × (bytes ≡ prefix ++ drop count bytes)
+prefix_read count bytes read =
+    let rest = ap₂ drop read.count_is read.whole_is ∙ drop-append_seam read.prefix read.rest in
+    (read.prefix, read.prefix_is, read.whole_is ∙ ap (λ left. read.prefix ++ left) (sym rest))
 
 -- what bytes are refused as that a message in its frame is read from
 pub refused_so : {A V : Type 0} {seen : A → V} (F : Format V) {e : Error} {count : ℕ} {bytes : List ℕ}
-    → NamesWrong F → ((v : V) (front : List ℕ) → F.spells v front → 2 ≤ length front)
+    → NamesWrong F → ((v : V) (prefix : List ℕ) → F.encodes v prefix → 2 ≤ length prefix)
     → (let refused : Result A Error = Err e in
     AnswersBufferIf itself is_eof_error (Unit {0}) F.names seen 2 F refused count bytes)
     → (e ≡ error_of kinds.OutOfMemory) ⊎ (SaysWhy (length bytes) e × BeginsWithNone F bytes)
@@ -214,7 +214,7 @@ refused_so {V = V} F {e = e} {bytes = bytes} wrong least answers =
       | inl few ↦ inr (inl (inl (answers.too_small few).0), λ v rest begins. too_few v rest begins few)
       | inr enough ↦ elim (answers.refused enough) [
         | inl want ↦ inl want.0
-        | inr refused ↦ inr (why refused.kind, no_front (refused.because tt))
+        | inr refused ↦ inr (why refused.kind, no_prefix (refused.because tt))
       ]
     ] where
       too_few : (v : V) (rest : List ℕ) → BeginsWith F v bytes rest → length bytes < 2 → ⊥
@@ -223,8 +223,8 @@ refused_so {V = V} F {e = e} {bytes = bytes} wrong least answers =
           let enough = least v begins.0 begins.1 in
           omega arith
 
-      no_front : Unspelled itself is_eof_error F e bytes → BeginsWithNone F bytes
-      no_front none v rest begins = none.no_front v begins.0 rest begins.2 begins.1
+      no_prefix : Undecodable itself is_eof_error F e bytes → BeginsWithNone F bytes
+      no_prefix none v rest begins = none.no_prefix v begins.0 rest begins.2 begins.1
 
       why : IsEnd itself is_eof_error false e ⊎ IsNamed itself F.names e → SaysWhy (length bytes) e
       why (inl ends) = inl (inr (memory_end ends.0.0 ends.0.1 ends.0.2))

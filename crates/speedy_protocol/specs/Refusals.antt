@@ -5,11 +5,11 @@ use Rattle.speedy.specs.declared.error.ErrorKind.TheVariants as kinds
 use Rattle.speedy.specs.Error.{error_of}
 use Rattle.speedy.specs.Format.{Format}
 
--- a front of the bytes encodes the value, and this is the rest
+-- a prefix of the bytes encodes the value, and this is the rest
 abbrev pub BeginsWith : {V : Type 0} → Format V → V → List ℕ → List ℕ → Type 0
-BeginsWith format v bytes rest = (front : List ℕ) × format.spells v front × (bytes ≡ front ++ rest)
+BeginsWith format v bytes rest = (prefix : List ℕ) × format.encodes v prefix × (bytes ≡ prefix ++ rest)
 
--- no front of the bytes encodes a value
+-- no prefix of the bytes encodes a value
 abbrev pub BeginsWithNone : {V : Type 0} → Format V → List ℕ → Type 0
 BeginsWithNone {V = V} format bytes = (v : V) (rest : List ℕ) → BeginsWith format v bytes rest → ⊥
 

@@ -1,6 +1,6 @@
 //! Messages in frames, each behind the number of its bytes: written, taken from a buffer and from a stream.
 ghost use Rattle.std.specs.Prelude.{◌≡◌, ◌≤◌, ◌+◌, ◌++◌, ◌⊎◌, ℕ, List, length, IfOk, IfErr, MatchOption};
-ghost use Rattle.speedy.specs.Encoding.{plain_encoding};
+ghost use Rattle.speedy.specs.Mode.{plain_mode};
 ghost use Rattle.speedy.specs.Error.{error_of};
 ghost use Rattle.speedy.specs.WaysOfWriting.{WritesToStream};
 ghost use Rattle.speedy_protocol.specs.Refusals.{BeginsWith, BeginsWithNone, SaysWhy};
@@ -8,7 +8,7 @@ ghost use Rattle.speedy_protocol.specs.Refusals.{BeginsWith, BeginsWithNone, Say
 use crate::messages::Message;
 use speedy::device::Sink;
 use speedy::error::{ErrorKind, get_error_kind};
-use speedy::laws::{no_spelling_is_below_least, one_front, written_is_shortest};
+use speedy::laws::{no_encoding_is_below_least, one_prefix, written_is_shortest};
 use speedy::prefixed::{Framed, Prefixed};
 use speedy::{Buffer, Endianness, Error, Layout, LendingReader, LittleEndian, Part, Writable};
 use std::alloc::Global;
@@ -22,7 +22,7 @@ pub const LIMIT: usize = 1024;
 
 /// The bytes of a message in its frame.
 pub fn encode<'a>(alloc: Global, message: &Message<'a>) -> Result<Vec<u8>, Error>
-    ensures { let format = ⟦<Frame<'a> as Layout>⟧.layout.format (plain_encoding Endianness.LittleEndian) in
+    ensures { let format = ⟦<Frame<'a> as Layout>⟧.layout.format (plain_mode Endianness.LittleEndian) in
         IfOk result (λ bytes. format.writes (⟦<Message<'a> as Layout>⟧.seen message.now) bytes.items) }
 {
     let frame: Prefixed<u16, _> = Prefixed::new(Framed(Part(message)));
@@ -32,7 +32,7 @@ pub fn encode<'a>(alloc: Global, message: &Message<'a>) -> Result<Vec<u8>, Error
 /// Writes a message in its frame to a sink.
 pub fn send<'a, S: Sink>(alloc: Global, message: &Message<'a>, sink: &mut S) -> Result<(), Error>
     ensures { WritesToStream ⟦<Error as From<Error>>⟧.from_gives S.sink ⟦<Message<'a> as Layout>⟧.seen
-        ⟦<Frame<'a> as Layout>⟧.layout (plain_encoding Endianness.LittleEndian) message.now result sink.old sink.new }
+        ⟦<Frame<'a> as Layout>⟧.layout (plain_mode Endianness.LittleEndian) message.now result sink.old sink.new }
 {
     let frame: Prefixed<u16, _> = Prefixed::new(Framed(Part(message)));
     Writable::<LittleEndian>::write_to_stream(&frame, alloc, sink)
@@ -40,13 +40,13 @@ pub fn send<'a, S: Sink>(alloc: Global, message: &Message<'a>, sink: &mut S) -> 
 
 /// The message at the front of the bytes, and the bytes behind its frame.
 pub fn decode<'a>(alloc: Global, bytes: &'a [u8]) -> Result<(Message<'a>, &'a [u8]), Error>
-    ensures message { let format = ⟦<Frame<'a> as Layout>⟧.layout.format (plain_encoding Endianness.LittleEndian) in
+    ensures message { let format = ⟦<Frame<'a> as Layout>⟧.layout.format (plain_mode Endianness.LittleEndian) in
         IfOk result (λ it. BeginsWith format (⟦<Message<'a> as Layout>⟧.seen it.0) bytes.now it.1.now) }
-    ensures refused { let format = ⟦<Frame<'a> as Layout>⟧.layout.format (plain_encoding Endianness.LittleEndian) in
+    ensures refused { let format = ⟦<Frame<'a> as Layout>⟧.layout.format (plain_mode Endianness.LittleEndian) in
         IfErr result (λ e. (e ≡ error_of ErrorKind.OutOfMemory)
         ⊎ (SaysWhy (length bytes.now) e × BeginsWithNone format bytes.now)) }
 {
-    no_spelling_is_below_least::<Frame<'a>>();
+    no_encoding_is_below_least::<Frame<'a>>();
     let (outcome, size) = bytes.read_with_length::<Frame<'a>>(alloc, LittleEndian {});
     match outcome {
         Ok(frame) => Ok((frame.value.0, bytes.split_at(size).1)),
@@ -63,7 +63,7 @@ pub fn again<'a, 'b>(
     ensures { IfOk result (λ it. ⟦<Message<'a> as Layout>⟧.seen it ≡ ⟦<Message<'b> as Layout>⟧.seen message.now) }
 {
     written_is_shortest::<Frame<'a>>();
-    one_front::<Frame<'a>>();
+    one_prefix::<Frame<'a>>();
     *bytes = encode(alloc, message)?;
     match decode(alloc, bytes) {
         Ok((message, _)) => Ok(message),
@@ -73,7 +73,7 @@ pub fn again<'a, 'b>(
 
 /// The bytes behind the first frame, whatever stands in it.
 pub fn skip<'a>(alloc: Global, bytes: &'a [u8]) -> Result<&'a [u8], Error>
-    ensures { IfOk result (λ rest. (front : List ℕ) × (bytes.now ≡ front ++ rest.now)) }
+    ensures { IfOk result (λ rest. (prefix : List ℕ) × (bytes.now ≡ prefix ++ rest.now)) }
 {
     let (outcome, size) = bytes.read_with_length::<Prefixed<u16, &'a [u8]>>(alloc, LittleEndian {});
     match outcome {

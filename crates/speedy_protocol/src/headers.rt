@@ -1,6 +1,6 @@
 //! Headers of two versions. A reader of either one takes both.
 ghost use Rattle.std.specs.Prelude.{◌≡◌, ◌<◌, ℕ, IfOk};
-ghost use Rattle.speedy.specs.Encoding.{plain_encoding};
+ghost use Rattle.speedy.specs.Mode.{plain_mode};
 ghost use Rattle.speedy.specs.WaysOfReading.{AnswersBuffer};
 
 use crate::messages::{Header, Header2, Start};
@@ -11,7 +11,7 @@ use std::alloc::Global;
 /// What a stream begins with, with a header of version 2.
 pub fn make_start(alloc: Global, header: &Header2) -> Result<Start, Error>
     ensures { let it = ⟦<Header2 as Layout>⟧ in
-        let format = it.layout.format (plain_encoding Endianness.LittleEndian) in
+        let format = it.layout.format (plain_mode Endianness.LittleEndian) in
         IfOk result (λ start. format.writes (it.seen header.now) start.header.items) }
 {
     let header = Writable::<LittleEndian>::write_to_vec(header, alloc)?;
@@ -22,7 +22,7 @@ pub fn make_start(alloc: Global, header: &Header2) -> Result<Start, Error>
 pub fn header_1(alloc: Global, start: &Start) -> Result<Header, Error>
     ensures { let it = ⟦<Header as Layout>⟧ in
         (size : ℕ) × AnswersBuffer ⟦<Error as IsEof>⟧ it.seen it.layout
-        (plain_encoding Endianness.LittleEndian) result size start.now.header.items }
+        (plain_mode Endianness.LittleEndian) result size start.now.header.items }
 {
     <Header as Readable<LittleEndian>>::read_from_buffer(alloc, &start.header)
 }

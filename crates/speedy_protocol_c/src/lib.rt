@@ -2,7 +2,7 @@
 #![tactic(auto)]
 
 ghost use Rattle.std.specs.Prelude.{◌≡◌, ◌≤◌, ◌+◌, ℕ, List, length};
-ghost use Rattle.speedy.specs.Encoding.{plain_encoding};
+ghost use Rattle.speedy.specs.Mode.{plain_mode};
 ghost use Rattle.speedy_protocol.specs.Refusals.{BeginsWith};
 
 use speedy::{Endianness, Layout};
@@ -47,7 +47,7 @@ pub extern "C" fn speedy_protocol_check<'a>(
 ) -> u32
     ensures message { let it = ⟦<Frame<'a> as Layout>⟧ in
         result ≡ 0 → (message : it.Seen) × (rest : List ℕ)
-        × BeginsWith (it.layout.format (plain_encoding Endianness.LittleEndian)) message bytes.now rest
+        × BeginsWith (it.layout.format (plain_mode Endianness.LittleEndian)) message bytes.now rest
         × (places.new.size + length rest ≡ length bytes.now) }
     ensures within { result ≡ 0 → places.new.text_at + places.new.text_length ≤ places.new.size }
 {

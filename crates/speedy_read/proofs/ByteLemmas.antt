@@ -8,22 +8,22 @@ use Rattle.std.proofs.lemmas.List.{take_all, take_at, take-append-drop}
 use borrow.Rule.Slice.PartMut.{put_mid, post_of}
 use Rattle.std.proofs.Math.Seq.{take-append_seam}
 use Rattle.speedy_base.specs.declared.error.Error.{Error}
-use Rattle.speedy_base.specs.Digits.{SpellsNumber, AreBytes}
-use Rattle.speedy_base.specs.Encoding.{Encoding}
+use Rattle.speedy_base.specs.Digits.{EncodesNumber, AreBytes}
+use Rattle.speedy_base.specs.Mode.{Mode}
 use Rattle.speedy_layout.specs.Format.{Each}
 use Rattle.speedy_layout.specs.Lists.{vector, repeat}
 use Rattle.speedy_layout.specs.Numbers.{unsigned_number}
 use Rattle.speedy_layout.specs.Owned.{owned_content}
 use Rattle.speedy_layout.specs.Texts.{raw_bytes, any_bytes, each_byte, each_byte_is}
 use Rattle.speedy_layout.specs.Sequences.{asks_memory, asks_same}
-use Rattle.speedy_read.specs.Reading.{ReaderState, Reads, Unspelled}
+use Rattle.speedy_read.specs.Reading.{ReaderState, Reads, Undecodable}
 use Rattle.speedy_read.specs.ReadingLemmas.{Kept-after, IsTold-after, part_refused, Got-as, ReadSoFar, more_so_far}
 use Rattle.speedy_read.specs.ReadingLemmas.{all_so_far, Reads-passed}
 use Rattle.speedy_read.specs.Codes.{Covers, refused_covered}
 
 -- the front of a chunk that was filled
-pub front_of : (n : ℕ) (xs ys : List ℕ) → length xs ≡ n → take n (xs ++ ys) ≡ xs
-front_of n xs ys e = subst (λ (m : ℕ). take m (xs ++ ys) ≡ xs) e (take-append_seam xs ys)
+pub prefix_of : (n : ℕ) (xs ys : List ℕ) → length xs ≡ n → take n (xs ++ ys) ≡ xs
+prefix_of n xs ys e = subst (λ (m : ℕ). take m (xs ++ ys) ≡ xs) e (take-append_seam xs ys)
 
 -- what lies behind a list
 pub behind : (bytes zeros slice : List ℕ) (start : ℕ) → slice ≡ bytes ++ zeros → start ≡ length bytes
@@ -42,10 +42,10 @@ filled_behind bytes zeros items slice output start len is same at all sized =
     let here : slice ≡ bytes ++ zeros = same ∙ is in
     let put = put_mid start (length slice - start) slice output in
     let whole : length slice ≡ length bytes + length zeros = ap length here ∙ length-append bytes zeros in
-    let front : take start slice ≡ bytes = ap (take start) here ∙ take_at bytes zeros start (sym at) in
+    let prefix : take start slice ≡ bytes = ap (take start) here ∙ take_at bytes zeros start (sym at) in
     let nothing : post_of start (length slice - start) slice ≡ [] =
     drop_all (length slice - start) (drop start slice) (omega (arith, length-drop start slice)) in
-    let put_is : put ≡ bytes ++ output = ap₂ ◌++◌ front (ap (λ l. output ++ l) nothing ∙ append-nil output) in
+    let put_is : put ≡ bytes ++ output = ap₂ ◌++◌ prefix (ap (λ l. output ++ l) nothing ∙ append-nil output) in
     let long : length put ≡ len = ap length put_is ∙ (length-append bytes output ∙ omega (arith, sized, whole, all)) in
     let rest : drop (length put) items ≡ [] = drop_all (length put) items (omega (arith, long, all, ap length same)) in
     ap (take len) (ap (λ l. put ++ l) rest ∙ append-nil put) ∙ (take_all len put (omega (arith, long)) ∙ put_is)
@@ -64,23 +64,23 @@ abbrev pub BytesSoFar : List ℕ → ReaderState → ReaderState → Type 0
 BytesSoFar bytes old new = ReadSoFar (λ s. s ≡ bytes) old new
 
 -- numbers of one digit are read where as many bytes are
-any_bytes_cover : (n : ℕ) (encoding : Encoding) → Covers (any_bytes n) (vector n (unsigned_number 1 encoding))
+any_bytes_cover : (n : ℕ) (mode : Mode) → Covers (any_bytes n) (vector n (unsigned_number 1 mode))
 unfolding any_bytes vector owned_content repeat unsigned_number
-any_bytes_cover n encoding = record {
-  under = λ v s h. (tt, ap length (sym (each_byte_is encoding.order v s h.1)) ∙ h.0);
+any_bytes_cover n mode = record {
+  under = λ v s h. (tt, ap length (sym (each_byte_is mode.order v s h.1)) ∙ h.0);
   names = λ kind h. absurd h;
   malformed = λ bytes are h. absurd h;
   asks = asks_memory;
 }
 
 short_of : {E : Type 0} {gives : Error → E → Type 0} {eof : E → Bool} {e : E} (size : ℕ) (bytes : List ℕ)
-    → Unspelled gives eof (raw_bytes size) e bytes → length bytes < size
+    → Undecodable gives eof (raw_bytes size) e bytes → length bytes < size
 unfolding raw_bytes
 short_of size bytes un =
     elim (cases_lt (length bytes) size) [
       | inl h ↦ h
       | inr h ↦
-          absurd (un.no_front (take size bytes) (take size bytes) (drop size bytes) (sym (take-append-drop size bytes))
+          absurd (un.no_prefix (take size bytes) (take size bytes) (drop size bytes) (sym (take-append-drop size bytes))
           (refl, length-take-le size bytes h))
     ]
 
@@ -107,19 +107,19 @@ module _ {E : Type 0} {gives : Error → E → Type 0} {eof : E → Bool} {old m
     answer = part_refused new so_far.kept.fixed so_far.got.no_fault (λ t. t) (λ t. t) (λ kind h. h)
         (λ told because.
         let un = because (IsTold-after so_far.kept (λ t. t) told) in
-        let short = short_of size mid.to_come un in
-        let sizes : length old.to_come ≡ count + length mid.to_come =
+        let short = short_of size mid.remaining un in
+        let sizes : length old.remaining ≡ count + length mid.remaining =
         ap length (so_far.got.taken told.tells)
-        ∙ (length-append so_far.got.front mid.to_come ∙ ap (λ n. n + length mid.to_come) so_far.got.front_is) in
+        ∙ (length-append so_far.got.prefix mid.remaining ∙ ap (λ n. n + length mid.remaining) so_far.got.prefix_is) in
         record {
-          no_front = λ v front rest is l. let m = ap length is ∙ length-append front rest in let s = short in
+          no_prefix = λ v prefix rest is l. let m = ap length is ∙ length-append prefix rest in let s = short in
               let k = sizes in absurd (omega arith);
           too_short = λ v more l.
-              let missing = replicate (size - length mid.to_come) 0 in
-              un.too_short (mid.to_come ++ missing) missing (
+              let missing = replicate (size - length mid.remaining) 0 in
+              un.too_short (mid.remaining ++ missing) missing (
                 refl,
-                length-append mid.to_come missing
-                    ∙ (ap (λ n. length mid.to_come + n) (length-replicate (size - length mid.to_come) 0)
+                length-append mid.remaining missing
+                    ∙ (ap (λ n. length mid.remaining + n) (length-replicate (size - length mid.remaining) 0)
                     ∙ omega (arith, short)),
               );
           malformed = λ bad. absurd bad;
@@ -127,17 +127,17 @@ module _ {E : Type 0} {gives : Error → E → Type 0} {eof : E → Bool} {old m
         read.answer;
   })
 
-  pub bytes_refused : {B : Type 0} {seen' : B → List ℕ} {e : E} {result : Result B E} {total : ℕ} (encoding : Encoding)
+  pub bytes_refused : {B : Type 0} {seen' : B → List ℕ} {e : E} {result : Result B E} {total : ℕ} (mode : Mode)
       (count : ℕ) (bytes : List ℕ) → length bytes ≡ count → count + size ≤ total → BytesSoFar bytes old mid
       → IsErrAnd result (λ x. x ≡ e)
       → Reads gives eof seen (raw_bytes size) (Err e) mid new
-      → Reads gives eof seen' (vector total (unsigned_number 1 encoding)) result old new
-  bytes_refused {total = total} encoding count bytes l within so_far passed read =
+      → Reads gives eof seen' (vector total (unsigned_number 1 mode)) result old new
+  bytes_refused {total = total} mode count bytes l within so_far passed read =
       let skipped : SkippedSoFar count old mid = record {
         kept = so_far.kept;
         got = Got-as (λ s h. ap length h ∙ l) so_far.got;
       } in
-      refused_covered (any_bytes_cover total encoding) passed
+      refused_covered (any_bytes_cover total mode) passed
       (chunk_refused {seen' = λ (u : Unit {0}). u} count within skipped refl read)
 
 module _ {E : Type 0} {gives : Error → E → Type 0} {eof : E → Bool} {B : Type 0} {old new : ReaderState} where
@@ -147,15 +147,15 @@ module _ {E : Type 0} {gives : Error → E → Type 0} {eof : E → Bool} {B : T
   unfolding any_bytes
   all_skipped so_far = all_so_far so_far (λ s h. h)
 
-  pub all_bytes : {seen' : B → List ℕ} {y : B} {n : ℕ} (encoding : Encoding) → BytesSoFar (seen' y) old new
+  pub all_bytes : {seen' : B → List ℕ} {y : B} {n : ℕ} (mode : Mode) → BytesSoFar (seen' y) old new
       → length (seen' y) ≡ n → AreBytes (seen' y)
-      → Reads gives eof seen' (vector n (unsigned_number 1 encoding)) (Ok y) old new
+      → Reads gives eof seen' (vector n (unsigned_number 1 mode)) (Ok y) old new
   unfolding vector owned_content repeat unsigned_number
-  all_bytes {seen' = seen'} {y = y} encoding so_far l are =
+  all_bytes {seen' = seen'} {y = y} mode so_far l are =
       all_so_far so_far (λ s h. (
         l,
-        subst (λ (x : List ℕ). Each (SpellsNumber 1 encoding.order) (seen' y) x) (sym h)
-            (each_byte encoding.order (seen' y) are),
+        subst (λ (x : List ℕ). Each (EncodesNumber 1 mode.order) (seen' y) x) (sym h)
+            (each_byte mode.order (seen' y) are),
       ))
 
 -- so many bytes are read where any are, so many
@@ -170,19 +170,19 @@ any_cover_raw n = record {
 
 -- some bytes were read, and then the others of so many
 pub rest_read : {E : Type 0} {gives : Error → E → Type 0} {eof : E → Bool} {A : Type 0} {seen seen' : A → List ℕ}
-    {old mid new : ReaderState} (size total : ℕ) (front : List ℕ) (result : Result A E)
-    → BytesSoFar front old mid → length front + size ≡ total → ((x : A) → seen' x ≡ front ++ seen x)
+    {old mid new : ReaderState} (size total : ℕ) (prefix : List ℕ) (result : Result A E)
+    → BytesSoFar prefix old mid → length prefix + size ≡ total → ((x : A) → seen' x ≡ prefix ++ seen x)
     → Reads gives eof seen (raw_bytes size) result mid new → Reads gives eof seen' (raw_bytes total) result old new
 unfolding raw_bytes
-rest_read {seen' = seen'} size total front (Ok x) so_far sized same read =
+rest_read {seen' = seen'} size total prefix (Ok x) so_far sized same read =
     all_so_far
     (more_so_far {more = λ s. (seen' x ≡ s) × (length s ≡ total)} so_far read
     (λ s t h k. (same x ∙ ap₂ ◌++◌ (sym h) k.0, length-append s t ∙ (ap₂ ◌+◌ (ap length h) k.1 ∙ sized))))
     (λ s h. h)
-rest_read size total front (Err e) so_far sized same read =
-    let skipped : SkippedSoFar (length front) _ _ = record {
+rest_read size total prefix (Err e) so_far sized same read =
+    let skipped : SkippedSoFar (length prefix) _ _ = record {
       kept = so_far.kept;
       got = Got-as (λ s h. ap length h) so_far.got;
     } in
     refused_covered (any_cover_raw total) refl
-    (chunk_refused size {seen' = λ (u : Unit {0}). u} (length front) (omega (arith, sized)) skipped refl read)
+    (chunk_refused size {seen' = λ (u : Unit {0}). u} (length prefix) (omega (arith, sized)) skipped refl read)

@@ -9,10 +9,10 @@ use borrow.Rule.Slice.PartMut.{put_mid, post_of}
 use Rattle.speedy_base.specs.declared.error.ErrorKind.TheVariants as kinds
 use Rattle.speedy_base.specs.declared.error.Error.{Error}
 use Rattle.speedy_base.specs.declared.endianness.Endianness.{Endianness}
-use Rattle.speedy_base.specs.Encoding.{Encoding}
+use Rattle.speedy_base.specs.Mode.{Mode}
 use Rattle.speedy_base.specs.Error.{error_of, IsNamed, IsIoErrorOf}
 use Rattle.std.specs.declared.io.Error.{Error as StdIoError}
-use Rattle.speedy_layout.specs.FixedNumbers.{IsFixed, spelled_in, each_length}
+use Rattle.speedy_layout.specs.FixedNumbers.{IsFixed, encoded_in, each_length}
 use Rattle.speedy_layout.specs.Format.{Format, Each}
 use Rattle.speedy_layout.specs.Laws.{Laws}
 use Rattle.speedy_layout.specs.Lists.{each_as, each_append, repeat, vector}
@@ -63,42 +63,42 @@ chunk_fits {some = some} positive within is is' same =
     subst₂ (λ (s r : ℕ). some * s ≤ r) (is ∙ sym is') (sym same)
     ((le-div_iff_mul-le (subst (λ (w : ℕ). 0 < w) (sym is) positive)).0 within)
 
-module _ {V : Type 0} {F : Encoding → Format V} {least width : ℕ}
-    (laws : (encoding : Encoding) → Laws encoding.strict least (F encoding)) (fixed : IsFixed width F) where
-  -- digits spell the values
-  pub each_stands : (encoding : Encoding) (vs : List V) (bytes : List ℕ) → Each (spelled_in F encoding.order) vs bytes
-      → Each (F encoding).spells vs bytes
-  each_stands encoding = each_as (λ v b h. (laws encoding).written_spells v b (fixed.writes encoding v b h))
+module _ {V : Type 0} {F : Mode → Format V} {least width : ℕ}
+    (laws : (mode : Mode) → Laws mode.strict least (F mode)) (fixed : IsFixed width F) where
+  -- digits encode the values
+  pub each_stands : (mode : Mode) (vs : List V) (bytes : List ℕ) → Each (encoded_in F mode.order) vs bytes
+      → Each (F mode).encodes vs bytes
+  each_stands mode = each_as (λ v b h. (laws mode).written_encodes v b (fixed.writes mode v b h))
 
-  pub each_sized : (encoding : Encoding) (vs : List V) (bytes : List ℕ) → Each (F encoding).spells vs bytes
+  pub each_sized : (mode : Mode) (vs : List V) (bytes : List ℕ) → Each (F mode).encodes vs bytes
       → length bytes ≡ length vs * width
-  each_sized encoding vs bytes h =
-      each_length fixed encoding.order vs bytes (each_as (fixed.spells encoding) vs bytes h)
+  each_sized mode vs bytes h =
+      each_length fixed mode.order vs bytes (each_as (fixed.encodes mode) vs bytes h)
 
   -- so many values are read where so many times their bytes are
-  fixed_covers : (n : ℕ) (encoding : Encoding) → Covers (any_bytes (n * width)) (vector n (F encoding))
+  fixed_covers : (n : ℕ) (mode : Mode) → Covers (any_bytes (n * width)) (vector n (F mode))
   unfolding any_bytes vector owned_content repeat
-  fixed_covers n encoding = record {
-    under = λ vs s h. (tt, each_sized encoding vs s h.1 ∙ ap (λ m. m * width) h.0);
+  fixed_covers n mode = record {
+    under = λ vs s h. (tt, each_sized mode vs s h.1 ∙ ap (λ m. m * width) h.0);
     names = λ kind h. absurd h;
     malformed = λ bytes are h. absurd h;
     asks = asks_nothing_more;
   }
 
-  module _ {E : Type 0} {gives : Error → E → Type 0} {eof : E → Bool} {old mid new : ReaderState} (encoding : Encoding)
+  module _ {E : Type 0} {gives : Error → E → Type 0} {eof : E → Bool} {old mid new : ReaderState} (mode : Mode)
       {B A : Type 0} {shown : B → List ℕ} (seen : A → V) (n : ℕ) where
     -- numbers more were read
-    pub more_numbers : {x : B} {order : Endianness} (xs more : List A) (size : ℕ) → order ≡ encoding.order
-        → ReadSoFar (Each (F encoding).spells (map seen xs)) old mid
+    pub more_numbers : {x : B} {order : Endianness} (xs more : List A) (size : ℕ) → order ≡ mode.order
+        → ReadSoFar (Each (F mode).encodes (map seen xs)) old mid
         → Reads gives eof shown (raw_bytes size) (Ok x) mid new
-        → Each (spelled_in F order) (map seen more) (shown x)
-        → ReadSoFar (Each (F encoding).spells (map seen (xs ++ more))) old new
+        → Each (encoded_in F order) (map seen more) (shown x)
+        → ReadSoFar (Each (F mode).encodes (map seen (xs ++ more))) old new
     unfolding raw_bytes
     more_numbers {x = x} xs more size same so_far read digits =
-        let S = (F encoding).spells in
+        let S = (F mode).encodes in
         let stands : Each S (map seen more) (shown x) =
-        each_stands encoding (map seen more) (shown x)
-        (subst (λ (o : Endianness). Each (spelled_in F o) (map seen more) (shown x)) same digits) in
+        each_stands mode (map seen more) (shown x)
+        (subst (λ (o : Endianness). Each (encoded_in F o) (map seen more) (shown x)) same digits) in
         more_so_far so_far read (λ s t h k.
         subst (λ (vs : List V). Each S vs (s ++ t)) (sym (map-append seen xs more))
         (each_append S (map seen xs) (map seen more) s t h
@@ -107,24 +107,24 @@ module _ {V : Type 0} {F : Encoding → Format V} {least width : ℕ}
     -- where a chunk is refused, all are
     pub numbers_refused : {C : Type 0} {seen' : C → List V} {e : E} {result : Result C E} (xs : List A) (some : ℕ)
         {size : ℕ} → length xs + some ≤ n → size ≡ some * width
-        → ReadSoFar (Each (F encoding).spells (map seen xs)) old mid → IsErrAnd result (λ x. x ≡ e)
+        → ReadSoFar (Each (F mode).encodes (map seen xs)) old mid → IsErrAnd result (λ x. x ≡ e)
         → Reads gives eof shown (raw_bytes size) (Err e) mid new
-        → Reads gives eof seen' (vector n (F encoding)) result old new
+        → Reads gives eof seen' (vector n (F mode)) result old new
     numbers_refused xs some {size} within sized so_far passed read =
         let count = length xs * width in
         let skipped : SkippedSoFar count old mid = record {
           kept = so_far.kept;
           got = Got-as
-              (λ s h. each_sized encoding (map seen xs) s h ∙ ap (λ m. m * width) (length-map xs seen)) so_far.got;
+              (λ s h. each_sized mode (map seen xs) s h ∙ ap (λ m. m * width) (length-map xs seen)) so_far.got;
         } in
-        refused_covered (fixed_covers n encoding) passed
+        refused_covered (fixed_covers n mode) passed
         (chunk_refused size {seen' = λ (u : Unit {0}). u} count
         (chunk_within width (length xs) some n size within sized) skipped refl read)
 
 -- so many numbers were appended as their bytes were
-module _ {V A : Type 0} {F : Encoding → Format V} {width : ℕ} (fixed : IsFixed width F) (seen : A → V) where
+module _ {V A : Type 0} {F : Mode → Format V} {width : ℕ} (fixed : IsFixed width F) (seen : A → V) where
   pub count_of_digits : (order : Endianness) (more : List A) (bytes : List ℕ) (n : ℕ)
-      → Each (spelled_in F order) (map seen more) bytes → length bytes ≡ n * width → length more ≡ n
+      → Each (encoded_in F order) (map seen more) bytes → length bytes ≡ n * width → length more ≡ n
   count_of_digits order more bytes n h l =
       same_count fixed.has_bytes (length more) n
       (ap (λ m. m * width) (sym (length-map more seen)) ∙ (sym (each_length fixed order (map seen more) bytes h) ∙ l))
@@ -169,7 +169,7 @@ none_lent {X = X} {A = A} shown size {old = old} {new = new} is h =
 pub lent_length : {X A : Type 0} {shown : A → List ℕ} (size : ℕ) {old new : ReaderState} {x : A}
     → Reads (ends_alone {E = X}) (λ _. true) shown (raw_bytes size) (Ok x) old new → length (shown x) ≡ size
 unfolding raw_bytes
-lent_length size r = ap length r.answer.front_is.0 ∙ r.answer.front_is.1
+lent_length size r = ap length r.answer.prefix_is.0 ∙ r.answer.prefix_is.1
 
 module _ {E X A : Type 0} {gives : Error → E → Type 0} {eof : E → Bool} {shown : A → List ℕ} (size : ℕ)
     {old new : ReaderState} where
@@ -194,7 +194,7 @@ module _ {E X A : Type 0} {gives : Error → E → Type 0} {eof : E → Bool} {s
             no_fault = h.no_fault;
             kind = inl ended;
             because = λ told. let un = h.because told in record {
-              no_front = un.no_front;
+              no_prefix = un.no_prefix;
               too_short = λ _ _ _. ended.1;
               malformed = λ bad. absurd bad;
             };

@@ -11,14 +11,14 @@ use Rattle.speedy_layout.specs.Laws.{Laws, Codec}
 use Rattle.speedy_layout.specs.Codes.{Code, ReadsWider, coding, Accepts-is, Accepts-demanded}
 use Rattle.speedy_layout.specs.Sequences.{across, sequence, asks_after, asks_hashed, Parts-as}
 use Rattle.speedy_layout.specs.Gathering.{gathering, items_of, hashed_items}
-use Rattle.speedy_base.specs.Encoding.{Encoding}
+use Rattle.speedy_base.specs.Mode.{Mode}
 use Rattle.speedy_read.specs.Sequences.{Composes, second_decides, refused_first}
-use Rattle.speedy_layout.specs.Lists.{vector, repeat, counted_list}
+use Rattle.speedy_layout.specs.Lists.{vector, repeat, prefixed_list}
 use Rattle.speedy_layout.specs.Owned.{owned_content}
-use Rattle.speedy_read.specs.Reading.{ReaderState, Kept, Unspelled, Reads}
+use Rattle.speedy_read.specs.Reading.{ReaderState, Kept, Undecodable, Reads}
 use Rattle.speedy_read.specs.ReadingLemmas.{Kept-same, Got-nothing, Got-as, ReadSoFar}
 use Rattle.speedy_read.specs.Codes.{code_refused}
-use Rattle.speedy_read.specs.Counted.{counted_list_composes}
+use Rattle.speedy_read.specs.Counted.{prefixed_list_composes}
 use Rattle.speedy_read.specs.Collections.{Gatherer, GotItems, NotWritten, Collects}
 use Rattle.speedy_read.proofs.ListLemmas.{item_more, refused_item}
 
@@ -39,21 +39,21 @@ module _ {T F V : Type 0} {g : Gatherer T F V} {L : Format V} {old : ReaderState
   }
 
   read_so_far : {n : ℕ} {whole : F} {mid : ReaderState} (h : GatheredSoFar g L n whole old mid)
-      → ReadSoFar (Each L.spells (map g.seen h.so_far.items)) old mid
+      → ReadSoFar (Each L.encodes (map g.seen h.so_far.items)) old mid
   read_so_far h = record { kept = h.kept; got = h.so_far.got }
 
   module _ {E : Type 0} {gives : Error → E → Type 0} {eof : E → Bool} {whole : F} {n : ℕ} {mid new : ReaderState}
       (h : GatheredSoFar g L n whole old mid) where
     -- an item more was read
     more_read : {x : T} → Reads gives eof g.seen L (Ok x) mid new
-        → ReadSoFar (Each L.spells (map g.seen (h.so_far.items ++ x ∷ []))) old new
+        → ReadSoFar (Each L.encodes (map g.seen (h.so_far.items ++ x ∷ []))) old new
     more_read {x = x} r =
         item_more L (map g.seen h.so_far.items) (read_so_far h) r (map-append g.seen h.so_far.items (x ∷ []))
 
     -- and added
     pub one_gathered : {x : T} {next : F} → Reads gives eof g.seen L (Ok x) mid new
         → g.gathers (h.so_far.items ++ x ∷ []) next
-        → (IsTrue old.encoding.strict → g.are_written (h.so_far.items ++ x ∷ []))
+        → (IsTrue old.mode.strict → g.are_written (h.so_far.items ++ x ∷ []))
         → GatheredSoFar g L (n + 1) next old new
     one_gathered {x = x} r gathered written =
         let read = more_read r in
@@ -69,7 +69,7 @@ module _ {T F V : Type 0} {g : Gatherer T F V} {L : Format V} {old : ReaderState
         }
 
     -- or refused, since it is written of no collection behind the others
-    pub item_not_written : {all : ℕ} {x : T} {next : F} {e : E} → n < all → IsTrue old.encoding.strict
+    pub item_not_written : {all : ℕ} {x : T} {next : F} {e : E} → n < all → IsTrue old.mode.strict
         → Reads gives eof g.seen L (Ok x) mid new → g.gathers (h.so_far.items ++ x ∷ []) next
         → (g.are_written (h.so_far.items ++ x ∷ []) → ⊥) → gives (error_of kinds.NotWrittenForm) e
         → Collects g L all gives eof (Err e) old new
@@ -85,9 +85,9 @@ module _ {T F V : Type 0} {g : Gatherer T F V} {L : Format V} {old : ReaderState
               demanded = strict;
               at_most = let l = length_pushed h.so_far.items x n h.so_far.count_is in omega arith;
               ahead = record {
-                front = read.got.front;
-                rest = new.to_come;
-                front_is = read.got.front_is;
+                prefix = read.got.prefix;
+                rest = new.remaining;
+                prefix_is = read.got.prefix_is;
                 stands = read.got.taken;
                 no_fault = read.got.no_fault;
               };
@@ -131,7 +131,7 @@ all_gathered h = record { kept = h.kept; answer = h.so_far }
 pub gathered_at_once : {A T F V : Type 0} {g : Gatherer T F V} {L : Format V} {E : Type 0} {gives : Error → E → Type 0}
     {eof : E → Bool} {n : ℕ} (items : A → List T) {all : A} {whole : F} {old new : ReaderState}
     → Reads gives eof (λ x. map g.seen (items x)) (vector n L) (Ok all) old new → g.gathers (items all) whole
-    → (IsTrue old.encoding.strict → g.are_written (items all)) → Collects g L n gives eof (Ok whole) old new
+    → (IsTrue old.mode.strict → g.are_written (items all)) → Collects g L n gives eof (Ok whole) old new
 unfolding vector owned_content repeat
 gathered_at_once {g = g} items {all = all} r gathered written =
     let got = r.answer in
@@ -139,7 +139,7 @@ gathered_at_once {g = g} items {all = all} r gathered written =
       kept = r.kept;
       answer = record {
         items = items all;
-        count_is = sym (length-map (items all) g.seen) ∙ got.front_is.0;
+        count_is = sym (length-map (items all) g.seen) ∙ got.prefix_is.0;
         got = Got-as (λ s h. h.1) got;
         gathered = gathered;
         written = written;
@@ -156,16 +156,16 @@ pub record IsCodeOf {T F V S : Type 0} (g : Gatherer T F V) (c : Code (List V) S
   pub first_chosen : (items : List T) (more : List V) (s : S) → c.chosen (map g.seen items ++ more) s
       → g.are_written items
 
--- where more items are spelled than others, which stand at the same place, they begin with these
+-- where more items are encoded than others, which stand at the same place, they begin with these
 each_begins : {V : Type 0} {strict : Bool} {least : ℕ} {L : Format V} → Laws strict least L
-    → (vs ws : List V) (s t r q : List ℕ) → length vs ≤ length ws → Each L.spells vs s → Each L.spells ws t
+    → (vs ws : List V) (s t r q : List ℕ) → length vs ≤ length ws → Each L.encodes vs s → Each L.encodes ws t
     → s ++ r ≡ t ++ q → (more : List V) × (ws ≡ vs ++ more)
 each_begins laws [] ws s t r q l h k e = (ws, refl)
 each_begins laws (v ∷ vs) [] s t r q l h k e = absurd (omega arith)
 each_begins laws (v ∷ vs) (w ∷ ws) s t r q l h k e =
-    let joined = across s t r q h.front h.back k.front k.back h.whole_is k.whole_is e in
-    let first = laws.decodes v w h.front k.front (h.back ++ r) (k.back ++ q) h.first_is k.first_is joined in
-    let rest = each_begins laws vs ws h.back k.back r q (omega arith) h.second_is k.second_is first.2 in
+    let joined = across s t r q h.prefix h.suffix k.prefix k.suffix h.whole_is k.whole_is e in
+    let first = laws.decodes v w h.prefix k.prefix (h.suffix ++ r) (k.suffix ++ q) h.first_is k.first_is joined in
+    let rest = each_begins laws vs ws h.suffix k.suffix r q (omega arith) h.second_is k.second_is first.2 in
     (rest.0, let a = first.0 in let b = rest.1 in (cc))
 
 module _ {T F V S : Type 0} {g : Gatherer T F V} {c : Code (List V) S} {seen' : F → S} (is : IsCodeOf g c seen')
@@ -179,41 +179,43 @@ module _ {T F V S : Type 0} {g : Gatherer T F V} {c : Code (List V) S} {seen' : 
         (subst (λ (vs : List V). c.chosen vs (seen' h.whole)) (sym (append-nil (map g.seen h.items))) k));
   }
 
-  -- what is spelled where such items stand is written of no collection
+  -- what is encoded where such items stand is written of no collection
   none_chosen : {strict : Bool} {least : ℕ} → Laws strict least L
-      → (vs : List V) (s : S) (front rest bytes more : List ℕ) → length vs ≡ n → Each L.spells vs front
-      → bytes ++ more ≡ front ++ rest → bytes ≡ h.ahead.front ++ h.ahead.rest → c.chosen vs s → ⊥
-  none_chosen laws vs s front rest bytes more count spelled is_whole stands chosen =
+      → (vs : List V) (s : S) (prefix rest bytes more : List ℕ) → length vs ≡ n → Each L.encodes vs prefix
+      → bytes ++ more ≡ prefix ++ rest → bytes ≡ h.ahead.prefix ++ h.ahead.rest → c.chosen vs s → ⊥
+  none_chosen laws vs s prefix rest bytes more count encoded is_whole stands chosen =
       let fewer : length (map g.seen h.items) ≤ length vs =
       let l = length-map h.items g.seen in
       let m = h.at_most in
       omega arith in
-      let joined = sym (append_assoc h.ahead.front h.ahead.rest more) ∙ (ap (λ x. x ++ more) (sym stands) ∙ is_whole) in
-      let begins = each_begins laws (map g.seen h.items) vs h.ahead.front front (h.ahead.rest ++ more) rest fewer
-      h.ahead.front_is spelled joined in
+      let joined = sym (append_assoc h.ahead.prefix h.ahead.rest more) ∙ (ap (λ x. x ++ more) (sym stands) ∙ is_whole)
+      in
+      let begins = each_begins laws (map g.seen h.items) vs h.ahead.prefix prefix (h.ahead.rest ++ more) rest fewer
+      h.ahead.prefix_is encoded joined in
       h.not_written (is.first_chosen h.items begins.0 s (subst (λ (vs : List V). c.chosen vs s) begins.1 chosen))
 
-  not_written_unspelled : {E : Type 0} {gives : Error → E → Type 0} {eof : E → Bool} {least : ℕ} {e : E}
-      → Laws old.encoding.strict least L → gives (error_of kinds.NotWrittenForm) e → IsTrue old.fixed.tells
-      → Unspelled gives eof (coding old.encoding c (vector n L)) e old.to_come
+  not_written_undecodable : {E : Type 0} {gives : Error → E → Type 0} {eof : E → Bool} {least : ℕ} {e : E}
+      → Laws old.mode.strict least L → gives (error_of kinds.NotWrittenForm) e → IsTrue old.fixed.tells
+      → Undecodable gives eof (coding old.mode c (vector n L)) e old.remaining
   unfolding coding vector owned_content repeat
-  not_written_unspelled laws given tells = record {
-    no_front = λ v front rest whole k.
-        none_chosen laws k.code v front rest old.to_come [] k.code_is.0 k.code_is.1 (append-nil old.to_come ∙ whole)
-        (h.ahead.stands tells) (Accepts-demanded old.encoding.strict c k.code v h.demanded k.stands);
+  not_written_undecodable laws given tells = record {
+    no_prefix = λ v prefix rest whole k.
+        none_chosen laws k.code v prefix rest old.remaining [] k.code_is.0 k.code_is.1
+        (append-nil old.remaining ∙ whole)
+        (h.ahead.stands tells) (Accepts-demanded old.mode.strict c k.code v h.demanded k.stands);
     too_short = λ v more k.
-        absurd (none_chosen laws k.code v (old.to_come ++ more) [] old.to_come more k.code_is.0 k.code_is.1
-        (sym (append-nil (old.to_come ++ more))) (h.ahead.stands tells)
-        (Accepts-demanded old.encoding.strict c k.code v h.demanded k.stands));
+        absurd (none_chosen laws k.code v (old.remaining ++ more) [] old.remaining more k.code_is.0 k.code_is.1
+        (sym (append-nil (old.remaining ++ more))) (h.ahead.stands tells)
+        (Accepts-demanded old.mode.strict c k.code v h.demanded k.stands));
     malformed = λ _. (kinds.NotWrittenForm, inr (inr (h.demanded, refl, wider)), given);
   }
 
 -- so items that are read and gathered are a value of the code that is read
 pub collected_read : {T F V S : Type 0} {g : Gatherer T F V} {c : Code (List V) S} {seen' : F → S} {L : Format V}
     {n : ℕ} {E : Type 0} {gives : Error → E → Type 0} {eof : E → Bool} {result : Result F E} {old new : ReaderState}
-    {least : ℕ} → Laws old.encoding.strict least L → IsCodeOf g c seen'
+    {least : ℕ} → Laws old.mode.strict least L → IsCodeOf g c seen'
     → Collects g L n gives eof result old new
-    → Reads gives eof seen' (coding old.encoding c (vector n L)) result old new
+    → Reads gives eof seen' (coding old.mode c (vector n L)) result old new
 unfolding coding vector owned_content repeat
 collected_read {g = g} {c = c} {seen' = seen'} {L = L} {n = n} {result = Ok whole} {old = old} laws is r =
     let h = r.answer in
@@ -223,7 +225,7 @@ collected_read {g = g} {c = c} {seen' = seen'} {L = L} {n = n} {result = Ok whol
           (λ s k. record {
             code = map g.seen h.items;
             code_is = (length-map h.items g.seen ∙ h.count_is, k);
-            stands = Accepts-is old.encoding.strict c (map g.seen h.items) (seen' whole)
+            stands = Accepts-is old.mode.strict c (map g.seen h.items) (seen' whole)
                 (is.meant h.items whole h.gathered) (λ strict. is.chosen h.items whole h.gathered (h.written strict));
           }) h.got;
     }
@@ -237,24 +239,24 @@ collected_read {V = V} {g = g} {c = c} {L = L} {n = n} {gives = gives} {eof = eo
               kept = r.kept;
               answer = inr y;
             } in
-            code_refused old.encoding c refl items
+            code_refused old.mode c refl items
         | inr y ↦ record {
           kept = r.kept;
           answer = inr (record {
             no_fault = y.1.ahead.no_fault;
             kind = inr (kinds.NotWrittenForm, inl (inr (inr (y.1.demanded, refl, wider is y.1))), y.0);
-            because = λ told. not_written_unspelled is y.1 laws y.0 told.tells;
+            because = λ told. not_written_undecodable is y.1 laws y.0 told.tells;
           });
         }
       ]
     ]
 
 -- a coded list is read as its length, and then so many items
-coded_list_composes : {V S : Type 0} (count : Format ℕ) (L : Format V) (encoding : Encoding) (c : Code (List V) S)
-    → Composes count (λ n. coding encoding c (vector n L)) (coding encoding c (counted_list count L)) (λ n s. s)
+coded_list_composes : {V S : Type 0} (count : Format ℕ) (L : Format V) (mode : Mode) (c : Code (List V) S)
+    → Composes count (λ n. coding mode c (vector n L)) (coding mode c (prefixed_list count L)) (λ n s. s)
 unfolding coding sequence
-coded_list_composes count L encoding c =
-    let parts = counted_list_composes count L in
+coded_list_composes count L mode c =
+    let parts = prefixed_list_composes count L in
     record {
       joins = λ n s a b h k. record {
         code = k.code;
@@ -279,14 +281,14 @@ coded_list_composes count L encoding c =
                 inr (
                   length x.code,
                   record {
-                    front = list_is.front;
-                    back = list_is.back ++ x.rest;
+                    prefix = list_is.prefix;
+                    suffix = list_is.suffix ++ x.rest;
                     whole_is = x.whole_is
-                        ∙ (ap (λ s. s ++ x.rest) list_is.whole_is ∙ append_assoc list_is.front list_is.back x.rest);
+                        ∙ (ap (λ s. s ++ x.rest) list_is.whole_is ∙ append_assoc list_is.prefix list_is.suffix x.rest);
                     first_is = list_is.first_is;
                     second_is = inr (record {
                       code = x.code;
-                      front = list_is.back;
+                      prefix = list_is.suffix;
                       rest = x.rest;
                       whole_is = refl;
                       code_is = list_is.second_is;
@@ -300,13 +302,13 @@ coded_list_composes count L encoding c =
     }
 
 -- the items of a thing that has no order of its own are read alike
-gathered_composes : {V S : Type 0} (hashed : Bool) (count : Format ℕ) (L : Format V) (encoding : Encoding)
-    (c : Code (List V) S) → Composes count (λ n. coding encoding c (vector n L))
-    (coding encoding c (items_of hashed count L)) (λ n s. s)
+gathered_composes : {V S : Type 0} (hashed : Bool) (count : Format ℕ) (L : Format V) (mode : Mode)
+    (c : Code (List V) S) → Composes count (λ n. coding mode c (vector n L))
+    (coding mode c (items_of hashed count L)) (λ n s. s)
 unfolding coding hashed_items
-gathered_composes false count L encoding c = coded_list_composes count L encoding c
-gathered_composes true count L encoding c =
-    let same = coded_list_composes count L encoding c in
+gathered_composes false count L mode c = coded_list_composes count L mode c
+gathered_composes true count L mode c =
+    let same = coded_list_composes count L mode c in
     record {
       joins = same.joins;
       splits = same.splits;
@@ -333,21 +335,21 @@ gatherer_code {g = g} stands to from first = record {
 pub collection_read : {T F V S : Type 0} {g : Gatherer T F V} {c : Code (List V) S} {seen' : F → S} {n : ℕ} {E : Type 0}
     {gives : Error → E → Type 0} {eof : E → Bool} {result : Result F E} {old mid new : ReaderState} (hashed : Bool)
     (count : Codec ℕ) (item : Codec V) → IsCodeOf g c seen'
-    → Reads gives eof (λ x. x) (count.format old.encoding) (Ok n) old mid
-    → Collects g (item.format mid.encoding) n gives eof result mid new
+    → Reads gives eof (λ x. x) (count.format old.mode) (Ok n) old mid
+    → Collects g (item.format mid.mode) n gives eof result mid new
     → Reads gives eof seen'
-    (coding old.encoding c (items_of hashed (count.format old.encoding) (item.format old.encoding))) result old new
+    (coding old.mode c (items_of hashed (count.format old.mode) (item.format old.mode))) result old new
 collection_read {c = c} {seen' = seen'} {n = n} {gives = gives} {eof = eof} {result = result} {old = old} {mid = mid}
     {new = new} hashed count item is number r =
-    second_decides (gathered_composes hashed _ _ old.encoding c) (count.laws old.encoding) number
-    (subst (λ (e : Encoding). Reads gives eof seen' (coding e c (vector n (item.format e))) result mid new)
-    number.kept.encoding (collected_read (item.laws mid.encoding) is r)) (λ _. refl)
+    second_decides (gathered_composes hashed _ _ old.mode c) (count.laws old.mode) number
+    (subst (λ (e : Mode). Reads gives eof seen' (coding e c (vector n (item.format e))) result mid new)
+    number.kept.mode (collected_read (item.laws mid.mode) is r)) (λ _. refl)
 
 -- and where the number is refused, so is the collection
 pub collection_refused : {V S : Type 0} (c : Code (List V) S) (L : Format V) {count : Format ℕ} {E : Type 0}
     {gives : Error → E → Type 0} {eof : E → Bool} {A B : Type 0} {seen : A → ℕ} {seen' : B → S} {e : E}
     {result : Result B E} {old new : ReaderState} (hashed : Bool) → IsErrAnd result (λ x. x ≡ e)
     → Reads gives eof seen count (Err e) old new
-    → Reads gives eof seen' (coding old.encoding c (items_of hashed count L)) result old new
+    → Reads gives eof seen' (coding old.mode c (items_of hashed count L)) result old new
 collection_refused c L {count = count} {old = old} hashed passed r =
-    refused_first (gathered_composes hashed count L old.encoding c) passed r
+    refused_first (gathered_composes hashed count L old.mode c) passed r

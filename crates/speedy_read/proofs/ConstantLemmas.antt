@@ -5,10 +5,10 @@ use Rattle.std.proofs.Common.{sym, ◌∙◌, ap, ap₂, subst, arith, inl, inr}
 use Rattle.std.proofs.lemmas.List.{length-append, length-take-le, take_all}
 use Rattle.std.proofs.Common.{take-add}
 use Rattle.speedy_base.specs.declared.error.Error.{Error}
-use Rattle.speedy_base.specs.Encoding.{Encoding}
+use Rattle.speedy_base.specs.Mode.{Mode}
 use Rattle.speedy_base.specs.Error.{IsNamed, passed_on}
 use Rattle.speedy_layout.specs.Codes.{coding, exact_code, Accepts-exact}
-use Rattle.speedy_layout.specs.Numbers.{same_fronts}
+use Rattle.speedy_layout.specs.Numbers.{same_prefixes}
 use Rattle.speedy_layout.specs.Sequences.{asks_same}
 use Rattle.speedy_layout.specs.Texts.{raw_bytes, raw_bytes_laws, any_bytes, IsExpected, constant_bytes}
 use Rattle.speedy_read.specs.Reading.{ReaderKind, ReaderState, Excused, IsEnd, Reads}
@@ -25,13 +25,13 @@ pub none_compared : (constant : List ℕ) {old : ReaderState} → ComparedSoFar 
 none_compared constant = none_so_far (refl, (λ _. refl, λ _. refl))
 
 -- what is read where so many bytes are skipped
-any_covers_constant : (encoding : Encoding) (constant : List ℕ)
-    → Covers (any_bytes (length constant)) (constant_bytes encoding constant)
+any_covers_constant : (mode : Mode) (constant : List ℕ)
+    → Covers (any_bytes (length constant)) (constant_bytes mode constant)
 unfolding any_bytes constant_bytes coding raw_bytes
-any_covers_constant encoding constant = record {
+any_covers_constant mode constant = record {
   under = λ v s h. (tt, h.code_is.1);
   names = λ kind h. absurd h;
-  malformed = λ bytes are h. elim h [ inl x ↦ absurd x | inr x ↦ inr (tt, x.front, x.rest, x.whole_is, x.code_is.1) ];
+  malformed = λ bytes are h. elim h [ inl x ↦ absurd x | inr x ↦ inr (tt, x.prefix, x.rest, x.whole_is, x.code_is.1) ];
   asks = asks_same;
 }
 
@@ -53,7 +53,7 @@ module _ {E : Type 0} {gives : Error → E → Type 0} {eof : E → Bool} (const
               ap₂ ◌++◌ (h.1.0 both.0) (sym k.0 ∙ (sym read ∙ (both.1 ∙ is))) ∙ sym (take-add at more constant),
           λ whole.
               let long = length-take-le at constant (omega (arith, within)) in
-              let parts = same_fronts s (take at constant) t (take more (drop at constant)) (h.0 ∙ sym long)
+              let parts = same_prefixes s (take at constant) t (take more (drop at constant)) (h.0 ∙ sym long)
               (whole ∙ take-add at more constant) in
               decided.1 (h.1.1 parts.0, read ∙ (k.0 ∙ (parts.1 ∙ sym is))),
         ),
@@ -63,18 +63,18 @@ module _ {E : Type 0} {gives : Error → E → Type 0} {eof : E → Bool} (const
   pub comparison_refused : {A B : Type 0} {seen : A → List ℕ} {e : E} {same : Bool} {result : Result B E}
       → at + size ≤ length constant → ComparedSoFar constant at same old mid → IsErrAnd result (λ x. x ≡ e)
       → Reads gives eof seen (raw_bytes size) (Err e) mid new
-      → Reads gives eof (λ _. constant) (constant_bytes old.encoding constant) result old new
+      → Reads gives eof (λ _. constant) (constant_bytes old.mode constant) result old new
   unfolding constant_bytes
   comparison_refused {e = e} within so_far passed r =
       let skipped : SkippedSoFar at old mid = record { kept = so_far.kept; got = Got-as (λ s h. h.0) so_far.got } in
       let short : Reads gives eof (λ (u : Unit {0}). u) (any_bytes (length constant)) (Err e) old new =
       chunk_refused size at within skipped refl r in
-      refused_covered (any_covers_constant old.encoding constant) passed short
+      refused_covered (any_covers_constant old.mode constant) passed short
 
 -- where a chunk is refused, all are, as an end of the bytes
 pub chunk_fewer : {E : Type 0} {gives : Error → E → Type 0} {eof : E → Bool} {A B : Type 0}
-    {seen : A → List ℕ} (size : ℕ) {spelled : List ℕ → Type 0}
-    {old mid new : ReaderState} {e : E} (result : Result B E) → ReadSoFar spelled old mid → IsErrAnd result (λ x. x ≡ e)
+    {seen : A → List ℕ} (size : ℕ) {encoded : List ℕ → Type 0}
+    {old mid new : ReaderState} {e : E} (result : Result B E) → ReadSoFar encoded old mid → IsErrAnd result (λ x. x ≡ e)
     → Reads gives eof seen (raw_bytes size) (Err e) mid new
     → IsErrAnd result (λ e. Excused gives false e old new ⊎ IsEnd gives eof old.fixed.ends_by_device e)
 unfolding raw_bytes
@@ -90,13 +90,13 @@ chunk_fewer {E = E} {gives = gives} {eof = eof} {B = B} size {old = old} {mid = 
       ]
     ])
 
--- where so many were read, not fewer were to come
+-- where so many were read, not fewer remained
 pub all_there : (constant : List ℕ) {at : ℕ} {same : Bool} {old mid : ReaderState} → at ≡ length constant
     → ComparedSoFar constant at same old mid
-    → IsTrue old.fixed.tells → length old.to_come < length constant → ⊥
+    → IsTrue old.fixed.tells → length old.remaining < length constant → ⊥
 all_there constant {mid = mid} all so_far told few =
-    let whole = ap length (so_far.got.taken told) ∙ length-append so_far.got.front mid.to_come in
-    let taken = so_far.got.front_is.0 in
+    let whole = ap length (so_far.got.taken told) ∙ length-append so_far.got.prefix mid.remaining in
+    let taken = so_far.got.prefix_is.0 in
     omega arith
 
 whole_is : (constant : List ℕ) (at : ℕ) → at ≡ length constant → take at constant ≡ constant
@@ -106,34 +106,34 @@ module _ {E : Type 0} {gives : Error → E → Type 0} {eof : E → Bool} (const
     (all : at ≡ length constant) where
   -- all were read, and are the constant
   pub constant_read : {B : Type 0} {x : B} → ComparedSoFar constant at true old new
-      → Reads gives eof (λ _. constant) (constant_bytes old.encoding constant) (Ok x) old new
+      → Reads gives eof (λ _. constant) (constant_bytes old.mode constant) (Ok x) old new
   unfolding constant_bytes raw_bytes coding
   constant_read so_far =
       let means : List ℕ → List ℕ → Type 0 = λ u v. (u ≡ v) × (v ≡ constant) in
       all_so_far so_far (λ s h. record {
         code = constant;
         code_is = (sym (h.1.0 refl ∙ whole_is constant at all), h.0 ∙ all);
-        stands = Accepts-exact old.encoding.strict means (IsExpected constant) constant constant (refl, refl);
+        stands = Accepts-exact old.mode.strict means (IsExpected constant) constant constant (refl, refl);
       })
 
   -- all were read, and are others
   pub constant_differs : {B : Type 0} {e : E} → ComparedSoFar constant at false old new
       → IsNamed gives (IsExpected constant) e
-      → Reads gives eof (λ (b : B). constant) (constant_bytes old.encoding constant) (Err e) old new
+      → Reads gives eof (λ (b : B). constant) (constant_bytes old.mode constant) (Err e) old new
   unfolding constant_bytes raw_bytes
   constant_differs so_far named =
-      let s = so_far.got.front in
-      let h = so_far.got.front_is in
+      let s = so_far.got.prefix in
+      let h = so_far.got.prefix_is in
       let raw : Reads gives eof (λ (u : Unit {0}). s) (raw_bytes (length constant)) (Ok tt) old new = record {
         kept = so_far.kept;
         answer = record {
-          front = s;
-          front_is = (refl, h.0 ∙ all);
+          prefix = s;
+          prefix_is = (refl, h.0 ∙ all);
           taken = so_far.got.taken;
           no_fault = so_far.got.no_fault;
           untouched = so_far.got.untouched;
         };
       } in
-      code_means_nothing old.encoding (exact_code (λ u v. (u ≡ v) × (v ≡ constant)) (IsExpected constant))
+      code_means_nothing old.mode (exact_code (λ u v. (u ≡ v) × (v ≡ constant)) (IsExpected constant))
       (raw_bytes_laws (length constant)) (λ v m. m)
       (λ v m. let yes = h.1.1 (m.0 ∙ (m.1 ∙ sym (whole_is constant at all))) in absurd (cc)) named raw

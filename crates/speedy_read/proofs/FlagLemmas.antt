@@ -6,9 +6,9 @@ use Rattle.std.proofs.lemmas.List.{length-map}
 use Rattle.speedy_base.specs.declared.error.ErrorKind.TheVariants as kinds
 use Rattle.speedy_base.specs.declared.error.Error.{Error}
 use Rattle.speedy_base.specs.Error.{error_of}
-use Rattle.speedy_base.specs.Digits.{SpellsNumber, AreBytes}
-use Rattle.speedy_base.specs.DigitsLemmas.{SpellsNumber-one_byte}
-use Rattle.speedy_base.specs.Encoding.{Encoding}
+use Rattle.speedy_base.specs.Digits.{EncodesNumber, AreBytes}
+use Rattle.speedy_base.specs.DigitsLemmas.{EncodesNumber-one_byte}
+use Rattle.speedy_base.specs.Mode.{Mode}
 use Rattle.speedy_layout.specs.Codes.{Accepts-is, coding}
 use Rattle.speedy_layout.specs.Flags.{flag, flag_code}
 use Rattle.speedy_layout.specs.Format.{Each}
@@ -22,70 +22,70 @@ use Rattle.speedy_read.specs.Flags.{number_is_flag}
 use Rattle.speedy_read.specs.Reading.{ReaderState, Reads}
 use Rattle.speedy_read.proofs.ListLemmas.{refused_room}
 
--- where no written form is demanded, each byte is a flag
-each_flag : (encoding : Encoding) → encoding.strict ≡ false → (bytes : List ℕ) → AreBytes bytes
-    → Each (flag encoding).spells (map (λ n. not (nat_eq n 0)) bytes) bytes
+-- where no canonical encoding is demanded, each byte is a flag
+each_flag : (mode : Mode) → mode.strict ≡ false → (bytes : List ℕ) → AreBytes bytes
+    → Each (flag mode).encodes (map (λ n. not (nat_eq n 0)) bytes) bytes
 unfolding coding unsigned_number
-each_flag encoding plain [] are = refl
-each_flag encoding plain (b ∷ bytes) are = record {
-  front = b ∷ [];
-  back = bytes;
+each_flag mode plain [] are = refl
+each_flag mode plain (b ∷ bytes) are = record {
+  prefix = b ∷ [];
+  suffix = bytes;
   whole_is = refl;
   first_is = record {
     code = b;
-    code_is = SpellsNumber-one_byte encoding.order b are.0;
-    stands = Accepts-is encoding.strict flag_code b (not (nat_eq b 0)) (number_is_flag b) (λ strict. absurd (cc));
+    code_is = EncodesNumber-one_byte mode.order b are.0;
+    stands = Accepts-is mode.strict flag_code b (not (nat_eq b 0)) (number_is_flag b) (λ strict. absurd (cc));
   };
-  second_is = each_flag encoding plain bytes are.1;
+  second_is = each_flag mode plain bytes are.1;
 }
 
--- and flags are spelled by bytes alone
-flag_bytes : (encoding : Encoding) (flags : List Bool) (s : List ℕ) → Each (flag encoding).spells flags s
-    → (codes : List ℕ) × (length codes ≡ length flags) × Each (SpellsNumber 1 encoding.order) codes s
+-- and flags are encoded by bytes alone
+flag_bytes : (mode : Mode) (flags : List Bool) (s : List ℕ) → Each (flag mode).encodes flags s
+    → (codes : List ℕ) × (length codes ≡ length flags) × Each (EncodesNumber 1 mode.order) codes s
 unfolding coding unsigned_number
-flag_bytes encoding [] s h = ([], refl, h)
-flag_bytes encoding (b ∷ flags) s h =
-    let more = flag_bytes encoding flags h.back h.second_is in (
+flag_bytes mode [] s h = ([], refl, h)
+flag_bytes mode (b ∷ flags) s h =
+    let more = flag_bytes mode flags h.suffix h.second_is in (
       h.first_is.code ∷ more.0,
       ap suc more.1,
       record {
-        front = h.front;
-        back = h.back;
+        prefix = h.prefix;
+        suffix = h.suffix;
         whole_is = h.whole_is;
         first_is = h.first_is.code_is;
         second_is = more.2;
       },
     )
 
-flags_cover : (n : ℕ) (encoding : Encoding) → Covers (vector n (unsigned_number 1 encoding)) (vector n (flag encoding))
+flags_cover : (n : ℕ) (mode : Mode) → Covers (vector n (unsigned_number 1 mode)) (vector n (flag mode))
 unfolding vector owned_content repeat coding unsigned_number
-flags_cover n encoding = record {
-  under = λ flags s h. let bytes = flag_bytes encoding flags s h.1 in (bytes.0, (bytes.1 ∙ h.0, bytes.2));
+flags_cover n mode = record {
+  under = λ flags s h. let bytes = flag_bytes mode flags s h.1 in (bytes.0, (bytes.1 ∙ h.0, bytes.2));
   names = λ kind h. inl h;
   malformed = λ bytes are h. absurd h;
   asks = asks_same;
 }
 
-module _ {E : Type 0} {gives : Error → E → Type 0} {eof : E → Bool} (encoding : Encoding) {A B : Type 0}
+module _ {E : Type 0} {gives : Error → E → Type 0} {eof : E → Bool} (mode : Mode) {A B : Type 0}
     {seen : A → List ℕ} {seen' : B → List Bool} {old new : ReaderState} (n : ℕ) where
   -- where no bytes are read, no flags are
   pub flags_refused : {e : E} {result : Result B E} → IsErrAnd result (λ x. x ≡ e)
-      → Reads gives eof seen (vector n (unsigned_number 1 encoding)) (Err e) old new
-      → Reads gives eof seen' (vector n (flag encoding)) result old new
-  flags_refused passed r = refused_covered (flags_cover n encoding) passed r
+      → Reads gives eof seen (vector n (unsigned_number 1 mode)) (Err e) old new
+      → Reads gives eof seen' (vector n (flag mode)) result old new
+  flags_refused passed r = refused_covered (flags_cover n mode) passed r
 
   -- the flags that bytes are, or want of memory for them
-  pub flags_answered : encoding.strict ≡ false → {x : A} (result : Result B E)
+  pub flags_answered : mode.strict ≡ false → {x : A} (result : Result B E)
       → MatchResult result (λ y. seen' y ≡ map (λ m. not (nat_eq m 0)) (seen x)) (gives (error_of kinds.OutOfMemory))
       → AreBytes (seen x)
-      → Reads gives eof seen (vector n (unsigned_number 1 encoding)) (Ok x) old new
-      → Reads gives eof seen' (vector n (flag encoding)) result old new
+      → Reads gives eof seen (vector n (unsigned_number 1 mode)) (Ok x) old new
+      → Reads gives eof seen' (vector n (flag mode)) result old new
   unfolding vector owned_content repeat unsigned_number
   flags_answered plain {x = x} (Ok y) h are r =
       got_covered (λ s bytes. (
         ap length h ∙ (length-map (seen x) (λ m. not (nat_eq m 0)) ∙ bytes.0),
-        subst (λ (flags : List Bool). Each (flag encoding).spells flags s) (sym h)
-            (subst (λ (t : List ℕ). Each (flag encoding).spells (map (λ m. not (nat_eq m 0)) (seen x)) t)
-            (each_byte_is encoding.order (seen x) s bytes.1) (each_flag encoding plain (seen x) are)),
+        subst (λ (flags : List Bool). Each (flag mode).encodes flags s) (sym h)
+            (subst (λ (t : List ℕ). Each (flag mode).encodes (map (λ m. not (nat_eq m 0)) (seen x)) t)
+            (each_byte_is mode.order (seen x) s bytes.1) (each_flag mode plain (seen x) are)),
       )) r
-  flags_answered plain (Err e) h are r = refused_room n (flag encoding) e r.kept r.answer.no_fault refl h
+  flags_answered plain (Err e) h are r = refused_room n (flag mode) e r.kept r.answer.no_fault refl h

@@ -10,7 +10,7 @@ use Rattle.speedy_base.specs.declared.error.ErrorKind.TheVariants as kinds
 use Rattle.speedy_base.specs.declared.error.Error.{Error}
 use Rattle.speedy_base.specs.Digits.{AreBytes}
 use Rattle.speedy_base.specs.DigitsLemmas.{AreBytes-append, AreBytes-append_parts}
-use Rattle.speedy_base.specs.Encoding.{Encoding}
+use Rattle.speedy_base.specs.Mode.{Mode}
 use Rattle.speedy_base.specs.declared.device.Faults.{Faults}
 use Rattle.speedy_base.specs.MemoryDevices.{no_faults}
 use Rattle.speedy_base.specs.Error.{error_of, is_eof_error, IsNamed, IsNamed-more}
@@ -26,22 +26,22 @@ use Rattle.speedy_layout.specs.Texts.{raw_bytes, raw_bytes_laws, each_byte, each
 use Rattle.speedy_read.specs.Buffers.{memory_state}
 use Rattle.speedy_read.specs.Codes.{Covers, got_covered, unaccepted}
 use Rattle.speedy_read.specs.Frames.{filling, Unfilled, Fills, FillsIfNoneLeft}
-use Rattle.speedy_read.specs.Reading.{ReaderState, Got, IsTold, refusing_kinds, Excused, Refused, Unspelled, Reads}
+use Rattle.speedy_read.specs.Reading.{ReaderState, Got, IsTold, refusing_kinds, Excused, Refused, Undecodable, Reads}
 use Rattle.speedy_read.specs.ReadingLemmas.{IsTold-part, Reads-passed, part_refused}
 use Rattle.speedy_read.specs.Sequences.{Composes}
 
 -- the number of bytes is read, and then a value that fills so many
-pub frame_composes : {V : Type 0} (f : Encoding) (number : Format ℕ) (F : Format V)
+pub frame_composes : {V : Type 0} (f : Mode) (number : Format ℕ) (F : Format V)
     → Composes number (filling f F) (frame f number F) (λ n v. v)
 unfolding frame coding sequence raw_bytes
 frame_composes f number F = record {
   joins = λ n v s t h k. record {
     code = k.code;
     code_is = record {
-      front = s;
-      back = t;
+      prefix = s;
+      suffix = t;
       whole_is = refl;
-      first_is = subst (λ (m : ℕ). number.spells m s) (sym (ap length k.code_is.0 ∙ k.code_is.1)) h;
+      first_is = subst (λ (m : ℕ). number.encodes m s) (sym (ap length k.code_is.0 ∙ k.code_is.1)) h;
       second_is = (k.code_is.0, sym (ap length k.code_is.0));
     };
     stands = k.stands;
@@ -50,8 +50,8 @@ frame_composes f number F = record {
     length h.code,
     v,
     record {
-      front = h.code_is.front;
-      back = h.code_is.back;
+      prefix = h.code_is.prefix;
+      suffix = h.code_is.suffix;
       whole_is = h.code_is.whole_is;
       first_is = h.code_is.first_is;
       second_is = record { code = h.code; code_is = h.code_is.second_is; stands = h.stands };
@@ -66,14 +66,14 @@ frame_composes f number F = record {
         | inr x ↦ inr (
           length x.code,
           record {
-            front = x.code_is.front;
-            back = x.code_is.back ++ x.rest;
+            prefix = x.code_is.prefix;
+            suffix = x.code_is.suffix ++ x.rest;
             whole_is = x.whole_is
-                ∙ (ap (λ s. s ++ x.rest) x.code_is.whole_is ∙ append_assoc x.code_is.front x.code_is.back x.rest);
+                ∙ (ap (λ s. s ++ x.rest) x.code_is.whole_is ∙ append_assoc x.code_is.prefix x.code_is.suffix x.rest);
             first_is = x.code_is.first_is;
             second_is = inr (record {
               code = x.code;
-              front = x.code_is.back;
+              prefix = x.code_is.suffix;
               rest = x.rest;
               whole_is = refl;
               code_is = x.code_is.second_is;
@@ -87,12 +87,12 @@ frame_composes f number F = record {
 }
 
 -- where so many bytes are refused, a value that fills them is
-pub bytes_cover_filling : {V : Type 0} (f : Encoding) (F : Format V) (n : ℕ) → Covers (raw_bytes n) (filling f F n)
+pub bytes_cover_filling : {V : Type 0} (f : Mode) (F : Format V) (n : ℕ) → Covers (raw_bytes n) (filling f F n)
 unfolding coding raw_bytes
 bytes_cover_filling f F n = record {
   under = λ v s h. (h.code, h.code_is);
   names = λ kind h. absurd h;
-  malformed = λ bytes are h. elim h [ inl x ↦ inl x | inr x ↦ inr (x.code, x.front, x.rest, x.whole_is, x.code_is) ];
+  malformed = λ bytes are h. elim h [ inl x ↦ inl x | inr x ↦ inr (x.code, x.prefix, x.rest, x.whole_is, x.code_is) ];
   asks = asks_nothing_more;
 }
 
@@ -108,12 +108,12 @@ memory_excused gives takes e old new never before since (inr fault) =
     absurd (elim fault.0 [ inl more ↦ omega arith | inr most ↦ omega arith ])
 
 module _ {E V : Type 0} {gives : Error → E → Type 0} {eof : E → Bool} {F : Format V} {lends : Bool}
-    {targets after : List GName} {bytes rest : List ℕ} {f g : Encoding} where
-  unspelled : {e : E} → Refused gives eof F e (memory_state lends targets bytes f) (memory_state lends after rest g)
+    {targets after : List GName} {bytes rest : List ℕ} {f g : Mode} where
+  undecodable : {e : E} → Refused gives eof F e (memory_state lends targets bytes f) (memory_state lends after rest g)
       → AreBytes bytes → AreCounted bytes → (IsTrue F.asks.lending → IsTrue lends) → (v : V)
-      → F.spells v bytes → ⊥
-  unspelled refused are fit lent v h =
-      (refused.because (record { tells = refl; are_bytes = are; fit = fit; lends = lent })).no_front v bytes []
+      → F.encodes v bytes → ⊥
+  undecodable refused are fit lent v h =
+      (refused.because (record { tells = refl; are_bytes = are; fit = fit; lends = lent })).no_prefix v bytes []
       (sym (append-nil bytes)) h
 
   -- a read from the bytes of a frame that is refused
@@ -135,10 +135,10 @@ module _ {E V : Type 0} {gives : Error → E → Type 0} {eof : E → Bool} {F :
       | inl ended ↦ absurd (true≢false (sym ended.1 ∙ same.1))
       | inr named ↦ (named.0, inl named.1, subst (gives (error_of named.0)) (sym same.0) named.2)
     ];
-    because = unspelled refused;
+    because = undecodable refused;
   })
   refused_filling keeps_eof e x (inr ended) (inr refused) =
-      inr (record { kind = (kinds.OutOfRangeLength, inr refl, ended.0); because = unspelled refused })
+      inr (record { kind = (kinds.OutOfRangeLength, inr refl, ended.0); because = undecodable refused })
 
   -- what is answered where none of the frame's bytes may be left
   pub filled : {A : Type 0} {seen : A → V} {strict : Bool} {least : ℕ} → Laws strict least F
@@ -148,13 +148,13 @@ module _ {E V : Type 0} {gives : Error → E → Type 0} {eof : E → Bool} {F :
       → Fills gives seen F lends result bytes
   filled {seen = seen} laws keeps_eof fit (Ok x) (Ok y) is judged r =
       let none : rest ≡ [] = nil_from_length rest (sym is ∙ judged.1) in
-      let front = r.answer.front in
-      let whole : bytes ≡ front = r.answer.taken refl ∙ (ap (λ s. front ++ s) none ∙ append-nil front) in
-      (rw (whole, judged.0) r.answer.front_is, fit)
+      let prefix = r.answer.prefix in
+      let whole : bytes ≡ prefix = r.answer.taken refl ∙ (ap (λ s. prefix ++ s) none ∙ append-nil prefix) in
+      (rw (whole, judged.0) r.answer.prefix_is, fit)
   filled {seen = seen} laws keeps_eof fit (Ok x) (Err e) is judged r = inr (record {
     kind = (kinds.OutOfRangeLength, inr refl, judged.0);
     because = λ are fit lent v h.
-        let same = laws.decodes v (seen x) bytes r.answer.front [] rest h r.answer.front_is
+        let same = laws.decodes v (seen x) bytes r.answer.prefix [] rest h r.answer.prefix_is
         (append-nil bytes ∙ r.answer.taken refl) in
         judged.1 (is ∙ sym (ap length same.2));
   })
@@ -172,7 +172,7 @@ unfilled_named F lends kind lent (inl (inr h)) = absurd (true≢false (sym (lent
 unfilled_named F lends kind lent (inr h) = inr h
 
 -- and of a kind that a read of the frame is refused with
-unfilled_refused : {V : Type 0} (f : Encoding) (F : Format V) (n : ℕ) (lends outer : Bool)
+unfilled_refused : {V : Type 0} (f : Mode) (F : Format V) (n : ℕ) (lends outer : Bool)
     → (lends ≡ false → outer ≡ false) → (kind : ErrorKind)
     → refusing_kinds F lends kind ⊎ (kind ≡ kinds.OutOfRangeLength) → refusing_kinds (filling f F n) outer kind
 unfolding coding
@@ -186,31 +186,32 @@ lends_too true outer same h = refl
 lends_too false outer same h = absurd (true≢false (sym h ∙ same refl))
 
 -- the bytes of the frame were read, and no value fills them
-unfilled_read : {E V : Type 0} {gives : Error → E → Type 0} {eof : E → Bool} (f : Encoding) {F : Format V} {least : ℕ}
+unfilled_read : {E V : Type 0} {gives : Error → E → Type 0} {eof : E → Bool} (f : Mode) {F : Format V} {least : ℕ}
     → Laws f.strict least F → (n : ℕ) {lends : Bool} {old new : ReaderState}
-    → (lends ≡ false → old.fixed.lends ≡ false) → {e : E} {bytes : List ℕ} → Got ((raw_bytes n).spells bytes) old new
-    → Unfilled gives F lends e bytes → IsTold (filling f F n) old → Unspelled gives eof (filling f F n) e old.to_come
+    → (lends ≡ false → old.fixed.lends ≡ false) → {e : E} {bytes : List ℕ} → Got ((raw_bytes n).encodes bytes) old new
+    → Unfilled gives F lends e bytes → IsTold (filling f F n) old
+    → Undecodable gives eof (filling f F n) e old.remaining
 unfolding coding raw_bytes
 unfilled_read {gives = gives} {eof = eof} f {F = F} laws n {lends = lends} {old = old} {new = new} same {e = e}
     {bytes = bytes} got unfilled told =
     let lent : IsTrue F.asks.lending → IsTrue lends =
     λ need. lends_too lends old.fixed.lends same (told.lends need) in
     let taken = got.taken told.tells in
-    let are = subst AreBytes (sym got.front_is.0)
-    (AreBytes-append_parts got.front new.to_come (subst AreBytes taken told.are_bytes)).0 in
-    let joined = ap length taken ∙ length-append got.front new.to_come in
-    let whole = ap length got.front_is.0 in
+    let are = subst AreBytes (sym got.prefix_is.0)
+    (AreBytes-append_parts got.prefix new.remaining (subst AreBytes taken told.are_bytes)).0 in
+    let joined = ap length taken ∙ length-append got.prefix new.remaining in
+    let whole = ap length got.prefix_is.0 in
     let fit = told.fit in
     let named : IsNamed gives (λ kind. (frame_code F).refusals kind ⊎ IsDemand f.strict (frame_code F) kind) e =
     (unfilled.kind.0, inl (unfilled_named F lends unfilled.kind.0 lent unfilled.kind.1), unfilled.kind.2) in
-    let un : Unspelled gives eof (coding f (frame_code F) (raw_bytes n)) e old.to_come =
-    unaccepted f (frame_code F) (raw_bytes_laws n) new.to_come got.front_is taken
+    let un : Undecodable gives eof (coding f (frame_code F) (raw_bytes n)) e old.remaining =
+    unaccepted f (frame_code F) (raw_bytes_laws n) new.remaining got.prefix_is taken
     (λ v h. unfilled.because are (omega arith) lent v
-    (Accepts-means f.strict (frame_code F) bytes v (λ k. (laws.written_spells v bytes k.0, k.1)) h).0) named in
-    record { no_front = un.no_front; too_short = un.too_short; malformed = un.malformed }
+    (Accepts-means f.strict (frame_code F) bytes v (λ k. (laws.written_encodes v bytes k.0, k.1)) h).0) named in
+    record { no_prefix = un.no_prefix; too_short = un.too_short; malformed = un.malformed }
 
 module _ {E A B V : Type 0} {gives : Error → E → Type 0} {eof : E → Bool} {shown : A → List ℕ} {x : A} {seen : B → V}
-    (f : Encoding) {F : Format V} {least : ℕ} (laws : Laws f.strict least F) (n : ℕ) {lends : Bool}
+    (f : Mode) {F : Format V} {least : ℕ} (laws : Laws f.strict least F) (n : ℕ) {lends : Bool}
     {old new : ReaderState} (same : lends ≡ false → old.fixed.lends ≡ false) where
   -- the bytes of the frame were read, and then a value that fills them or none
   pub filling_read : (result : Result B E) → Reads gives eof shown (raw_bytes n) (Ok x) old new
@@ -238,53 +239,53 @@ module _ {E A B V : Type 0} {gives : Error → E → Type 0} {eof : E → Bool} 
 
 -- a value is read from the bytes of a frame, under the context of the reader that they were read from
 pub frame_filled : {E A B V : Type 0} {gives : Error → E → Type 0} {eof : E → Bool} {shown : A → List ℕ} {x : A}
-    {seen : B → V} (F : Encoding → Format V) {least : ℕ} → ((f : Encoding) → Laws f.strict least (F f)) → (n : ℕ)
-    {lends : Bool} {result : Result B E} {old mid new : ReaderState} {lent : Encoding}
+    {seen : B → V} (F : Mode → Format V) {least : ℕ} → ((f : Mode) → Laws f.strict least (F f)) → (n : ℕ)
+    {lends : Bool} {result : Result B E} {old mid new : ReaderState} {lent : Mode}
     → (lends ≡ false → old.fixed.lends ≡ false) → Reads gives eof shown (raw_bytes n) (Ok x) old mid
-    → lent ≡ mid.encoding → new ≡ mid → Fills gives seen (F lent) lends result (shown x)
-    → Reads gives eof seen (filling old.encoding (F old.encoding) n) result old new
+    → lent ≡ mid.mode → new ≡ mid → Fills gives seen (F lent) lends result (shown x)
+    → Reads gives eof seen (filling old.mode (F old.mode) n) result old new
 frame_filled {gives = gives} {eof = eof} {shown = shown} {x = x} {seen = seen} F laws n {lends = lends}
     {result = result} {old = old} same r own is fills =
-    subst (λ (s : ReaderState). Reads gives eof seen (filling old.encoding (F old.encoding) n) result old s) (sym is)
-    (filling_read old.encoding (laws old.encoding) n same result r
-    (subst (λ (f : Encoding). Fills gives seen (F f) lends result (shown x)) (own ∙ r.kept.encoding) fills))
+    subst (λ (s : ReaderState). Reads gives eof seen (filling old.mode (F old.mode) n) result old s) (sym is)
+    (filling_read old.mode (laws old.mode) n same result r
+    (subst (λ (f : Mode). Fills gives seen (F f) lends result (shown x)) (own ∙ r.kept.mode) fills))
 
 -- ---- bytes of a vector
 
 -- numbers of one digit that were read are bytes
 pub bytes_of_vector : {E A B : Type 0} {gives : Error → E → Type 0} {eof : E → Bool} {seen : A → List ℕ}
-    {shown : B → List ℕ} {x : A} {y : B} (n : ℕ) (encoding : Encoding) {old new : ReaderState} → shown y ≡ seen x
-    → Reads gives eof seen (vector n (unsigned_number 1 encoding)) (Ok x) old new
+    {shown : B → List ℕ} {x : A} {y : B} (n : ℕ) (mode : Mode) {old new : ReaderState} → shown y ≡ seen x
+    → Reads gives eof seen (vector n (unsigned_number 1 mode)) (Ok x) old new
     → Reads gives eof shown (raw_bytes n) (Ok y) old new
 unfolding vector owned_content repeat unsigned_number raw_bytes
-bytes_of_vector {seen = seen} {x = x} n encoding same r =
-    got_covered (λ s h. let is = each_byte_is encoding.order (seen x) s h.1 in (same ∙ is, ap length (sym is) ∙ h.0)) r
+bytes_of_vector {seen = seen} {x = x} n mode same r =
+    got_covered (λ s h. let is = each_byte_is mode.order (seen x) s h.1 in (same ∙ is, ap length (sym is) ∙ h.0)) r
 
 -- as many bytes are numbers
-as_numbers : (n : ℕ) (encoding : Encoding) (bytes : List ℕ) → AreBytes bytes → length bytes ≡ n
-    → (vector n (unsigned_number 1 encoding)).spells bytes bytes
+as_numbers : (n : ℕ) (mode : Mode) (bytes : List ℕ) → AreBytes bytes → length bytes ≡ n
+    → (vector n (unsigned_number 1 mode)).encodes bytes bytes
 unfolding vector owned_content repeat unsigned_number
-as_numbers n encoding bytes are long = (long, each_byte encoding.order bytes are)
+as_numbers n mode bytes are long = (long, each_byte mode.order bytes are)
 
-names_none : (n : ℕ) (encoding : Encoding) (kind : ErrorKind) → (vector n (unsigned_number 1 encoding)).names kind → ⊥
+names_none : (n : ℕ) (mode : Mode) (kind : ErrorKind) → (vector n (unsigned_number 1 mode)).names kind → ⊥
 unfolding vector owned_content repeat unsigned_number
-names_none n encoding kind h = absurd h
+names_none n mode kind h = absurd h
 
-lends_none : (n : ℕ) (encoding : Encoding) → (vector n (unsigned_number 1 encoding)).asks.lending ≡ false
+lends_none : (n : ℕ) (mode : Mode) → (vector n (unsigned_number 1 mode)).asks.lending ≡ false
 unfolding vector owned_content repeat unsigned_number
-lends_none n encoding = refl
+lends_none n mode = refl
 
 AreBytes-zeros : (n : ℕ) → AreBytes (replicate n 0)
 AreBytes-zeros zero = tt
 AreBytes-zeros (suc n) = (lit< tt, AreBytes-zeros n)
 
 -- where so many numbers of one digit are refused, a value that fills so many bytes is
-vector_unspelled : {E V : Type 0} {gives : Error → E → Type 0} {eof : E → Bool} (f : Encoding) (F : Format V) (n : ℕ)
+vector_undecodable : {E V : Type 0} {gives : Error → E → Type 0} {eof : E → Bool} (f : Mode) (F : Format V) (n : ℕ)
     {e : E} {bytes : List ℕ} → AreBytes bytes
-    → Unspelled gives eof (vector n (unsigned_number 1 f)) e bytes → Unspelled gives eof (filling f F n) e bytes
+    → Undecodable gives eof (vector n (unsigned_number 1 f)) e bytes → Undecodable gives eof (filling f F n) e bytes
 unfolding coding raw_bytes
-vector_unspelled f F n {e = e} {bytes = bytes} are un = record {
-  no_front = no_front;
+vector_undecodable f F n {e = e} {bytes = bytes} are un = record {
+  no_prefix = no_prefix;
   too_short = λ v more h.
       let long = length-append bytes more in
       let whole = ap length h.code_is.0 ∙ h.code_is.1 in
@@ -298,18 +299,18 @@ vector_unspelled f F n {e = e} {bytes = bytes} are un = record {
   malformed = λ bad.
       elim bad [
         | inl x ↦ absurd x
-        | inr x ↦ absurd (un.no_front x.front x.front x.rest x.whole_is
-            (as_numbers n f x.front (AreBytes-append_parts x.front x.rest (subst AreBytes x.whole_is are)).0
+        | inr x ↦ absurd (un.no_prefix x.prefix x.prefix x.rest x.whole_is
+            (as_numbers n f x.prefix (AreBytes-append_parts x.prefix x.rest (subst AreBytes x.whole_is are)).0
             x.code_is.1))
       ];
 } where
-  no_front : (v : _) (front rest : List ℕ) → bytes ≡ front ++ rest → (filling f F n).spells v front → ⊥
-  no_front v front rest is h =
-      un.no_front front front rest is
-      (as_numbers n f front (AreBytes-append_parts front rest (subst AreBytes is are)).0 h.code_is.1)
+  no_prefix : (v : _) (prefix rest : List ℕ) → bytes ≡ prefix ++ rest → (filling f F n).encodes v prefix → ⊥
+  no_prefix v prefix rest is h =
+      un.no_prefix prefix prefix rest is
+      (as_numbers n f prefix (AreBytes-append_parts prefix rest (subst AreBytes is are)).0 h.code_is.1)
 
 pub vector_refused : {E A B V : Type 0} {gives : Error → E → Type 0} {eof : E → Bool} {seen : A → List ℕ}
-    {seen' : B → V} (f : Encoding) (F : Format V) (n : ℕ) {e : E} {result : Result B E} {old new : ReaderState}
+    {seen' : B → V} (f : Mode) (F : Format V) (n : ℕ) {e : E} {result : Result B E} {old new : ReaderState}
     → IsErrAnd result (λ x. x ≡ e) → Reads gives eof seen (vector n (unsigned_number 1 f)) (Err e) old new
     → Reads gives eof seen' (filling f F n) result old new
 vector_refused f F n {new = new} passed r =
@@ -317,19 +318,19 @@ vector_refused f F n {new = new} passed r =
       kept = r.kept;
       answer = part_refused new refl refl (λ _. refl) (λ t. absurd (true≢false (sym t ∙ lends_none n f)))
           (λ kind h. absurd (names_none n f kind h))
-          (λ told because. vector_unspelled f F n told.are_bytes
+          (λ told because. vector_undecodable f F n told.are_bytes
           (because (IsTold-part (λ t. absurd (true≢false (sym t ∙ lends_none n f))) told))) r.answer;
     })
 
 -- ---- a reader whose context was lent
 
--- a reader that has its context back, with the encoding that this had, is seen as it was
+-- a reader that has its context back, with the mode that this had, is seen as it was
 pub context_back : {R C : Type 0} {state : R → ReaderState} (with_context : R → C → R) (at : R → C)
-    (encoding : C → Encoding) → ((r : R) → (state r).encoding ≡ encoding (at r))
-    → ((r : R) (c : C) → state (with_context r c) ≡ record (state r) { encoding = encoding c })
-    → (r after : R) (lent c : C) → lent ≡ at r → encoding c ≡ encoding lent → after ≡ with_context r c
+    (mode : C → Mode) → ((r : R) → (state r).mode ≡ mode (at r))
+    → ((r : R) (c : C) → state (with_context r c) ≡ record (state r) { mode = mode c })
+    → (r after : R) (lent c : C) → lent ≡ at r → mode c ≡ mode lent → after ≡ with_context r c
     → state after ≡ state r
-context_back {state = state} with_context at encoding encoding_at state_with r after lent c value kept is =
+context_back {state = state} with_context at mode mode_at state_with r after lent c value kept is =
     ap state is
     ∙ (state_with r c
-    ∙ ap (λ e. record (state r) { encoding = e }) (kept ∙ (ap encoding value ∙ sym (encoding_at r))))
+    ∙ ap (λ e. record (state r) { mode = e }) (kept ∙ (ap mode value ∙ sym (mode_at r))))

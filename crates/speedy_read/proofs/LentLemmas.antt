@@ -7,20 +7,20 @@ use Rattle.std.proofs.Common.{sym, ◌∙◌, ap, subst, inl, inr, arith}
 use Rattle.speedy_base.specs.declared.error.ErrorKind.TheVariants as kinds
 use Rattle.speedy_base.specs.declared.error.Error.{Error}
 use Rattle.speedy_base.specs.Error.{error_of}
-use Rattle.speedy_base.specs.Digits.{AreBytes, SpellsNumber}
-use Rattle.speedy_base.specs.Encoding.{Encoding}
+use Rattle.speedy_base.specs.Digits.{AreBytes, EncodesNumber}
+use Rattle.speedy_base.specs.Mode.{Mode}
 use Rattle.speedy_layout.specs.Format.{Asks, Format, Each}
-use Rattle.speedy_layout.specs.Lists.{repeat, vector, list, counted_list}
+use Rattle.speedy_layout.specs.Lists.{repeat, vector, list, prefixed_list}
 use Rattle.speedy_layout.specs.Numbers.{unsigned_number}
 use Rattle.speedy_layout.specs.Owned.{owned_content, borrowed_content}
 use Rattle.speedy_layout.specs.Prefixed.{Numbers}
 use Rattle.speedy_layout.specs.Codes.{coding, subset, subset_code}
-use Rattle.speedy_layout.specs.Texts.{raw_bytes, raw_bytes_laws, text_of_length, counted_text, each_byte}
+use Rattle.speedy_layout.specs.Texts.{raw_bytes, raw_bytes_laws, text_of_length, prefixed_text, each_byte}
 use Rattle.speedy_layout.specs.Views.{each_one_size}
 use Rattle.speedy_layout.specs.Sequences.{asks_nothing_more}
 use Rattle.speedy_read.specs.Reading.{ReaderState, Kept, Reads, ShowsNothing}
 use Rattle.speedy_read.specs.ReadingLemmas.{Kept-same}
-use Rattle.speedy_read.specs.Counted.{counted_text_composes, counted_list_composes}
+use Rattle.speedy_read.specs.Counted.{prefixed_text_composes, prefixed_list_composes}
 use Rattle.speedy_read.specs.Sequences.{Composes}
 use Rattle.speedy_read.specs.Codes.{Covers, refused_covered, got_covered, codes_cover, exact_code_read}
 use Rattle.speedy_read.specs.Codes.{code_means_nothing}
@@ -71,9 +71,9 @@ content_covers none = record {
   asks = record { lending = λ _. refl; hashed = λ t. t; memory = λ t. absurd (cc) };
 }
 
--- where so many items of one size are spelled, there are the bytes of so many
+-- where so many items of one size are encoded, there are the bytes of so many
 pub bytes_cover_items : {V : Type 0} (size : ℕ) (F : Format V)
-    → ((v : V) (bytes : List ℕ) → F.spells v bytes → length bytes ≡ size) → (n : ℕ) {all : ℕ} → n * size ≡ all
+    → ((v : V) (bytes : List ℕ) → F.encodes v bytes → length bytes ≡ size) → (n : ℕ) {all : ℕ} → n * size ≡ all
     → Covers (raw_bytes all) (repeat n F)
 unfolding raw_bytes repeat
 bytes_cover_items size F one n whole = record {
@@ -83,16 +83,16 @@ bytes_cover_items size F one n whole = record {
   asks = asks_nothing_more;
 }
 
-bytes_cover : (n : ℕ) (encoding : Encoding) → Covers (raw_bytes n) (repeat n (unsigned_number 1 encoding))
+bytes_cover : (n : ℕ) (mode : Mode) → Covers (raw_bytes n) (repeat n (unsigned_number 1 mode))
 unfolding unsigned_number
-bytes_cover n encoding = bytes_cover_items 1 _ (λ v bytes h. h.width_is) n (omega arith)
+bytes_cover n mode = bytes_cover_items 1 _ (λ v bytes h. h.width_is) n (omega arith)
 
-bytes_spell_items : (n : ℕ) (encoding : Encoding) (bytes : List ℕ) → AreBytes bytes → (s : List ℕ)
-    → (raw_bytes n).spells bytes s → (repeat n (unsigned_number 1 encoding)).spells bytes s
+bytes_encode_items : (n : ℕ) (mode : Mode) (bytes : List ℕ) → AreBytes bytes → (s : List ℕ)
+    → (raw_bytes n).encodes bytes s → (repeat n (unsigned_number 1 mode)).encodes bytes s
 unfolding raw_bytes repeat unsigned_number
-bytes_spell_items n encoding bytes are s h = (
+bytes_encode_items n mode bytes are s h = (
   ap length h.0 ∙ h.1,
-  subst (λ (t : List ℕ). Each (SpellsNumber 1 encoding.order) bytes t) h.0 (each_byte encoding.order bytes are),
+  subst (λ (t : List ℕ). Each (EncodesNumber 1 mode.order) bytes t) h.0 (each_byte mode.order bytes are),
 )
 
 module _ {E : Type 0} {gives : Error → E → Type 0} {eof : E → Bool} {old new : ReaderState} where
@@ -121,39 +121,39 @@ module _ {E : Type 0} {gives : Error → E → Type 0} {eof : E → Bool} {old n
   pub lent_length : {A : Type 0} {shows : A → List ℕ} {n : ℕ} {x : A}
       → Reads gives eof shows (borrowed_content (raw_bytes n)) (Ok x) old new → length (shows x) ≡ n
   unfolding borrowed_content raw_bytes
-  lent_length r = let is = r.answer.front_is in ap length is.0 ∙ is.1
+  lent_length r = let is = r.answer.prefix_is in ap length is.0 ∙ is.1
 
-  module _ {A : Type 0} {shows : A → List ℕ} (n : ℕ) (encoding : Encoding) where
+  module _ {A : Type 0} {shows : A → List ℕ} (n : ℕ) (mode : Mode) where
     -- lent bytes are items of one byte each
     pub items_lent : {result : Result A E} → IfOk result (λ x. AreBytes (shows x))
         → Reads gives eof shows (borrowed_content (raw_bytes n)) result old new
-        → Reads gives eof shows (borrowed_content (vector n (unsigned_number 1 encoding))) result old new
+        → Reads gives eof shows (borrowed_content (vector n (unsigned_number 1 mode))) result old new
     unfolding borrowed_content vector owned_content
-    items_lent {result = Ok x} are r = got_covered (bytes_spell_items n encoding (shows x) are) r
-    items_lent {result = Err e} are r = refused_covered (borrowed_covers (bytes_cover n encoding)) refl r
+    items_lent {result = Ok x} are r = got_covered (bytes_encode_items n mode (shows x) are) r
+    items_lent {result = Err e} are r = refused_covered (borrowed_covers (bytes_cover n mode)) refl r
 
     -- as they are of a vector, which a cow may borrow
     pub cow_lent : {result : Result A E} → IfOk result (λ x. AreBytes (shows x))
         → Reads gives eof shows (raw_bytes n) result old new
-        → Reads gives eof shows (vector n (unsigned_number 1 encoding)) result old new
+        → Reads gives eof shows (vector n (unsigned_number 1 mode)) result old new
     unfolding vector
-    cow_lent {result = Ok x} are r = owned_read (got_covered (bytes_spell_items n encoding (shows x) are) r)
-    cow_lent {result = Err e} are r = owned_read (refused_covered (bytes_cover n encoding) refl r)
+    cow_lent {result = Ok x} are r = owned_read (got_covered (bytes_encode_items n mode (shows x) are) r)
+    cow_lent {result = Err e} are r = owned_read (refused_covered (bytes_cover n mode) refl r)
 
     module _ {B : Type 0} {seen' : B → List ℕ} where
       -- lent bytes that are refused are no text
       pub text_not_lent : {e : E} {result : Result B E} → IsErrAnd result (λ x. x ≡ e)
           → Reads gives eof shows (borrowed_content (raw_bytes n)) (Err e) old new
-          → Reads gives eof seen' (borrowed_content (text_of_length encoding n)) result old new
+          → Reads gives eof seen' (borrowed_content (text_of_length mode n)) result old new
       unfolding borrowed_content text_of_length owned_content
       text_not_lent passed r =
-          refused_covered (borrowed_covers (codes_cover encoding (subset_code IsUtf8 kinds.InvalidUtf8))) passed r
+          refused_covered (borrowed_covers (codes_cover mode (subset_code IsUtf8 kinds.InvalidUtf8))) passed r
 
       text_decided : {x : A} {r : Result B E}
           → MatchResult r (λ t. (seen' t ≡ shows x) × IsUtf8 (shows x))
           (λ e. gives (error_of kinds.InvalidUtf8) e × (IsUtf8 (shows x) → ⊥))
           → Reads gives eof shows (raw_bytes n) (Ok x) old new
-          → Reads gives eof seen' (subset encoding IsUtf8 kinds.InvalidUtf8 (raw_bytes n)) r old new
+          → Reads gives eof seen' (subset mode IsUtf8 kinds.InvalidUtf8 (raw_bytes n)) r old new
       text_decided {r = Ok t} h read = exact_code_read _ _ _ (sym h.0, subst IsUtf8 (sym h.0) h.1) read
       text_decided {r = Err e} h read = code_means_nothing _ _ (raw_bytes_laws n) (λ _ h. h)
           (λ v k. h.1 (subst IsUtf8 (sym k.0) k.1)) (kinds.InvalidUtf8, refl, h.0) read
@@ -163,29 +163,29 @@ module _ {E : Type 0} {gives : Error → E → Type 0} {eof : E → Bool} {old n
           → MatchResult r (λ t. (seen' t ≡ shows x) × IsUtf8 (shows x))
           (λ e. gives (error_of kinds.InvalidUtf8) e × (IsUtf8 (shows x) → ⊥))
           → Reads gives eof shows (borrowed_content (raw_bytes n)) (Ok x) old new
-          → Reads gives eof seen' (borrowed_content (text_of_length encoding n)) r old new
+          → Reads gives eof seen' (borrowed_content (text_of_length mode n)) r old new
       unfolding borrowed_content text_of_length owned_content raw_bytes coding
-      text_lent h read = borrowed_read (subset encoding IsUtf8 kinds.InvalidUtf8 (raw_bytes n)) refl
+      text_lent h read = borrowed_read (subset mode IsUtf8 kinds.InvalidUtf8 (raw_bytes n)) refl
           (text_decided h (got_covered (λ s h. h) read))
 
 -- ---- sequences of a count and what is borrowed
 
-pub str_composes : (numbers : Numbers) (f : Encoding)
+pub str_composes : (numbers : Numbers) (f : Mode)
     → Composes (numbers.codec.format f) (λ n. borrowed_content (text_of_length f n))
-    (borrowed_content (counted_text f (numbers.codec.format f))) (λ n t. t)
+    (borrowed_content (prefixed_text f (numbers.codec.format f))) (λ n t. t)
 str_composes numbers f =
     borrowed_composes (ap (λ (a : Asks). a.memory) (numbers.none_asked f))
-    (counted_text_composes f (numbers.codec.format f))
+    (prefixed_text_composes f (numbers.codec.format f))
 
-pub borrowed_items_compose : {V : Type 0} (numbers : Numbers) (F : Format V) (f : Encoding)
+pub borrowed_items_compose : {V : Type 0} (numbers : Numbers) (F : Format V) (f : Mode)
     → Composes (numbers.codec.format f) (λ n. borrowed_content (vector n F))
-    (borrowed_content (counted_list (numbers.codec.format f) F)) (λ n vs. vs)
+    (borrowed_content (prefixed_list (numbers.codec.format f) F)) (λ n vs. vs)
 borrowed_items_compose numbers F f =
     borrowed_composes (ap (λ (a : Asks). a.memory) (numbers.none_asked f))
-    (counted_list_composes (numbers.codec.format f) F)
+    (prefixed_list_composes (numbers.codec.format f) F)
 
-pub borrowed_list_composes : {V : Type 0} (F : Format V) (encoding : Encoding)
-    → Composes (unsigned_number 4 encoding) (λ n. borrowed_content (vector n F)) (borrowed_content (list encoding F))
+pub borrowed_list_composes : {V : Type 0} (F : Format V) (mode : Mode)
+    → Composes (unsigned_number 4 mode) (λ n. borrowed_content (vector n F)) (borrowed_content (list mode F))
     (λ n vs. vs)
 unfolding unsigned_number
-borrowed_list_composes F encoding = borrowed_composes refl (list_composes F encoding)
+borrowed_list_composes F mode = borrowed_composes refl (list_composes F mode)

@@ -6,7 +6,7 @@ use Rattle.std.proofs.lemmas.List.{map-append, append_assoc, append-nil}
 use Rattle.speedy_base.specs.declared.error.ErrorKind.TheVariants as kinds
 use Rattle.speedy_base.specs.declared.error.Error.{Error}
 use Rattle.speedy_base.specs.Error.{error_of}
-use Rattle.speedy_base.specs.Encoding.{Encoding}
+use Rattle.speedy_base.specs.Mode.{Mode}
 use Rattle.speedy_layout.specs.Format.{Format, Each}
 use Rattle.speedy_layout.specs.Laws.{Laws}
 use Rattle.speedy_layout.specs.Lists.{each_more, repeat, vector, vector_laws, list}
@@ -14,10 +14,17 @@ use Rattle.speedy_layout.specs.Owned.{owned_content}
 use Rattle.speedy_layout.specs.Numbers.{unsigned_number}
 use Rattle.speedy_layout.specs.Sequences.{across}
 use Rattle.speedy_read.specs.Reading.{ReaderState, Kept, Reads, IsEnd}
-use Rattle.speedy_read.specs.ReadingLemmas.{fronts_nest, Kept-same, Kept-after, IsTold-after, part_refused, ends_early}
+use Rattle.speedy_read.specs.ReadingLemmas.{
+  prefixes_nest,
+  Kept-same,
+  Kept-after,
+  IsTold-after,
+  part_refused,
+  ends_early,
+}
 use Rattle.speedy_read.specs.ReadingLemmas.{ReadSoFar, more_so_far, all_so_far, Reads-passed}
 use Rattle.speedy_read.specs.Sequences.{Composes}
-use Rattle.speedy_read.specs.Counted.{counted_list_composes}
+use Rattle.speedy_read.specs.Counted.{prefixed_list_composes}
 use Rattle.speedy_read.proofs.OwnedLemmas.{memory_refused}
 
 -- what is seen of the items and one item more, which was added
@@ -26,34 +33,35 @@ pub seen_added : {X V : Type 0} (seen : X → V) (xs zs : List X) (x : X) → zs
 seen_added seen xs zs x added = ap (map seen) added ∙ map-append seen xs (x ∷ [])
 
 -- a list is read as its length, and then so many items
-pub list_composes : {V : Type 0} (L : Format V) (encoding : Encoding)
-    → Composes (unsigned_number 4 encoding) (λ n. vector n L) (list encoding L) (λ n vs. vs)
+pub list_composes : {V : Type 0} (L : Format V) (mode : Mode)
+    → Composes (unsigned_number 4 mode) (λ n. vector n L) (list mode L) (λ n vs. vs)
 unfolding list
-list_composes L encoding = counted_list_composes (unsigned_number 4 encoding) L
+list_composes L mode = prefixed_list_composes (unsigned_number 4 mode) L
 
 module _ {V : Type 0} {strict : Bool} {least : ℕ} {L : Format V} (laws : Laws strict least L) where
-  -- where more items are spelled than were read, the next one is spelled by what is left
-  pub next_item : (vs ws : List V) (s t r q : List ℕ) → length vs < length ws → Each L.spells vs s → Each L.spells ws t
-      → s ++ r ≡ t ++ q → (w : V) × (front rest : List ℕ) × (r ≡ front ++ rest) × L.spells w front
+  -- where more items are encoded than were read, the next one is encoded by what is left
+  pub next_item : (vs ws : List V) (s t r q : List ℕ) → length vs < length ws → Each L.encodes vs s
+      → Each L.encodes ws t
+      → s ++ r ≡ t ++ q → (w : V) × (prefix rest : List ℕ) × (r ≡ prefix ++ rest) × L.encodes w prefix
   next_item vs [] s t r q l h k e = absurd (omega arith)
   next_item [] (w ∷ ws) s t r q l h k e = (
     w,
-    k.front,
-    k.back ++ q,
-    ap (λ x. x ++ r) (sym h) ∙ (e ∙ (ap (λ x. x ++ q) k.whole_is ∙ append_assoc k.front k.back q)),
+    k.prefix,
+    k.suffix ++ q,
+    ap (λ x. x ++ r) (sym h) ∙ (e ∙ (ap (λ x. x ++ q) k.whole_is ∙ append_assoc k.prefix k.suffix q)),
     k.first_is,
   )
   next_item (v ∷ vs) (w ∷ ws) s t r q l h k e =
-      let joined = across s t r q h.front h.back k.front k.back h.whole_is k.whole_is e in
-      let first = laws.decodes v w h.front k.front (h.back ++ r) (k.back ++ q) h.first_is k.first_is joined in
+      let joined = across s t r q h.prefix h.suffix k.prefix k.suffix h.whole_is k.whole_is e in
+      let first = laws.decodes v w h.prefix k.prefix (h.suffix ++ r) (k.suffix ++ q) h.first_is k.first_is joined in
       let fewer : length vs < length ws = omega arith in
-      next_item vs ws h.back k.back r q fewer h.second_is k.second_is first.2
+      next_item vs ws h.suffix k.suffix r q fewer h.second_is k.second_is first.2
 
   module _ {E : Type 0} {gives : Error → E → Type 0} {eof : E → Bool} {B : Type 0} {seen' : B → List V} (n : ℕ)
       {old : ReaderState} where
-    -- fewer bytes are to come than so many items have at least
+    -- fewer bytes remain than so many items have at least
     pub refused_early : {e : E} → IsEnd gives eof old.fixed.ends_by_device e
-        → (IsTrue old.fixed.tells → length old.to_come < 2 ^ 64 - 1 → length old.to_come < n * least)
+        → (IsTrue old.fixed.tells → length old.remaining < 2 ^ 64 - 1 → length old.remaining < n * least)
         → Reads gives eof seen' (vector n L) (Err e) old old
     unfolding vector owned_content repeat
     refused_early ended fewer = record {
@@ -63,7 +71,7 @@ module _ {V : Type 0} {strict : Bool} {least : ℕ} {L : Format V} (laws : Laws 
 
     -- where an item is refused, the vector is
     pub refused_item : {A : Type 0} {seen : A → V} (vs : List V) {e : E} {result : Result B E} {mid new : ReaderState}
-        → length vs < n → ReadSoFar (Each L.spells vs) old mid → IsErrAnd result (λ x. x ≡ e)
+        → length vs < n → ReadSoFar (Each L.encodes vs) old mid → IsErrAnd result (λ x. x ≡ e)
         → Reads gives eof seen L (Err e) mid new → Reads gives eof seen' (vector n L) result old new
     unfolding vector owned_content repeat
     refused_item vs {e = e} {mid = mid} {new = new} fewer so_far passed r =
@@ -74,20 +82,21 @@ module _ {V : Type 0} {strict : Bool} {least : ℕ} {L : Format V} (laws : Laws 
               (λ told because.
               let un = because (IsTold-after so_far.kept (λ need. need) told) in
               record {
-                no_front = λ ws front rest is sp.
+                no_prefix = λ ws prefix rest is sp.
                     let item =
-                    next_item vs ws got.front front mid.to_come rest (subst (λ (m : ℕ). length vs < m) (sym sp.0) fewer)
-                    got.front_is sp.1 (sym (got.taken told.tells) ∙ is) in
-                    un.no_front item.0 item.1 item.2 item.3 item.4;
+                    next_item vs ws got.prefix prefix mid.remaining rest
+                    (subst (λ (m : ℕ). length vs < m) (sym sp.0) fewer)
+                    got.prefix_is sp.1 (sym (got.taken told.tells) ∙ is) in
+                    un.no_prefix item.0 item.1 item.2 item.3 item.4;
                 too_short = λ ws more sp.
-                    let whole = old.to_come ++ more in
-                    let joined = sym (append_assoc got.front mid.to_come more)
+                    let whole = old.remaining ++ more in
+                    let joined = sym (append_assoc got.prefix mid.remaining more)
                     ∙ (ap (λ x. x ++ more) (sym (got.taken told.tells)) ∙ sym (append-nil whole)) in
-                    let item = next_item vs ws got.front whole (mid.to_come ++ more) []
-                    (subst (λ (m : ℕ). length vs < m) (sym sp.0) fewer) got.front_is sp.1 joined in
-                    elim (fronts_nest mid.to_come more item.1 item.2 item.3) [
-                      | inl h ↦ un.too_short item.0 h.0 (subst (L.spells item.0) h.1 item.4)
-                      | inr h ↦ absurd (un.no_front item.0 item.1 h.0 h.1 item.4)
+                    let item = next_item vs ws got.prefix whole (mid.remaining ++ more) []
+                    (subst (λ (m : ℕ). length vs < m) (sym sp.0) fewer) got.prefix_is sp.1 joined in
+                    elim (prefixes_nest mid.remaining more item.1 item.2 item.3) [
+                      | inl h ↦ un.too_short item.0 h.0 (subst (L.encodes item.0) h.1 item.4)
+                      | inr h ↦ absurd (un.no_prefix item.0 item.1 h.0 h.1 item.4)
                     ];
                 malformed = λ bad. absurd bad;
               })
@@ -98,14 +107,14 @@ module _ {E : Type 0} {gives : Error → E → Type 0} {eof : E → Bool} {V : T
     {old new : ReaderState} where
   -- one item more was read
   pub item_more : {A : Type 0} {seen : A → V} {x : A} (vs : List V) {ws : List V} {mid : ReaderState}
-      → ReadSoFar (Each L.spells vs) old mid → Reads gives eof seen L (Ok x) mid new → ws ≡ vs ++ seen x ∷ []
-      → ReadSoFar (Each L.spells ws) old new
+      → ReadSoFar (Each L.encodes vs) old mid → Reads gives eof seen L (Ok x) mid new → ws ≡ vs ++ seen x ∷ []
+      → ReadSoFar (Each L.encodes ws) old new
   item_more {seen = seen} {x = x} vs so_far read is =
-      subst (λ (us : List V). ReadSoFar (Each L.spells us) old new) (sym is)
-      (more_so_far so_far read (λ s t h k. each_more L.spells vs (seen x) s t h k))
+      subst (λ (us : List V). ReadSoFar (Each L.encodes us) old new) (sym is)
+      (more_so_far so_far read (λ s t h k. each_more L.encodes vs (seen x) s t h k))
 
   -- all items were read
-  pub got_items : {B : Type 0} {seen' : B → List V} {y : B} (n : ℕ) → ReadSoFar (Each L.spells (seen' y)) old new
+  pub got_items : {B : Type 0} {seen' : B → List V} {y : B} (n : ℕ) → ReadSoFar (Each L.encodes (seen' y)) old new
       → length (seen' y) ≡ n → Reads gives eof seen' (vector n L) (Ok y) old new
   unfolding vector owned_content repeat
   got_items n so_far l = all_so_far so_far (λ s h. (l, h))

@@ -4,9 +4,9 @@ use Rattle.std.proofs.Common.{◌∙◌, ap, ap₂, subst, sym, inl, inr}
 use Rattle.std.proofs.lemmas.List.{length-append}
 use Rattle.speedy_base.specs.declared.error.Error.{Error}
 use Rattle.speedy_base.specs.declared.endianness.Endianness.{Endianness}
-use Rattle.speedy_base.specs.Digits.{SpellsNumber}
-use Rattle.speedy_base.specs.Encoding.{Encoding}
-use Rattle.speedy_layout.specs.FixedNumbers.{IsFixed, spelled_in, size_of_fixed}
+use Rattle.speedy_base.specs.Digits.{EncodesNumber}
+use Rattle.speedy_base.specs.Mode.{Mode}
+use Rattle.speedy_layout.specs.FixedNumbers.{IsFixed, encoded_in, size_of_fixed}
 use Rattle.speedy_layout.specs.Format.{Format}
 use Rattle.speedy_layout.specs.Laws.{Laws}
 use Rattle.speedy_layout.specs.Numbers.{unsigned_number}
@@ -17,9 +17,9 @@ use Rattle.speedy_read.specs.Reading.{ReaderState, Reads, Peeks}
 use Rattle.speedy_read.specs.Codes.{Covers, refused_covered, peek_refused_covered, got_covered, ahead_covered}
 
 -- a number is read as its bytes
-pub bytes_cover_digits : (width : ℕ) (encoding : Encoding) → Covers (raw_bytes width) (unsigned_number width encoding)
+pub bytes_cover_digits : (width : ℕ) (mode : Mode) → Covers (raw_bytes width) (unsigned_number width mode)
 unfolding raw_bytes unsigned_number
-bytes_cover_digits width encoding = record {
+bytes_cover_digits width mode = record {
   under = λ v s h. (s, (refl, h.width_is));
   names = λ kind h. absurd h;
   malformed = λ bytes _ h. absurd h;
@@ -27,13 +27,13 @@ bytes_cover_digits width encoding = record {
 }
 
 -- two numbers are read as the bytes of both
-bytes_cover_two : (m n : ℕ) (encoding : Encoding)
-    → Covers (raw_bytes (m + n)) (pair (unsigned_number m encoding) (unsigned_number n encoding))
+bytes_cover_two : (m n : ℕ) (mode : Mode)
+    → Covers (raw_bytes (m + n)) (pair (unsigned_number m mode) (unsigned_number n mode))
 unfolding raw_bytes unsigned_number sequence
-bytes_cover_two m n encoding = record {
+bytes_cover_two m n mode = record {
   under = λ v s h. (
     s,
-    (refl, ap length h.whole_is ∙ length-append h.front h.back ∙ ap₂ ◌+◌ h.first_is.width_is h.second_is.width_is),
+    (refl, ap length h.whole_is ∙ length-append h.prefix h.suffix ∙ ap₂ ◌+◌ h.first_is.width_is h.second_is.width_is),
   );
   names = λ kind h. absurd h;
   malformed = λ bytes _ h.
@@ -44,14 +44,14 @@ bytes_cover_two m n encoding = record {
   asks = asks_same;
 }
 
-two_stand : (m n : ℕ) (encoding : Encoding) (a b : ℕ) (front back bytes s : List ℕ)
-    → SpellsNumber m encoding.order a front → SpellsNumber n encoding.order b back → bytes ≡ front ++ back
-    → (raw_bytes (m + n)).spells bytes s
-    → (pair (unsigned_number m encoding) (unsigned_number n encoding)).spells (a, b) s
+two_stand : (m n : ℕ) (mode : Mode) (a b : ℕ) (prefix suffix bytes s : List ℕ)
+    → EncodesNumber m mode.order a prefix → EncodesNumber n mode.order b suffix → bytes ≡ prefix ++ suffix
+    → (raw_bytes (m + n)).encodes bytes s
+    → (pair (unsigned_number m mode) (unsigned_number n mode)).encodes (a, b) s
 unfolding raw_bytes unsigned_number sequence
-two_stand m n encoding a b front back bytes s first second whole h = record {
-  front = front;
-  back = back;
+two_stand m n mode a b prefix suffix bytes s first second whole h = record {
+  prefix = prefix;
+  suffix = suffix;
   whole_is = sym h.0 ∙ whole;
   first_is = first;
   second_is = second;
@@ -61,60 +61,60 @@ module _ {E : Type 0} {gives : Error → E → Type 0} {eof : E → Bool} {old n
   -- where the bytes of two numbers are refused, both numbers are
   pub two_refused : (m n : ℕ) {A B : Type 0} {seen : A → List ℕ} {seen' : B → ℕ × ℕ} {e : E} {result : Result B E}
       → IsErrAnd result (λ x. x ≡ e) → Reads gives eof seen (raw_bytes (m + n)) (Err e) old new
-      → Reads gives eof seen' (pair (unsigned_number m old.encoding) (unsigned_number n old.encoding)) result old new
-  two_refused m n passed r = refused_covered (bytes_cover_two m n old.encoding) passed r
+      → Reads gives eof seen' (pair (unsigned_number m old.mode) (unsigned_number n old.mode)) result old new
+  two_refused m n passed r = refused_covered (bytes_cover_two m n old.mode) passed r
 
-  -- the numbers that the front and the back of the bytes spell in the order that the reader has after them
-  pub two_read : {m n a b : ℕ} {order : Endianness} {bytes : List ℕ} (front back : List ℕ) {A : Type 0} {x : A}
-      → Reads gives eof (λ _. bytes) (raw_bytes (m + n)) (Ok x) old new → order ≡ new.encoding.order
-      → bytes ≡ front ++ back → SpellsNumber m order a front → SpellsNumber n order b back
-      → Reads gives eof (λ p. p) (pair (unsigned_number m old.encoding) (unsigned_number n old.encoding))
+  -- the numbers that the prefix and the suffix of the bytes encode in the order that the reader has after them
+  pub two_read : {m n a b : ℕ} {order : Endianness} {bytes : List ℕ} (prefix suffix : List ℕ) {A : Type 0} {x : A}
+      → Reads gives eof (λ _. bytes) (raw_bytes (m + n)) (Ok x) old new → order ≡ new.mode.order
+      → bytes ≡ prefix ++ suffix → EncodesNumber m order a prefix → EncodesNumber n order b suffix
+      → Reads gives eof (λ p. p) (pair (unsigned_number m old.mode) (unsigned_number n old.mode))
       (Ok (a, b)) old new
-  two_read {m = m} {n = n} {a = a} {b = b} {bytes = bytes} front back r is whole first second =
-      let same = is ∙ ap (λ (encoding : Encoding). encoding.order) r.kept.encoding in
+  two_read {m = m} {n = n} {a = a} {b = b} {bytes = bytes} prefix suffix r is whole first second =
+      let same = is ∙ ap (λ (mode : Mode). mode.order) r.kept.mode in
       got_covered
-      (λ s h. two_stand m n old.encoding a b front back bytes s (subst (λ (o : Endianness). SpellsNumber m o a front)
-      same first) (subst (λ (o : Endianness). SpellsNumber n o b back) same second) whole h) r
+      (λ s h. two_stand m n old.mode a b prefix suffix bytes s (subst (λ (o : Endianness). EncodesNumber m o a prefix)
+      same first) (subst (λ (o : Endianness). EncodesNumber n o b suffix) same second) whole h) r
 
 -- Numbers of a fixed size are read and peeked as their digits.
-module _ {V : Type 0} {F : Encoding → Format V} {least width : ℕ}
-    (laws : (encoding : Encoding) → Laws encoding.strict least (F encoding)) (fixed : IsFixed width F) where
-  digits_cover : {size : ℕ} → size ≡ width → (encoding : Encoding) → Covers (raw_bytes size) (F encoding)
+module _ {V : Type 0} {F : Mode → Format V} {least width : ℕ}
+    (laws : (mode : Mode) → Laws mode.strict least (F mode)) (fixed : IsFixed width F) where
+  digits_cover : {size : ℕ} → size ≡ width → (mode : Mode) → Covers (raw_bytes size) (F mode)
   unfolding raw_bytes
-  digits_cover is encoding = record {
-    under = λ v s h. (s, (refl, size_of_fixed fixed encoding v s h ∙ sym is));
+  digits_cover is mode = record {
+    under = λ v s h. (s, (refl, size_of_fixed fixed mode v s h ∙ sym is));
     names = λ kind h. absurd h;
-    malformed = λ bytes _ h. absurd (fixed.none_malformed encoding bytes h);
+    malformed = λ bytes _ h. absurd (fixed.none_malformed mode bytes h);
     asks = asks_nothing_more;
   }
 
-  digits_stand : (size : ℕ) {order : Endianness} {encoding : Encoding} {v : V} {bytes : List ℕ} → order ≡ encoding.order
-      → spelled_in F order v bytes → (s : List ℕ) → (raw_bytes size).spells bytes s → (F encoding).spells v s
+  digits_stand : (size : ℕ) {order : Endianness} {mode : Mode} {v : V} {bytes : List ℕ} → order ≡ mode.order
+      → encoded_in F order v bytes → (s : List ℕ) → (raw_bytes size).encodes bytes s → (F mode).encodes v s
   unfolding raw_bytes
-  digits_stand size {encoding = encoding} {v = v} {bytes = bytes} same spelled s h =
-      let written = fixed.writes encoding v bytes (subst (λ (o : Endianness). spelled_in F o v bytes) same spelled) in
-      subst ((F encoding).spells v) h.0 ((laws encoding).written_spells v bytes written)
+  digits_stand size {mode = mode} {v = v} {bytes = bytes} same encoded s h =
+      let written = fixed.writes mode v bytes (subst (λ (o : Endianness). encoded_in F o v bytes) same encoded) in
+      subst ((F mode).encodes v) h.0 ((laws mode).written_encodes v bytes written)
 
   module _ {E : Type 0} {gives : Error → E → Type 0} {eof : E → Bool} {old new : ReaderState} {A B : Type 0}
       {bytes : List ℕ} {seen : B → V} where
     pub digits_refused : {size : ℕ} {e : E} {result : Result B E} → size ≡ width → IsErrAnd result (λ x. x ≡ e)
         → Reads gives eof (λ (_ : A). bytes) (raw_bytes size) (Err e) old new
-        → Reads gives eof seen (F old.encoding) result old new
-    digits_refused is passed r = refused_covered (digits_cover is old.encoding) passed r
+        → Reads gives eof seen (F old.mode) result old new
+    digits_refused is passed r = refused_covered (digits_cover is old.mode) passed r
 
-    pub digits_read : (size : ℕ) {order : Endianness} {x : A} {y : B} → order ≡ new.encoding.order
-        → spelled_in F order (seen y) bytes → Reads gives eof (λ (_ : A). bytes) (raw_bytes size) (Ok x) old new
-        → Reads gives eof seen (F old.encoding) (Ok y) old new
-    digits_read size same spelled r =
-        got_covered (digits_stand size (same ∙ ap (λ (e : Encoding). e.order) r.kept.encoding) spelled) r
+    pub digits_read : (size : ℕ) {order : Endianness} {x : A} {y : B} → order ≡ new.mode.order
+        → encoded_in F order (seen y) bytes → Reads gives eof (λ (_ : A). bytes) (raw_bytes size) (Ok x) old new
+        → Reads gives eof seen (F old.mode) (Ok y) old new
+    digits_read size same encoded r =
+        got_covered (digits_stand size (same ∙ ap (λ (e : Mode). e.order) r.kept.mode) encoded) r
 
     pub digits_not_peeked : {size : ℕ} {e : E} {result : Result B E} → size ≡ width → IsErrAnd result (λ x. x ≡ e)
         → Peeks gives eof (λ (_ : A). bytes) (raw_bytes size) (Err e) old new
-        → Peeks gives eof seen (F old.encoding) result old new
-    digits_not_peeked is passed r = peek_refused_covered (digits_cover is old.encoding) passed r
+        → Peeks gives eof seen (F old.mode) result old new
+    digits_not_peeked is passed r = peek_refused_covered (digits_cover is old.mode) passed r
 
-    pub digits_peeked : (size : ℕ) {order : Endianness} {x : A} {y : B} → order ≡ new.encoding.order
-        → spelled_in F order (seen y) bytes → Peeks gives eof (λ (_ : A). bytes) (raw_bytes size) (Ok x) old new
-        → Peeks gives eof seen (F old.encoding) (Ok y) old new
-    digits_peeked size same spelled r =
-        ahead_covered (digits_stand size (same ∙ ap (λ (e : Encoding). e.order) r.kept.encoding) spelled) r
+    pub digits_peeked : (size : ℕ) {order : Endianness} {x : A} {y : B} → order ≡ new.mode.order
+        → encoded_in F order (seen y) bytes → Peeks gives eof (λ (_ : A). bytes) (raw_bytes size) (Ok x) old new
+        → Peeks gives eof seen (F old.mode) (Ok y) old new
+    digits_peeked size same encoded r =
+        ahead_covered (digits_stand size (same ∙ ap (λ (e : Mode). e.order) r.kept.mode) encoded) r

@@ -11,7 +11,7 @@ module _ (name : GName) {old new : ReaderState} where
   held_kept : Kept old new → Kept (held_state name old) (held_state name new)
   held_kept k = record {
     fixed = ap (λ (kind : ReaderKind). held_kind name kind) k.fixed;
-    encoding = k.encoding;
+    mode = k.mode;
     tidy = k.tidy;
     faults = k.faults;
     tail = k.tail;
@@ -20,15 +20,15 @@ module _ (name : GName) {old new : ReaderState} where
   held_kept_by_peek : KeptByPeek old new → KeptByPeek (held_state name old) (held_state name new)
   held_kept_by_peek k = record {
     fixed = ap (λ (kind : ReaderKind). held_kind name kind) k.fixed;
-    encoding = k.encoding;
+    mode = k.mode;
     faults = k.faults;
-    to_come = k.to_come;
+    remaining = k.remaining;
   }
 
-  held_got : {spelled : List ℕ → Type 0} → Got spelled old new → Got spelled (held_state name old) (held_state name new)
+  held_got : {encoded : List ℕ → Type 0} → Got encoded old new → Got encoded (held_state name old) (held_state name new)
   held_got g = record {
-    front = g.front;
-    front_is = g.front_is;
+    prefix = g.prefix;
+    prefix_is = g.prefix_is;
     taken = g.taken;
     no_fault = g.no_fault;
     untouched = λ none. ap (λ (s : ReaderState). held_state name s) (g.untouched none);
@@ -62,9 +62,9 @@ module _ (name : GName) {old new : ReaderState} where
     held_peeks {result = Ok x} r = record {
       kept = held_kept_by_peek r.kept;
       answer = record {
-        front = r.answer.front;
+        prefix = r.answer.prefix;
         rest = r.answer.rest;
-        front_is = r.answer.front_is;
+        prefix_is = r.answer.prefix_is;
         stands = r.answer.stands;
         no_fault = r.answer.no_fault;
       };
@@ -97,17 +97,17 @@ module _ {name after : GName} {old new : ReaderState} where
   unheld_kept : Kept (held_state name old) (held_state after new) → Kept old new
   unheld_kept k = record {
     fixed = ap (λ (kind : ReaderKind). record kind { targets = drop 1 kind.targets }) k.fixed;
-    encoding = k.encoding;
+    mode = k.mode;
     tidy = k.tidy;
     faults = k.faults;
     tail = k.tail;
   }
 
-  unheld_got : {spelled : List ℕ → Type 0} → Got spelled (held_state name old) (held_state after new)
-      → Got spelled old new
+  unheld_got : {encoded : List ℕ → Type 0} → Got encoded (held_state name old) (held_state after new)
+      → Got encoded old new
   unheld_got g = record {
-    front = g.front;
-    front_is = g.front_is;
+    prefix = g.prefix;
+    prefix_is = g.prefix_is;
     taken = g.taken;
     no_fault = g.no_fault;
     untouched = λ none. ap unheld (g.untouched none);

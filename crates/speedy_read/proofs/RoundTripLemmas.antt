@@ -9,7 +9,7 @@ use Rattle.speedy_base.specs.declared.error.ErrorKind.TheVariants as kinds
 use Rattle.speedy_base.specs.Error.{error_of, Errors, IsNamed}
 use Rattle.speedy_base.specs.Device.{SourceState}
 use Rattle.speedy_base.specs.DigitsLemmas.{AreBytes-slice}
-use Rattle.speedy_base.specs.Encoding.{Encoding}
+use Rattle.speedy_base.specs.Mode.{Mode}
 use Rattle.speedy_layout.specs.Codecs.{Codec}
 use Rattle.speedy_layout.specs.Format.{Format}
 use Rattle.speedy_layout.specs.Laws.{Laws}
@@ -30,17 +30,17 @@ nothing_ahead (x ∷ ahead) few = absurd (omega arith)
 module _ {E A V : Type 0} (gives : Error → E → Type 0) (eof : E → Bool) (seen : A → V) (least : ℕ) where
   module _ (L : Format V) {strict : Bool} (laws : Laws strict least L) (v : V) (bytes rest : List ℕ)
       (written : L.writes v bytes) where
-    front_answered : (result : Result A E) (count : ℕ) (buffer : List ℕ) → buffer ≡ bytes ++ rest
+    prefix_answered : (result : Result A E) (count : ℕ) (buffer : List ℕ) → buffer ≡ bytes ++ rest
         → AnswersBufferIf gives eof (Unit {0}) L.names seen least L result count buffer
         → AnswersWritten gives seen L v (length bytes) result count
-    front_answered (Ok x) count buffer e a =
+    prefix_answered (Ok x) count buffer e a =
         let k = a.value in
-        let one : (seen x ≡ v) × (k.front ≡ bytes) × (k.rest ≡ rest) =
-        laws.decodes (seen x) v k.front bytes k.rest rest k.front_is (laws.written_spells v bytes written)
+        let one : (seen x ≡ v) × (k.prefix ≡ bytes) × (k.rest ≡ rest) =
+        laws.decodes (seen x) v k.prefix bytes k.rest rest k.prefix_is (laws.written_encodes v bytes written)
         (sym k.whole_is ∙ e) in
         record { same = one.0; counted = k.count_is ∙ ap length one.1; refused = tt; asks_memory = tt }
-    front_answered (Err x) count buffer e a =
-        let size = laws.least_size v bytes (laws.written_spells v bytes written) in
+    prefix_answered (Err x) count buffer e a =
+        let size = laws.least_size v bytes (laws.written_encodes v bytes written) in
         let l : length buffer ≡ length bytes + length rest = ap length e ∙ length-append bytes rest in
         let want = refusal (a.refused (omega arith)) in
         record { same = tt; counted = tt; refused = want.0; asks_memory = want.1 } where
@@ -48,14 +48,14 @@ module _ {E A V : Type 0} (gives : Error → E → Type 0) (eof : E → Bool) (s
               ⊎ RefusesBufferIf gives eof (Unit {0}) L.names L x buffer → gives (error_of kinds.OutOfMemory) x
               × IsTrue L.asks.memory
           refusal (inl m) = m
-          refusal (inr r) = absurd ((r.because tt).no_front v bytes rest e (laws.written_spells v bytes written))
+          refusal (inr r) = absurd ((r.because tt).no_prefix v bytes rest e (laws.written_encodes v bytes written))
 
-    read_back : (result : Result A E) (old new : ReaderState) → IsTrue old.fixed.tells → old.to_come ≡ bytes ++ rest
+    read_back : (result : Result A E) (old new : ReaderState) → IsTrue old.fixed.tells → old.remaining ≡ bytes ++ rest
         → Reads gives eof seen L result old new → ReadsWritten gives seen L v rest result old new
     read_back (Ok x) old new told e a =
         let k = a.answer in
-        let one : (seen x ≡ v) × (k.front ≡ bytes) × (new.to_come ≡ rest) =
-        laws.decodes (seen x) v k.front bytes new.to_come rest k.front_is (laws.written_spells v bytes written)
+        let one : (seen x ≡ v) × (k.prefix ≡ bytes) × (new.remaining ≡ rest) =
+        laws.decodes (seen x) v k.prefix bytes new.remaining rest k.prefix_is (laws.written_encodes v bytes written)
         (sym (k.taken told) ∙ e) in
         record { same = one.0; rest_is = one.2; refused = λ _. tt }
     read_back (Err x) old new told e a =
@@ -64,10 +64,10 @@ module _ {E A V : Type 0} (gives : Error → E → Type 0) (eof : E → Bool) (s
               → Excused gives L.asks.memory x old new
           refusal known (inl m) = m
           refusal known (inr r) =
-              absurd ((r.because known).no_front v bytes rest e (laws.written_spells v bytes written))
+              absurd ((r.because known).no_prefix v bytes rest e (laws.written_encodes v bytes written))
 
     -- a reader of bytes in memory has no failed calls
-    first_read : (result : Result A E) (old : ReaderState) (buffer left : List ℕ) (at after : Encoding)
+    first_read : (result : Result A E) (old : ReaderState) (buffer left : List ℕ) (at after : Mode)
         → old ≡ bytes_state buffer at → ReadsWritten gives seen L v rest result old (bytes_state left after)
         → ReadsWrittenFirst gives seen v rest buffer result left
     first_read (Ok x) old buffer left at after s r = record { same = r.same; rest_is = r.rest_is; refused = λ _ _. tt }
@@ -88,19 +88,19 @@ module _ {E A V : Type 0} (gives : Error → E → Type 0) (eof : E → Bool) (s
           elim h.0 [ inl k ↦ absurd (omega (arith, none)) | inr k ↦ absurd (omega arith) ]
 
     streamed : (buffers : Bool) (result : Result A E) (old new : SourceState) → IsTrue old.tells
-        → old.to_come ≡ bytes ++ rest → AnswersStreamIn gives eof seen L buffers result old new
+        → old.remaining ≡ bytes ++ rest → AnswersStreamIn gives eof seen L buffers result old new
         → StreamsWritten gives seen L v buffers rest result old new
     streamed buffers (Ok x) old new told e a =
         let k = a.value in
-        let one : (seen x ≡ v) × (k.front ≡ bytes) × (k.ahead ++ new.to_come ≡ rest) =
-        laws.decodes (seen x) v k.front bytes (k.ahead ++ new.to_come) rest k.front_is
-        (laws.written_spells v bytes written) (sym (k.taken told) ∙ e) in
+        let one : (seen x ≡ v) × (k.prefix ≡ bytes) × (k.ahead ++ new.remaining ≡ rest) =
+        laws.decodes (seen x) v k.prefix bytes (k.ahead ++ new.remaining) rest k.prefix_is
+        (laws.written_encodes v bytes written) (sym (k.taken told) ∙ e) in
         record {
           same = one.0;
           rest_is = λ unbuffered.
               let few : length k.ahead ≤ most_held false =
               subst (λ (b : Bool). length k.ahead ≤ most_held b) unbuffered k.at_most in
-              ap (λ (l : List ℕ). l ++ new.to_come) (sym (nothing_ahead k.ahead few)) ∙ one.2;
+              ap (λ (l : List ℕ). l ++ new.remaining) (sym (nothing_ahead k.ahead few)) ∙ one.2;
           ahead = (k.ahead, k.at_most, sym one.2);
           no_fault = k.no_fault;
           refused = λ _ _ _. tt;
@@ -115,7 +115,7 @@ module _ {E A V : Type 0} (gives : Error → E → Type 0) (eof : E → Bool) (s
             | inl want ↦ inl want
             | inr (inl failed) ↦ inr failed
             | inr (inr h) ↦
-                absurd ((h.because told are fit lends).no_front v bytes rest e (laws.written_spells v bytes written))
+                absurd ((h.because told are fit lends).no_prefix v bytes rest e (laws.written_encodes v bytes written))
           ];
     }
 
@@ -123,58 +123,58 @@ module _ {E A V : Type 0} (errors : Errors E) (seen : A → V) where
   module _ (codec : Codec V) where
     -- those of the functions over sources
     pub written_is_streamed : WrittenIsStreamed errors seen codec
-    written_is_streamed encoding v bytes rest buffers result old new h told e a =
-        streamed errors.from_gives errors.eof seen codec.least (codec.format encoding)
-        (codec.laws encoding) v bytes rest h
+    written_is_streamed mode v bytes rest buffers result old new h told e a =
+        streamed errors.from_gives errors.eof seen codec.least (codec.format mode)
+        (codec.laws mode) v bytes rest h
         buffers result old new told e a
 
     -- the laws of the functions over buffers follow from those of the layout
     pub written_is_answered : WrittenIsAnswered errors seen codec
     written_is_answered = record {
-      front = λ {encoding} {v} {bytes} rest {buffer} {result} {count} h e a.
-          front_answered errors.from_gives errors.eof seen codec.least (codec.format encoding) (codec.laws encoding)
+      prefix = λ {mode} {v} {bytes} rest {buffer} {result} {count} h e a.
+          prefix_answered errors.from_gives errors.eof seen codec.least (codec.format mode) (codec.laws mode)
           v bytes rest h result count buffer e a;
-      whole = λ {encoding} {v} {bytes} {buffer} {result} {count} h e a.
-          front_answered errors.from_gives errors.eof seen codec.least (codec.format encoding) (codec.laws encoding)
+      whole = λ {mode} {v} {bytes} {buffer} {result} {count} h e a.
+          prefix_answered errors.from_gives errors.eof seen codec.least (codec.format mode) (codec.laws mode)
           v bytes [] h result count buffer (e ∙ sym (append-nil bytes)) a;
     }
 
-  module _ (least : ℕ) (format : Encoding → Format V)
-      (laws : (encoding : Encoding) → Laws encoding.strict least (format encoding)) where
+  module _ (least : ℕ) (format : Mode → Format V)
+      (laws : (mode : Mode) → Laws mode.strict least (format mode)) where
     -- and so do those of reads
     pub written_is_read : WrittenIsRead errors seen format
     written_is_read =
         let gives = errors.from_gives in
         let eof = errors.eof in
-        let reads : (encoding : Encoding) (v : V) (bytes rest : List ℕ) (result : Result A E) (old new : ReaderState)
-        → (format encoding).writes v bytes → IsTrue old.fixed.tells → old.encoding ≡ encoding
-        → old.to_come ≡ bytes ++ rest → Reads gives eof seen (format old.encoding) result old new
-        → ReadsWritten gives seen (format encoding) v rest result old new =
-        λ encoding v bytes rest result old new h told f e a.
-        read_back gives eof seen least (format encoding) (laws encoding) v bytes rest h result old new told e
-        (subst (λ (f : Encoding). Reads gives eof seen (format f) result old new) f a) in
+        let reads : (mode : Mode) (v : V) (bytes rest : List ℕ) (result : Result A E) (old new : ReaderState)
+        → (format mode).writes v bytes → IsTrue old.fixed.tells → old.mode ≡ mode
+        → old.remaining ≡ bytes ++ rest → Reads gives eof seen (format old.mode) result old new
+        → ReadsWritten gives seen (format mode) v rest result old new =
+        λ mode v bytes rest result old new h told f e a.
+        read_back gives eof seen least (format mode) (laws mode) v bytes rest h result old new told e
+        (subst (λ (f : Mode). Reads gives eof seen (format f) result old new) f a) in
         record {
-          told = λ {encoding} {v} {bytes} {rest} {result} {old} {new} h t f e a.
-              reads encoding v bytes rest result old new h t f e a;
-          made = λ {encoding} {at} {after} {v} {bytes} {rest} {buffer} {left} {result} {old} h e s f a.
-              let read = reads encoding v bytes rest result old (bytes_state left after) h (ap (λ x. x.fixed.tells) s)
-              (ap (λ x. x.encoding) s ∙ f) (ap (λ x. x.to_come) s ∙ e) a in
-              first_read gives eof seen least (format encoding) (laws encoding) v bytes rest h result old buffer left
+          told = λ {mode} {v} {bytes} {rest} {result} {old} {new} h t f e a.
+              reads mode v bytes rest result old new h t f e a;
+          made = λ {mode} {at} {after} {v} {bytes} {rest} {buffer} {left} {result} {old} h e s f a.
+              let read = reads mode v bytes rest result old (bytes_state left after) h (ap (λ x. x.fixed.tells) s)
+              (ap (λ x. x.mode) s ∙ f) (ap (λ x. x.remaining) s ∙ e) a in
+              first_read gives eof seen least (format mode) (laws mode) v bytes rest h result old buffer left
               at after s read;
         }
 
-module _ {E A V : Type 0} (errors : Errors E) (seen : A → List V) (least : ℕ) (format : Encoding → Format V)
-    (laws : (encoding : Encoding) → Laws encoding.strict least (format encoding)) where
+module _ {E A V : Type 0} (errors : Errors E) (seen : A → List V) (least : ℕ) (format : Mode → Format V)
+    (laws : (mode : Mode) → Laws mode.strict least (format mode)) where
   -- items are read as a vector is
   pub written_items_are_read : WrittenItemsAreRead errors seen format
   unfolding vector owned_content repeat
   written_items_are_read =
-      let vectors : (n : ℕ) → WrittenIsRead errors seen (λ encoding. vector n (format encoding)) =
-      λ n. written_is_read errors seen (n * least) (λ encoding. vector n (format encoding))
-      (λ encoding. vector_laws (laws encoding) n) in
+      let vectors : (n : ℕ) → WrittenIsRead errors seen (λ mode. vector n (format mode)) =
+      λ n. written_is_read errors seen (n * least) (λ mode. vector n (format mode))
+      (λ mode. vector_laws (laws mode) n) in
       record {
-        told = λ {encoding} {vs} bytes {rest} {n} h l t f e a. (vectors n).told (sym l, h) t f e a;
-        made = λ {encoding} {at} {after} {vs} bytes {rest} {buffer} {left} {n} h l e s f a.
+        told = λ {mode} {vs} bytes {rest} {n} h l t f e a. (vectors n).told (sym l, h) t f e a;
+        made = λ {mode} {at} {after} {vs} bytes {rest} {buffer} {left} {n} h l e s f a.
             (vectors n).made (sym l, h) e s f a;
       }
 

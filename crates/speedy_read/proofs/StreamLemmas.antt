@@ -16,18 +16,18 @@ use Rattle.speedy_base.specs.Device.{SourceState}
 use Rattle.speedy_base.specs.DeviceLemmas.{failed_call}
 use Rattle.speedy_base.specs.FailedCalls.{IsErrorOf, IsOfFailedCall}
 use Rattle.speedy_base.specs.Digits.{AreBytes}
-use Rattle.speedy_base.specs.Encoding.{Encoding}
+use Rattle.speedy_base.specs.Mode.{Mode}
 use Rattle.speedy_base.specs.Ring.{Ring}
 use Rattle.speedy_layout.specs.Format.{Format}
 use Rattle.speedy_layout.specs.Texts.{raw_bytes}
-use Rattle.speedy_read.specs.Reading.{ReaderKind, ReaderState, Kept, KeptByPeek, IsEnd, Unspelled, Refused, Reads}
+use Rattle.speedy_read.specs.Reading.{ReaderKind, ReaderState, Kept, KeptByPeek, IsEnd, Undecodable, Refused, Reads}
 use Rattle.speedy_read.specs.Reading.{Peeks}
 use Rattle.speedy_read.specs.ReadingLemmas.{tells_still, KeptByPeek-after, ends_early, Peeks-passed}
 use Rattle.speedy_read.specs.declared.stream_reader.StreamReader.{StreamReader}
 use Rattle.speedy_read.specs.StreamModel.{StreamModel, stream_model, first_capacity, most_held, is_tidy, stream_kind}
 use Rattle.speedy_read.specs.StreamModel.{ring_state, stream_state}
 use Rattle.speedy_read.specs.Streams.{FillsList, FillsRing, Fills}
-use Rattle.speedy_read.specs.WaysOfReading.{WantsMemory, TookFront, RefusesStream, AnswersStreamIn, AnswersFileIn}
+use Rattle.speedy_read.specs.WaysOfReading.{WantsMemory, TookPrefix, RefusesStream, AnswersStreamIn, AnswersFileIn}
 
 -- ---- tidiness
 
@@ -56,10 +56,10 @@ pub device_ended : {E : Type 0} (gives : Error → E → Type 0) (eof : E → Bo
     → IsEnd gives eof true e
 device_ended gives eof e keeps n = (n, keeps (error_of n.0) e n.2 ∙ ends_eof true n.0 n.1)
 
--- fewer bytes are to come
+-- fewer bytes remain
 stream_ended : {E : Type 0} {gives : Error → E → Type 0} {eof : E → Bool} {n : ℕ} {e : E} {old new : ReaderState}
     → new.faults ≡ old.faults → IsEnd gives eof old.fixed.ends_by_device e
-    → (IsTrue old.fixed.tells → length old.to_come < n) → Refused gives eof (raw_bytes n) e old new
+    → (IsTrue old.fixed.tells → length old.remaining < n) → Refused gives eof (raw_bytes n) e old new
 unfolding raw_bytes
 stream_ended {n = n} clean ended fewer =
     ends_early clean n (λ v s h. let k = h.1 in omega arith) (λ _ bad. bad) ended (λ told _. fewer told)
@@ -70,25 +70,25 @@ kept_after_peek : {old mid new : ReaderState} → KeptByPeek old mid → (IsTrue
     → Kept old new
 kept_after_peek h tidy k = record {
   fixed = k.fixed ∙ h.fixed;
-  encoding = k.encoding ∙ h.encoding;
+  mode = k.mode ∙ h.mode;
   tidy = tidy;
   faults = let x = h.faults in let y = k.faults in omega arith;
   tail = λ told.
       let second = k.tail (tells_still h.fixed told) in
-      (second.0, sym (h.to_come told) ∙ second.1);
+      (second.0, sym (h.remaining told) ∙ second.1);
 }
 
 module _ {E : Type 0} {gives : Error → E → Type 0} {eof : E → Bool} {A V : Type 0} {seen : A → V} {x : A}
     {L : Format V} where
   read_after_peek : {old mid new : ReaderState} → KeptByPeek old mid → mid.faults ≡ old.faults
-      → (IsTrue old.tidy → IsTrue new.tidy) → (r : Reads gives eof seen L (Ok x) mid new) → (r.answer.front ≡ [] → ⊥)
+      → (IsTrue old.tidy → IsTrue new.tidy) → (r : Reads gives eof seen L (Ok x) mid new) → (r.answer.prefix ≡ [] → ⊥)
       → Reads gives eof seen L (Ok x) old new
   read_after_peek h clean tidy r some = record {
     kept = kept_after_peek h tidy r.kept;
     answer = record {
-      front = r.answer.front;
-      front_is = r.answer.front_is;
-      taken = λ told. sym (h.to_come told) ∙ r.answer.taken (tells_still h.fixed told);
+      prefix = r.answer.prefix;
+      prefix_is = r.answer.prefix_is;
+      taken = λ told. sym (h.remaining told) ∙ r.answer.taken (tells_still h.fixed told);
       no_fault = r.answer.no_fault ∙ clean;
       untouched = λ none. absurd (some none);
     };
@@ -97,36 +97,36 @@ module _ {E : Type 0} {gives : Error → E → Type 0} {eof : E → Bool} {A V :
 -- ---- the ring alone
 
 -- what a ring and then a source give is the front of the ring, and then the rest of both
-front_and_rest : (n : ℕ) (bytes more : List ℕ) → bytes ++ more ≡ take n bytes ++ (drop n bytes ++ more)
-front_and_rest n bytes more =
+prefix_and_rest : (n : ℕ) (bytes more : List ℕ) → bytes ++ more ≡ take n bytes ++ (drop n bytes ++ more)
+prefix_and_rest n bytes more =
     ap (λ (l : List ℕ). l ++ more) (sym (take-append-drop n bytes)) ∙ append_assoc (take n bytes) (drop n bytes) more
 
 module _ {E : Type 0} {gives : Error → E → Type 0} {eof : E → Bool} {A : Type 0} {seen : A → List ℕ} {n : ℕ} {x : A}
-    {name : GName} {b : Bool} {encoding : Encoding} (source : SourceState) (ring : Ring) where
-  front_served : n ≤ length ring.bytes → seen x ≡ take n ring.bytes
-      → Reads gives eof seen (raw_bytes n) (Ok x) (ring_state name source ring b encoding)
-      (ring_state name source (record ring { bytes = drop n ring.bytes; room = [] }) b encoding)
+    {name : GName} {b : Bool} {mode : Mode} (source : SourceState) (ring : Ring) where
+  prefix_served : n ≤ length ring.bytes → seen x ≡ take n ring.bytes
+      → Reads gives eof seen (raw_bytes n) (Ok x) (ring_state name source ring b mode)
+      (ring_state name source (record ring { bytes = drop n ring.bytes; room = [] }) b mode)
   unfolding raw_bytes
-  front_served l same =
+  prefix_served l same =
       let rest : Ring = record ring { bytes = drop n ring.bytes; room = [] } in
-      let whole = front_and_rest n ring.bytes source.to_come in
+      let whole = prefix_and_rest n ring.bytes source.remaining in
       record {
         kept = record {
           fixed = refl;
-          encoding = refl;
+          mode = refl;
           tidy = λ t. let p = tidy_parts ring b t in
               tidy_whole rest b p.0 (let m = p.1 in omega (arith, length-drop n ring.bytes));
           faults = omega arith;
           tail = λ _. (take n ring.bytes, whole);
         };
         answer = record {
-          front = take n ring.bytes;
-          front_is = (same, length-take-le n ring.bytes l);
+          prefix = take n ring.bytes;
+          prefix_is = (same, length-take-le n ring.bytes l);
           taken = λ _. whole;
           no_fault = refl;
           untouched = λ none.
               let zero : n ≡ 0 = omega (arith, length-take-le n ring.bytes l, ap length none) in
-              ap (λ (m : ℕ). ring_state name source (record ring { bytes = drop m ring.bytes; room = [] }) b encoding)
+              ap (λ (m : ℕ). ring_state name source (record ring { bytes = drop m ring.bytes; room = [] }) b mode)
               zero;
         };
       }
@@ -134,27 +134,27 @@ module _ {E : Type 0} {gives : Error → E → Type 0} {eof : E → Bool} {A : T
   -- a read that the ring serves
   pub ring_served : {rest : Ring} → n ≤ length ring.bytes → seen x ≡ take n ring.bytes
       → rest ≡ record ring { bytes = drop n ring.bytes; room = [] }
-      → Reads gives eof seen (raw_bytes n) (Ok x) (ring_state name source ring b encoding)
-      (ring_state name source rest b encoding)
+      → Reads gives eof seen (raw_bytes n) (Ok x) (ring_state name source ring b mode)
+      (ring_state name source rest b mode)
   ring_served l same is =
-      subst (λ (r : Ring). Reads gives eof seen (raw_bytes n) (Ok x) (ring_state name source ring b encoding)
-      (ring_state name source r b encoding)) (sym is) (front_served l same)
+      subst (λ (r : Ring). Reads gives eof seen (raw_bytes n) (Ok x) (ring_state name source ring b mode)
+      (ring_state name source r b mode)) (sym is) (prefix_served l same)
 
 -- ---- filling the ring
 
 module _ {E : Type 0} {gives : Error → E → Type 0} {eof : E → Bool} {A : Type 0} {n : ℕ} {held keeps : Ring}
-    {name : GName} {b : Bool} {encoding : Encoding} {old new : SourceState} where
+    {name : GName} {b : Bool} {mode : Mode} {old new : SourceState} where
   -- the source ended before the ring held enough
   pub fill_ended : {enough : Bool} {e : E} → enough ≡ false → FillsRing n b (Ok enough) held keeps old new
       → IsEnd gives eof true e
-      → Fills gives eof {A = A} n (Err e) held keeps (ring_state name old held b encoding)
-      (ring_state name new keeps b encoding)
+      → Fills gives eof {A = A} n (Err e) held keeps (ring_state name old held b mode)
+      (ring_state name new keeps b mode)
   fill_ended less f ended = record {
     kept = record {
       fixed = ap (λ (tells : Bool). stream_kind name tells b) f.kept.tells;
-      encoding = refl;
+      mode = refl;
       faults = f.kept.faults;
-      to_come = f.moved;
+      remaining = f.moved;
     };
     capacity = f.capacity;
     untouched = λ enough. absurd (let short = f.short less in let same = (f.untouched enough).1 in
@@ -171,16 +171,16 @@ module _ {E : Type 0} {gives : Error → E → Type 0} {eof : E → Bool} {A : T
   }
 
 module _ {E : Type 0} {gives : Error → E → Type 0} {eof : E → Bool} {A B : Type 0} {seen : A → List ℕ} {n : ℕ} {x : A}
-    {u : B} {held keeps : Ring} {name after : GName} {b c : Bool} {encoding encoding' : Encoding}
+    {u : B} {held keeps : Ring} {name after : GName} {b c : Bool} {mode encoding' : Mode}
     (old new : SourceState) where
   -- a read by the ring, which was filled before
   pub filled_read : {rest : Ring} → length held.bytes < n
-      → Fills gives eof n (Ok u) held keeps (ring_state name old held b encoding)
+      → Fills gives eof n (Ok u) held keeps (ring_state name old held b mode)
       (ring_state after new keeps c encoding') → seen x ≡ take n keeps.bytes → rest ≡ record keeps {
         bytes = drop n keeps.bytes;
         room = [];
       }
-      → Reads gives eof seen (raw_bytes n) (Ok x) (ring_state name old held b encoding)
+      → Reads gives eof seen (raw_bytes n) (Ok x) (ring_state name old held b mode)
       (ring_state after new rest c encoding')
   unfolding raw_bytes
   filled_read {rest = rest} more f same is =
@@ -194,29 +194,29 @@ module _ {E : Type 0} {gives : Error → E → Type 0} {eof : E → Bool} {A B :
       let size : length rest.bytes ≡ length keeps.bytes - n =
       ap (λ (r : Ring). length r.bytes) is ∙ length-drop n keeps.bytes in
       tidy_whole rest c (ap (λ (r : Ring). r.capacity) is ∙ first) (omega (arith, first, size)))
-      served (λ none. let l = served.answer.front_is.1 in omega (arith, ap length none, l, more))
+      served (λ none. let l = served.answer.prefix_is.1 in omega (arith, ap length none, l, more))
 
 -- ---- peeks
 
 -- a ring with other room has the same bytes
-same_bytes : (source : SourceState) (ring held : Ring) {name : GName} {b : Bool} {encoding : Encoding}
+same_bytes : (source : SourceState) (ring held : Ring) {name : GName} {b : Bool} {mode : Mode}
     → held.bytes ≡ ring.bytes
-    → KeptByPeek (ring_state name source ring b encoding) (ring_state name source held b encoding)
+    → KeptByPeek (ring_state name source ring b mode) (ring_state name source held b mode)
 same_bytes source ring held same = record {
   fixed = refl;
-  encoding = refl;
+  mode = refl;
   faults = omega arith;
-  to_come = λ _. ap (λ (l : List ℕ). l ++ source.to_come) same;
+  remaining = λ _. ap (λ (l : List ℕ). l ++ source.remaining) same;
 }
 
 module _ {E : Type 0} {gives : Error → E → Type 0} {eof : E → Bool} {A B : Type 0} {seen : A → List ℕ} {n : ℕ}
-    {held keeps : Ring} {name after : GName} {b c : Bool} {encoding encoding' : Encoding} (old new : SourceState)
+    {held keeps : Ring} {name after : GName} {b c : Bool} {mode encoding' : Mode} (old new : SourceState)
     (ring : Ring) (same : held.bytes ≡ ring.bytes) where
   -- a peek of a ring that was filled
   pub filled_peeked : {x : A} {u : B}
-      → Fills gives eof n (Ok u) held keeps (ring_state name old held b encoding)
+      → Fills gives eof n (Ok u) held keeps (ring_state name old held b mode)
       (ring_state after new keeps c encoding') → seen x ≡ take n keeps.bytes
-      → Peeks gives eof seen (raw_bytes n) (Ok x) (ring_state name old ring b encoding)
+      → Peeks gives eof seen (raw_bytes n) (Ok x) (ring_state name old ring b mode)
       (ring_state after new keeps c encoding')
   unfolding raw_bytes
   filled_peeked f is =
@@ -224,19 +224,19 @@ module _ {E : Type 0} {gives : Error → E → Type 0} {eof : E → Bool} {A B :
       record {
         kept = kept;
         answer = record {
-          front = take n keeps.bytes;
-          rest = drop n keeps.bytes ++ new.to_come;
-          front_is = (is, length-take-le n keeps.bytes f.enough.0);
-          stands = λ told. sym (kept.to_come told) ∙ front_and_rest n keeps.bytes new.to_come;
+          prefix = take n keeps.bytes;
+          rest = drop n keeps.bytes ++ new.remaining;
+          prefix_is = (is, length-take-le n keeps.bytes f.enough.0);
+          stands = λ told. sym (kept.remaining told) ∙ prefix_and_rest n keeps.bytes new.remaining;
           no_fault = f.no_fault;
         };
       }
 
   -- and of one that could not be
   pub fill_not_peeked : {e : E} {result : Result A E} → IsErrAnd result (λ x. x ≡ e)
-      → Fills gives eof {A = B} n (Err e) held keeps (ring_state name old held b encoding)
+      → Fills gives eof {A = B} n (Err e) held keeps (ring_state name old held b mode)
       (ring_state after new keeps c encoding')
-      → Peeks gives eof seen (raw_bytes n) result (ring_state name old ring b encoding)
+      → Peeks gives eof seen (raw_bytes n) result (ring_state name old ring b mode)
       (ring_state after new keeps c encoding')
   fill_not_peeked {e = e} passed f = Peeks-passed passed (record {
     kept = KeptByPeek-after (same_bytes old ring held same) f.kept;
@@ -247,11 +247,11 @@ module _ {E : Type 0} {gives : Error → E → Type 0} {eof : E → Bool} {A B :
             no_fault = h.no_fault;
             kind = h.kind;
             because = λ told.
-                subst (λ (l : List ℕ). Unspelled gives eof (raw_bytes n) e (l ++ old.to_come)) same
+                subst (λ (l : List ℕ). Undecodable gives eof (raw_bytes n) e (l ++ old.remaining)) same
                 (h.because (record {
                   tells = told.tells;
-                  are_bytes = subst (λ (l : List ℕ). AreBytes (l ++ old.to_come)) (sym same) told.are_bytes;
-                  fit = subst (λ (l : List ℕ). length (l ++ old.to_come) < 2 ^ 64 - 1) (sym same) told.fit;
+                  are_bytes = subst (λ (l : List ℕ). AreBytes (l ++ old.remaining)) (sym same) told.are_bytes;
+                  fit = subst (λ (l : List ℕ). length (l ++ old.remaining) < 2 ^ 64 - 1) (sym same) told.fit;
                   lends = told.lends;
                 }));
           })
@@ -260,21 +260,21 @@ module _ {E : Type 0} {gives : Error → E → Type 0} {eof : E → Bool} {A B :
 
 -- ---- reads past the ring
 
-module _ {filled : List ℕ} (held rest : Ring) {name : GName} {b : Bool} {encoding : Encoding} {old new : SourceState}
+module _ {filled : List ℕ} (held rest : Ring) {name : GName} {b : Bool} {mode : Mode} {old new : SourceState}
     (same_capacity : rest.capacity ≡ held.capacity) (emptied : rest.bytes ≡ []) where
   past_kept : {result : Result Bool StdIoError} → FillsList filled result old new
-      → Kept (ring_state name old held b encoding) (ring_state name new rest b encoding)
+      → Kept (ring_state name old held b mode) (ring_state name new rest b mode)
   past_kept f = record {
     fixed = ap (λ (tells : Bool). stream_kind name tells b) f.kept.tells;
-    encoding = refl;
+    mode = refl;
     tidy = λ t. tidy_whole rest b (same_capacity ∙ (tidy_parts held b t).0) (omega (arith, ap length emptied));
     faults = f.kept.faults;
     tail = λ told.
         let t = f.tail told in (
           held.bytes ++ t.0,
           ap (λ (l : List ℕ). held.bytes ++ l) t.1
-              ∙ (sym (append_assoc held.bytes t.0 new.to_come)
-              ∙ ap (λ (l : List ℕ). (held.bytes ++ t.0) ++ (l ++ new.to_come)) (sym emptied)),
+              ∙ (sym (append_assoc held.bytes t.0 new.remaining)
+              ∙ ap (λ (l : List ℕ). (held.bytes ++ t.0) ++ (l ++ new.remaining)) (sym emptied)),
         );
   }
 
@@ -282,17 +282,17 @@ module _ {filled : List ℕ} (held rest : Ring) {name : GName} {b : Bool} {encod
     -- the output is full
     pub past_read : {full : Bool} {x : A} → IsTrue full → FillsList filled (Ok full) old new
         → seen x ≡ held.bytes ++ filled → length held.bytes + length filled ≡ n → length held.bytes < n
-        → Reads gives eof seen (raw_bytes n) (Ok x) (ring_state name old held b encoding)
-        (ring_state name new rest b encoding)
+        → Reads gives eof seen (raw_bytes n) (Ok x) (ring_state name old held b mode)
+        (ring_state name new rest b mode)
     unfolding raw_bytes
     past_read all f same sized more = record {
       kept = past_kept f;
       answer = record {
-        front = held.bytes ++ filled;
-        front_is = (same, length-append held.bytes filled ∙ sized);
+        prefix = held.bytes ++ filled;
+        prefix_is = (same, length-append held.bytes filled ∙ sized);
         taken = λ told. ap (λ (l : List ℕ). held.bytes ++ l) (f.full all told)
-            ∙ (sym (append_assoc held.bytes filled new.to_come)
-            ∙ ap (λ (l : List ℕ). (held.bytes ++ filled) ++ (l ++ new.to_come)) (sym emptied));
+            ∙ (sym (append_assoc held.bytes filled new.remaining)
+            ∙ ap (λ (l : List ℕ). (held.bytes ++ filled) ++ (l ++ new.remaining)) (sym emptied));
         no_fault = f.no_fault;
         untouched = λ none. absurd (omega (arith, ap length none, length-append held.bytes filled, sized, more));
       };
@@ -301,21 +301,21 @@ module _ {filled : List ℕ} (held rest : Ring) {name : GName} {b : Bool} {encod
     -- the source ended before
     pub past_ended : {full : Bool} {e : E} → full ≡ false → FillsList filled (Ok full) old new → IsEnd gives eof true e
         → length held.bytes + length filled ≡ n
-        → Reads gives eof seen (raw_bytes n) (Err e) (ring_state name old held b encoding)
-        (ring_state name new rest b encoding)
+        → Reads gives eof seen (raw_bytes n) (Err e) (ring_state name old held b mode)
+        (ring_state name new rest b mode)
     past_ended less f ended sized = record {
       kept = past_kept f;
       answer =
           inr (stream_ended f.no_fault ended
-          (λ told. let short = f.ended less told in omega (arith, length-append held.bytes old.to_come)));
+          (λ told. let short = f.ended less told in omega (arith, length-append held.bytes old.remaining)));
     }
 
   module _ {E : Type 0} {gives : Error → E → Type 0} {eof : E → Bool} {A : Type 0} {seen : A → List ℕ} where
     -- a call failed
     pub past_failed : (n : ℕ) {error : StdIoError} {e : E} → FillsList filled (Err error) old new
         → IsErrorOf gives error e
-        → Reads gives eof seen (raw_bytes n) (Err e) (ring_state name old held b encoding)
-        (ring_state name new rest b encoding)
+        → Reads gives eof seen (raw_bytes n) (Err e) (ring_state name old held b mode)
+        (ring_state name new rest b mode)
     past_failed n {error = error} {e = e} f is = record {
       kept = past_kept f;
       answer = inl (inr (failed_call gives true error e old.faults new.faults f.fault is));
@@ -324,26 +324,26 @@ module _ {filled : List ℕ} (held rest : Ring) {name : GName} {b : Bool} {encod
 -- ---- forms
 
 module _ {E : Type 0} (gives : Error → E → Type 0) (eof : E → Bool) {A V : Type 0} (seen : A → V) (L : Format V)
-    (b c : Bool) (ring left : Ring) (name after : GName) (encoding encoding' : Encoding) (old new : SourceState)
+    (b c : Bool) (ring left : Ring) (name after : GName) (mode encoding' : Mode) (old new : SourceState)
     (empty : ring.bytes ≡ []) (capacity : ring.capacity ≡ first_capacity b) where
   value_taken : (result : Result A E)
-      → Reads gives eof seen L result (ring_state name old ring b encoding) (ring_state after new left c encoding')
-      → IfOk result (λ x. TookFront (L.spells (seen x)) (most_held b) old new)
+      → Reads gives eof seen L result (ring_state name old ring b mode) (ring_state after new left c encoding')
+      → IfOk result (λ x. TookPrefix (L.encodes (seen x)) (most_held b) old new)
   value_taken (Ok x) r =
       let tidy = tidy_parts left c (r.kept.tidy (tidy_whole ring b capacity (omega (arith, ap length empty)))) in
       record {
-        front = r.answer.front;
+        prefix = r.answer.prefix;
         ahead = left.bytes;
-        front_is = r.answer.front_is;
+        prefix_is = r.answer.prefix_is;
         at_most = subst (λ (kind : ReaderKind). length left.bytes ≤ most_held kind.buffers) r.kept.fixed tidy.1;
-        taken = λ told. ap (λ (l : List ℕ). l ++ old.to_come) (sym empty) ∙ r.answer.taken told;
+        taken = λ told. ap (λ (l : List ℕ). l ++ old.remaining) (sym empty) ∙ r.answer.taken told;
         no_fault = r.answer.no_fault;
         untouched = λ none. ap (λ (s : ReaderState). s.source) (r.answer.untouched none);
       }
   value_taken (Err e) r = tt
 
   refusal_is : (result : Result A E)
-      → Reads gives eof seen L result (ring_state name old ring b encoding) (ring_state after new left c encoding')
+      → Reads gives eof seen L result (ring_state name old ring b mode) (ring_state after new left c encoding')
       → IfErr result (λ e. WantsMemory gives L.asks.memory b e old new
       ⊎ (IsOfFailedCall gives e old.faults new.faults ⊎ RefusesStream gives eof L e old new))
   refusal_is (Ok x) r = tt
@@ -359,11 +359,11 @@ module _ {E : Type 0} (gives : Error → E → Type 0) (eof : E → Bool) {A V :
           no_fault = h.no_fault;
           kind = h.kind;
           because = λ tells are fit needs.
-              subst (λ (l : List ℕ). Unspelled gives eof L e (l ++ old.to_come)) empty
+              subst (λ (l : List ℕ). Undecodable gives eof L e (l ++ old.remaining)) empty
               (h.because (record {
                 tells = tells;
-                are_bytes = subst (λ (l : List ℕ). AreBytes (l ++ old.to_come)) (sym empty) are;
-                fit = subst (λ (l : List ℕ). length (l ++ old.to_come) < 2 ^ 64 - 1) (sym empty) fit;
+                are_bytes = subst (λ (l : List ℕ). AreBytes (l ++ old.remaining)) (sym empty) are;
+                fit = subst (λ (l : List ℕ). length (l ++ old.remaining) < 2 ^ 64 - 1) (sym empty) fit;
                 lends = λ need. absurd (true≢false (sym need ∙ needs));
               }));
         }))
@@ -371,14 +371,14 @@ module _ {E : Type 0} (gives : Error → E → Type 0) (eof : E → Bool) {A V :
 
   -- what a new reader of a source answers, and leaves of it
   reader_answered : (result : Result A E)
-      → Reads gives eof seen L result (ring_state name old ring b encoding) (ring_state after new left c encoding')
+      → Reads gives eof seen L result (ring_state name old ring b mode) (ring_state after new left c encoding')
       → AnswersStreamIn gives eof seen L b result old new
   reader_answered result r = record {
     kept = record { tells = ap (λ (kind : ReaderKind). kind.tells) r.kept.fixed; faults = r.kept.faults };
     tail = λ told.
         let t = r.kept.tail told in (
           t.0 ++ left.bytes,
-          ap (λ (l : List ℕ). l ++ old.to_come) (sym empty) ∙ (t.1 ∙ sym (append_assoc t.0 left.bytes new.to_come)),
+          ap (λ (l : List ℕ). l ++ old.remaining) (sym empty) ∙ (t.1 ∙ sym (append_assoc t.0 left.bytes new.remaining)),
         );
     value = value_taken result r;
     refused = refusal_is result r;
@@ -392,7 +392,7 @@ view_name {S = S} {C = C} r shown = ap (λ (v : StreamModel S C). v.source_name)
 
 module _ {E : Type 0} {gives : Error → E → Type 0} {eof : E → Bool} {A V : Type 0} {seen : A → V} where
   -- and a function that made it
-  pub stream_answered : {S C : Type 0} (source : S → SourceState) (asks : C → Encoding) (format : Encoding → Format V)
+  pub stream_answered : {S C : Type 0} (source : S → SourceState) (asks : C → Mode) (format : Mode → Format V)
       (first last : StreamReader S C) {context : C} {name : GName} {origin final : S} {ring : Ring} {buffers : Bool}
       {result : Result A E} → stream_model first ≡ record {
         context = context;
@@ -426,7 +426,7 @@ module _ {E : Type 0} {gives : Error → E → Type 0} {eof : E → Bool} {A V :
   -- and of a file
   pub file_answered : {L : Format V} {b : Bool} {old new : SourceState} (result : Result A E)
       → AnswersStreamIn gives eof seen L b result old new → AnswersFileIn gives eof seen L result
-  file_answered (Ok x) a = (a.value.front, a.value.front_is)
+  file_answered (Ok x) a = (a.value.prefix, a.value.prefix_is)
   file_answered (Err e) a =
       elim a.refused [
         | inl want ↦ inr (inl want.given)

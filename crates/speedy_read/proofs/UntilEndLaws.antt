@@ -6,7 +6,7 @@ use Rattle.std.proofs.lemmas.Bool.{true≢false, cases_lt}
 use Rattle.std.proofs.lemmas.List.{append_assoc, append-nil, length-append, length-map}
 use Rattle.speedy_base.specs.declared.error.ErrorKind.TheVariants as kinds
 use Rattle.speedy_base.specs.declared.error.Error.{Error}
-use Rattle.speedy_base.specs.Encoding.{Encoding}
+use Rattle.speedy_base.specs.Mode.{Mode}
 use Rattle.speedy_base.specs.Error.{error_of, Errors, IsNamed}
 use Rattle.speedy_layout.specs.Format.{Format, Each}
 use Rattle.speedy_layout.specs.Laws.{Laws}
@@ -16,38 +16,38 @@ use Rattle.speedy_read.specs.UntilEnd.{Begin, UntilEndIsDecided, CleanUntilEnd}
 use Rattle.speedy_read.proofs.ListLemmas.{next_item}
 
 module _ {V : Type 0} {strict : Bool} {least : ℕ} {L : Format V} (laws : Laws strict least L) where
-  -- a front of a longer spelling begins with none
-  no_front_of_front : (v w : V) (front more s rest : List ℕ) → L.spells v (front ++ more) → more ≢ []
-      → front ≡ s ++ rest → L.spells w s → ⊥
-  no_front_of_front v w front [] s rest h some is k = some refl
-  no_front_of_front v w front (x ∷ more) s rest h some is k =
+  -- a prefix of a longer encoding begins with none
+  no_prefix_of_prefix : (v w : V) (prefix more s rest : List ℕ) → L.encodes v (prefix ++ more) → more ≢ []
+      → prefix ≡ s ++ rest → L.encodes w s → ⊥
+  no_prefix_of_prefix v w prefix [] s rest h some is k = some refl
+  no_prefix_of_prefix v w prefix (x ∷ more) s rest h some is k =
       let all : List ℕ = x ∷ more in
-      let joined : s ++ (rest ++ all) ≡ (front ++ all) ++ [] =
-      sym (append_assoc s rest all) ∙ (ap (λ b. b ++ all) (sym is) ∙ sym (append-nil (front ++ all))) in
-      let same = laws.decodes w v s (front ++ all) (rest ++ all) [] k h joined in
-      let a = ap length same.1 ∙ length-append front all in
+      let joined : s ++ (rest ++ all) ≡ (prefix ++ all) ++ [] =
+      sym (append_assoc s rest all) ∙ (ap (λ b. b ++ all) (sym is) ∙ sym (append-nil (prefix ++ all))) in
+      let same = laws.decodes w v s (prefix ++ all) (rest ++ all) [] k h joined in
+      let a = ap length same.1 ∙ length-append prefix all in
       let b = ap length is ∙ length-append s rest in
       omega arith
 
-  module _ {old : ReaderState} (vs : List V) (bytes tail : List ℕ) (are : Each L.spells vs bytes)
-      (whole_is : old.to_come ≡ bytes ++ tail) where
+  module _ {old : ReaderState} (vs : List V) (bytes tail : List ℕ) (are : Each L.encodes vs bytes)
+      (whole_is : old.remaining ≡ bytes ++ tail) where
     -- where fewer values stand in front, one more stands behind them
-    fewer_in_front : (us : List V) (b : Begin L us old) → IsTrue old.fixed.tells → length us < length vs
-        → (w : V) × (front rest : List ℕ) × (b.rest ≡ front ++ rest) × L.spells w front
-    fewer_in_front us b told l =
-        next_item laws us vs b.front bytes b.rest tail l b.front_is are (sym (b.stands told) ∙ whole_is)
+    fewer_in_prefix : (us : List V) (b : Begin L us old) → IsTrue old.fixed.tells → length us < length vs
+        → (w : V) × (prefix rest : List ℕ) × (b.rest ≡ prefix ++ rest) × L.encodes w prefix
+    fewer_in_prefix us b told l =
+        next_item laws us vs b.prefix bytes b.rest tail l b.prefix_is are (sym (b.stands told) ∙ whole_is)
 
     -- where more do, one stands in the tail
-    more_in_front : (us : List V) (b : Begin L us old) → IsTrue old.fixed.tells → length vs < length us
-        → (w : V) × (front rest : List ℕ) × (tail ≡ front ++ rest) × L.spells w front
-    more_in_front us b told l =
-        next_item laws vs us bytes b.front tail b.rest l are b.front_is (sym whole_is ∙ b.stands told)
+    more_in_prefix : (us : List V) (b : Begin L us old) → IsTrue old.fixed.tells → length vs < length us
+        → (w : V) × (prefix rest : List ℕ) × (tail ≡ prefix ++ rest) × L.encodes w prefix
+    more_in_prefix us b told l =
+        next_item laws vs us bytes b.prefix tail b.rest l are b.prefix_is (sym whole_is ∙ b.stands told)
 
     as_many : (us : List V) (b : Begin L us old) → IsTrue old.fixed.tells → length us ≡ length vs
         → (us ≡ vs) × (b.rest ≡ tail)
     as_many us b told l =
         let same =
-        each_decodes laws us vs b.front bytes b.rest tail l b.front_is are (sym (b.stands told) ∙ whole_is) in
+        each_decodes laws us vs b.prefix bytes b.rest tail l b.prefix_is are (sym (b.stands told) ∙ whole_is) in
         (same.0, same.2)
 
   -- where all is lent that a type borrows, it is refused with a kind that it names
@@ -58,13 +58,13 @@ module _ {V : Type 0} {strict : Bool} {least : ℕ} {L : Format V} (laws : Laws 
   lent_kind gives (kind, inr unlent, given) told = absurd (true≢false (sym (told.lends unlent.0) ∙ unlent.1))
 
   module _ {E T F : Type 0} {gives : Error → E → Type 0} {eof : E → Bool} {seen : T → V} {gathers : List T → F → Type 0}
-      {greatest : ℕ} {old new : ReaderState} (vs : List V) (bytes tail : List ℕ) (are : Each L.spells vs bytes)
-      (whole_is : old.to_come ≡ bytes ++ tail) where
-    pub cut_is_read : (v : V) (more : List ℕ) {result : Result F E} → L.spells v (tail ++ more) → more ≢ []
+      {greatest : ℕ} {old new : ReaderState} (vs : List V) (bytes tail : List ℕ) (are : Each L.encodes vs bytes)
+      (whole_is : old.remaining ≡ bytes ++ tail) where
+    pub cut_is_read : (v : V) (more : List ℕ) {result : Result F E} → L.encodes v (tail ++ more) → more ≢ []
         → length vs ≤ greatest → CleanUntilEnd gives eof seen gathers L greatest result old new
         → MatchResult result (λ whole. (items : List T) × (map seen items ≡ vs) × gathers items whole)
         (gives (error_of kinds.OutOfMemory))
-    cut_is_read v more {result = Ok whole} spelled some within c =
+    cut_is_read v more {result = Ok whole} encoded some within c =
         let got = c.read.answer in
         let us = map seen got.items in
         elim got.ended [
@@ -73,12 +73,12 @@ module _ {V : Type 0} {strict : Bool} {least : ℕ} {L : Format V} (laws : Laws 
               let ends = x.1 c.told in
               elim (cases_lt (length us) (length vs)) [
                 | inl l ↦
-                    (let w = fewer_in_front vs bytes tail are whole_is us got.begin c.told.tells l in
-                    absurd (ends.no_front w.0 w.1 w.2 w.3 w.4))
+                    (let w = fewer_in_prefix vs bytes tail are whole_is us got.begin c.told.tells l in
+                    absurd (ends.no_prefix w.0 w.1 w.2 w.3 w.4))
                 | inr l ↦ elim (cases_lt (length vs) (length us)) [
                   | inl m ↦
-                      (let w = more_in_front vs bytes tail are whole_is us got.begin c.told.tells m in
-                      absurd (no_front_of_front v w.0 tail more w.1 w.2 spelled some w.3 w.4))
+                      (let w = more_in_prefix vs bytes tail are whole_is us got.begin c.told.tells m in
+                      absurd (no_prefix_of_prefix v w.0 tail more w.1 w.2 encoded some w.3 w.4))
                   | inr m ↦ (
                     got.items,
                     (as_many vs bytes tail are whole_is us got.begin c.told.tells (omega arith)).0,
@@ -87,30 +87,30 @@ module _ {V : Type 0} {strict : Bool} {least : ℕ} {L : Format V} (laws : Laws 
                 ]
               ]
         ]
-    cut_is_read v more {result = Err e} spelled some within c =
+    cut_is_read v more {result = Err e} encoded some within c =
         elim c.read.answer [
           | inl x ↦ elim x [ inl y ↦ y.0 | inr y ↦ absurd (c.clean y.0) ]
           | inr x ↦ elim x [
             | inl y ↦
                 let l = length-map y.items seen in
-                let w = more_in_front vs bytes tail are whole_is (map seen y.items) y.begin c.told.tells
+                let w = more_in_prefix vs bytes tail are whole_is (map seen y.items) y.begin c.told.tells
                 (let m = y.more in omega arith) in
-                absurd (no_front_of_front v w.0 tail more w.1 w.2 spelled some w.3 w.4)
+                absurd (no_prefix_of_prefix v w.0 tail more w.1 w.2 encoded some w.3 w.4)
             | inr y ↦
                 let us = map seen y.items in
                 let un = y.because c.told in
                 elim (cases_lt (length us) (length vs)) [
                   | inl l ↦
-                      (let w = fewer_in_front vs bytes tail are whole_is us y.begin c.told.tells l in
-                      absurd (un.no_front w.0 w.1 w.2 w.3 w.4))
+                      (let w = fewer_in_prefix vs bytes tail are whole_is us y.begin c.told.tells l in
+                      absurd (un.no_prefix w.0 w.1 w.2 w.3 w.4))
                   | inr l ↦ elim (cases_lt (length vs) (length us)) [
                     | inl m ↦
-                        (let w = more_in_front vs bytes tail are whole_is us y.begin c.told.tells m in
-                        absurd (no_front_of_front v w.0 tail more w.1 w.2 spelled some w.3 w.4))
+                        (let w = more_in_prefix vs bytes tail are whole_is us y.begin c.told.tells m in
+                        absurd (no_prefix_of_prefix v w.0 tail more w.1 w.2 encoded some w.3 w.4))
                     | inr m ↦
                         let rest_is = (as_many vs bytes tail are whole_is us y.begin c.told.tells (omega arith)).1 in
                         let ends =
-                        un.too_short v more (subst (λ (b : List ℕ). L.spells v (b ++ more)) (sym rest_is) spelled) in
+                        un.too_short v more (subst (λ (b : List ℕ). L.encodes v (b ++ more)) (sym rest_is) encoded) in
                         let no_end = y.no_end in
                         absurd (cc)
                   ]
@@ -129,9 +129,9 @@ module _ {V : Type 0} {strict : Bool} {least : ℕ} {L : Format V} (laws : Laws 
           | inr x ↦ c.clean x.2.0
           | inl x ↦
               let ends = x.1 c.told in
-              let w = fewer_in_front vs bytes tail are whole_is (map seen got.items) got.begin c.told.tells
+              let w = fewer_in_prefix vs bytes tail are whole_is (map seen got.items) got.begin c.told.tells
               (let m = got.at_most in omega arith) in
-              ends.no_front w.0 w.1 w.2 w.3 w.4
+              ends.no_prefix w.0 w.1 w.2 w.3 w.4
         ]
     too_many_refused {result = Err e} past c =
         elim c.read.answer [
@@ -141,9 +141,9 @@ module _ {V : Type 0} {strict : Bool} {least : ℕ} {L : Format V} (laws : Laws 
             | inr y ↦
                 let l = length-map y.items seen in
                 let un = y.because c.told in
-                let w = fewer_in_front vs bytes tail are whole_is (map seen y.items) y.begin c.told.tells
+                let w = fewer_in_prefix vs bytes tail are whole_is (map seen y.items) y.begin c.told.tells
                 (let m = y.at_most in omega arith) in
-                absurd (un.no_front w.0 w.1 w.2 w.3 w.4)
+                absurd (un.no_prefix w.0 w.1 w.2 w.3 w.4)
           ]
         ]
 
@@ -159,12 +159,12 @@ module _ {V : Type 0} {strict : Bool} {least : ℕ} {L : Format V} (laws : Laws 
               let ends = x.1 c.told in
               elim (cases_lt (length us) (length vs)) [
                 | inl l ↦
-                    (let w = fewer_in_front vs bytes tail are whole_is us got.begin c.told.tells l in
-                    ends.no_front w.0 w.1 w.2 w.3 w.4)
+                    (let w = fewer_in_prefix vs bytes tail are whole_is us got.begin c.told.tells l in
+                    ends.no_prefix w.0 w.1 w.2 w.3 w.4)
                 | inr l ↦ elim (cases_lt (length vs) (length us)) [
                   | inl m ↦
-                      (let w = more_in_front vs bytes tail are whole_is us got.begin c.told.tells m in
-                      laws.malformed_unspelled w.0 w.1 w.2 (subst L.malformed w.3 bad) w.4)
+                      (let w = more_in_prefix vs bytes tail are whole_is us got.begin c.told.tells m in
+                      laws.malformed_undecodable w.0 w.1 w.2 (subst L.malformed w.3 bad) w.4)
                   | inr m ↦
                       ends.not_malformed (subst L.malformed
                       (sym (as_many vs bytes tail are whole_is us got.begin c.told.tells (omega arith)).1) bad)
@@ -177,20 +177,20 @@ module _ {V : Type 0} {strict : Bool} {least : ℕ} {L : Format V} (laws : Laws 
           | inr x ↦ elim x [
             | inl y ↦
                 let l = length-map y.items seen in
-                let w = more_in_front vs bytes tail are whole_is (map seen y.items) y.begin c.told.tells
+                let w = more_in_prefix vs bytes tail are whole_is (map seen y.items) y.begin c.told.tells
                 (let m = y.more in omega arith) in
-                absurd (laws.malformed_unspelled w.0 w.1 w.2 (subst L.malformed w.3 bad) w.4)
+                absurd (laws.malformed_undecodable w.0 w.1 w.2 (subst L.malformed w.3 bad) w.4)
             | inr y ↦ inl (lent_kind gives y.kind c.told)
           ]
         ]
 
 pub until_end_is_decided : {E T F V : Type 0} (errors : Errors E) (seen : T → V) (gathers : List T → F → Type 0)
-    (least : ℕ) (format : Encoding → Format V) → ((encoding : Encoding) → Laws encoding.strict least (format encoding))
+    (least : ℕ) (format : Mode → Format V) → ((mode : Mode) → Laws mode.strict least (format mode))
     → UntilEndIsDecided errors seen gathers format
 until_end_is_decided errors seen gathers least format laws = record {
-  cut = λ {encoding} vs v bytes front more are spelled some within is c.
-      cut_is_read (laws encoding) vs bytes front are is v more spelled some within c;
-  too_many = λ {encoding} vs bytes rest are past is c. too_many_refused (laws encoding) vs bytes rest are is past c;
-  at_fault = λ {encoding} vs bytes rest are bad within is c.
-      fault_refused (laws encoding) vs bytes rest are is bad within c;
+  cut = λ {mode} vs v bytes prefix more are encoded some within is c.
+      cut_is_read (laws mode) vs bytes prefix are is v more encoded some within c;
+  too_many = λ {mode} vs bytes rest are past is c. too_many_refused (laws mode) vs bytes rest are is past c;
+  at_fault = λ {mode} vs bytes rest are bad within is c.
+      fault_refused (laws mode) vs bytes rest are is bad within c;
 }

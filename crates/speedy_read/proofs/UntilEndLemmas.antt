@@ -27,7 +27,7 @@ pub record ItemsSoFar {T F V : Type 0} (seen : T → V) (gathers : List T → F 
   pub items : List T
   pub count_is : length items ≡ n
   pub gathered : gathers items whole
-  pub so_far : ReadSoFar (Each L.spells (map seen items)) old mid
+  pub so_far : ReadSoFar (Each L.encodes (map seen items)) old mid
 
 -- an error of a kind of a type's own is no end
 own_is_no_end : (kind : ErrorKind) → IsOwnKind kind → is_eof_error (error_of kind) ≡ false
@@ -58,15 +58,15 @@ module _ {T F V : Type 0} {seen : T → V} {gathers : List T → F → Type 0} {
   module _ {n : ℕ} {whole : F} {mid : ReaderState} (h : ItemsSoFar seen gathers L n whole old mid) where
     abbrev begins : Begin L (map seen h.items) old
     begins = record {
-      front = h.so_far.got.front;
-      rest = mid.to_come;
-      front_is = h.so_far.got.front_is;
+      prefix = h.so_far.got.prefix;
+      rest = mid.remaining;
+      prefix_is = h.so_far.got.prefix_is;
       stands = h.so_far.got.taken;
     }
 
     module _ {E : Type 0} {gives : Error → E → Type 0} {eof : E → Bool} {new : ReaderState} where
       next_read : {x : T} → Reads gives eof seen L (Ok x) mid new
-          → ReadSoFar (Each L.spells (map seen (h.items ++ x ∷ []))) old new
+          → ReadSoFar (Each L.encodes (map seen (h.items ++ x ∷ []))) old new
       next_read {x = x} r = item_more L (map seen h.items) h.so_far r (map-append seen h.items (x ∷ []))
 
       -- an item more was read and added
@@ -92,9 +92,9 @@ module _ {T F V : Type 0} {seen : T → V} {gathers : List T → F → Type 0} {
                 items = h.items ++ x ∷ [];
                 more = length_pushed h.items x n h.count_is ∙ ap (λ m. m + 1) all;
                 begin = record {
-                  front = read.got.front;
-                  rest = new.to_come;
-                  front_is = read.got.front_is;
+                  prefix = read.got.prefix;
+                  rest = new.remaining;
+                  prefix_is = read.got.prefix_is;
                   stands = read.got.taken;
                 };
                 no_fault = read.got.no_fault;
@@ -165,7 +165,7 @@ module _ {T F V : Type 0} {seen : T → V} {gathers : List T → F → Type 0} {
                     absurd (cc)
 
                 ended : Excused gives L.asks.memory e mid new ⊎ Refused gives eof L e mid new
-                    → Ended gives eof L mid.to_come old new
+                    → Ended gives eof L mid.remaining old new
                 ended (inl (inl x)) = let kept = keeps_eof (error_of kinds.OutOfMemory) e x.0 in absurd (cc)
                 ended (inl (inr x)) =
                     elim (excused_after gives L.asks.memory true e old mid new h.so_far.kept.fixed h.so_far.got.no_fault
@@ -177,7 +177,7 @@ module _ {T F V : Type 0} {seen : T → V} {gathers : List T → F → Type 0} {
                   x.no_fault ∙ h.so_far.got.no_fault,
                   λ told.
                       let un = x.because (IsTold-after h.so_far.kept (λ need. need) told) in
-                      record { no_front = un.no_front; not_malformed = λ bad. not_named (un.malformed bad) },
+                      record { no_prefix = un.no_prefix; not_malformed = λ bad. not_named (un.malformed bad) },
                 )
 
 module _ {E T F G V : Type 0} {gives : Error → E → Type 0} {eof : E → Bool} {seen : T → V}

@@ -23,23 +23,23 @@ module _ {T F V : Type 0} (g : Gatherer T F V) (L : Format V) (n : ℕ) where
   pub record GotItems (whole : F) (old new : ReaderState) : Type 0 where
     pub items : List T
     pub count_is : length items ≡ n
-    pub got : Got (Each L.spells (map g.seen items)) old new
+    pub got : Got (Each L.encodes (map g.seen items)) old new
     pub gathered : g.gathers items whole
-    pub written : IsTrue old.encoding.strict → g.are_written items
+    pub written : IsTrue old.mode.strict → g.are_written items
 
-  -- the written form is demanded, and items stand at the front that are written of no collection
+  -- the canonical encoding is demanded, and items stand at the front that are written of no collection
   pub record NotWritten (old new : ReaderState) : Type 0 where
     pub items : List T
     pub whole : F
-    pub demanded : IsTrue old.encoding.strict
+    pub demanded : IsTrue old.mode.strict
     pub at_most : length items ≤ n
-    pub ahead : Ahead (Each L.spells (map g.seen items)) old new
+    pub ahead : Ahead (Each L.encodes (map g.seen items)) old new
     pub gathered : g.gathers items whole
     pub not_written : g.are_written items → ⊥
 
-  -- A read of so many items and what they gather to. What is answered is gathered of items that a front of the bytes to
-  -- come spells, and just that front is taken. A clean refusal means that no front spells so many items, or none that
-  -- are written of a collection where that is demanded.
+  -- A read of so many items and what they gather to. What is answered is gathered of items that a prefix of the
+  -- remaining bytes encodes, and just that prefix is taken. A clean refusal means that no prefix encodes so many
+  -- items, or none that are written of a collection where that is demanded.
   pub record Collects {E : Type 0} (gives : Error → E → Type 0) (eof : E → Bool) (result : Result F E)
       (old new : ReaderState) : Type 0 where
     pub kept : Kept old new
@@ -51,5 +51,5 @@ module _ {T F V : Type 0} (g : Gatherer T F V) (L : Format V) (n : ℕ) where
 abbrev pub CollectsValues : {E S T F V : Type 0} → Errors E → (S → ReaderState) → Gatherer T F V → Codec V → ℕ
     → Result F E → S → S → Type 0
 CollectsValues errors state g codec n result old new =
-    let format = codec.format (state old).encoding in
+    let format = codec.format (state old).mode in
     Collects g format n errors.from_gives errors.eof result (state old) (state new)

@@ -3,7 +3,7 @@ use Rattle.std.specs.Prelude.{◌≡◌, ℕ, Bool, true, false, not, nat_eq, �
 use Rattle.std.proofs.Common.{sym, subst, arith, inl, inr}
 use Rattle.std.proofs.lemmas.Bool.Decides.{eqb_tells}
 use Rattle.speedy_base.specs.declared.error.Error.{Error}
-use Rattle.speedy_base.specs.Encoding.{Encoding}
+use Rattle.speedy_base.specs.Mode.{Mode}
 use Rattle.speedy_layout.specs.Format.{Format}
 use Rattle.speedy_layout.specs.Flags.{flag, IsFlag, written_flag, Branch, branch, branch_asks, variant, option}
 use Rattle.speedy_layout.specs.Flags.{option_parts, option_join, alternative, alternative_parts, alternative_join}
@@ -38,25 +38,25 @@ pub variant_composes : {U V W : Type 0} (split : U → (b : Bool) × Branch V W 
     {tags : Format Bool} {L : Format V} {M : Format W}
     → ((b : Bool) (w : Branch V W b) → let whole : (b : Bool) × Branch V W b = (b, w) in split (join b w) ≡ whole)
     → Composes tags (branch L M) (variant split tags L M) join
-variant_composes split {L = L} {M = M} back = sequence_composes split (branch_asks L M) (λ b w s h. back b w)
+variant_composes split {L = L} {M = M} suffix = sequence_composes split (branch_asks L M) (λ b w s h. suffix b w)
 
 -- a value that may be absent is read as a flag, and then the value where the flag is true
-pub option_composes : (encoding : Encoding) {V : Type 0} {L : Format V}
-    → Composes (flag encoding) (branch L unit) (option encoding L) option_join
-option_composes encoding {V = V} = variant_composes option_parts back where
-  back : (b : Bool) (w : Branch V (Unit {0}) b) → let whole : (b : Bool) × Branch V (Unit {0}) b = (b, w) in
+pub option_composes : (mode : Mode) {V : Type 0} {L : Format V}
+    → Composes (flag mode) (branch L unit) (option mode L) option_join
+option_composes mode {V = V} = variant_composes option_parts suffix where
+  suffix : (b : Bool) (w : Branch V (Unit {0}) b) → let whole : (b : Bool) × Branch V (Unit {0}) b = (b, w) in
       option_parts (option_join b w) ≡ whole
-  back true w = refl
-  back false w = refl
+  suffix true w = refl
+  suffix false w = refl
 
 -- one of two values is read as a flag, and then the value that the flag chooses
-pub alternative_composes : (encoding : Encoding) {V W : Type 0} {L : Format V} {M : Format W}
-    → Composes (flag encoding) (branch L M) (alternative encoding L M) alternative_join
-alternative_composes encoding {V = V} {W = W} = variant_composes alternative_parts back where
-  back : (b : Bool) (w : Branch V W b) → let whole : (b : Bool) × Branch V W b = (b, w) in
+pub alternative_composes : (mode : Mode) {V W : Type 0} {L : Format V} {M : Format W}
+    → Composes (flag mode) (branch L M) (alternative mode L M) alternative_join
+alternative_composes mode {V = V} {W = W} = variant_composes alternative_parts suffix where
+  suffix : (b : Bool) (w : Branch V W b) → let whole : (b : Bool) × Branch V W b = (b, w) in
       alternative_parts (alternative_join b w) ≡ whole
-  back true w = refl
-  back false w = refl
+  suffix true w = refl
+  suffix false w = refl
 
 -- no bytes are read
 pub unit_read : {E : Type 0} {gives : Error → E → Type 0} {eof : E → Bool} {A : Type 0} {seen : A → Unit {0}} {x : A}

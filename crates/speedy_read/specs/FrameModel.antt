@@ -3,7 +3,7 @@ use Rattle.std.specs.Prelude.{ℕ, List}
 use Rattle.std.specs.Borrow.{GName}
 use Rattle.speedy_read.specs.declared.frame_reader.FrameReader.{FrameReader}
 
--- the context that a reader borrows, and the bytes to come
+-- the context that a reader borrows, and the remaining bytes
 pub record FrameModel (C : Type 0) : Type 0 where
   pub context : C
   pub context_name : GName

@@ -4,7 +4,7 @@ use Rattle.std.specs.Prelude.{Result, MatchResult}
 use Rattle.speedy_base.specs.declared.error.ErrorKind.TheVariants as kinds
 use Rattle.speedy_base.specs.declared.error.Error.{Error}
 use Rattle.speedy_base.specs.Digits.{AreBytes}
-use Rattle.speedy_base.specs.Encoding.{Encoding}
+use Rattle.speedy_base.specs.Mode.{Mode}
 use Rattle.speedy_base.specs.Error.{error_of, IsNamed}
 use Rattle.speedy_layout.specs.Codes.{coding}
 use Rattle.speedy_layout.specs.Format.{Format}
@@ -13,7 +13,7 @@ use Rattle.speedy_layout.specs.Texts.{raw_bytes}
 use Rattle.speedy_read.specs.Reading.{refusing_kinds}
 
 -- values that fill so many bytes
-abbrev pub filling : {V : Type 0} → Encoding → Format V → ℕ → Format V
+abbrev pub filling : {V : Type 0} → Mode → Format V → ℕ → Format V
 filling f F n = record (coding f (frame_code F) (raw_bytes n)) { asks = frame_asks F.asks }
 
 module _ {E : Type 0} (gives : Error → E → Type 0) where
@@ -21,14 +21,14 @@ module _ {E : Type 0} (gives : Error → E → Type 0) where
   pub record Unfilled {V : Type 0} (F : Format V) (lends : Bool) (e : E) (bytes : List ℕ) : Type 0 where
     pub kind : IsNamed gives (λ kind. refusing_kinds F lends kind ⊎ (kind ≡ kinds.OutOfRangeLength)) e
     pub because : AreBytes bytes → AreCounted bytes → (IsTrue F.asks.lending → IsTrue lends)
-        → (v : V) → F.spells v bytes → ⊥
+        → (v : V) → F.encodes v bytes → ⊥
 
   -- what was answered of the bytes of a frame, which are lent or not: a value that fills them, want of memory for it,
   -- or that none does
   abbrev pub Fills : {A V : Type 0} → (A → V) → Format V → Bool → Result A E → List ℕ → Type 0
   Fills seen F lends result bytes =
       MatchResult result
-      (λ x. F.spells (seen x) bytes × AreCounted bytes)
+      (λ x. F.encodes (seen x) bytes × AreCounted bytes)
       (λ e. (gives (error_of kinds.OutOfMemory) e × IsTrue F.asks.memory) ⊎ Unfilled F lends e bytes)
 
   -- what is made of a read of which so many bytes are left: an answer that left some, and an end of the frame's bytes,

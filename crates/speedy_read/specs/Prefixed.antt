@@ -5,7 +5,7 @@ use Rattle.std.proofs.lemmas.Bool.Decides.{eqb_tells}
 use Rattle.speedy_base.specs.declared.error.ErrorKind.TheVariants as kinds
 use Rattle.speedy_base.specs.declared.error.Error.{Error}
 use Rattle.speedy_base.specs.Error.{error_of, IsNamed}
-use Rattle.speedy_base.specs.Encoding.{Encoding}
+use Rattle.speedy_base.specs.Mode.{Mode}
 use Rattle.speedy_layout.specs.Choices.{only_if, either, one_case, either_case}
 use Rattle.speedy_layout.specs.Codecs.{Codec}
 use Rattle.speedy_layout.specs.Format.{Format}
@@ -17,7 +17,7 @@ use Rattle.speedy_read.specs.ReadingLemmas.{Kept-same}
 use Rattle.speedy_read.specs.Sequences.{Composes, sequence_composes}
 
 -- a tag is read, and then a value of its case
-pub tagged_composes : {V : Type 0} (number : Encoding → Format ℕ) (choices : Choices V) (f : Encoding)
+pub tagged_composes : {V : Type 0} (number : Mode → Format ℕ) (choices : Choices V) (f : Mode)
     → Composes (number f) (choices.behind f) (tagged number choices f) (λ n v. v)
 tagged_composes {V = V} number choices f =
     sequence_composes (tagged_parts choices.tag) (choices.within f)
@@ -71,7 +71,7 @@ module _ {E : Type 0} {gives : Error → E → Type 0} {eof : E → Bool} where
           no_fault = refl;
           kind = inr (kinds.InvalidEnumVariant, inl refl, given);
           because = λ told. record {
-            no_front = λ v front rest is h. h;
+            no_prefix = λ v prefix rest is h. h;
             too_short = λ v more h. absurd h;
             malformed = λ _. named;
           };
@@ -82,31 +82,31 @@ module _ {E : Type 0} {gives : Error → E → Type 0} {eof : E → Bool} where
   -- where a case's value is refused, so is the value of a case with its tag
   pub case_refused : {V A B : Type 0} {seen : A → V} {seen' : B → V} (value : Codec V) {tag n : ℕ} {e : E}
       {result : Result B E} {old new : ReaderState} → n ≡ tag → IsErrAnd result (λ x. x ≡ e)
-      → Reads gives eof seen (value.format old.encoding) (Err e) old new
-      → Reads gives eof seen' ((one_case tag value).behind old.encoding n) result old new
+      → Reads gives eof seen (value.format old.mode) (Err e) old new
+      → Reads gives eof seen' ((one_case tag value).behind old.mode n) result old new
   case_refused value {tag = tag} {n = n} {old = old} is passed r =
-      only_refused (value.format old.encoding) (nat_eq n tag) (is_tagged n tag is) passed r
+      only_refused (value.format old.mode) (nat_eq n tag) (is_tagged n tag is) passed r
 
   -- and another tag is refused
   pub no_case_read : {V B : Type 0} {seen : B → V} (value : Codec V) {tag n : ℕ} {e : E} {old : ReaderState}
       → n ≢ tag → gives (error_of kinds.InvalidEnumVariant) e
-      → Reads gives eof seen ((one_case tag value).behind old.encoding n) (Err e) old old
+      → Reads gives eof seen ((one_case tag value).behind old.mode n) (Err e) old old
   no_case_read value {tag = tag} {n = n} {old = old} apart given =
-      none_read (value.format old.encoding) (nat_eq n tag) (is_not_tagged n tag apart) given
+      none_read (value.format old.mode) (nat_eq n tag) (is_not_tagged n tag apart) given
 
   -- where a value of the first cases is refused, so is one of either, and likewise of the second
   module _ {V W A B : Type 0} {seen' : B → V ⊎ W} (first : Choices V) (second : Choices W) {n : ℕ} {e : E}
       {result : Result B E} {old new : ReaderState} where
     pub left_refused : {seen : A → V} → first.has n ≡ true → IsErrAnd result (λ x. x ≡ e)
-        → Reads gives eof seen (first.behind old.encoding n) (Err e) old new
-        → Reads gives eof seen' ((either_case first second).behind old.encoding n) result old new
+        → Reads gives eof seen (first.behind old.mode n) (Err e) old new
+        → Reads gives eof seen' ((either_case first second).behind old.mode n) result old new
     left_refused is passed r =
-        refused_covered (first_covers (first.behind old.encoding n) (second.behind old.encoding n) (first.has n) is)
+        refused_covered (first_covers (first.behind old.mode n) (second.behind old.mode n) (first.has n) is)
         passed r
 
     pub right_refused : {seen : A → W} → first.has n ≡ false → IsErrAnd result (λ x. x ≡ e)
-        → Reads gives eof seen (second.behind old.encoding n) (Err e) old new
-        → Reads gives eof seen' ((either_case first second).behind old.encoding n) result old new
+        → Reads gives eof seen (second.behind old.mode n) (Err e) old new
+        → Reads gives eof seen' ((either_case first second).behind old.mode n) result old new
     right_refused is passed r =
-        refused_covered (second_covers (first.behind old.encoding n) (second.behind old.encoding n) (first.has n) is)
+        refused_covered (second_covers (first.behind old.mode n) (second.behind old.mode n) (first.has n) is)
         passed r

@@ -12,14 +12,14 @@ use Rattle.speedy_base.specs.declared.device.Faults.{Faults}
 use Rattle.speedy_base.specs.FailedCalls.{IsOfFault}
 use Rattle.speedy_base.specs.Device.{SourceState}
 use Rattle.speedy_base.specs.Digits.{AreBytes}
-use Rattle.speedy_base.specs.Encoding.{Encoding}
+use Rattle.speedy_base.specs.Mode.{Mode}
 use Rattle.speedy_layout.specs.Codecs.{Codec, unsigned_codec, signed_codec, raw_bytes_codec}
 use Rattle.speedy_layout.specs.Format.{Format}
 use Rattle.speedy_layout.specs.Texts.{raw_bytes, any_bytes}
 
 -- What the kind of a reader fixes.
 pub record ReaderKind : Type 0 where
-  -- its device tells the bytes still to come
+  -- its device tells the remaining bytes
   pub tells : Bool
   -- it lends parts of its bytes
   pub lends : Bool
@@ -40,55 +40,55 @@ pub record ReaderKind : Type 0 where
 -- A reader, as reads see it.
 pub record ReaderState : Type 0 where
   pub fixed : ReaderKind
-  -- the bytes still to come, where the device tells them: those that it holds, and then those of its source
-  pub to_come : List ℕ
+  -- the remaining bytes, where the device tells them: those that it holds, and then those of its source
+  pub remaining : List ℕ
   -- its source, as it stands; of a reader that has none always the same
   pub source : SourceState
   -- it holds no more of a source's bytes than its way of reading allows
   pub tidy : Bool
   -- what its context asks of the bytes
-  pub encoding : Encoding
+  pub mode : Mode
   -- its device's failed calls
   pub faults : Faults
 
 -- what every read keeps, a refused one too
 pub record Kept (old new : ReaderState) : Type 0 where
   pub fixed : new.fixed ≡ old.fixed
-  pub encoding : new.encoding ≡ old.encoding
+  pub mode : new.mode ≡ old.mode
   pub tidy : IsTrue old.tidy → IsTrue new.tidy
   pub faults : old.faults.count ≤ new.faults.count
-  -- what is to come is a tail of what was to come
-  pub tail : IsTrue old.fixed.tells → (front : List ℕ) × (old.to_come ≡ front ++ new.to_come)
+  -- what remains is a tail of what remained
+  pub tail : IsTrue old.fixed.tells → (prefix : List ℕ) × (old.remaining ≡ prefix ++ new.remaining)
 
--- what every peek keeps: the bytes to come too, but not that the reader is tidy
+-- what every peek keeps: the remaining bytes too, but not that the reader is tidy
 pub record KeptByPeek (old new : ReaderState) : Type 0 where
   pub fixed : new.fixed ≡ old.fixed
-  pub encoding : new.encoding ≡ old.encoding
+  pub mode : new.mode ≡ old.mode
   pub faults : old.faults.count ≤ new.faults.count
-  pub to_come : IsTrue old.fixed.tells → new.to_come ≡ old.to_come
+  pub remaining : IsTrue old.fixed.tells → new.remaining ≡ old.remaining
 
--- a front of the bytes to come that is spelled so, and just it was taken, by calls of the device that did not fail
-pub record Got (spelled : List ℕ → Type 0) (old new : ReaderState) : Type 0 where
-  pub front : List ℕ
-  pub front_is : spelled front
-  pub taken : IsTrue old.fixed.tells → old.to_come ≡ front ++ new.to_come
+-- a prefix of the remaining bytes that is encoded so, and just it was taken, by calls of the device that did not fail
+pub record Got (encoded : List ℕ → Type 0) (old new : ReaderState) : Type 0 where
+  pub prefix : List ℕ
+  pub prefix_is : encoded prefix
+  pub taken : IsTrue old.fixed.tells → old.remaining ≡ prefix ++ new.remaining
   pub no_fault : new.faults ≡ old.faults
   -- to take no byte is to do nothing
-  pub untouched : front ≡ [] → new ≡ old
+  pub untouched : prefix ≡ [] → new ≡ old
 
--- a front of the bytes to come that is spelled so, as calls of the device showed that did not fail
-pub record Ahead (spelled : List ℕ → Type 0) (old new : ReaderState) : Type 0 where
-  pub front : List ℕ
+-- a prefix of the remaining bytes that is encoded so, as calls of the device showed that did not fail
+pub record Ahead (encoded : List ℕ → Type 0) (old new : ReaderState) : Type 0 where
+  pub prefix : List ℕ
   pub rest : List ℕ
-  pub front_is : spelled front
-  pub stands : IsTrue old.fixed.tells → old.to_come ≡ front ++ rest
+  pub prefix_is : encoded prefix
+  pub stands : IsTrue old.fixed.tells → old.remaining ≡ prefix ++ rest
   pub no_fault : new.faults ≡ old.faults
 
 -- the bytes are told, fewer than `usize::MAX` of them, and lent where the type needs it
 pub record IsTold {V : Type 0} (L : Format V) (old : ReaderState) : Type 0 where
   pub tells : IsTrue old.fixed.tells
-  pub are_bytes : AreBytes old.to_come
-  pub fit : length old.to_come < 2 ^ 64 - 1
+  pub are_bytes : AreBytes old.remaining
+  pub fit : length old.remaining < 2 ^ 64 - 1
   pub lends : IsTrue L.asks.lending → IsTrue old.fixed.lends
 
 -- The kinds that a read of a format's values is refused with, from a reader that lends or does not: those that the
@@ -118,47 +118,47 @@ module _ {E : Type 0} (gives : Error → E → Type 0) (eof : E → Bool) where
   abbrev pub IsEnd : Bool → E → Type 0
   IsEnd by_device e = IsNamed gives (EndsInput by_device) e × IsTrue (eof e)
 
-  -- the bytes to come spell no value at their front, and the error says whether they may begin a spelling
-  pub record Unspelled {V : Type 0} (L : Format V) (e : E) (bytes : List ℕ) : Type 0 where
-    pub no_front : (v : V) (front rest : List ℕ) → bytes ≡ front ++ rest → L.spells v front → ⊥
-    pub too_short : (v : V) (more : List ℕ) → L.spells v (bytes ++ more) → IsTrue (eof e)
+  -- the remaining bytes encode no value at their start, and the error says whether they may begin an encoding
+  pub record Undecodable {V : Type 0} (L : Format V) (e : E) (bytes : List ℕ) : Type 0 where
+    pub no_prefix : (v : V) (prefix rest : List ℕ) → bytes ≡ prefix ++ rest → L.encodes v prefix → ⊥
+    pub too_short : (v : V) (more : List ℕ) → L.encodes v (bytes ++ more) → IsTrue (eof e)
     pub malformed : L.malformed bytes → IsNamed gives L.names e
 
   -- a clean refusal
   pub record Refused {V : Type 0} (L : Format V) (e : E) (old new : ReaderState) : Type 0 where
     pub no_fault : new.faults ≡ old.faults
     pub kind : IsEnd old.fixed.ends_by_device e ⊎ IsNamed gives (refusing_kinds L old.fixed.lends) e
-    pub because : IsTold L old → Unspelled L e old.to_come
+    pub because : IsTold L old → Undecodable L e old.remaining
 
-  -- A read of a format's values. A value that is answered is spelled by a front of the bytes to come, and just that
-  -- front is taken. A clean refusal means that no front spells any value.
+  -- A read of a format's values. A value that is answered is encoded by a prefix of the remaining bytes, and just that
+  -- prefix is taken. A clean refusal means that no prefix encodes any value.
   pub record Reads {A V : Type 0} (seen : A → V) (L : Format V) (result : Result A E)
       (old new : ReaderState) : Type 0 where
     pub kept : Kept old new
-    pub answer : MatchResult result (λ x. Got (L.spells (seen x)) old new)
+    pub answer : MatchResult result (λ x. Got (L.encodes (seen x)) old new)
         (λ e. Excused gives L.asks.memory e old new ⊎ Refused L e old new)
 
   -- A peek of a format's values: as the read, but nothing is taken, and it may want memory where the read does not.
   pub record Peeks {A V : Type 0} (seen : A → V) (L : Format V) (result : Result A E)
       (old new : ReaderState) : Type 0 where
     pub kept : KeptByPeek old new
-    pub answer : MatchResult result (λ x. Ahead (L.spells (seen x)) old new)
+    pub answer : MatchResult result (λ x. Ahead (L.encodes (seen x)) old new)
         (λ e. PeekWants gives e old new ⊎ (Excused gives L.asks.memory e old new ⊎ Refused L e old new))
 
--- what a reader says of the number of bytes to come is right
+-- what a reader says of the number of remaining bytes is right
 abbrev pub IsRight : Option Bool → ReaderState → ℕ → Type 0
 IsRight answer old n =
-    (b : Bool) → answer ≡ Some b → IsTrue old.fixed.tells → IsTrue b ↔ (n ≤ length old.to_come)
+    (b : Bool) → answer ≡ Some b → IsTrue old.fixed.tells → IsTrue b ↔ (n ≤ length old.remaining)
 
--- the reader tells its bytes, and at least so many are to come
+-- the reader tells its bytes, and at least so many remain
 abbrev pub Expects : ReaderState → ℕ → Type 0
-Expects old n = IsTrue old.fixed.tells × (n ≤ length old.to_come)
+Expects old n = IsTrue old.fixed.tells × (n ≤ length old.remaining)
 
--- what is lent shows all bytes to come, and all are taken; or nothing is lent, and none is taken
+-- what is lent shows all remaining bytes, and all are taken; or nothing is lent, and none is taken
 abbrev pub LendsAll : {A : Type 0} → (A → List ℕ) → Option A → ReaderState → ReaderState → Type 0
 LendsAll shows lent old new =
     Kept old new
-    × MatchOption lent (new ≡ old) (λ x. IsTrue old.fixed.tells → (shows x ≡ old.to_come) × (new.to_come ≡ []))
+    × MatchOption lent (new ≡ old) (λ x. IsTrue old.fixed.tells → (shows x ≡ old.remaining) × (new.remaining ≡ []))
 
 -- an error of one value, which stands for the end of the bytes
 abbrev pub ends_alone : {E : Type 0} → Error → E → Type 0
@@ -173,12 +173,12 @@ LendsUntilUsed shows n lent old new =
 -- ---- the words of contracts
 
 -- They take what is known of the errors, `C.Error.IsEof`, how reads see a reader, `R.state`, and last the reader before
--- and behind. Values are of the format under the encoding that the reader has.
+-- and behind. Values are of the format under the mode that the reader has.
 module _ {E S : Type 0} (errors : Errors E) (state : S → ReaderState) where
   -- a read of a format's values
-  abbrev pub ReadsAs : {A V : Type 0} → (A → V) → (Encoding → Format V) → Result A E → S → S → Type 0
+  abbrev pub ReadsAs : {A V : Type 0} → (A → V) → (Mode → Format V) → Result A E → S → S → Type 0
   ReadsAs seen format result old new =
-      Reads errors.from_gives errors.eof seen (format (state old).encoding) result (state old) (state new)
+      Reads errors.from_gives errors.eof seen (format (state old).mode) result (state old) (state new)
 
   -- a read, and a peek, of a codec's values
   abbrev pub ReadsValue : {A V : Type 0} → (A → V) → Codec V → Result A E → S → S → Type 0
@@ -186,7 +186,7 @@ module _ {E S : Type 0} (errors : Errors E) (state : S → ReaderState) where
 
   abbrev pub PeeksValue : {A V : Type 0} → (A → V) → Codec V → Result A E → S → S → Type 0
   PeeksValue seen codec result old new =
-      Peeks errors.from_gives errors.eof seen (codec.format (state old).encoding) result (state old) (state new)
+      Peeks errors.from_gives errors.eof seen (codec.format (state old).mode) result (state old) (state new)
 
   -- a read, and a peek, of a number of so many bytes, and of a signed one of a width
   abbrev pub ReadsUnsigned : ℕ → Result ℕ E → S → S → Type 0
@@ -212,10 +212,10 @@ module _ {E S : Type 0} (errors : Errors E) (state : S → ReaderState) where
   abbrev pub Skips : ℕ → Result (Unit {0}) E → S → S → Type 0
   Skips n = ReadsAs (λ x. x) (λ _. any_bytes n)
 
-  -- Where fewer bytes than so many are to come, whatever they are, a read is refused as an end of them.
+  -- Where fewer bytes than so many remain, whatever they are, a read is refused as an end of them.
   abbrev pub RefusesFewer : {A : Type 0} → ℕ → Result A E → S → S → Type 0
   RefusesFewer n result old new =
-      IsTrue (state old).fixed.tells → length (state old).to_come < n
+      IsTrue (state old).fixed.tells → length (state old).remaining < n
       → IsErrAnd result (λ e. Excused errors.from_gives false e (state old) (state new)
       ⊎ IsEnd errors.from_gives errors.eof (state old).fixed.ends_by_device e)
 
@@ -232,8 +232,8 @@ module _ {E S : Type 0} (errors : Errors E) (state : S → ReaderState) where
   -- before it, it is refused as `Unsized`.
   abbrev pub RefusesUnsized : {A U : Type 0} → Codec U → Result A E → S → S → Type 0
   RefusesUnsized {U = U} codec result old new =
-      let before = codec.format (state old).encoding in
+      let before = codec.format (state old).mode in
       (state old).fixed.lends ≡ false → IsTold before (state old)
-      → (u : U) (front rest : List ℕ) → before.spells u front → (state old).to_come ≡ front ++ rest
+      → (u : U) (prefix rest : List ℕ) → before.encodes u prefix → (state old).remaining ≡ prefix ++ rest
       → IsErrAnd result (λ e. Excused errors.from_gives before.asks.memory e (state old) (state new)
       ⊎ errors.from_gives (error_of kinds.Unsized) e)

@@ -13,7 +13,7 @@ use Rattle.speedy_base.specs.DeviceLemmas.{fault_after}
 use Rattle.speedy_base.specs.FailedCalls.{IsOfFault}
 use Rattle.speedy_layout.specs.Format.{Format}
 use Rattle.speedy_read.specs.Reading.{ReaderKind, ReaderState, Kept, KeptByPeek, Got, Ahead, IsTold, refusing_kinds}
-use Rattle.speedy_read.specs.Reading.{Excused, IsEnd, Unspelled, Refused, Reads, Peeks}
+use Rattle.speedy_read.specs.Reading.{Excused, IsEnd, Undecodable, Refused, Reads, Peeks}
 
 -- ---- states
 
@@ -23,33 +23,33 @@ tells_still same told = subst (λ (kind : ReaderKind). IsTrue kind.tells) (sym s
 
 -- a reader that stays as it is
 pub Kept-same : {a : ReaderState} → Kept a a
-Kept-same = record { fixed = refl; encoding = refl; tidy = λ t. t; faults = omega arith; tail = λ _. ([], refl) }
+Kept-same = record { fixed = refl; mode = refl; tidy = λ t. t; faults = omega arith; tail = λ _. ([], refl) }
 
 -- one read after another keeps what each keeps
 pub Kept-after : {a b c : ReaderState} → Kept a b → Kept b c → Kept a c
 Kept-after {c = c} h k = record {
   fixed = k.fixed ∙ h.fixed;
-  encoding = k.encoding ∙ h.encoding;
+  mode = k.mode ∙ h.mode;
   tidy = λ t. k.tidy (h.tidy t);
   faults = let x = h.faults in let y = k.faults in omega arith;
   tail = λ told.
       let first = h.tail told in
       let second = k.tail (tells_still h.fixed told) in (
         first.0 ++ second.0,
-        first.1 ∙ (ap (λ x. first.0 ++ x) second.1 ∙ sym (append_assoc first.0 second.0 c.to_come)),
+        first.1 ∙ (ap (λ x. first.0 ++ x) second.1 ∙ sym (append_assoc first.0 second.0 c.remaining)),
       );
 }
 
 -- the same of peeks
 pub KeptByPeek-same : {a : ReaderState} → KeptByPeek a a
-KeptByPeek-same = record { fixed = refl; encoding = refl; faults = omega arith; to_come = λ _. refl }
+KeptByPeek-same = record { fixed = refl; mode = refl; faults = omega arith; remaining = λ _. refl }
 
 pub KeptByPeek-after : {a b c : ReaderState} → KeptByPeek a b → KeptByPeek b c → KeptByPeek a c
 KeptByPeek-after h k = record {
   fixed = k.fixed ∙ h.fixed;
-  encoding = k.encoding ∙ h.encoding;
+  mode = k.mode ∙ h.mode;
   faults = let x = h.faults in let y = k.faults in omega arith;
-  to_come = λ told. k.to_come (tells_still h.fixed told) ∙ h.to_come told;
+  remaining = λ told. k.remaining (tells_still h.fixed told) ∙ h.remaining told;
 }
 
 -- bytes that are told to a whole are told to its part, also after a read
@@ -59,10 +59,10 @@ IsTold-after {mid = mid} k needs told = record {
   tells = tells_still k.fixed told.tells;
   are_bytes =
       let t = k.tail told.tells in
-      (AreBytes-append_parts t.0 mid.to_come (subst AreBytes t.1 told.are_bytes)).1;
+      (AreBytes-append_parts t.0 mid.remaining (subst AreBytes t.1 told.are_bytes)).1;
   fit =
       let t = k.tail told.tells in
-      let l = ap length t.1 ∙ length-append t.0 mid.to_come in
+      let l = ap length t.1 ∙ length-append t.0 mid.remaining in
       let f = told.fit in
       omega arith;
   lends = λ need. subst (λ (kind : ReaderKind). IsTrue kind.lends) (sym k.fixed) (told.lends (needs need));
@@ -78,14 +78,14 @@ IsTold-part needs told = record {
   lends = λ need. told.lends (needs need);
 }
 
--- of two fronts of one list, one is a front of the other
-pub fronts_nest : (a b c d : List ℕ) → a ++ b ≡ c ++ d → ((r : List ℕ) × (c ≡ a ++ r)) ⊎ ((r : List ℕ) × (a ≡ c ++ r))
-fronts_nest [] b c d e = inl (c, refl)
-fronts_nest (x ∷ a) b [] d e = inr (x ∷ a, refl)
-fronts_nest (x ∷ a) b (y ∷ c) d e =
+-- of two prefixes of one list, one is a prefix of the other
+pub prefixes_nest : (a b c d : List ℕ) → a ++ b ≡ c ++ d → ((r : List ℕ) × (c ≡ a ++ r)) ⊎ ((r : List ℕ) × (a ≡ c ++ r))
+prefixes_nest [] b c d e = inl (c, refl)
+prefixes_nest (x ∷ a) b [] d e = inr (x ∷ a, refl)
+prefixes_nest (x ∷ a) b (y ∷ c) d e =
     let tails : a ++ b ≡ c ++ d = (cc) in
     let heads : x ≡ y = (cc) in
-    elim (fronts_nest a b c d tails) [
+    elim (prefixes_nest a b c d tails) [
       | inl h ↦ inl (h.0, (let l = h.1 in (cc)))
       | inr h ↦ inr (h.0, (let l = h.1 in (cc)))
     ]
@@ -131,7 +131,8 @@ pub part_refused : {E : Type 0} {gives : Error → E → Type 0} {eof : E → Bo
     → mid.fixed ≡ old.fixed → mid.faults ≡ old.faults
     → (IsTrue L.asks.memory → IsTrue N.asks.memory) → (IsTrue L.asks.lending → IsTrue N.asks.lending)
     → ((kind : ErrorKind) → L.names kind → N.names kind)
-    → (IsTold N old → (IsTold L mid → Unspelled gives eof L e mid.to_come) → Unspelled gives eof N e old.to_come)
+    → (IsTold N old → (IsTold L mid → Undecodable gives eof L e mid.remaining)
+    → Undecodable gives eof N e old.remaining)
     → Excused gives L.asks.memory e mid new ⊎ Refused gives eof L e mid new
     → Excused gives N.asks.memory e old new ⊎ Refused gives eof N e old new
 part_refused {gives = gives} {L = L} {N = N} {e = e} {old = old} {mid = mid} new same clean takes lends names un
@@ -153,15 +154,15 @@ part_refused {gives = gives} {eof = eof} {L = L} {N = N} {e = e} {old = old} {mi
 -- an input that ended before the least size of a format that refuses nothing itself, and no call of the device failed
 pub ends_early : {E : Type 0} {gives : Error → E → Type 0} {eof : E → Bool} {V : Type 0} {L : Format V} {e : E}
     {old new : ReaderState}
-    → new.faults ≡ old.faults → (least : ℕ) → ((v : V) (s : List ℕ) → L.spells v s → least ≤ length s)
+    → new.faults ≡ old.faults → (least : ℕ) → ((v : V) (s : List ℕ) → L.encodes v s → least ≤ length s)
     → ((bytes : List ℕ) → L.malformed bytes → ⊥) → IsEnd gives eof old.fixed.ends_by_device e
-    → (IsTrue old.fixed.tells → length old.to_come < 2 ^ 64 - 1 → length old.to_come < least)
+    → (IsTrue old.fixed.tells → length old.remaining < 2 ^ 64 - 1 → length old.remaining < least)
     → Refused gives eof L e old new
 ends_early clean least size none ended fewer = record {
   no_fault = clean;
   kind = inl ended;
   because = λ told. record {
-    no_front = λ v front rest is h. let k = size v front h in let l = ap length is ∙ length-append front rest in
+    no_prefix = λ v prefix rest is h. let k = size v prefix h in let l = ap length is ∙ length-append prefix rest in
         let f = fewer told.tells told.fit in absurd (omega arith);
     too_short = λ _ _ _. ended.1;
     malformed = λ bad. absurd (none _ bad);
@@ -175,63 +176,63 @@ pub no_parts : (a b : List ℕ) → a ++ b ≡ [] → (a ≡ []) × (b ≡ [])
 no_parts [] b h = (refl, h)
 no_parts (x ∷ a) b h = absurd (cc)
 
-module _ {spelled other : List ℕ → Type 0} {old new : ReaderState} (f : (s : List ℕ) → spelled s → other s) where
-  -- what was taken is spelled otherwise too
-  pub Got-as : Got spelled old new → Got other old new
+module _ {encoded other : List ℕ → Type 0} {old new : ReaderState} (f : (s : List ℕ) → encoded s → other s) where
+  -- what was taken is encoded otherwise too
+  pub Got-as : Got encoded old new → Got other old new
   Got-as g = record {
-    front = g.front;
-    front_is = f g.front g.front_is;
+    prefix = g.prefix;
+    prefix_is = f g.prefix g.prefix_is;
     taken = g.taken;
     no_fault = g.no_fault;
     untouched = g.untouched;
   }
 
-  pub Ahead-as : Ahead spelled old new → Ahead other old new
+  pub Ahead-as : Ahead encoded old new → Ahead other old new
   Ahead-as g = record {
-    front = g.front;
+    prefix = g.prefix;
     rest = g.rest;
-    front_is = f g.front g.front_is;
+    prefix_is = f g.prefix g.prefix_is;
     stands = g.stands;
     no_fault = g.no_fault;
   }
 
--- one front was taken after the other
-pub Got-after : {spelled next more : List ℕ → Type 0} {old mid new : ReaderState} → Kept old mid
-    → ((s t : List ℕ) → spelled s → next t → more (s ++ t)) → Got spelled old mid → Got next mid new → Got more old new
+-- one prefix was taken after the other
+pub Got-after : {encoded next more : List ℕ → Type 0} {old mid new : ReaderState} → Kept old mid
+    → ((s t : List ℕ) → encoded s → next t → more (s ++ t)) → Got encoded old mid → Got next mid new → Got more old new
 Got-after {new = new} kept f g k = record {
-  front = g.front ++ k.front;
-  front_is = f g.front k.front g.front_is k.front_is;
-  taken = λ told. g.taken told ∙ (ap (λ s. g.front ++ s) (k.taken (tells_still kept.fixed told))
-      ∙ sym (append_assoc g.front k.front new.to_come));
+  prefix = g.prefix ++ k.prefix;
+  prefix_is = f g.prefix k.prefix g.prefix_is k.prefix_is;
+  taken = λ told. g.taken told ∙ (ap (λ s. g.prefix ++ s) (k.taken (tells_still kept.fixed told))
+      ∙ sym (append_assoc g.prefix k.prefix new.remaining));
   no_fault = k.no_fault ∙ g.no_fault;
-  untouched = λ none. let parts = no_parts g.front k.front none in k.untouched parts.1 ∙ g.untouched parts.0;
+  untouched = λ none. let parts = no_parts g.prefix k.prefix none in k.untouched parts.1 ∙ g.untouched parts.0;
 }
 
 -- nothing was taken
-pub Got-nothing : {spelled : List ℕ → Type 0} {old : ReaderState} → spelled [] → Got spelled old old
-Got-nothing h = record { front = []; front_is = h; taken = λ _. refl; no_fault = refl; untouched = λ _. refl }
+pub Got-nothing : {encoded : List ℕ → Type 0} {old : ReaderState} → encoded [] → Got encoded old old
+Got-nothing h = record { prefix = []; prefix_is = h; taken = λ _. refl; no_fault = refl; untouched = λ _. refl }
 
 -- ---- what was read so far
 
--- from old to new a front was taken that is spelled so
-pub record ReadSoFar (spelled : List ℕ → Type 0) (old new : ReaderState) : Type 0 where
+-- from old to new a prefix was taken that is encoded so
+pub record ReadSoFar (encoded : List ℕ → Type 0) (old new : ReaderState) : Type 0 where
   pub kept : Kept old new
-  pub got : Got spelled old new
+  pub got : Got encoded old new
 
-pub none_so_far : {spelled : List ℕ → Type 0} {old : ReaderState} → spelled [] → ReadSoFar spelled old old
+pub none_so_far : {encoded : List ℕ → Type 0} {old : ReaderState} → encoded [] → ReadSoFar encoded old old
 none_so_far h = record { kept = Kept-same; got = Got-nothing h }
 
 module _ {E : Type 0} {gives : Error → E → Type 0} {eof : E → Bool} {A V : Type 0} {seen : A → V} {x : A} {L : Format V}
-    {spelled : List ℕ → Type 0} where
+    {encoded : List ℕ → Type 0} where
   -- and a value more
-  pub more_so_far : {more : List ℕ → Type 0} {old mid new : ReaderState} → ReadSoFar spelled old mid
+  pub more_so_far : {more : List ℕ → Type 0} {old mid new : ReaderState} → ReadSoFar encoded old mid
       → Reads gives eof seen L (Ok x) mid new
-      → ((s t : List ℕ) → spelled s → L.spells (seen x) t → more (s ++ t)) → ReadSoFar more old new
+      → ((s t : List ℕ) → encoded s → L.encodes (seen x) t → more (s ++ t)) → ReadSoFar more old new
   more_so_far h r f = record { kept = Kept-after h.kept r.kept; got = Got-after h.kept f h.got r.answer }
 
-  -- the front is a value
-  pub all_so_far : {old new : ReaderState} → ReadSoFar spelled old new
-      → ((s : List ℕ) → spelled s → L.spells (seen x) s)
+  -- the prefix is a value
+  pub all_so_far : {old new : ReaderState} → ReadSoFar encoded old new
+      → ((s : List ℕ) → encoded s → L.encodes (seen x) s)
       → Reads gives eof seen L (Ok x) old new
   all_so_far h f = record { kept = h.kept; answer = Got-as f h.got }
 
@@ -249,5 +250,5 @@ module _ {E : Type 0} {gives : Error → E → Type 0} {eof : E → Bool} {A B V
       → Reads gives eof seen' L (Ok y) old new
   got_as same r = record {
     kept = r.kept;
-    answer = Got-as (λ s h. subst (λ (v : V). L.spells v s) (sym same) h) r.answer;
+    answer = Got-as (λ s h. subst (λ (v : V). L.encodes v s) (sym same) h) r.answer;
   }

@@ -9,35 +9,35 @@ use Rattle.speedy_layout.specs.Format.{Asks, Format, Parts}
 use Rattle.speedy_layout.specs.Laws.{Laws}
 use Rattle.speedy_layout.specs.Sequences.{AsksAtMost, asks_same, asks_left, asks_right, asks_after, sequence}
 use Rattle.speedy_layout.specs.Tuples.{pair}
-use Rattle.speedy_read.specs.Reading.{ReaderState, Unspelled, Reads, Peeks}
-use Rattle.speedy_read.specs.ReadingLemmas.{Kept-after, IsTold-after, IsTold-part, fronts_nest, Reads-passed}
+use Rattle.speedy_read.specs.Reading.{ReaderState, Undecodable, Reads, Peeks}
+use Rattle.speedy_read.specs.ReadingLemmas.{Kept-after, IsTold-after, IsTold-part, prefixes_nest, Reads-passed}
 use Rattle.speedy_read.specs.ReadingLemmas.{part_refused, more_so_far, all_so_far}
 
 -- a value of N is one of L and then one of M, which may depend on it
 pub record Composes {U V : Type 0} {W : U → Type 0} (L : Format U) (M : (u : U) → Format (W u)) (N : Format V)
     (join : (u : U) → W u → V) : Type 0 where
-  pub joins : (u : U) (w : W u) (s t : List ℕ) → L.spells u s → (M u).spells w t → N.spells (join u w) (s ++ t)
-  pub splits : (v : V) (s : List ℕ) → N.spells v s → (u : U) × (w : W u) × Parts (L.spells u) ((M u).spells w) s
+  pub joins : (u : U) (w : W u) (s t : List ℕ) → L.encodes u s → (M u).encodes w t → N.encodes (join u w) (s ++ t)
+  pub splits : (v : V) (s : List ℕ) → N.encodes v s → (u : U) × (w : W u) × Parts (L.encodes u) ((M u).encodes w) s
   pub names_first : (kind : ErrorKind) → L.names kind → N.names kind
   pub names_second : (u : U) (kind : ErrorKind) → (M u).names kind → N.names kind
   pub malformed : (bytes : List ℕ) → N.malformed bytes
-      → L.malformed bytes ⊎ ((u : U) × Parts (L.spells u) ((M u).malformed) bytes)
+      → L.malformed bytes ⊎ ((u : U) × Parts (L.encodes u) ((M u).malformed) bytes)
   pub asks_first : AsksAtMost L.asks N.asks
   pub asks_second : (u : U) → AsksAtMost (M u).asks N.asks
 
 -- a sequence is read as its first part and then its second; what is joined splits again where the second part is
--- spelled
+-- encoded
 pub sequence_composes : {U V : Type 0} {W : U → Type 0} (split : V → (u : U) × W u) {join : (u : U) → W u → V}
     {L : Format U} {asks : Asks} {M : (u : U) → Format (W u)}
     → ((u : U) → AsksAtMost (M u).asks asks)
-    → ((u : U) (w : W u) (s : List ℕ) → (M u).spells w s → let whole : (u : U) × W u = (u, w) in
+    → ((u : U) (w : W u) (s : List ℕ) → (M u).encodes w s → let whole : (u : U) × W u = (u, w) in
     split (join u w) ≡ whole) → Composes L M (sequence split L asks M) join
 unfolding sequence
-sequence_composes {U = U} {W = W} split {L = L} {asks = asks} {M = M} within back = record {
+sequence_composes {U = U} {W = W} split {L = L} {asks = asks} {M = M} within suffix = record {
   joins = λ u w s t h k.
       let whole : (u : U) × W u = (u, w) in
-      subst (λ (p : (u : U) × W u). Parts (L.spells p.0) ((M p.0).spells p.1) (s ++ t)) (sym (back u w t k))
-      (record { front = s; back = t; whole_is = refl; first_is = h; second_is = k });
+      subst (λ (p : (u : U) × W u). Parts (L.encodes p.0) ((M p.0).encodes p.1) (s ++ t)) (sym (suffix u w t k))
+      (record { prefix = s; suffix = t; whole_is = refl; first_is = h; second_is = k });
   splits = λ v s h. ((split v).0, (split v).1, h);
   names_first = λ kind h. inl h;
   names_second = λ u kind h. inr (u, h);
@@ -53,22 +53,23 @@ pair_composes = sequence_composes (λ p. p) (λ _. asks_same) (λ u w s h. refl)
 module _ {U V : Type 0} {W : U → Type 0} {L : Format U} {M : (u : U) → Format (W u)} {N : Format V}
     {join : (u : U) → W u → V} (c : Composes L M N join) {E : Type 0} {gives : Error → E → Type 0}
     {eof : E → Bool} where
-  unspelled_first : {e : E} {bytes : List ℕ} → Unspelled gives eof L e bytes → Unspelled gives eof N e bytes
-  unspelled_first {e = e} {bytes = bytes} un = record {
-    no_front = λ v front rest is sp.
-        let parts = c.splits v front sp in
-        un.no_front parts.0 parts.2.front (parts.2.back ++ rest)
-        (is ∙ (ap (λ x. x ++ rest) parts.2.whole_is ∙ append_assoc parts.2.front parts.2.back rest)) parts.2.first_is;
+  undecodable_first : {e : E} {bytes : List ℕ} → Undecodable gives eof L e bytes → Undecodable gives eof N e bytes
+  undecodable_first {e = e} {bytes = bytes} un = record {
+    no_prefix = λ v prefix rest is sp.
+        let parts = c.splits v prefix sp in
+        un.no_prefix parts.0 parts.2.prefix (parts.2.suffix ++ rest)
+        (is ∙ (ap (λ x. x ++ rest) parts.2.whole_is ∙ append_assoc parts.2.prefix parts.2.suffix rest))
+        parts.2.first_is;
     too_short = λ v more sp.
         let parts = c.splits v (bytes ++ more) sp in
-        elim (fronts_nest bytes more parts.2.front parts.2.back parts.2.whole_is) [
-          | inl h ↦ un.too_short parts.0 h.0 (subst (L.spells parts.0) h.1 parts.2.first_is)
-          | inr h ↦ absurd (un.no_front parts.0 parts.2.front h.0 h.1 parts.2.first_is)
+        elim (prefixes_nest bytes more parts.2.prefix parts.2.suffix parts.2.whole_is) [
+          | inl h ↦ un.too_short parts.0 h.0 (subst (L.encodes parts.0) h.1 parts.2.first_is)
+          | inr h ↦ absurd (un.no_prefix parts.0 parts.2.prefix h.0 h.1 parts.2.first_is)
         ];
     malformed = λ bad.
         elim (c.malformed bytes bad) [
           | inl h ↦ IsNamed-more gives e c.names_first (un.malformed h)
-          | inr h ↦ absurd (un.no_front h.0 h.1.front h.1.back h.1.whole_is h.1.first_is)
+          | inr h ↦ absurd (un.no_prefix h.0 h.1.prefix h.1.suffix h.1.whole_is h.1.first_is)
         ];
   }
 
@@ -79,7 +80,7 @@ module _ {U V : Type 0} {W : U → Type 0} {L : Format U} {M : (u : U) → Forma
   refused_first {new = new} passed r = Reads-passed passed (record {
     kept = r.kept;
     answer = part_refused new refl refl c.asks_first.memory c.asks_first.lending c.names_first
-        (λ told un. unspelled_first (un (IsTold-part c.asks_first.lending told))) r.answer;
+        (λ told un. undecodable_first (un (IsTold-part c.asks_first.lending told))) r.answer;
   })
 
   pub peek_refused_first : {A B : Type 0} {seen : A → U} {seen' : B → V} {e : E} {old new : ReaderState}
@@ -89,36 +90,36 @@ module _ {U V : Type 0} {W : U → Type 0} {L : Format U} {M : (u : U) → Forma
     answer = elim r.answer [
       | inl h ↦ inl h
       | inr h ↦ inr (part_refused new refl refl c.asks_first.memory c.asks_first.lending c.names_first
-          (λ told un. unspelled_first (un (IsTold-part c.asks_first.lending told))) h)
+          (λ told un. undecodable_first (un (IsTold-part c.asks_first.lending told))) h)
     ];
   }
 
-  unspelled_second : {strict : Bool} {least : ℕ} → Laws strict least L → (u : U) {e : E} (front rest : List ℕ)
-      → L.spells u front
-      → Unspelled gives eof (M u) e rest → Unspelled gives eof N e (front ++ rest)
-  unspelled_second laws u {e = e} front rest first un = record {
-    no_front = λ v whole tail is sp.
+  undecodable_second : {strict : Bool} {least : ℕ} → Laws strict least L → (u : U) {e : E} (prefix rest : List ℕ)
+      → L.encodes u prefix
+      → Undecodable gives eof (M u) e rest → Undecodable gives eof N e (prefix ++ rest)
+  undecodable_second laws u {e = e} prefix rest first un = record {
+    no_prefix = λ v whole tail is sp.
         let parts = c.splits v whole sp in
-        let same = laws.decodes u parts.0 front parts.2.front rest (parts.2.back ++ tail) first parts.2.first_is
-        (is ∙ (ap (λ x. x ++ tail) parts.2.whole_is ∙ append_assoc parts.2.front parts.2.back tail)) in
+        let same = laws.decodes u parts.0 prefix parts.2.prefix rest (parts.2.suffix ++ tail) first parts.2.first_is
+        (is ∙ (ap (λ x. x ++ tail) parts.2.whole_is ∙ append_assoc parts.2.prefix parts.2.suffix tail)) in
         let second =
-        subst (λ (x : U). (w : W x) × (M x).spells w parts.2.back) (sym same.0) (parts.1, parts.2.second_is) in
-        un.no_front second.0 parts.2.back tail same.2 second.1;
+        subst (λ (x : U). (w : W x) × (M x).encodes w parts.2.suffix) (sym same.0) (parts.1, parts.2.second_is) in
+        un.no_prefix second.0 parts.2.suffix tail same.2 second.1;
     too_short = λ v more sp.
-        let parts = c.splits v ((front ++ rest) ++ more) sp in
-        let same = laws.decodes u parts.0 front parts.2.front (rest ++ more) parts.2.back first parts.2.first_is
-        (sym (append_assoc front rest more) ∙ parts.2.whole_is) in
+        let parts = c.splits v ((prefix ++ rest) ++ more) sp in
+        let same = laws.decodes u parts.0 prefix parts.2.prefix (rest ++ more) parts.2.suffix first parts.2.first_is
+        (sym (append_assoc prefix rest more) ∙ parts.2.whole_is) in
         let second =
-        subst (λ (x : U). (w : W x) × (M x).spells w parts.2.back) (sym same.0) (parts.1, parts.2.second_is) in
-        un.too_short second.0 more (subst (λ (x : List ℕ). (M u).spells second.0 x) (sym same.2) second.1);
+        subst (λ (x : U). (w : W x) × (M x).encodes w parts.2.suffix) (sym same.0) (parts.1, parts.2.second_is) in
+        un.too_short second.0 more (subst (λ (x : List ℕ). (M u).encodes second.0 x) (sym same.2) second.1);
     malformed = λ bad.
-        elim (c.malformed (front ++ rest) bad) [
-          | inl h ↦ absurd (laws.malformed_unspelled u front rest h first)
+        elim (c.malformed (prefix ++ rest) bad) [
+          | inl h ↦ absurd (laws.malformed_undecodable u prefix rest h first)
           | inr h ↦
-              let same = laws.decodes u h.0 front h.1.front rest h.1.back first h.1.first_is h.1.whole_is in
+              let same = laws.decodes u h.0 prefix h.1.prefix rest h.1.suffix first h.1.first_is h.1.whole_is in
               IsNamed-more gives e (c.names_second u)
               (un.malformed (subst (λ (x : List ℕ). (M u).malformed x) (sym same.2)
-              (subst (λ (x : U). (M x).malformed h.1.back) (sym same.0) h.1.second_is)))
+              (subst (λ (x : U). (M x).malformed h.1.suffix) (sym same.0) h.1.second_is)))
         ];
   }
 
@@ -133,8 +134,8 @@ module _ {U V : Type 0} {W : U → Type 0} {L : Format U} {M : (u : U) → Forma
     answer = part_refused new h.kept.fixed h.answer.no_fault (c.asks_second (first x)).memory
         (c.asks_second (first x)).lending (c.names_second (first x))
         (λ told un.
-        subst (λ (bytes : List ℕ). Unspelled gives eof N e bytes) (sym (h.answer.taken told.tells))
-        (unspelled_second laws (first x) h.answer.front mid.to_come h.answer.front_is
+        subst (λ (bytes : List ℕ). Undecodable gives eof N e bytes) (sym (h.answer.taken told.tells))
+        (undecodable_second laws (first x) h.answer.prefix mid.remaining h.answer.prefix_is
         (un (IsTold-after h.kept (c.asks_second (first x)).lending told))))
         k.answer;
   })
@@ -146,11 +147,11 @@ module _ {U V : Type 0} {W : U → Type 0} {L : Format U} {M : (u : U) → Forma
       → seen' z ≡ join (first x) (seen y)
       → Reads gives eof seen' N (Ok z) old new
   got_both {first = first} {x = x} {seen = seen} {y = y} h k e =
-      all_so_far (more_so_far {more = N.spells (join (first x) (seen y))} (record {
+      all_so_far (more_so_far {more = N.encodes (join (first x) (seen y))} (record {
         kept = h.kept;
         got = h.answer;
       }) k (c.joins (first x) (seen y)))
-      (λ s sp. subst (λ (v : V). N.spells v s) (sym e) sp)
+      (λ s sp. subst (λ (v : V). N.encodes v s) (sym e) sp)
 
   -- the second part decides
   pub second_decides : {strict : Bool} {least : ℕ} → Laws strict least L

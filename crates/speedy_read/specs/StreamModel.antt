@@ -2,7 +2,7 @@
 use Rattle.std.specs.Prelude.{ℕ, ◌-◌, [], ◌∷◌, ◌++◌, length, Bool, true, false, ◌&&◌, nat_eq, nat_le}
 use Rattle.std.specs.Borrow.{GName}
 use Rattle.speedy_base.specs.Device.{SourceState}
-use Rattle.speedy_base.specs.Encoding.{Encoding}
+use Rattle.speedy_base.specs.Mode.{Mode}
 use Rattle.speedy_base.specs.Ring.{Ring}
 use Rattle.speedy_read.specs.Reading.{ReaderKind, ReaderState}
 use Rattle.speedy_read.specs.declared.stream_reader.StreamReader.{StreamReader}
@@ -53,16 +53,16 @@ stream_kind name tells is_buffering = record {
 }
 
 -- its bytes come from the ring first
-abbrev pub ring_state : GName → SourceState → Ring → Bool → Encoding → ReaderState
-ring_state name source ring is_buffering encoding = record {
+abbrev pub ring_state : GName → SourceState → Ring → Bool → Mode → ReaderState
+ring_state name source ring is_buffering mode = record {
   fixed = stream_kind name source.tells is_buffering;
-  to_come = ring.bytes ++ source.to_come;
+  remaining = ring.bytes ++ source.remaining;
   source = source;
   tidy = is_tidy ring is_buffering;
-  encoding = encoding;
+  mode = mode;
   faults = source.faults;
 }
 
-abbrev pub stream_state : {S C : Type 0} → (S → SourceState) → (C → Encoding) → StreamReader S C → ReaderState
-stream_state source encoding r =
-    ring_state r.source.ghost_name (source r.source.now) r.ring r.is_buffering (encoding r.context)
+abbrev pub stream_state : {S C : Type 0} → (S → SourceState) → (C → Mode) → StreamReader S C → ReaderState
+stream_state source mode r =
+    ring_state r.source.ghost_name (source r.source.now) r.ring r.is_buffering (mode r.context)

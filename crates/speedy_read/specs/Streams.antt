@@ -9,18 +9,18 @@ use Rattle.speedy_base.specs.declared.error.Error.{Error}
 use Rattle.speedy_layout.specs.Texts.{raw_bytes}
 use Rattle.speedy_read.specs.Reading.{ReaderState, KeptByPeek, Refused}
 
--- what is to come of a source is a tail of what was to come
+-- what remains of a source is a tail of what remained
 abbrev pub LeavesTail : SourceState → SourceState → Type 0
-LeavesTail old new = IsTrue old.tells → (front : List ℕ) × (old.to_come ≡ front ++ new.to_come)
+LeavesTail old new = IsTrue old.tells → (prefix : List ℕ) × (old.remaining ≡ prefix ++ new.remaining)
 
 -- Pulling until a list is full of what a source gives, and whether it is.
 pub record FillsList (output : List ℕ) (result : Result Bool StdIoError) (old new : SourceState) : Type 0 where
   pub kept : SourceKept old new
   pub no_fault : OnOk result (new.faults ≡ old.faults)
   pub tail : LeavesTail old new
-  pub full : IfOk result (λ full. IsTrue full → IsTrue old.tells → old.to_come ≡ output ++ new.to_come)
+  pub full : IfOk result (λ full. IsTrue full → IsTrue old.tells → old.remaining ≡ output ++ new.remaining)
   -- it is not where the source ended before
-  pub ended : IfOk result (λ full. full ≡ false → IsTrue old.tells → length old.to_come < length output)
+  pub ended : IfOk result (λ full. full ≡ false → IsTrue old.tells → length old.remaining < length output)
   -- the first call that fails is the last one
   pub fault : IfErr result (λ error. OneFailed error old.faults new.faults)
 
@@ -30,7 +30,7 @@ pub record FillsRing (count : ℕ) (ahead : Bool) (result : Result Bool StdIoErr
   pub kept : SourceKept old new
   pub no_fault : OnOk result (new.faults ≡ old.faults)
   pub capacity : keeps.capacity ≡ held.capacity
-  pub moved : IsTrue old.tells → keeps.bytes ++ new.to_come ≡ held.bytes ++ old.to_come
+  pub moved : IsTrue old.tells → keeps.bytes ++ new.remaining ≡ held.bytes ++ old.remaining
   -- nothing is pulled where it holds enough already
   pub untouched : count ≤ length held.bytes → IsOk result × (keeps ≡ held) × (new ≡ old)
   -- no more is pulled than lacks, unless it is ahead
@@ -39,13 +39,13 @@ pub record FillsRing (count : ℕ) (ahead : Bool) (result : Result Bool StdIoErr
       (λ enough. IsTrue enough → (count ≤ length keeps.bytes) × (length keeps.bytes ≤ keeps.capacity))
   -- it does not where the source ended before
   pub short : IfOk result (λ enough. enough ≡ false → length keeps.bytes < count)
-  pub ended : IfOk result (λ enough. enough ≡ false → IsTrue old.tells → new.to_come ≡ [])
+  pub ended : IfOk result (λ enough. enough ≡ false → IsTrue old.tells → new.remaining ≡ [])
   -- the first call that fails is the last one
   pub fault : IfErr result (λ error. (length keeps.bytes < count) × OneFailed error old.faults new.faults)
 
 module _ {E : Type 0} (gives : Error → E → Type 0) (eof : E → Bool) where
   -- Filling the ring of a reader until it holds so many bytes. Nothing is taken. It is refused by a failed call, as
-  -- what that answered, or where fewer bytes are to come.
+  -- what that answered, or where fewer bytes remain.
   pub record Fills {A : Type 0} (count : ℕ) (result : Result A E) (held keeps : Ring)
       (old new : ReaderState) : Type 0 where
     pub kept : KeptByPeek old new

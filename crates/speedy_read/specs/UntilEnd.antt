@@ -5,22 +5,22 @@ use Rattle.std.proofs.Common.{sym, ◌∙◌, subst}
 use Rattle.speedy_base.specs.declared.error.ErrorKind.TheVariants as kinds
 use Rattle.speedy_base.specs.declared.error.Error.{Error}
 use Rattle.speedy_base.specs.Error.{error_of, Errors, IsNamed}
-use Rattle.speedy_base.specs.Encoding.{Encoding}
+use Rattle.speedy_base.specs.Mode.{Mode}
 use Rattle.speedy_base.specs.FailedCalls.{HasGrown, IsOfFault}
 use Rattle.speedy_layout.specs.Codecs.{Codec}
 use Rattle.speedy_layout.specs.Format.{Format, Each}
-use Rattle.speedy_read.specs.Reading.{ReaderState, Kept, refusing_kinds, Excused, IsTold, Unspelled, ReadsValue}
+use Rattle.speedy_read.specs.Reading.{ReaderState, Kept, refusing_kinds, Excused, IsTold, Undecodable, ReadsValue}
 
 -- the bytes begin with these values, one after another
 pub record Begin {V : Type 0} (L : Format V) (vs : List V) (old : ReaderState) : Type 0 where
-  pub front : List ℕ
+  pub prefix : List ℕ
   pub rest : List ℕ
-  pub front_is : Each L.spells vs front
-  pub stands : IsTrue old.fixed.tells → old.to_come ≡ front ++ rest
+  pub prefix_is : Each L.encodes vs prefix
+  pub stands : IsTrue old.fixed.tells → old.remaining ≡ prefix ++ rest
 
 -- at the front of the bytes stands no value, and nothing that the type refuses
 pub record EndsBefore {V : Type 0} (L : Format V) (bytes : List ℕ) : Type 0 where
-  pub no_front : (v : V) (front rest : List ℕ) → bytes ≡ front ++ rest → L.spells v front → ⊥
+  pub no_prefix : (v : V) (prefix rest : List ℕ) → bytes ≡ prefix ++ rest → L.encodes v prefix → ⊥
   pub not_malformed : L.malformed bytes → ⊥
 
 module _ {E : Type 0} (gives : Error → E → Type 0) (eof : E → Bool) where
@@ -47,7 +47,7 @@ module _ {E : Type 0} (gives : Error → E → Type 0) (eof : E → Bool) where
       pub no_fault : new.faults ≡ old.faults
       pub no_end : eof e ≡ false
       pub kind : IsNamed gives (refusing_kinds L old.fixed.lends) e
-      pub because : IsTold L old → Unspelled gives eof L e begin.rest
+      pub because : IsTold L old → Undecodable gives eof L e begin.rest
 
     -- why it is refused: want of memory, a failed call of the device that stands for no end, an item too many, or one
     -- that is at fault
@@ -62,8 +62,8 @@ module _ {E : Type 0} (gives : Error → E → Type 0) (eof : E → Bool) where
       pub gathered : gathers items whole
       pub begin : Begin L (map seen items) old
       pub ended : Ended L begin.rest old new
-      -- nothing in front of the rest is still to come
-      pub taken : IsTrue old.fixed.tells → (lost : List ℕ) × (begin.rest ≡ lost ++ new.to_come)
+      -- nothing in front of the rest is still there
+      pub taken : IsTrue old.fixed.tells → (lost : List ℕ) × (begin.rest ≡ lost ++ new.remaining)
 
     -- A read of items until the bytes end, of at most so many. What is answered is gathered of all items in front of
     -- the end.
@@ -87,7 +87,7 @@ module _ {E : Type 0} (errors : Errors E) where
     abbrev pub ReadsValuesUntilEnd : {T F V : Type 0} → (T → V) → (List T → F → Type 0) → Codec V → ℕ
         → Result F E → S → S → Type 0
     ReadsValuesUntilEnd seen gathers codec greatest result old new =
-        let format = codec.format (state old).encoding in
+        let format = codec.format (state old).mode in
         ReadsUntilEnd errors.from_gives errors.eof seen gathers format greatest result (state old) (state new)
 
     -- a read of a value, or nothing where the bytes end before it
@@ -103,45 +103,46 @@ module _ {E : Type 0} (errors : Errors E) where
 
   -- What a clean read until the end answers is decided by the bytes. It may want memory in place of any other answer.
   pub record UntilEndIsDecided {T F V : Type 0} (seen : T → V) (gathers : List T → F → Type 0)
-      (format : Encoding → Format V) : Type 0 where
+      (format : Mode → Format V) : Type 0 where
     -- at most so many values and then some first bytes of one, or none: the values
-    pub cut : {encoding : Encoding} (vs : List V) (v : V) (bytes front more : List ℕ) {greatest : ℕ}
+    pub cut : {mode : Mode} (vs : List V) (v : V) (bytes prefix more : List ℕ) {greatest : ℕ}
         {result : Result F E} {old new : ReaderState}
-        → Each (format encoding).spells vs bytes → (format encoding).spells v (front ++ more) → more ≢ []
+        → Each (format mode).encodes vs bytes → (format mode).encodes v (prefix ++ more) → more ≢ []
         → length vs ≤ greatest
-        → old.to_come ≡ bytes ++ front
-        → CleanUntilEnd errors.from_gives errors.eof seen gathers (format encoding) greatest result old new
+        → old.remaining ≡ bytes ++ prefix
+        → CleanUntilEnd errors.from_gives errors.eof seen gathers (format mode) greatest result old new
         → MatchResult result (λ whole. (items : List T) × (map seen items ≡ vs) × gathers items whole)
         (errors.from_gives (error_of kinds.OutOfMemory))
     -- more values than so many: a refusal
-    pub too_many : {encoding : Encoding} (vs : List V) (bytes rest : List ℕ) {greatest : ℕ} {result : Result F E}
+    pub too_many : {mode : Mode} (vs : List V) (bytes rest : List ℕ) {greatest : ℕ} {result : Result F E}
         {old new : ReaderState}
-        → Each (format encoding).spells vs bytes → greatest < length vs
-        → old.to_come ≡ bytes ++ rest
-        → CleanUntilEnd errors.from_gives errors.eof seen gathers (format encoding) greatest result old new
+        → Each (format mode).encodes vs bytes → greatest < length vs
+        → old.remaining ≡ bytes ++ rest
+        → CleanUntilEnd errors.from_gives errors.eof seen gathers (format mode) greatest result old new
         → MatchResult result (λ _. ⊥)
         (λ e. errors.from_gives (error_of kinds.OutOfRangeLength) e ⊎ errors.from_gives (error_of kinds.OutOfMemory) e)
     -- at most so many values and then what the type refuses: a refusal that it names
-    pub at_fault : {encoding : Encoding} (vs : List V) (bytes rest : List ℕ) {greatest : ℕ} {result : Result F E}
+    pub at_fault : {mode : Mode} (vs : List V) (bytes rest : List ℕ) {greatest : ℕ} {result : Result F E}
         {old new : ReaderState}
-        → Each (format encoding).spells vs bytes → (format encoding).malformed rest → length vs ≤ greatest
-        → old.to_come ≡ bytes ++ rest
-        → CleanUntilEnd errors.from_gives errors.eof seen gathers (format encoding) greatest result old new
+        → Each (format mode).encodes vs bytes → (format mode).malformed rest → length vs ≤ greatest
+        → old.remaining ≡ bytes ++ rest
+        → CleanUntilEnd errors.from_gives errors.eof seen gathers (format mode) greatest result old new
         → MatchResult result (λ _. ⊥)
-        (λ e. IsNamed errors.from_gives (format encoding).names e ⊎ errors.from_gives (error_of kinds.OutOfMemory) e)
+        (λ e. IsNamed errors.from_gives (format mode).names e ⊎ errors.from_gives (error_of kinds.OutOfMemory) e)
 
 -- what is answered stands at the front of bytes in memory
-pub front_until_end : {E T F V : Type 0} {gives : Error → E → Type 0} {eof : E → Bool} {seen : T → V}
+pub prefix_until_end : {E T F V : Type 0} {gives : Error → E → Type 0} {eof : E → Bool} {seen : T → V}
     (shown : F → List T) {L : Format V} {greatest : ℕ} {result : Result F E} {old new : ReaderState} {bytes : List ℕ}
-    → IsTrue old.fixed.tells → old.to_come ≡ bytes
+    → IsTrue old.fixed.tells → old.remaining ≡ bytes
     → ReadsUntilEnd gives eof seen (λ items whole. shown whole ≡ items) L greatest result old new
-    → IfOk result (λ whole. (front : List ℕ) × (rest : List ℕ) × Each L.spells (map seen (shown whole)) front
-    × (bytes ≡ front ++ rest))
-front_until_end {seen = seen} shown {L = L} {result = Ok whole} tells is r =
+    → IfOk result (λ whole. (prefix : List ℕ) × (rest : List ℕ) × Each L.encodes (map seen (shown whole)) prefix
+    × (bytes ≡ prefix ++ rest))
+prefix_until_end {seen = seen} shown {L = L} {result = Ok whole} tells is r =
     let got = r.answer in (
-      got.begin.front,
+      got.begin.prefix,
       got.begin.rest,
-      subst (λ (items : List _). Each L.spells (map seen items) got.begin.front) (sym got.gathered) got.begin.front_is,
+      subst (λ (items : List _). Each L.encodes (map seen items) got.begin.prefix) (sym got.gathered)
+          got.begin.prefix_is,
       sym is ∙ got.begin.stands tells,
     )
-front_until_end shown {result = Err e} tells is r = tt
+prefix_until_end shown {result = Err e} tells is r = tt

@@ -1,7 +1,7 @@
 //! Arrays of numbers in bulk: all at once from bytes that the reader lends.
 ghost use Rattle.std.specs.Prelude.{◌≡◌, ◌*◌, List, length as count_of, map, IfOk, MatchOption};
 ghost use Rattle.speedy_layout.specs.Codecs.{vector_codec};
-ghost use Rattle.speedy_layout.specs.FixedNumbers.{spelled_in};
+ghost use Rattle.speedy_layout.specs.FixedNumbers.{encoded_in};
 ghost use Rattle.speedy_layout.specs.Format.{Each};
 ghost use Rattle.speedy_layout.specs.Lists.{vector};
 ghost use Rattle.speedy_read.specs.Lending.{many_items};
@@ -113,7 +113,7 @@ pub(crate) fn read_number_places<
     }
 }
 
-// The numbers that these bytes spell, so many times as many as there are places, which take so many bytes.
+// The numbers that these bytes encode, so many times as many as there are places, which take so many bytes.
 fn places_of<
     P: Places<L, C, T>,
     T: FixedNumber + ReadFrom<L, C>,
@@ -128,7 +128,7 @@ fn places_of<
 ) -> Result<Vec<P>, AllocError>
     requires { (width ≡ P.count * T.SIZE) × (count_of digits.now ≡ count * width) }
     ensures whole { IfOk result (λ v. count_of v.items ≡ count) }
-    ensures taken { IfOk result (λ v. Each (spelled_in (λ e. vector P.count (T.layout.format e)) order)
+    ensures taken { IfOk result (λ v. Each (encoded_in (λ e. vector P.count (T.layout.format e)) order)
         (map (λ p. map T.seen (P.shown p)) v.items) digits.now) }
 {
     let mut all = Vec::with_capacity(alloc, count)?;

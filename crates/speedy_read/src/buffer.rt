@@ -22,18 +22,18 @@ pub trait Buffer<C: Context>: AsSlice<u8> + Drop + Sized {
         alloc: Global,
         context: C,
     ) -> (Result<T, C::Error>, usize)
-        ensures { AnswersBuffer C.Error.IsEof T.seen T.layout (C.encoding context)
+        ensures { AnswersBuffer C.Error.IsEof T.seen T.layout (C.mode context)
             result.0 result.1 (Self.items self) };
 
     /// Decodes a value from a prefix of the bytes, under the context.
     ///
     /// Fewer bytes than the type's least size are the error `InputBufferIsTooSmall`.
-    final fn read_front<T: ReadFrom<Self, C>>(
+    final fn read_prefix<T: ReadFrom<Self, C>>(
         self,
         alloc: Global,
         context: C,
     ) -> Result<T, C::Error>
-        ensures { (count : ℕ) × AnswersBuffer C.Error.IsEof T.seen T.layout (C.encoding context)
+        ensures { (count : ℕ) × AnswersBuffer C.Error.IsEof T.seen T.layout (C.mode context)
             result count (Self.items self) }
     {
         self.read_with_length::<T>(alloc, context).0

@@ -30,7 +30,7 @@ impl<'a, C: Context> BufferReader<'a, C> {
         ensures context { ⟦<BufferReader<'a, C> as LendingReader<&'a [u8], C>>⟧.at result
             ≡ context }
         ensures state { ⟦<BufferReader<'a, C> as LendingReader<&'a [u8], C>>⟧.state result
-            ≡ bytes_state buffer.now (C.encoding context) }
+            ≡ bytes_state buffer.now (C.mode context) }
     {
         BufferReader {
             context,
@@ -44,7 +44,7 @@ impl<'a, C: Context> BufferReader<'a, C> {
     #[inline]
     pub fn len(&self) -> usize
         ensures { result ≡ length
-            (⟦<BufferReader<'a, C> as LendingReader<&'a [u8], C>>⟧.state self.now).to_come }
+            (⟦<BufferReader<'a, C> as LendingReader<&'a [u8], C>>⟧.state self.now).remaining }
     {
         self.rest.len()
     }
@@ -53,7 +53,7 @@ impl<'a, C: Context> BufferReader<'a, C> {
     #[inline]
     pub fn is_empty(&self) -> bool
         ensures { IsTrue result
-            ↔ ((⟦<BufferReader<'a, C> as LendingReader<&'a [u8], C>>⟧.state self.now).to_come ≡ []) }
+            ↔ ((⟦<BufferReader<'a, C> as LendingReader<&'a [u8], C>>⟧.state self.now).remaining ≡ []) }
     {
         self.rest.is_empty()
     }
@@ -64,7 +64,7 @@ impl<'a, C: Context> LendingReader<&'a [u8], C> for BufferReader<'a, C> {
 
     ghost with_context = { λ r c. record r { context = c } };
 
-    ghost state = { λ r. bytes_state r.rest.now (C.encoding r.context) };
+    ghost state = { λ r. bytes_state r.rest.now (C.mode r.context) };
 
     ghost can_read = { λ r n. Some (nat_le n (length r.rest.now)) };
 
@@ -78,8 +78,8 @@ impl<'a, C: Context> LendingReader<&'a [u8], C> for BufferReader<'a, C> {
         if self.rest.len() < length {
             return Err(error_end_of_input());
         }
-        let (front, rest) = self.rest.split_at(length);
-        output.copy_from_slice(front);
+        let (prefix, rest) = self.rest.split_at(length);
+        output.copy_from_slice(prefix);
         self.rest = rest;
         Ok(())
     }
@@ -145,9 +145,9 @@ impl<'a, C: Context> LendingReader<&'a [u8], C> for BufferReader<'a, C> {
         ensures is_lent { IsSome result }
     {
         match self.rest.split_at_checked(length) {
-            Some((front, rest)) => {
+            Some((prefix, rest)) => {
                 self.rest = rest;
-                Some(Ok(front))
+                Some(Ok(prefix))
             }
             None => Some(Err(EndOfInput {})),
         }
@@ -179,7 +179,7 @@ impl<'a, C: Context> LendingReader<&'a [u8], C> for BufferReader<'a, C> {
         &mut self.context
     }
 
-    ghost encoding_at = { λ r. refl };
+    ghost mode_at = { λ r. refl };
 
     ghost state_with = { λ r c. refl };
 }

@@ -4,7 +4,7 @@ ghost use Rattle.std.specs.Prelude.{MatchOption, MatchResult};
 ghost use Rattle.speedy_base.specs.Digits.{AreBytes};
 ghost use Rattle.speedy_base.specs.Error.{error_of};
 ghost use Rattle.speedy_layout.specs.Codecs.{unsigned_codec, flag_codec, vector_codec};
-ghost use Rattle.speedy_layout.specs.FixedNumbers.{spelled_in};
+ghost use Rattle.speedy_layout.specs.FixedNumbers.{encoded_in};
 ghost use Rattle.speedy_layout.specs.Format.{Each};
 ghost use Rattle.speedy_read.specs.Lending.{many_items};
 ghost use Rattle.speedy_read.specs.Reading.{ReadsValue};
@@ -167,7 +167,7 @@ fn read_flags<L: AsSlice<u8> + Drop, C: Context, R: LendingReader<L, C>>(
     reader: &mut R,
     length: usize,
 ) -> Result<Vec<bool>, C::Error>
-    requires { (R.state reader.old).encoding.strict ≡ false }
+    requires { (R.state reader.old).mode.strict ≡ false }
     ensures { ReadsValue C.Error.IsEof R.state (λ v. v.items) (vector_codec length flag_codec)
         result reader.old reader.new }
 {
@@ -294,7 +294,7 @@ fn fill_chunks<T: FixedNumber, L: AsSlice<u8> + Drop, C: Context, R: LendingRead
     Ok(())
 }
 
-// The numbers that these bytes spell, so many.
+// The numbers that these bytes encode, so many.
 fn numbers_of<T: FixedNumber>(
     alloc: Global,
     order: Endianness,
@@ -302,7 +302,7 @@ fn numbers_of<T: FixedNumber>(
     count: usize,
 ) -> Result<Vec<T>, AllocError>
     requires { length digits.now ≡ count * T.SIZE }
-    ensures { IfOk result (λ v. Each (spelled_in T.layout.format order) (map T.seen v.items) digits.now) }
+    ensures { IfOk result (λ v. Each (encoded_in T.layout.format order) (map T.seen v.items) digits.now) }
 {
     let mut numbers = Vec::with_capacity(alloc, count)?;
     append_each(&mut numbers, order, digits)?;

@@ -324,7 +324,7 @@ pub(crate) fn collect_items<
     }
 }
 
-// The same where the written form is demanded: what was gathered says whether the next item may follow.
+// The same where the canonical encoding is demanded: what was gathered says whether the next item may follow.
 fn collect_written<
     F: FromItems<T>,
     T: ReadFrom<L, C>,
@@ -332,7 +332,7 @@ fn collect_written<
     C: Context,
     R: LendingReader<L, C>,
 >(reader: &mut R, length: usize) -> Result<F, C::Error>
-    requires { IsTrue (R.state reader.now).encoding.strict }
+    requires { IsTrue (R.state reader.now).mode.strict }
     ensures { let items = gatherer T.seen F.gathers F.are_written in
         CollectsValues C.Error.IsEof R.state items T.layout length result reader.old reader.new }
 {

@@ -54,7 +54,7 @@ impl<'a, 'b, C: Context> LendingReader<&'b [u8], C> for CopyingBufferReader<'a, 
 
     ghost with_context = { λ r c. record r { context = record r.context { now = c } } };
 
-    ghost state = { λ r. copied_state r.context.ghost_name r.rest.now (C.encoding r.context.now) };
+    ghost state = { λ r. copied_state r.context.ghost_name r.rest.now (C.mode r.context.now) };
 
     ghost can_read = { λ r n. Some (nat_le n (length r.rest.now)) };
 
@@ -65,8 +65,8 @@ impl<'a, 'b, C: Context> LendingReader<&'b [u8], C> for CopyingBufferReader<'a, 
         ensures unchanged { OnErr result (self.new ≡ self.old) }
     {
         match self.rest.split_at_checked(output.len()) {
-            Some((front, rest)) => {
-                output.copy_from_slice(front);
+            Some((prefix, rest)) => {
+                output.copy_from_slice(prefix);
                 self.rest = rest;
                 Ok(())
             }
@@ -81,8 +81,8 @@ impl<'a, 'b, C: Context> LendingReader<&'b [u8], C> for CopyingBufferReader<'a, 
         ensures unchanged { OnErr result (self.new ≡ self.old) }
     {
         match self.rest.split_at_checked(output.len()) {
-            Some((front, _rest)) => {
-                output.copy_from_slice(front);
+            Some((prefix, _rest)) => {
+                output.copy_from_slice(prefix);
                 Ok(())
             }
             None => Err(error_end_of_input()),
@@ -98,7 +98,7 @@ impl<'a, 'b, C: Context> LendingReader<&'b [u8], C> for CopyingBufferReader<'a, 
         ensures unchanged { OnErr result (self.new ≡ self.old) }
     {
         match self.rest.split_at_checked(length) {
-            Some((_front, rest)) => {
+            Some((_prefix, rest)) => {
                 self.rest = rest;
                 Ok(())
             }
@@ -137,9 +137,9 @@ impl<'a, 'b, C: Context> LendingReader<&'b [u8], C> for CopyingBufferReader<'a, 
         ensures is_lent { IsSome result }
     {
         match self.rest.split_at_checked(length) {
-            Some((front, rest)) => {
+            Some((prefix, rest)) => {
                 self.rest = rest;
-                Some(Ok(front))
+                Some(Ok(prefix))
             }
             None => Some(Err(EndOfInput {})),
         }
@@ -169,7 +169,7 @@ impl<'a, 'b, C: Context> LendingReader<&'b [u8], C> for CopyingBufferReader<'a, 
         &mut *self.context
     }
 
-    ghost encoding_at = { λ r. refl };
+    ghost mode_at = { λ r. refl };
 
     ghost state_with = { λ r c. refl };
 }

@@ -47,15 +47,15 @@ impl<'b, 'c, C: Context> LendingReader<&'b [u8], C> for FrameReader<'b, 'c, C> {
 
     ghost with_context = { λ r c. record r { context = record r.context { now = c } } };
 
-    ghost state = { λ r. memory_state true (r.context.ghost_name ∷ []) r.rest.now (C.encoding r.context.now) };
+    ghost state = { λ r. memory_state true (r.context.ghost_name ∷ []) r.rest.now (C.mode r.context.now) };
 
     ghost can_read = { λ r n. Some (nat_le n (length r.rest.now)) };
 
     #[inline(always)]
     fn read_bytes(&mut self, output: &mut [u8]) -> Result<(), C::Error> {
         match self.rest.split_at_checked(output.len()) {
-            Some((front, rest)) => {
-                output.copy_from_slice(front);
+            Some((prefix, rest)) => {
+                output.copy_from_slice(prefix);
                 self.rest = rest;
                 Ok(())
             }
@@ -66,8 +66,8 @@ impl<'b, 'c, C: Context> LendingReader<&'b [u8], C> for FrameReader<'b, 'c, C> {
     #[inline(always)]
     fn peek_bytes(&mut self, output: &mut [u8]) -> Result<(), C::Error> {
         match self.rest.split_at_checked(output.len()) {
-            Some((front, _rest)) => {
-                output.copy_from_slice(front);
+            Some((prefix, _rest)) => {
+                output.copy_from_slice(prefix);
                 Ok(())
             }
             None => Err(error_end_of_input()),
@@ -77,7 +77,7 @@ impl<'b, 'c, C: Context> LendingReader<&'b [u8], C> for FrameReader<'b, 'c, C> {
     #[inline(always)]
     fn skip_bytes(&mut self, length: usize) -> Result<(), C::Error> {
         match self.rest.split_at_checked(length) {
-            Some((_front, rest)) => {
+            Some((_prefix, rest)) => {
                 self.rest = rest;
                 Ok(())
             }
@@ -107,9 +107,9 @@ impl<'b, 'c, C: Context> LendingReader<&'b [u8], C> for FrameReader<'b, 'c, C> {
         length: usize,
     ) -> Option<Result<&[u8], EndOfInput>> {
         match self.rest.split_at_checked(length) {
-            Some((front, rest)) => {
+            Some((prefix, rest)) => {
                 self.rest = rest;
-                Some(Ok(front))
+                Some(Ok(prefix))
             }
             None => Some(Err(EndOfInput {})),
         }
@@ -137,7 +137,7 @@ impl<'b, 'c, C: Context> LendingReader<&'b [u8], C> for FrameReader<'b, 'c, C> {
         &mut *self.context
     }
 
-    ghost encoding_at = { λ r. refl };
+    ghost mode_at = { λ r. refl };
 
     ghost state_with = { λ r c. refl };
 }

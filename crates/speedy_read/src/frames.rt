@@ -44,8 +44,8 @@ fn read_framed<'a, T: ReadFrom<&'a [u8], C>, C: Context, R: LendingReader<&'a [u
     reader: &mut R,
     length: usize,
 ) -> Result<T, C::Error>
-    ensures { let encoding = (R.state reader.old).encoding in
-        Reads C.Error.from_gives C.Error.eof T.seen (filling encoding (T.layout.format encoding) length) result
+    ensures { let mode = (R.state reader.old).mode in
+        Reads C.Error.from_gives C.Error.eof T.seen (filling mode (T.layout.format mode) length) result
         (R.state reader.old) (R.state reader.new) }
 {
     keeps_context(reader);
@@ -65,9 +65,9 @@ fn read_framed<'a, T: ReadFrom<&'a [u8], C>, C: Context, R: LendingReader<&'a [u
 // What a proof knows of a reader's context without a lifetime, it is told here for readers that lend for one.
 #[inline]
 fn keeps_context<L: AsSlice<u8> + Drop, C: Context, R: LendingReader<L, C>>(_reader: &R)
-    ensures at { (r : R) → (R.state r).encoding ≡ C.encoding (R.at r) }
+    ensures at { (r : R) → (R.state r).mode ≡ C.mode (R.at r) }
     ensures with_another { (r : R) (c : C) →
-        R.state (R.with_context r c) ≡ record (R.state r) { encoding = C.encoding c } }
+        R.state (R.with_context r c) ≡ record (R.state r) { mode = C.mode c } }
 {}
 
 // The value that fills the next `length` bytes, which borrows nothing.
@@ -75,8 +75,8 @@ fn read_framed_owned<T: ReadFrom<NothingLent, C>, C: Context, R: LendingReader<N
     reader: &mut R,
     length: usize,
 ) -> Result<T, C::Error>
-    ensures { let encoding = (R.state reader.old).encoding in
-        Reads C.Error.from_gives C.Error.eof T.seen (filling encoding (T.layout.format encoding) length) result
+    ensures { let mode = (R.state reader.old).mode in
+        Reads C.Error.from_gives C.Error.eof T.seen (filling mode (T.layout.format mode) length) result
         (R.state reader.old) (R.state reader.new) }
 {
     let alloc = reader.alloc();
@@ -91,8 +91,8 @@ fn fill_lent<'a, T: ReadFrom<&'a [u8], C>, C: Context>(
     context: &mut C,
     bytes: &'a [u8],
 ) -> Result<T, C::Error>
-    ensures encoding { C.encoding context.new ≡ C.encoding context.old }
-    ensures fills { Fills C.Error.from_gives T.seen (T.layout.format (C.encoding context.old)) true result bytes.now }
+    ensures mode { C.mode context.new ≡ C.mode context.old }
+    ensures fills { Fills C.Error.from_gives T.seen (T.layout.format (C.mode context.old)) true result bytes.now }
 {
     let mut reader = FrameReader::new(alloc, context, bytes);
     let read = T::read_from(&mut reader);
@@ -107,8 +107,8 @@ fn fill_copied<'a, T: ReadFrom<&'a [u8], C>, C: Context>(
     context: &mut C,
     bytes: &[u8],
 ) -> Result<T, C::Error>
-    ensures encoding { C.encoding context.new ≡ C.encoding context.old }
-    ensures fills { Fills C.Error.from_gives T.seen (T.layout.format (C.encoding context.old)) false result bytes.now }
+    ensures mode { C.mode context.new ≡ C.mode context.old }
+    ensures fills { Fills C.Error.from_gives T.seen (T.layout.format (C.mode context.old)) false result bytes.now }
 {
     let mut reader = CopyingBufferReader::new(alloc, context, bytes);
     let read = T::read_from(&mut reader);
@@ -123,8 +123,8 @@ fn fill_owned<T: ReadFrom<NothingLent, C>, C: Context>(
     context: &mut C,
     bytes: &[u8],
 ) -> Result<T, C::Error>
-    ensures encoding { C.encoding context.new ≡ C.encoding context.old }
-    ensures fills { Fills C.Error.from_gives T.seen (T.layout.format (C.encoding context.old)) true result bytes.now }
+    ensures mode { C.mode context.new ≡ C.mode context.old }
+    ensures fills { Fills C.Error.from_gives T.seen (T.layout.format (C.mode context.old)) true result bytes.now }
 {
     let mut reader = FrameReader::new(alloc, context, bytes);
     let read = reader.read_owned_value();
@@ -133,7 +133,7 @@ fn fill_owned<T: ReadFrom<NothingLent, C>, C: Context>(
 }
 
 // What was read, if nothing is left behind it. Bytes that are left or that lack are a length that is wrong: within the
-// frame no more are to come.
+// frame no more remain.
 #[inline]
 fn unless_left<T: Drop, E: From<Error> + IsEof + Drop>(
     read: Result<T, E>,

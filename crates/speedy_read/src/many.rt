@@ -3,7 +3,7 @@ ghost use Rattle.std.specs.Prelude.{◌≡◌, ◌*◌, ℕ, ⊤, List, Some, Is
 ghost use Rattle.std.specs.Cow.{cow_slice_items};
 ghost use Rattle.std.specs.Option.{MatchOption};
 ghost use Rattle.speedy_layout.specs.Codecs.{vector_codec};
-ghost use Rattle.speedy_layout.specs.FixedNumbers.{spelled_in};
+ghost use Rattle.speedy_layout.specs.FixedNumbers.{encoded_in};
 ghost use Rattle.speedy_layout.specs.Format.{Each};
 ghost use Rattle.speedy_layout.specs.Lists.{vector};
 ghost use Rattle.speedy_read.specs.Collections.{gatherer, CollectsValues};
@@ -113,7 +113,7 @@ pub trait Places<L: AsSlice<u8> + Drop, C: Context, T: ReadFrom<L, C>>: Sized + 
     /// Takes a value for each place from these bytes.
     fn take<D: Takes<T>>(&mut self, order: Endianness, bytes: &[u8])
         requires { (count_of (shown self.old) ≡ count) × (count_of bytes.now ≡ count * D.size) }
-        ensures { spelled_in (λ e. vector count (T.layout.format e)) order (map T.seen (shown self.new)) bytes.now };
+        ensures { encoded_in (λ e. vector count (T.layout.format e)) order (map T.seen (shown self.new)) bytes.now };
 }
 
 /// How places are filled with values of a type.
@@ -135,7 +135,7 @@ pub trait Takes<T: Layout> {
     /// Takes a value for each place from these bytes, one after another.
     fn take(places: &mut [T], order: Endianness, bytes: &[u8])
         requires { count_of bytes.now ≡ count_of places.old * size }
-        ensures { Each (spelled_in T.layout.format order) (map T.seen places.new) bytes.now };
+        ensures { Each (encoded_in T.layout.format order) (map T.seen places.new) bytes.now };
 }
 
 /// How several values of a type are read at once. Each type that is read has it.

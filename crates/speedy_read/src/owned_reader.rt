@@ -110,7 +110,7 @@ impl<'a, L: AsSlice<u8> + Drop, C: Context, R: LendingReader<L, C>> LendingReade
         self.reader.context_mut()
     }
 
-    ghost encoding_at = { λ r. R.encoding_at r.reader.now };
+    ghost mode_at = { λ r. R.mode_at r.reader.now };
 
     ghost state_with = { λ r c. ap (λ s. held_state r.reader.ghost_name s) (R.state_with r.reader.now c) };
 }

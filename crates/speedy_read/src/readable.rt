@@ -1,6 +1,6 @@
 //! Types that can be read, and the ways of reading them.
 ghost use Rattle.std.specs.Prelude.{◌≡◌, ℕ, true, false};
-ghost use Rattle.speedy_base.specs.Encoding.{plain_encoding};
+ghost use Rattle.speedy_base.specs.Mode.{plain_mode};
 ghost use Rattle.speedy_read.specs.Reading.{ReadsValue};
 ghost use Rattle.speedy_read.specs.WaysOfReading.{AnswersBuffer, AnswersCopied, AnswersStream, AnswersFile};
 
@@ -32,7 +32,7 @@ pub trait ReadFrom<L: AsSlice<u8> + Drop, C: Context>: Layout + Sized + Drop {
 
     /// Reads a value.
     ///
-    /// A value that is answered is encoded by a prefix of the bytes to come, and just that prefix is taken. An error
+    /// A value that is answered is encoded by a prefix of the remaining bytes, and just that prefix is taken. An error
     /// that is neither out of memory nor of a failed call means that no prefix encodes any value.
     fn read_from<R: LendingReader<L, C>>(reader: &mut R) -> Result<Self, C::Error>
         ensures { ReadsValue C.Error.IsEof R.state Self.seen Self.layout
@@ -52,7 +52,7 @@ pub trait Readable<'a, C: Context>: ReadMany<&'a [u8], C> {
     where
         C: PlainContext,
         ensures { (count : ℕ) × AnswersBuffer C.Error.IsEof Self.seen Self.layout
-            (plain_encoding Endianness.LittleEndian) result count buffer.now }
+            (plain_mode Endianness.LittleEndian) result count buffer.now }
     {
         Self::read_from_buffer_with_ctx(alloc, C::plain(), buffer)
     }
@@ -67,7 +67,7 @@ pub trait Readable<'a, C: Context>: ReadMany<&'a [u8], C> {
     where
         C: PlainContext,
         ensures { AnswersBuffer C.Error.IsEof Self.seen Self.layout
-            (plain_encoding Endianness.LittleEndian) result.0 result.1 buffer.now }
+            (plain_mode Endianness.LittleEndian) result.0 result.1 buffer.now }
     {
         Self::read_with_length_from_buffer_with_ctx(alloc, C::plain(), buffer)
     }
@@ -81,7 +81,7 @@ pub trait Readable<'a, C: Context>: ReadMany<&'a [u8], C> {
         buffer: &'a [u8],
     ) -> Result<Self, C::Error>
         ensures { (count : ℕ) × AnswersBuffer C.Error.IsEof Self.seen Self.layout
-            (C.encoding context) result count buffer.now }
+            (C.mode context) result count buffer.now }
     {
         Self::read_with_length_from_buffer_with_ctx(alloc, context, buffer).0
     }
@@ -94,7 +94,7 @@ pub trait Readable<'a, C: Context>: ReadMany<&'a [u8], C> {
         context: C,
         buffer: &'a [u8],
     ) -> (Result<Self, C::Error>, usize)
-        ensures { AnswersBuffer C.Error.IsEof Self.seen Self.layout (C.encoding context)
+        ensures { AnswersBuffer C.Error.IsEof Self.seen Self.layout (C.mode context)
             result.0 result.1 buffer.now }
     {
         let least = Self::minimum_bytes_needed();
@@ -112,7 +112,7 @@ pub trait Readable<'a, C: Context>: ReadMany<&'a [u8], C> {
     where
         C: PlainContext,
         ensures { (count : ℕ) × AnswersCopied C.Error.IsEof Self.seen Self.layout
-            (plain_encoding Endianness.LittleEndian) result count buffer.now }
+            (plain_mode Endianness.LittleEndian) result count buffer.now }
     {
         Self::read_from_buffer_copying_data_with_ctx(alloc, C::plain(), buffer)
     }
@@ -126,7 +126,7 @@ pub trait Readable<'a, C: Context>: ReadMany<&'a [u8], C> {
     where
         C: PlainContext,
         ensures { AnswersCopied C.Error.IsEof Self.seen Self.layout
-            (plain_encoding Endianness.LittleEndian) result.0 result.1 buffer.now }
+            (plain_mode Endianness.LittleEndian) result.0 result.1 buffer.now }
     {
         Self::read_with_length_from_buffer_copying_data_with_ctx(alloc, C::plain(), buffer)
     }
@@ -139,7 +139,7 @@ pub trait Readable<'a, C: Context>: ReadMany<&'a [u8], C> {
         buffer: &[u8],
     ) -> Result<Self, C::Error>
         ensures { (count : ℕ) × AnswersCopied C.Error.IsEof Self.seen Self.layout
-            (C.encoding context) result count buffer.now }
+            (C.mode context) result count buffer.now }
     {
         Self::read_with_length_from_buffer_copying_data_with_ctx(alloc, context, buffer).0
     }
@@ -151,7 +151,7 @@ pub trait Readable<'a, C: Context>: ReadMany<&'a [u8], C> {
         context: C,
         buffer: &[u8],
     ) -> (Result<Self, C::Error>, usize)
-        ensures { AnswersCopied C.Error.IsEof Self.seen Self.layout (C.encoding context)
+        ensures { AnswersCopied C.Error.IsEof Self.seen Self.layout (C.mode context)
             result.0 result.1 buffer.now }
     {
         let mut context = context;
@@ -167,8 +167,8 @@ pub trait Readable<'a, C: Context>: ReadMany<&'a [u8], C> {
         context: &mut C,
         buffer: &[u8],
     ) -> (Result<Self, C::Error>, usize)
-        ensures encoding { C.encoding context.new ≡ C.encoding context.old }
-        ensures answers { AnswersCopied C.Error.IsEof Self.seen Self.layout (C.encoding context.old)
+        ensures mode { C.mode context.new ≡ C.mode context.old }
+        ensures answers { AnswersCopied C.Error.IsEof Self.seen Self.layout (C.mode context.old)
             result.0 result.1 buffer.now }
     {
         let least = Self::minimum_bytes_needed();
@@ -193,7 +193,7 @@ pub trait Readable<'a, C: Context>: ReadMany<&'a [u8], C> {
     where
         C: PlainContext,
         ensures { AnswersStream C.Error.IsEof S.source Self.seen Self.layout
-            (plain_encoding Endianness.LittleEndian) false result source.old source.new }
+            (plain_mode Endianness.LittleEndian) false result source.old source.new }
     {
         Self::read_from_stream_unbuffered_with_ctx(alloc, C::plain(), source)
     }
@@ -205,7 +205,7 @@ pub trait Readable<'a, C: Context>: ReadMany<&'a [u8], C> {
         source: &mut S,
     ) -> Result<Self, C::Error>
         ensures { AnswersStream C.Error.IsEof S.source Self.seen Self.layout
-            (C.encoding context) false result source.old source.new }
+            (C.mode context) false result source.old source.new }
     {
         read_stream(alloc, context, source, false)
     }
@@ -222,7 +222,7 @@ pub trait Readable<'a, C: Context>: ReadMany<&'a [u8], C> {
     where
         C: PlainContext,
         ensures { AnswersStream C.Error.IsEof S.source Self.seen Self.layout
-            (plain_encoding Endianness.LittleEndian) true result source.old source.new }
+            (plain_mode Endianness.LittleEndian) true result source.old source.new }
     {
         Self::read_from_stream_buffered_with_ctx(alloc, C::plain(), source)
     }
@@ -234,7 +234,7 @@ pub trait Readable<'a, C: Context>: ReadMany<&'a [u8], C> {
         source: &mut S,
     ) -> Result<Self, C::Error>
         ensures { AnswersStream C.Error.IsEof S.source Self.seen Self.layout
-            (C.encoding context) true result source.old source.new }
+            (C.mode context) true result source.old source.new }
     {
         read_stream(alloc, context, source, true)
     }
@@ -250,7 +250,7 @@ pub trait Readable<'a, C: Context>: ReadMany<&'a [u8], C> {
     where
         C: PlainContext,
         ensures { AnswersFile C.Error.IsEof Self.seen Self.layout
-            (plain_encoding Endianness.LittleEndian) result }
+            (plain_mode Endianness.LittleEndian) result }
     {
         Self::read_from_file_with_ctx(rt, alloc, C::plain(), path)
     }
@@ -262,7 +262,7 @@ pub trait Readable<'a, C: Context>: ReadMany<&'a [u8], C> {
         context: C,
         path: P,
     ) -> Result<Self, C::Error>
-        ensures { AnswersFile C.Error.IsEof Self.seen Self.layout (C.encoding context) result }
+        ensures { AnswersFile C.Error.IsEof Self.seen Self.layout (C.mode context) result }
     {
         match File::open(rt, path) {
             Ok(file) => {
@@ -288,7 +288,7 @@ pub trait ReadableOwned<C: Context>: ReadMany<NothingLent, C> {
     where
         C: PlainContext,
         ensures { (count : ℕ) × AnswersBuffer C.Error.IsEof Self.seen Self.layout
-            (plain_encoding Endianness.LittleEndian) result count buffer.now }
+            (plain_mode Endianness.LittleEndian) result count buffer.now }
     {
         Self::read_owned_with_ctx(alloc, C::plain(), buffer)
     }
@@ -298,7 +298,7 @@ pub trait ReadableOwned<C: Context>: ReadMany<NothingLent, C> {
     /// A buffer that is shorter than the type's least size is the error `InputBufferIsTooSmall`.
     final fn read_owned_with_ctx(alloc: Global, context: C, buffer: &[u8]) -> Result<Self, C::Error>
         ensures { (count : ℕ) × AnswersBuffer C.Error.IsEof Self.seen Self.layout
-            (C.encoding context) result count buffer.now }
+            (C.mode context) result count buffer.now }
     {
         Self::read_owned_with_length_with_ctx(alloc, context, buffer).0
     }
@@ -311,7 +311,7 @@ pub trait ReadableOwned<C: Context>: ReadMany<NothingLent, C> {
         context: C,
         buffer: &[u8],
     ) -> (Result<Self, C::Error>, usize)
-        ensures { AnswersBuffer C.Error.IsEof Self.seen Self.layout (C.encoding context)
+        ensures { AnswersBuffer C.Error.IsEof Self.seen Self.layout (C.mode context)
             result.0 result.1 buffer.now }
     {
         let least = Self::minimum_bytes_needed();

@@ -23,7 +23,7 @@ use crate::owned_reader::OwnedReader;
 use crate::private::vec_to_string;
 use crate::readable::{ReadFrom, ReadMany};
 use crate::room::SKIPPED_CHUNK;
-use crate::until_end::gather_until_end;
+use crate::until_end::collect_until_end;
 use speedy_base::context::Context;
 use speedy_base::endianness::Endianness;
 use speedy_base::error::{ErrorKind, error_end_of_input, error_not_written_form};
@@ -45,7 +45,7 @@ pub trait LendingReader<L: AsSlice<u8> + Drop, C: Context> {
     /// What reads see of the reader.
     ghost state: { Self → ReaderState };
 
-    /// What the reader says of the number of bytes to come.
+    /// What the reader says of the number of remaining bytes.
     ghost can_read: { Self → ℕ → Option Bool };
 
     /// Fills the output with the next bytes. What an error leaves in the output is not said.
@@ -71,12 +71,12 @@ pub trait LendingReader<L: AsSlice<u8> + Drop, C: Context> {
         Ok(())
     }
 
-    /// Whether at least `size` bytes are to come, where the reader knows.
+    /// Whether at least `size` bytes remain, where the reader knows.
     fn can_read_at_least(&self, size: usize) -> Option<bool>
         ensures says { result ≡ can_read self.now size }
         ensures right { IsRight result (state self.now) size };
 
-    /// Whether at least `size` bytes are to come that the reader need not hold, since its source says so. This body
+    /// Whether at least `size` bytes remain that the reader need not hold, since its source says so. This body
     /// says nothing of the kind.
     #[inline(always)]
     fn expects_at_least(&self, _size: usize) -> bool
@@ -100,7 +100,7 @@ pub trait LendingReader<L: AsSlice<u8> + Drop, C: Context> {
         None
     }
 
-    /// Takes all bytes to come and lends them; `None` where the reader cannot.
+    /// Takes all remaining bytes and lends them; `None` where the reader cannot.
     fn read_bytes_borrowed_until_eof(&mut self) -> Option<L>
         ensures { LendsAll L.items result (state self.old) (state self.new) }
     {
@@ -122,7 +122,7 @@ pub trait LendingReader<L: AsSlice<u8> + Drop, C: Context> {
 
     /// The byte order of numbers.
     final fn endianness(&self) -> Endianness
-        ensures { result ≡ (state self.now).encoding.order }
+        ensures { result ≡ (state self.now).mode.order }
     {
         self.context().endianness()
     }
@@ -130,7 +130,7 @@ pub trait LendingReader<L: AsSlice<u8> + Drop, C: Context> {
     /// Whether only canonical encodings are read.
     #[inline]
     final fn demands_written_form(&self) -> bool
-        ensures { result ≡ (state self.now).encoding.strict }
+        ensures { result ≡ (state self.now).mode.strict }
     {
         self.context().demands_written_form()
     }
@@ -303,7 +303,7 @@ pub trait LendingReader<L: AsSlice<u8> + Drop, C: Context> {
         ensures { ReadsValue C.Error.IsEof state (λ x. x) varint_codec result self.old self.new }
     {
         let first = self.read_u8()?;
-        // Most numbers are short: no byte follows, and there is no shorter spelling.
+        // Most numbers are short: no byte follows, and there is no shorter encoding.
         if first < 128 {
             return Ok(u64::from(first));
         }
@@ -359,7 +359,7 @@ pub trait LendingReader<L: AsSlice<u8> + Drop, C: Context> {
 
     /// The next `length` values, into a vector.
     ///
-    /// It is an error before any item where fewer bytes are to come than so many items have at least, if the reader
+    /// It is an error before any item where fewer bytes remain than so many items have at least, if the reader
     /// says so, and where that many bytes are past `usize::MAX`.
     #[inline(always)]
     final fn read_vec<T: ReadMany<L, C>>(&mut self, length: usize) -> Result<Vec<T>, C::Error>
@@ -448,7 +448,7 @@ pub trait LendingReader<L: AsSlice<u8> + Drop, C: Context> {
             ReadsValuesUntilEnd C.Error.IsEof state T.seen gathers T.layout greatest
             result self.old self.new }
     {
-        gather_until_end::<Vec<T>, T, L, C, Self>(self, greatest)
+        collect_until_end::<Vec<T>, T, L, C, Self>(self, greatest)
     }
 
     /// As [`read_vec_until_eof`](Self::read_vec_until_eof), into a cow or what else the values go into, which owns
@@ -479,7 +479,7 @@ pub trait LendingReader<L: AsSlice<u8> + Drop, C: Context> {
         ensures { ReadsValuesUntilEnd C.Error.IsEof state T.seen F.gathers T.layout greatest
             result self.old self.new }
     {
-        gather_until_end::<F, T, L, C, Self>(self, greatest)
+        collect_until_end::<F, T, L, C, Self>(self, greatest)
     }
 
     /// A text of `length` bytes. Bytes that are not UTF-8 are the error `InvalidUtf8`.
@@ -493,12 +493,12 @@ pub trait LendingReader<L: AsSlice<u8> + Drop, C: Context> {
         vec_to_string(self.read_vec(length)?)
     }
 
-    /// The encoding that reads see is what the context asks.
-    ghost encoding_at: { (r : Self) → (state r).encoding ≡ C.encoding (at r) };
+    /// The mode that reads see is what the context asks.
+    ghost mode_at: { (r : Self) → (state r).mode ≡ C.mode (at r) };
 
-    /// Another context changes nothing but the encoding.
+    /// Another context changes nothing but the mode.
     ghost state_with: { (r : Self) (c : C) →
-        state (with_context r c) ≡ record (state r) { encoding = C.encoding c } };
+        state (with_context r c) ≡ record (state r) { mode = C.mode c } };
 }
 
 /// The bytes ended before so many as were to be lent.
@@ -510,7 +510,7 @@ pub trait Reader<'a, C: Context>: LendingReader<&'a [u8], C> {}
 
 impl<'a, C: Context, R: LendingReader<&'a [u8], C>> Reader<'a, C> for R {}
 
-// Whether it is known before any is read that fewer bytes are to come than so many items have at least.
+// Whether it is known before any is read that fewer bytes remain than so many items have at least.
 pub(crate) fn ends_before<L: AsSlice<u8> + Drop, C: Context, R: LendingReader<L, C>>(
     reader: &R,
     least: usize,
@@ -519,8 +519,8 @@ pub(crate) fn ends_before<L: AsSlice<u8> + Drop, C: Context, R: LendingReader<L,
     ensures test { IsTrue result
         ↔ ((2 ^ 64 ≤ least * length) ⊎ (R.can_read reader.now (least * length) ≡ Some false)) }
     ensures fewer { IsTrue result → IsTrue (R.state reader.now).fixed.tells
-        → count (R.state reader.now).to_come < 2 ^ 64 - 1
-        → count (R.state reader.now).to_come < length * least }
+        → count (R.state reader.now).remaining < 2 ^ 64 - 1
+        → count (R.state reader.now).remaining < length * least }
 {
     match least.checked_mul(length) {
         Some(size) => reader.can_read_at_least(size) == Some(false),

@@ -3,7 +3,7 @@ ghost use Rattle.std.specs.Prelude.{◌≡◌, ◌+◌, ◌-◌, ◌*◌, ◌^�
 ghost use Rattle.std.specs.Prelude.{length as count_of, vec_len, vec_capacity, map, replicate, true, IsTrue, IfOk};
 ghost use Rattle.std.specs.Prelude.{IsOk, OnOk, MatchResult};
 ghost use Rattle.speedy_base.specs.Error.{error_of};
-ghost use Rattle.speedy_layout.specs.FixedNumbers.{spelled_in};
+ghost use Rattle.speedy_layout.specs.FixedNumbers.{encoded_in};
 ghost use Rattle.speedy_layout.specs.Format.{Each};
 ghost use Rattle.speedy_read.specs.Reading.{Expects};
 
@@ -37,7 +37,7 @@ pub(crate) const SKIPPED_CHUNK: usize = 1024;
 /// The chunk that bytes are read through to be compared with a constant, in bytes.
 pub(crate) const CONSTANT_CHUNK: usize = 64;
 
-// An empty vector, with room for so many items where the reader says that their bytes are to come. Only there is
+// An empty vector, with room for so many items where the reader says that their bytes remain. Only there is
 // memory asked for.
 pub(crate) fn vec_for<T, L: AsSlice<u8> + Drop, C: Context, R: LendingReader<L, C>>(
     reader: &R,
@@ -53,7 +53,7 @@ pub(crate) fn vec_for<T, L: AsSlice<u8> + Drop, C: Context, R: LendingReader<L, 
         MatchResult result (λ v. (vec_capacity v ≡ 0) ⊎ told) (λ _. told) }
 {
     let known = match least.checked_mul(length) {
-        Some(size) if least > 0 => are_to_come(reader, size),
+        Some(size) if least > 0 => are_remaining(reader, size),
         _ => false,
     };
     if !known {
@@ -65,9 +65,9 @@ pub(crate) fn vec_for<T, L: AsSlice<u8> + Drop, C: Context, R: LendingReader<L, 
     }
 }
 
-// Whether the reader says that so many bytes are to come, or its source does.
+// Whether the reader says that so many bytes remain, or its source does.
 #[inline(always)]
-fn are_to_come<L: AsSlice<u8> + Drop, C: Context, R: LendingReader<L, C>>(
+fn are_remaining<L: AsSlice<u8> + Drop, C: Context, R: LendingReader<L, C>>(
     reader: &R,
     size: usize,
 ) -> bool
@@ -137,7 +137,7 @@ fn with_room<T: Drop>(mut items: Vec<T>, left: usize) -> Result<Vec<T>, AllocErr
     Ok(items)
 }
 
-// Appends the numbers that these bytes spell, some of so many that are still to read. Room for them is asked for by
+// Appends the numbers that these bytes encode, some of so many that are still to read. Room for them is asked for by
 // steps too.
 #[inline]
 pub(crate) fn append_in_steps<T: FixedNumber>(
@@ -148,7 +148,7 @@ pub(crate) fn append_in_steps<T: FixedNumber>(
 ) -> Result<(), AllocError>
     requires { (count : ℕ) × (count_of digits.now ≡ count * T.SIZE) }
     ensures { OnOk result ((more : List T) × (numbers.new.items ≡ numbers.old.items ++ more)
-        × Each (spelled_in T.layout.format order) (map T.seen more) digits.now) }
+        × Each (encoded_in T.layout.format order) (map T.seen more) digits.now) }
 {
     let count = digits.len() / T::SIZE;
     let mut at = 0;

@@ -166,8 +166,8 @@ impl<'s, S: Source, C: Context> StreamReader<'s, S, C> {
     pub fn into_source(self) -> &'s mut S
         ensures same_source { result.ghost_name ≡ (stream_model self.entry).source_name }
         ensures source { result.now ≡ (stream_model self.entry).source }
-        ensures lost { (stream_state S.source C.encoding self.entry).to_come
-            ≡ (stream_model self.entry).ring.bytes ++ (S.source result.now).to_come }
+        ensures lost { (stream_state S.source C.mode self.entry).remaining
+            ≡ (stream_model self.entry).ring.bytes ++ (S.source result.now).remaining }
     {
         self.source
     }
@@ -176,7 +176,7 @@ impl<'s, S: Source, C: Context> StreamReader<'s, S, C> {
     fn fill(&mut self, count: usize) -> Result<(), C::Error>
         requires { count ≤ self.old.ring.capacity }
         ensures { Fills C.Error.from_gives C.Error.eof count result self.old.ring self.new.ring
-            (stream_state S.source C.encoding self.old) (stream_state S.source C.encoding self.new) }
+            (stream_state S.source C.mode self.old) (stream_state S.source C.mode self.new) }
     {
         match fill_ring(&mut self.ring, self.source, count, self.is_buffering) {
             Ok(true) => Ok(()),
@@ -189,7 +189,7 @@ impl<'s, S: Source, C: Context> StreamReader<'s, S, C> {
     fn read_ahead(&mut self, output: &mut [u8]) -> Result<(), C::Error>
         requires more { length self.old.ring.bytes < length output.old }
         requires fits { length output.old < self.old.ring.capacity }
-        ensures { ReadsInto C.Error.IsEof (stream_state S.source C.encoding) output.old output.new
+        ensures { ReadsInto C.Error.IsEof (stream_state S.source C.mode) output.old output.new
             result self.old self.new }
     {
         self.fill(output.len())?;
@@ -200,7 +200,7 @@ impl<'s, S: Source, C: Context> StreamReader<'s, S, C> {
     // Reads all that the ring holds, and the rest straight from the source.
     fn read_past_ring(&mut self, output: &mut [u8]) -> Result<(), C::Error>
         requires { length self.old.ring.bytes < length output.old }
-        ensures { ReadsInto C.Error.IsEof (stream_state S.source C.encoding) output.old output.new
+        ensures { ReadsInto C.Error.IsEof (stream_state S.source C.mode) output.old output.new
             result self.old self.new }
     {
         let held = self.ring.len();
@@ -218,7 +218,7 @@ impl<'s, S: Source, C: Context> StreamReader<'s, S, C> {
     fn read_straight(&mut self, output: &mut [u8]) -> Result<(), C::Error>
         requires nothing_held { self.old.ring.bytes ≡ [] }
         requires some { 0 < length output.old }
-        ensures { ReadsInto C.Error.IsEof (stream_state S.source C.encoding) output.old output.new
+        ensures { ReadsInto C.Error.IsEof (stream_state S.source C.mode) output.old output.new
             result self.old self.new }
     {
         match self.source.pull(output) {
@@ -241,7 +241,7 @@ impl<'s, S: Source, C: Context> StreamReader<'s, S, C> {
     fn read_on(&mut self, output: &mut [u8]) -> Result<(), C::Error>
         requires nothing_held { self.old.ring.bytes ≡ [] }
         requires some { 0 < length output.old }
-        ensures { ReadsInto C.Error.IsEof (stream_state S.source C.encoding) output.old output.new
+        ensures { ReadsInto C.Error.IsEof (stream_state S.source C.mode) output.old output.new
             result self.old self.new }
     {
         self.read_rest(output)?;
@@ -252,7 +252,7 @@ impl<'s, S: Source, C: Context> StreamReader<'s, S, C> {
     fn read_rest(&mut self, output: &mut [u8]) -> Result<(), C::Error>
         requires nothing_held { self.old.ring.bytes ≡ [] }
         requires some { 0 < length output.old }
-        ensures { ReadsInto C.Error.IsEof (stream_state S.source C.encoding) output.old output.new
+        ensures { ReadsInto C.Error.IsEof (stream_state S.source C.mode) output.old output.new
             result self.old self.new }
     {
         match fill_list(self.source, output) {
@@ -266,7 +266,7 @@ impl<'s, S: Source, C: Context> StreamReader<'s, S, C> {
     #[inline(always)]
     fn read_more(&mut self, output: &mut [u8]) -> Result<(), C::Error>
         requires { length self.old.ring.bytes < length output.old }
-        ensures { ReadsInto C.Error.IsEof (stream_state S.source C.encoding) output.old output.new
+        ensures { ReadsInto C.Error.IsEof (stream_state S.source C.mode) output.old output.new
             result self.old self.new }
     {
         self.read_elsewhere(output)?;
@@ -276,7 +276,7 @@ impl<'s, S: Source, C: Context> StreamReader<'s, S, C> {
     #[inline(never)]
     fn read_elsewhere(&mut self, output: &mut [u8]) -> Result<(), C::Error>
         requires { length self.old.ring.bytes < length output.old }
-        ensures { ReadsInto C.Error.IsEof (stream_state S.source C.encoding) output.old output.new
+        ensures { ReadsInto C.Error.IsEof (stream_state S.source C.mode) output.old output.new
             result self.old self.new }
     {
         if self.is_buffering && output.len() < self.ring.capacity() {
@@ -292,7 +292,7 @@ impl<'s, 'b, C: Context, S: Source> LendingReader<&'b [u8], C> for StreamReader<
 
     ghost with_context = { λ r c. record r { context = c } };
 
-    ghost state = { λ r. stream_state S.source C.encoding r };
+    ghost state = { λ r. stream_state S.source C.mode r };
 
     ghost can_read = { λ r n. if nat_le n (length r.ring.bytes) then Some true else None };
 
@@ -400,19 +400,19 @@ impl<'s, 'b, C: Context, S: Source> LendingReader<&'b [u8], C> for StreamReader<
         &mut self.context
     }
 
-    ghost encoding_at = { λ r. refl };
+    ghost mode_at = { λ r. refl };
 
     ghost state_with = { λ r c. refl };
 }
 
-// The value that a front of what the source gives spells. What a buffered reader holds at the end is lost.
+// The value that a prefix of what the source gives encodes. What a buffered reader holds at the end is lost.
 pub(crate) fn read_stream<'a, T: ReadFrom<&'a [u8], C>, C: Context, S: Source>(
     alloc: Global,
     context: C,
     source: &mut S,
     is_buffering: bool,
 ) -> Result<T, C::Error>
-    ensures { AnswersStream C.Error.IsEof S.source T.seen T.layout (C.encoding context)
+    ensures { AnswersStream C.Error.IsEof S.source T.seen T.layout (C.mode context)
         is_buffering result source.old source.new }
 {
     let Ok(ring) = first_ring(alloc, is_buffering) else {

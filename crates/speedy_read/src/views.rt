@@ -1,6 +1,6 @@
 //! How views are read: over the bytes that a reader lends.
 ghost use Rattle.std.specs.Prelude.{◌≡◌, ◌≤◌, ◌*◌, ◌^◌, ℕ, List, false, IsErrAnd, MatchOption};
-ghost use Rattle.speedy_base.specs.Encoding.{plain_encoding};
+ghost use Rattle.speedy_base.specs.Mode.{plain_mode};
 ghost use Rattle.speedy_base.specs.Error.{error_of};
 ghost use Rattle.speedy_base.specs.declared.endianness.Endianness.TheVariants.{LittleEndian as LittleOrder};
 ghost use Rattle.speedy_layout.specs.Codecs.{unsigned_codec};
@@ -29,7 +29,7 @@ impl<'a, C: Context, T: ZeroCopyable<C>> ReadFrom<&'a [u8], C> for SliceView<'a,
         ensures not_lent { RefusesUnsized C.Error.IsEof R.state (unsigned_codec 4)
             result reader.old reader.new }
     {
-        spelled_as_little::<T, &'a [u8], C, R>(reader);
+        encoded_as_little::<T, &'a [u8], C, R>(reader);
         let length = reader.read_u32()?;
         let bytes = read_lent(reader, size_of_items::<T>(length))?;
         Ok(SliceView::over(bytes))
@@ -57,7 +57,7 @@ impl<'a, C: Context, T: ZeroCopyable<C>, const N: usize> ReadFrom<&'a [u8], C>
             → IsErrAnd result (λ e. C.Error.from_gives (error_of ErrorKind.Unsized) e)
             × (R.state reader.new ≡ R.state reader.old) }
     {
-        spelled_as_little::<T, &'a [u8], C, R>(reader);
+        encoded_as_little::<T, &'a [u8], C, R>(reader);
         let Some(size) = size_of_array::<T, N>() else {
             // No input has so many bytes.
             read_lent(reader, usize::MAX)?;
@@ -77,11 +77,11 @@ impl<'a, C: Context, T: ZeroCopyable<C>, const N: usize> ReadFrom<&'a [u8], C>
 
 // What a proof knows of a context without a lifetime, it is told here for readers that lend for one.
 #[inline]
-fn spelled_as_little<T: ZeroCopyable<C>, L: AsSlice<u8> + Drop, C: Context, R: LendingReader<L, C>>(
+fn encoded_as_little<T: ZeroCopyable<C>, L: AsSlice<u8> + Drop, C: Context, R: LendingReader<L, C>>(
     _reader: &R,
 )
-    ensures { (v : T.Seen) (bytes : List ℕ) → (T.layout.format (plain_encoding LittleOrder)).spells v bytes
-        → (T.layout.format (R.state _reader.now).encoding).spells v bytes }
+    ensures { (v : T.Seen) (bytes : List ℕ) → (T.layout.format (plain_mode LittleOrder)).encodes v bytes
+        → (T.layout.format (R.state _reader.now).mode).encodes v bytes }
 {}
 
 // How many bytes so many items have.

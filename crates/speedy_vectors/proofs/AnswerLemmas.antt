@@ -29,7 +29,7 @@ module _ {A V : Type 0} (seen : A → V) (least : ℕ) (L : Format V) (e : Error
   refusal memory is enough (inr h) = record {
     kind = kind_of e;
     enough = enough;
-    no_front = (h.because tt).no_front;
+    no_prefix = (h.because tt).no_prefix;
     kind_is = named_kind h.kind;
     too_short = (h.because tt).too_short;
     malformed = λ bad. its_kind ((h.because tt).malformed bad);

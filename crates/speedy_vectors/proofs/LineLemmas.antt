@@ -58,6 +58,7 @@ line_splits line f g hex order name bytes h k e is =
 
 pub bad_without_second_space : (line f rest : List ℕ) → SplitsAt space line f rest → IsFreeOf space rest → IsBad line
 bad_without_second_space line f rest s h = λ order name bytes is.
-    let first = one_split f (order_text order) rest (name_text name ++ space ∷ is.hex) s.front_is (order_no_space order)
+    let first = one_split f (order_text order) rest (name_text name ++ space ∷ is.hex) s.prefix_is
+    (order_no_space order)
     (sym s.text_is ∙ is.line_is) in
     no_space_in (name_text name) is.hex (subst (IsFreeOf space) first.1 h)

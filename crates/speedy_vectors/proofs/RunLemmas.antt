@@ -13,7 +13,7 @@ use Rattle.speedy.specs.Error.{error_of, kind_of, IsIoErrorOf}
 use Rattle.speedy.specs.Collectors.{sink_state, Takes}
 use Rattle.speedy.specs.Device.{SourceState, SourceKept, SinkState, SinkKept, Pulls, Flushes}
 use Rattle.speedy.specs.DeviceLemmas.{DeviceKept-same, DeviceKept-after, DeviceKept-told}
-use Rattle.speedy.specs.Encoding.{Encoding}
+use Rattle.speedy.specs.Mode.{Mode}
 use Rattle.speedy.specs.FailedCalls.{IsOfFailedCall}
 use Rattle.speedy.specs.Format.{Each}
 use Rattle.speedy.specs.Writing.{WritesBytes}
@@ -55,7 +55,7 @@ lines_split pending text line rest more h split =
     ap (λ (x : List ℕ). pending ++ (x ++ more)) split.text_is
     ∙ (ap (λ (x : List ℕ). pending ++ x) (append_assoc line (line_feed ∷ rest) more)
     ∙ sym (append_assoc pending line (line_feed ∷ (rest ++ more)))) in
-    ap lines_of joined ∙ lines_feed (pending ++ line) (rest ++ more) (no_feed_append pending line h split.front_is)
+    ap lines_of joined ∙ lines_feed (pending ++ line) (rest ++ more) (no_feed_append pending line h split.prefix_is)
 
 -- devices
 
@@ -80,15 +80,15 @@ is_empty xs e = nil_from_length xs (eqb-true (length xs) 0 (sym e))
 
 one_answer : (line answer : List ℕ) → AnswersLine line answer → Each AnswersLine (line ∷ []) answer
 one_answer line answer h = record {
-  front = answer;
-  back = [];
+  prefix = answer;
+  suffix = [];
   whole_is = sym (append-nil answer);
   first_is = h;
   second_is = refl;
 }
 
 -- what a collector over the sink wrote
-collected_answer : {at other : Encoding} {name other_name : GName} (r : Result (Unit {0}) Error) (line answer : List ℕ)
+collected_answer : {at other : Mode} {name other_name : GName} (r : Result (Unit {0}) Error) (line answer : List ℕ)
     (s t : SinkState) → AnswersLine line answer
     → WritesBytes itself answer r (sink_state at name s) (sink_state other other_name t) (λ b. Takes s b t)
     → IfErr r (λ e. IsOfFailedCall itself e s.faults t.faults) → Answering r (line ∷ []) [] s t
@@ -118,17 +118,17 @@ collected_answer (Err e) line answer s t h w failed =
       partly = record {
         done = line ∷ [];
         left = [];
-        front = begun.front;
+        prefix = begun.prefix;
         rest = begun.rest;
         lines_are = refl;
-        answers_are = one_answer line (begun.front ++ begun.rest) (subst (AnswersLine line) (sym begun.is_written) h);
+        answers_are = one_answer line (begun.prefix ++ begun.rest) (subst (AnswersLine line) (sym begun.is_written) h);
         taken = begun.is_appended.taken_is;
       };
       why = inl failed;
     }
 
 -- the same, whatever the states of its sink were called
-pub pushed_answer : {at other : Encoding} {name other_name : GName} {old new : SinkState} (r : Result (Unit {0}) Error)
+pub pushed_answer : {at other : Mode} {name other_name : GName} {old new : SinkState} (r : Result (Unit {0}) Error)
     (line answer : List ℕ) (s t : SinkState) → s ≡ old → t ≡ new → AnswersLine line answer
     → WritesBytes itself answer r (sink_state at name s) (sink_state other other_name t) (λ b. Takes s b t)
     → IfErr r (λ e. IsOfFailedCall itself e s.faults t.faults) → Answering r (line ∷ []) [] old new
@@ -147,7 +147,7 @@ partly_answered : (lines left : List (List ℕ)) (s t : SinkState) → Answered 
 partly_answered lines left s t h = record {
   done = h.done;
   left = left;
-  front = h.answered.answers;
+  prefix = h.answered.answers;
   rest = [];
   lines_are = h.lines_are;
   answers_are =
@@ -191,15 +191,15 @@ AnsweredPartly-after : (a b : List (List ℕ)) (s t u : SinkState) → SinkKept 
 AnsweredPartly-after a b s t u kept h k = record {
   done = h.done ++ k.done;
   left = k.left;
-  front = h.answered.answers ++ k.front;
+  prefix = h.answered.answers ++ k.prefix;
   rest = k.rest;
   lines_are =
       h.lines_are ∙ (ap (λ (x : List (List ℕ)). h.done ++ x) k.lines_are ∙ sym (append_assoc h.done k.done k.left));
   answers_are = subst (λ (x : List ℕ). Each AnswersLine (h.done ++ k.done) x)
-      (sym (append_assoc h.answered.answers k.front k.rest))
-      (each_append AnswersLine h.done k.done h.answered.answers (k.front ++ k.rest) h.answered.answers_are
+      (sym (append_assoc h.answered.answers k.prefix k.rest))
+      (each_append AnswersLine h.done k.done h.answered.answers (k.prefix ++ k.rest) h.answered.answers_are
       k.answers_are);
-  taken = taken_after s t u h.answered.answers k.front kept h.answered.taken k.taken;
+  taken = taken_after s t u h.answered.answers k.prefix kept h.answered.taken k.taken;
 }
 
 pub Answering-after : {T : Type 0} (r : Result T Error) (a b d : List (List ℕ)) (s t u : SinkState) → SinkKept s t
@@ -226,7 +226,7 @@ partly_with_left : (a : List (List ℕ)) (left : List (List ℕ)) (s t : SinkSta
 partly_with_left a left s t h = record {
   done = h.done;
   left = h.left ++ left;
-  front = h.front;
+  prefix = h.prefix;
   rest = h.rest;
   lines_are = ap (λ (x : List (List ℕ)). x ++ left) h.lines_are ∙ append_assoc h.done h.left left;
   answers_are = h.answers_are;
@@ -266,7 +266,7 @@ flush_failed e x s t is f = record {
   partly = record {
     done = [];
     left = [];
-    front = [];
+    prefix = [];
     rest = [];
     lines_are = refl;
     answers_are = refl;
@@ -410,8 +410,8 @@ pub record RunSoFar (count : ℕ) (pending : List ℕ) (input input_after : Sour
   pub output_no_fault : output_after.faults ≡ output.faults
   pub waits : IsFreeOf line_feed pending
   pub answered : IsTrue input.tells
-      → Answered (lines_of input.to_come) (lines_of (pending ++ input_after.to_come)) output output_after
-  pub counted : IsTrue input.tells → count + length input_after.to_come ≤ length input.to_come
+      → Answered (lines_of input.remaining) (lines_of (pending ++ input_after.remaining)) output output_after
+  pub counted : IsTrue input.tells → count + length input_after.remaining ≤ length input.remaining
 
 pub none_run : (pending : List ℕ) (a : SourceState) (s : SinkState) → pending ≡ [] → RunSoFar 0 pending a a s s
 none_run pending a s is = record {
@@ -419,8 +419,8 @@ none_run pending a s is = record {
   input_no_fault = refl;
   output_no_fault = refl;
   waits = subst (IsFreeOf line_feed) (sym is) tt;
-  answered = λ _. subst (λ (z : List ℕ). Answered (lines_of a.to_come) (lines_of (z ++ a.to_come)) s s) (sym is)
-      (none_answered (lines_of a.to_come) s);
+  answered = λ _. subst (λ (z : List ℕ). Answered (lines_of a.remaining) (lines_of (z ++ a.remaining)) s s) (sym is)
+      (none_answered (lines_of a.remaining) s);
   counted = λ _. omega arith;
 }
 
@@ -432,9 +432,9 @@ sink_failed e a d s u same (inr h) = inr (inr (same, h.0, inl h.1))
 
 -- what was pulled
 pulled : (n : ℕ) (chunk piece : List ℕ) (a b d : SourceState) → SourceKept a b → Pulls (Ok n) b d chunk
-    → piece ≡ take n chunk → IsTrue a.tells → b.to_come ≡ piece ++ d.to_come
+    → piece ≡ take n chunk → IsTrue a.tells → b.remaining ≡ piece ++ d.remaining
 pulled n chunk piece a b d kept p is tells =
-    p.moved (DeviceKept-told kept tells) ∙ ap (λ (z : List ℕ). z ++ d.to_come) (sym is)
+    p.moved (DeviceKept-told kept tells) ∙ ap (λ (z : List ℕ). z ++ d.remaining) (sym is)
 
 module _ (count : ℕ) (pending : List ℕ) (a b d : SourceState) (s t u : SinkState)
     (so_far : RunSoFar count pending a b s t) where
@@ -443,9 +443,9 @@ module _ (count : ℕ) (pending : List ℕ) (a b d : SourceState) (s t u : SinkS
 
   module _ (n : ℕ) (chunk piece : List ℕ) (pull : Pulls (Ok n) b d chunk) (piece_is : piece ≡ take n chunk) where
     -- up to a piece
-    before_piece : IsTrue a.tells → Answered (lines_of a.to_come) (lines_of (pending ++ (piece ++ d.to_come))) s t
+    before_piece : IsTrue a.tells → Answered (lines_of a.remaining) (lines_of (pending ++ (piece ++ d.remaining))) s t
     before_piece tells =
-        subst (λ (z : List ℕ). Answered (lines_of a.to_come) (lines_of (pending ++ z)) s t)
+        subst (λ (z : List ℕ). Answered (lines_of a.remaining) (lines_of (pending ++ z)) s t)
         (pulled n chunk piece a b d so_far.kept.0 pull piece_is tells)
         (so_far.answered tells)
 
@@ -458,12 +458,12 @@ module _ (count : ℕ) (pending : List ℕ) (a b d : SourceState) (s t u : SinkS
       input_no_fault = pull.no_fault ∙ so_far.input_no_fault;
       output_no_fault = (k []).no_fault ∙ so_far.output_no_fault;
       waits = waits;
-      answered = λ tells. Answered-after (lines_of a.to_come) (lines_of (pending ++ (piece ++ d.to_come)))
-          (lines_of (waiting ++ d.to_come)) s t u so_far.kept.1 (before_piece tells) (k d.to_come).all;
+      answered = λ tells. Answered-after (lines_of a.remaining) (lines_of (pending ++ (piece ++ d.remaining)))
+          (lines_of (waiting ++ d.remaining)) s t u so_far.kept.1 (before_piece tells) (k d.remaining).all;
       counted = λ tells.
           let size =
-          ap length (pulled n chunk piece a b d so_far.kept.0 pull piece_is tells) ∙ length-append piece d.to_come in
-          let front = ap length piece_is ∙ length-take-le n chunk pull.within in
+          ap length (pulled n chunk piece a b d so_far.kept.0 pull piece_is tells) ∙ length-append piece d.remaining in
+          let prefix = ap length piece_is ∙ length-take-le n chunk pull.within in
           let counted = so_far.counted tells in
           omega arith;
     }
@@ -479,8 +479,9 @@ module _ (count : ℕ) (pending : List ℕ) (a b d : SourceState) (s t u : SinkS
           no_fault = tt;
           settled = tt;
           all = tt;
-          partly = λ tells. AnsweredPartly-after (lines_of a.to_come) (lines_of (pending ++ (piece ++ d.to_come))) s t u
-              so_far.kept.1 (before_piece tells) (k d.to_come).partly;
+          partly = λ tells. AnsweredPartly-after (lines_of a.remaining) (lines_of (pending ++ (piece ++ d.remaining)))
+              s t u
+              so_far.kept.1 (before_piece tells) (k d.remaining).partly;
           why = sink_failed e a d s u (pull.no_fault ∙ so_far.input_no_fault)
               (failure_after e s t u so_far.output_no_fault (k []).why);
         }
@@ -492,19 +493,19 @@ module _ (count : ℕ) (pending : List ℕ) (a b d : SourceState) (s t u : SinkS
     kept = (DeviceKept-after so_far.kept.0 pull.kept, DeviceKept-after so_far.kept.1 k.kept);
     no_fault = on_ok_weaker r (λ x. (pull.no_fault ∙ so_far.input_no_fault, x ∙ so_far.output_no_fault)) k.no_fault;
     settled = settled;
-    all = on_ok_under _ r (λ tells. on_ok_weaker r (λ x. all_answered (lines_of a.to_come) s u x) (whole tells).all);
+    all = on_ok_under _ r (λ tells. on_ok_weaker r (λ x. all_answered (lines_of a.remaining) s u x) (whole tells).all);
     partly = on_err_under _ r (λ tells. (whole tells).partly);
     why = IfErr-weaker r _ _ (λ e h. sink_failed e a d s u (pull.no_fault ∙ so_far.input_no_fault)
         (failure_after e s t u so_far.output_no_fault h)) k.why;
   } where
-    none_to_come : IsTrue a.tells → pending ++ b.to_come ≡ pending
-    none_to_come tells = ap (λ (z : List ℕ). pending ++ z) (pull.ends (DeviceKept-told so_far.kept.0 tells) none room)
+    none_remaining : IsTrue a.tells → pending ++ b.remaining ≡ pending
+    none_remaining tells = ap (λ (z : List ℕ). pending ++ z) (pull.ends (DeviceKept-told so_far.kept.0 tells) none room)
         ∙ append-nil pending
 
-    whole : IsTrue a.tells → Answering r (lines_of a.to_come) [] s u
-    whole tells = Answering-after r (lines_of a.to_come) (lines_of pending) [] s t u so_far.kept.1
-        so_far.output_no_fault (subst (λ (z : List ℕ). Answered (lines_of a.to_come) (lines_of z) s t)
-        (none_to_come tells) (so_far.answered tells)) k
+    whole : IsTrue a.tells → Answering r (lines_of a.remaining) [] s u
+    whole tells = Answering-after r (lines_of a.remaining) (lines_of pending) [] s t u so_far.kept.1
+        so_far.output_no_fault (subst (λ (z : List ℕ). Answered (lines_of a.remaining) (lines_of z) s t)
+        (none_remaining tells) (so_far.answered tells)) k
 
 -- a call of the input failed
 pub pull_failed : {T : Type 0} (e : Error) (x : StdIoError) (chunk : List ℕ) (count : ℕ) (pending : List ℕ)
@@ -515,7 +516,8 @@ pull_failed e x chunk count pending a b d s t so_far is pull = record {
   no_fault = tt;
   settled = tt;
   all = tt;
-  partly = λ tells. partly_answered (lines_of a.to_come) (lines_of (pending ++ b.to_come)) s t (so_far.answered tells);
+  partly = λ tells. partly_answered (lines_of a.remaining) (lines_of (pending ++ b.remaining)) s t
+      (so_far.answered tells);
   why = inl ((x, rw so_far.input_no_fault at pull.fault, (kind_of e, is, refl)), so_far.output_no_fault);
 }
 
@@ -528,7 +530,8 @@ too_long e count pending a b s t so_far long is = record {
   no_fault = tt;
   settled = tt;
   all = tt;
-  partly = λ tells. partly_answered (lines_of a.to_come) (lines_of (pending ++ b.to_come)) s t (so_far.answered tells);
+  partly = λ tells. partly_answered (lines_of a.remaining) (lines_of (pending ++ b.remaining)) s t
+      (so_far.answered tells);
   why = inr (inr (
     so_far.input_no_fault,
     so_far.output_no_fault,

@@ -9,10 +9,10 @@ pub split_found : (byte : ℕ) (text : List ℕ) (i : ℕ) → i < length text
     → (get_or text i 0 == byte) ≡ true → SplitsAt byte text (take i text) (drop (suc i) text)
 split_found byte [] i within before here = absurd (omega arith)
 split_found byte (b ∷ text) zero within before here =
-    record { text_is = ap (λ (first : ℕ). first ∷ text) (eqb-true b byte here); front_is = tt }
+    record { text_is = ap (λ (first : ℕ). first ∷ text) (eqb-true b byte here); prefix_is = tt }
 split_found byte (b ∷ text) (suc i) within before here =
     let more = split_found byte text i (omega arith) (λ k l. before (suc k) (omega arith)) here in
     record {
       text_is = ap (λ (rest : List ℕ). b ∷ rest) more.text_is;
-      front_is = (eqb-false b byte (before 0 (omega arith)), more.front_is);
+      prefix_is = (eqb-false b byte (before 0 (omega arith)), more.prefix_is);
     }

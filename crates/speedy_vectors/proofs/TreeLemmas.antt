@@ -3,7 +3,7 @@ use Rattle.std.specs.Prelude.{◌≡◌, ℕ, List, [], ◌∷◌, ◌++◌, map
 use Rattle.std.proofs.Common.{◌∙◌, ap, rules}
 use Rattle.std.proofs.lemmas.List.{map-append}
 use Rattle.std.specs.declared.alloc.Global.{Global}
-use Rattle.speedy.specs.Encoding.{Encoding}
+use Rattle.speedy.specs.Mode.{Mode}
 use Rattle.speedy.specs.Format.{Format}
 use Rattle.speedy.specs.Lists.{list}
 use Rattle.speedy.specs.Numbers.{unsigned_number}
@@ -14,9 +14,9 @@ use Rattle.speedy_vectors.specs.declared.tree.Tree.{Tree, out-Tree, the_lemmas}
 use Rattle.speedy_vectors.specs.declared.tree.Tree.TheViews.{roll-Tree}
 
 -- a node is read as its value and then its children
-pub tree_composes : (encoding : Encoding) (F : Format Rose)
-    → Composes (unsigned_number 1 encoding) (λ _. list encoding F) (tree_step encoding F) whole
-tree_composes encoding F = sequence_composes parts (λ _. asks_same) (λ value children s h. apart value children)
+pub tree_composes : (mode : Mode) (F : Format Rose)
+    → Composes (unsigned_number 1 mode) (λ _. list mode F) (tree_step mode F) whole
+tree_composes mode F = sequence_composes parts (λ _. asks_same) (λ value children s h. apart value children)
 
 -- what is seen of a tree that is made
 pub view_made : (value : ℕ) (children : Vec Tree Global)

@@ -6,12 +6,12 @@ use Rattle.hex.specs.Hex.{encode_lower}
 use Rattle.speedy.specs.declared.error.ErrorKind.{ErrorKind}
 use Rattle.speedy.specs.declared.error.ErrorKind.TheVariants as kinds
 use Rattle.speedy.specs.ErrorKind.{is_eof_kind, EndsInput}
-use Rattle.speedy.specs.Encoding.{Encoding}
+use Rattle.speedy.specs.Mode.{Mode}
 use Rattle.speedy.specs.Format.{Format}
 use Rattle.speedy_vectors.specs.declared.line.LineOrder.{LineOrder}
 use Rattle.speedy_vectors.specs.declared.names.TypeName.{TypeName}
 use Rattle.speedy_vectors.specs.Names.{Named, named}
-use Rattle.speedy_vectors.specs.Line.{encoding_of, IsLine, IsBad}
+use Rattle.speedy_vectors.specs.Line.{mode_of, IsLine, IsBad}
 
 -- bytes as hexadecimal digits in lower case, `-` for none
 abbrev pub hex_of : List ℕ → List ℕ
@@ -47,7 +47,7 @@ abbrev pub sizes_text : Option (ℕ × ℕ) → List ℕ
 sizes_text None = []
 sizes_text (Some (actual, expected)) = codes " " ++ (decimal actual ++ (codes " " ++ decimal expected))
 
--- a value: the length of the front that spells it, and what is written of it
+-- a value: the length of the prefix that encodes it, and what is written of it
 abbrev pub ok_text : ℕ → List ℕ → List ℕ
 ok_text count written = codes "ok " ++ (decimal count ++ (codes " " ++ (hex_of written ++ codes "\n")))
 
@@ -55,31 +55,31 @@ ok_text count written = codes "ok " ++ (decimal count ++ (codes " " ++ (hex_of w
 abbrev pub refused_text : ErrorKind → List ℕ
 refused_text kind = codes "refused " ++ (kind_name kind ++ codes "\n")
 
--- the bytes are fewer than any spelling has
+-- the bytes are fewer than any encoding has
 pub record AnswersTooSmall (least : ℕ) (bytes answer : List ℕ) : Type 0 where
   pub fewer : length bytes < least
   pub answer_is : answer ≡ refused_text (kinds.InputBufferIsTooSmall (length bytes) least)
 
 module _ {V : Type 0} (least : ℕ) (L : Format V) (bytes answer : List ℕ) where
-  -- a front of the bytes spells a value
+  -- a prefix of the bytes encodes a value
   pub record AnswersValue : Type 0 where
     pub value : V
-    pub front : List ℕ
+    pub prefix : List ℕ
     pub rest : List ℕ
     pub written : List ℕ
-    pub bytes_are : bytes ≡ front ++ rest
-    pub front_spells : L.spells value front
+    pub bytes_are : bytes ≡ prefix ++ rest
+    pub prefix_encodes : L.encodes value prefix
     pub written_is : L.writes value written
-    pub answer_is : answer ≡ ok_text (length front) written
+    pub answer_is : answer ≡ ok_text (length prefix) written
 
-  -- no front spells any: an end of input where more bytes may make a spelling, a kind that the type names where it
+  -- no prefix encodes any: an end of input where more bytes may make an encoding, a kind that the type names where it
   -- refuses them itself, and else one of the two
   pub record AnswersRefusal : Type 0 where
     pub kind : ErrorKind
     pub enough : least ≤ length bytes
-    pub no_front : (v : V) (front rest : List ℕ) → bytes ≡ front ++ rest → L.spells v front → ⊥
+    pub no_prefix : (v : V) (prefix rest : List ℕ) → bytes ≡ prefix ++ rest → L.encodes v prefix → ⊥
     pub kind_is : EndsInput false kind ⊎ L.names kind
-    pub too_short : (v : V) (more : List ℕ) → L.spells v (bytes ++ more) → IsTrue (is_eof_kind kind)
+    pub too_short : (v : V) (more : List ℕ) → L.encodes v (bytes ++ more) → IsTrue (is_eof_kind kind)
     pub malformed : L.malformed bytes → L.names kind
     pub answer_is : answer ≡ refused_text kind
 
@@ -88,8 +88,8 @@ module _ {V : Type 0} (least : ℕ) (L : Format V) (bytes answer : List ℕ) whe
   AnswersBytes = AnswersTooSmall least bytes answer ⊎ (AnswersValue ⊎ AnswersRefusal)
 
 -- what the bytes of a line are answered, as a type that lines name
-abbrev pub AnswersAs : Named → Encoding → List ℕ → List ℕ → Type 0
-AnswersAs type encoding = AnswersBytes type.least (type.format encoding)
+abbrev pub AnswersAs : Named → Mode → List ℕ → List ℕ → Type 0
+AnswersAs type mode = AnswersBytes type.least (type.format mode)
 
 -- the answer of a line that is of the form
 pub record AnswersGoodLine (line answer : List ℕ) : Type 0 where
@@ -97,7 +97,7 @@ pub record AnswersGoodLine (line answer : List ℕ) : Type 0 where
   pub name : TypeName
   pub bytes : List ℕ
   pub says : IsLine line order name bytes
-  pub answers : AnswersAs (named name) (encoding_of order) bytes answer
+  pub answers : AnswersAs (named name) (mode_of order) bytes answer
 
 -- the answer of a line: `bad line` exactly where it isn't of the form
 abbrev pub AnswersLine : List ℕ → List ℕ → Type 0

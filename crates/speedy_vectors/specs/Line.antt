@@ -2,7 +2,7 @@
 use Rattle.std.specs.Prelude.{◌≡◌, ◌≢◌, ℕ, List, [], ◌∷◌, ◌++◌, ◌⊎◌, Ok, codes}
 use Rattle.hex.specs.Hex.{decode_of}
 use Rattle.speedy.specs.declared.endianness.Endianness.TheVariants.{LittleEndian, BigEndian}
-use Rattle.speedy.specs.Encoding.{Encoding, plain_encoding, strict_encoding}
+use Rattle.speedy.specs.Mode.{Mode, plain_mode, strict_mode}
 use Rattle.speedy_vectors.specs.declared.line.LineOrder.{LineOrder}
 use Rattle.speedy_vectors.specs.declared.line.LineOrder.TheVariants as orders
 use Rattle.speedy_vectors.specs.declared.names.TypeName.{TypeName}
@@ -19,12 +19,12 @@ order_text orders.BigEndian = codes "be"
 order_text orders.StrictLittleEndian = codes "sle"
 order_text orders.StrictBigEndian = codes "sbe"
 
--- what an order asks of the bytes: the order of numbers, and by `sle` and `sbe` the written form alone
-abbrev pub encoding_of : LineOrder → Encoding
-encoding_of orders.LittleEndian = plain_encoding LittleEndian
-encoding_of orders.BigEndian = plain_encoding BigEndian
-encoding_of orders.StrictLittleEndian = strict_encoding LittleEndian
-encoding_of orders.StrictBigEndian = strict_encoding BigEndian
+-- what an order asks of the bytes: the order of numbers, and by `sle` and `sbe` the canonical encoding alone
+abbrev pub mode_of : LineOrder → Mode
+mode_of orders.LittleEndian = plain_mode LittleEndian
+mode_of orders.BigEndian = plain_mode BigEndian
+mode_of orders.StrictLittleEndian = strict_mode LittleEndian
+mode_of orders.StrictBigEndian = strict_mode BigEndian
 
 -- the second field: the type
 abbrev pub name_text : TypeName → List ℕ

@@ -6,7 +6,7 @@ use Rattle.std.specs.declared.alloc.Global.{Global}
 use Rattle.std.specs.Int.{w8, w16, w32, w64, w128}
 use Rattle.speedy.specs.Choices.{one_case, either_case}
 use Rattle.speedy.specs.Codecs.{unit_codec, pair_codec, unsigned_codec}
-use Rattle.speedy.specs.Encoding.{Encoding}
+use Rattle.speedy.specs.Mode.{Mode}
 use Rattle.speedy.specs.Format.{Format}
 use Rattle.speedy.specs.Numbers.{unsigned_number, signed_number, usize_number}
 use Rattle.speedy.specs.Prefixed.{Choices, tagged}
@@ -15,11 +15,11 @@ use Rattle.speedy.specs.Leaves.{character, byte_order, duration}
 use Rattle.speedy.specs.Addresses.{address, ip_address}
 use Rattle.speedy.specs.Flags.{flag, option, alternative}
 use Rattle.speedy.specs.Tuples.{unit, pair}
-use Rattle.speedy.specs.Lists.{list, vector, counted_list}
+use Rattle.speedy.specs.Lists.{list, vector, prefixed_list}
 use Rattle.speedy.specs.SeenItems.{IsLess}
 use Rattle.speedy.specs.Maps.{tree_map, index_map}
 use Rattle.speedy.specs.Sets.{tree_set, index_set}
-use Rattle.speedy.specs.Texts.{text, raw_bytes, constant_bytes, counted_text}
+use Rattle.speedy.specs.Texts.{text, raw_bytes, constant_bytes, prefixed_text}
 use Rattle.speedy.specs.Owned.{owned_content, borrowed_content}
 use Rattle.speedy.specs.Varint.{varint}
 use Rattle.speedy_vectors.specs.declared.names.NumberName.{NumberName}
@@ -51,9 +51,9 @@ pub record Named : Type 1 where
   pub no_space : IsTrue (has_no_space text)
   pub Seen : Type 0
   pub least : ℕ
-  pub format : Encoding → Format Seen
+  pub format : Mode → Format Seen
 
-abbrev by : {V : Type 0} → (text : List ℕ) → IsTrue (has_no_space text) → ℕ → (Encoding → Format V) → Named
+abbrev by : {V : Type 0} → (text : List ℕ) → IsTrue (has_no_space text) → ℕ → (Mode → Format V) → Named
 by {V = V} text no_space least format = record {
   text = text;
   no_space = no_space;
@@ -71,9 +71,9 @@ abbrev LessText : List ℕ → List ℕ → Type 0
 LessText = IsLess (string_bytes {Z = Global}) string_cmp
 
 -- numbers of one, two and four bytes
-abbrev three_numbers : Encoding → Format (ℕ × (ℕ × ℕ))
-three_numbers encoding =
-    pair (unsigned_number 1 encoding) (pair (unsigned_number 2 encoding) (unsigned_number 4 encoding))
+abbrev three_numbers : Mode → Format (ℕ × (ℕ × ℕ))
+three_numbers mode =
+    pair (unsigned_number 1 mode) (pair (unsigned_number 2 mode) (unsigned_number 4 mode))
 
 -- each type of the program, by family
 abbrev pub named_number : NumberName → Named
@@ -106,58 +106,58 @@ named_leaf leaf_names.Duration = by (codes "duration") refl 12 duration
 
 abbrev pub named_composed : ComposedName → Named
 named_composed composed_names.OptU16 =
-    by (codes "opt_u16") refl 1 (λ encoding. option encoding (unsigned_number 2 encoding))
+    by (codes "opt_u16") refl 1 (λ mode. option mode (unsigned_number 2 mode))
 named_composed composed_names.ResU16U8 = by (codes "res_u16_u8") refl 1
-    (λ encoding. alternative encoding (unsigned_number 2 encoding) (unsigned_number 1 encoding))
+    (λ mode. alternative mode (unsigned_number 2 mode) (unsigned_number 1 mode))
 named_composed composed_names.RangeU16 =
-    by (codes "range_u16") refl 4 (λ encoding. pair (unsigned_number 2 encoding) (unsigned_number 2 encoding))
+    by (codes "range_u16") refl 4 (λ mode. pair (unsigned_number 2 mode) (unsigned_number 2 mode))
 named_composed composed_names.RangeInclU16 =
-    by (codes "range_incl_u16") refl 4 (λ encoding. pair (unsigned_number 2 encoding) (unsigned_number 2 encoding))
+    by (codes "range_incl_u16") refl 4 (λ mode. pair (unsigned_number 2 mode) (unsigned_number 2 mode))
 named_composed composed_names.TupleU8U16U32 = by (codes "tuple_u8_u16_u32") refl 7 three_numbers
 named_composed composed_names.ArrayU16x4 =
-    by (codes "array_u16_4") refl 8 (λ encoding. vector 4 (unsigned_number 2 encoding))
+    by (codes "array_u16_4") refl 8 (λ mode. vector 4 (unsigned_number 2 mode))
 named_composed composed_names.BoxU16 =
-    by (codes "box_u16") refl 2 (λ encoding. owned_content (unsigned_number 2 encoding))
+    by (codes "box_u16") refl 2 (λ mode. owned_content (unsigned_number 2 mode))
 
 abbrev pub named_list : ListName → Named
 named_list list_names.String = by (codes "string") refl 4 text
 named_list list_names.BoxedStr = by (codes "boxed_str") refl 4 text
-named_list list_names.VecU8 = by (codes "vec_u8") refl 4 (λ encoding. list encoding (unsigned_number 1 encoding))
-named_list list_names.VecU16 = by (codes "vec_u16") refl 4 (λ encoding. list encoding (unsigned_number 2 encoding))
+named_list list_names.VecU8 = by (codes "vec_u8") refl 4 (λ mode. list mode (unsigned_number 1 mode))
+named_list list_names.VecU16 = by (codes "vec_u16") refl 4 (λ mode. list mode (unsigned_number 2 mode))
 named_list list_names.BoxedSliceU16 =
-    by (codes "boxed_u16") refl 4 (λ encoding. list encoding (unsigned_number 2 encoding))
+    by (codes "boxed_u16") refl 4 (λ mode. list mode (unsigned_number 2 mode))
 named_list list_names.SmallVecU16x4 =
-    by (codes "small_vec_u16_4") refl 4 (λ encoding. list encoding (unsigned_number 2 encoding))
-named_list list_names.VecChar = by (codes "vec_char") refl 4 (λ encoding. list encoding (character encoding))
-named_list list_names.VecUnit = by (codes "vec_unit") refl 4 (λ encoding. list encoding unit)
+    by (codes "small_vec_u16_4") refl 4 (λ mode. list mode (unsigned_number 2 mode))
+named_list list_names.VecChar = by (codes "vec_char") refl 4 (λ mode. list mode (character mode))
+named_list list_names.VecUnit = by (codes "vec_unit") refl 4 (λ mode. list mode unit)
 named_list list_names.VecOptString =
-    by (codes "vec_opt_string") refl 4 (λ encoding. list encoding (option encoding (text encoding)))
+    by (codes "vec_opt_string") refl 4 (λ mode. list mode (option mode (text mode)))
 
 abbrev pub named_gathered : GatheredName → Named
 named_gathered gathered_names.SetU16 =
-    by (codes "set_u16") refl 4 (λ encoding. tree_set encoding LessNumber (unsigned_number 2 encoding))
+    by (codes "set_u16") refl 4 (λ mode. tree_set mode LessNumber (unsigned_number 2 mode))
 named_gathered gathered_names.MapU8U8 = by (codes "map_u8_u8") refl 4
-    (λ encoding. tree_map encoding LessNumber (unsigned_number 1 encoding) (unsigned_number 1 encoding))
+    (λ mode. tree_map mode LessNumber (unsigned_number 1 mode) (unsigned_number 1 mode))
 named_gathered gathered_names.MapStringVecU16 = by (codes "map_string_vec_u16") refl 4
-    (λ encoding. tree_map encoding LessText (text encoding) (list encoding (unsigned_number 2 encoding)))
+    (λ mode. tree_map mode LessText (text mode) (list mode (unsigned_number 2 mode)))
 named_gathered gathered_names.IndexSetU16 =
-    by (codes "index_set_u16") refl 4 (λ encoding. index_set encoding (unsigned_number 2 encoding))
+    by (codes "index_set_u16") refl 4 (λ mode. index_set mode (unsigned_number 2 mode))
 named_gathered gathered_names.IndexMapU8U8 = by (codes "index_map_u8_u8") refl 4
-    (λ encoding. index_map encoding (unsigned_number 1 encoding) (unsigned_number 1 encoding))
+    (λ mode. index_map mode (unsigned_number 1 mode) (unsigned_number 1 mode))
 
 abbrev pub named_lent : LentName → Named
 named_lent lent_names.CowStr = by (codes "cow_str") refl 4 text
-named_lent lent_names.CowU8 = by (codes "cow_u8") refl 4 (λ encoding. list encoding (unsigned_number 1 encoding))
-named_lent lent_names.CowU16 = by (codes "cow_u16") refl 4 (λ encoding. list encoding (unsigned_number 2 encoding))
-named_lent lent_names.StrRef = by (codes "str_ref") refl 4 (λ encoding. borrowed_content (text encoding))
+named_lent lent_names.CowU8 = by (codes "cow_u8") refl 4 (λ mode. list mode (unsigned_number 1 mode))
+named_lent lent_names.CowU16 = by (codes "cow_u16") refl 4 (λ mode. list mode (unsigned_number 2 mode))
+named_lent lent_names.StrRef = by (codes "str_ref") refl 4 (λ mode. borrowed_content (text mode))
 named_lent lent_names.BytesRef =
-    by (codes "bytes_ref") refl 4 (λ encoding. borrowed_content (list encoding (unsigned_number 1 encoding)))
+    by (codes "bytes_ref") refl 4 (λ mode. borrowed_content (list mode (unsigned_number 1 mode)))
 named_lent lent_names.BytesRef4 =
-    by (codes "bytes_ref_4") refl 4 (λ encoding. borrowed_content (vector 4 (unsigned_number 1 encoding)))
+    by (codes "bytes_ref_4") refl 4 (λ mode. borrowed_content (vector 4 (unsigned_number 1 mode)))
 named_lent lent_names.ViewI8 =
-    by (codes "view_i8") refl 4 (λ encoding. borrowed_content (list encoding (signed_number w8 encoding)))
+    by (codes "view_i8") refl 4 (λ mode. borrowed_content (list mode (signed_number w8 mode)))
 named_lent lent_names.ArrayViewI8x4 =
-    by (codes "array_view_i8_4") refl 4 (λ encoding. borrowed_content (vector 4 (signed_number w8 encoding)))
+    by (codes "array_view_i8_4") refl 4 (λ mode. borrowed_content (vector 4 (signed_number w8 mode)))
 
 -- nothing behind the tag 0, 1 or 2
 abbrev three_cases : Choices (Unit {0} ⊎ (Unit {0} ⊎ Unit {0}))
@@ -170,13 +170,13 @@ cases_of_numbers =
     either_case (one_case 0 unit_codec) (either_case (one_case 1 numbers) (one_case 2 numbers))
 
 abbrev pub named_own : OwnName → Named
-named_own own_names.Frame = by (codes "frame") refl 4 (λ encoding. pair (constant_bytes encoding (codes "SP"))
-    (pair (counted_list (varint encoding) (varint encoding)) (counted_text encoding (unsigned_number 1 encoding))))
+named_own own_names.Frame = by (codes "frame") refl 4 (λ mode. pair (constant_bytes mode (codes "SP"))
+    (pair (prefixed_list (varint mode) (varint mode)) (prefixed_text mode (unsigned_number 1 mode))))
 named_own own_names.Enum = by (codes "enum") refl 4 (tagged (unsigned_number 4) three_cases)
 named_own own_names.DerivedEnum = by (codes "derived_enum") refl 4 (tagged (unsigned_number 4) cases_of_numbers)
-named_own own_names.Record = by (codes "record") refl 24 (λ encoding. pair (unsigned_number 8 encoding)
-    (pair (text encoding) (pair (list encoding (unsigned_number 1 encoding))
-    (pair (list encoding (signed_number w64 encoding)) (tagged (unsigned_number 4) three_cases encoding)))))
+named_own own_names.Record = by (codes "record") refl 24 (λ mode. pair (unsigned_number 8 mode)
+    (pair (text mode) (pair (list mode (unsigned_number 1 mode))
+    (pair (list mode (signed_number w64 mode)) (tagged (unsigned_number 4) three_cases mode)))))
 named_own own_names.Tree = by (codes "tree") refl 5 tree_format
 
 abbrev pub named : TypeName → Named

@@ -35,15 +35,15 @@ pub record Answered (lines left : List (List ℕ)) (old new : SinkState) : Type 
   pub lines_are : lines ≡ done ++ left
   pub answered : AnsweredAll done old new
 
--- the sink took a front of the answers to the first of the lines, one for each of these and in order
+-- the sink took a prefix of the answers to the first of the lines, one for each of these and in order
 pub record AnsweredPartly (lines : List (List ℕ)) (old new : SinkState) : Type 0 where
   pub done : List (List ℕ)
   pub left : List (List ℕ)
-  pub front : List ℕ
+  pub prefix : List ℕ
   pub rest : List ℕ
   pub lines_are : lines ≡ done ++ left
-  pub answers_are : Each AnswersLine done (front ++ rest)
-  pub taken : IsTrue old.tells → new.taken ≡ old.taken ++ front
+  pub answers_are : Each AnswersLine done (prefix ++ rest)
+  pub taken : IsTrue old.tells → new.taken ≡ old.taken ++ prefix
 
 -- an error of the crate becomes no other one
 abbrev pub itself : Error → Error → Type 0
@@ -65,7 +65,7 @@ pub record Answering {T : Type 0} (result : Result T Error) (lines left : List (
 
 -- the input was longer than the program counts
 abbrev pub IsTooLong : Error → SourceState → Type 0
-IsTooLong e input = (e ≡ error_of kinds.OutOfRangeLength) × (IsTrue input.tells → 2 ^ 64 - 1 ≤ length input.to_come)
+IsTooLong e input = (e ≡ error_of kinds.OutOfRangeLength) × (IsTrue input.tells → 2 ^ 64 - 1 ≤ length input.remaining)
 
 -- Why a whole input is not answered: one call of the input or of the output failed, and the error is what it answered;
 -- or no call failed, and there was no memory, or the input is too long.
@@ -85,8 +85,8 @@ pub record Runs {T : Type 0} (result : Result T Error) (input input_after : Sour
   -- and no answer waits in the output
   pub settled : OnOk result (IsTrue output_after.settled)
   -- each line of the input was answered
-  pub all : OnOk result (IsTrue input.tells → AnsweredAll (lines_of input.to_come) output output_after)
+  pub all : OnOk result (IsTrue input.tells → AnsweredAll (lines_of input.remaining) output output_after)
   -- what was written before a failure is right as far as it goes
-  pub partly : OnErr result (IsTrue input.tells → AnsweredPartly (lines_of input.to_come) output output_after)
+  pub partly : OnErr result (IsTrue input.tells → AnsweredPartly (lines_of input.remaining) output output_after)
   -- no failure without a cause
   pub why : IfErr result (λ e. IsRunFailure e input input_after output output_after)

@@ -6,7 +6,7 @@ use Rattle.std.specs.List.{AllByRecursion}
 abbrev pub IsFreeOf : ℕ → List ℕ → Type 0
 IsFreeOf byte text = AllByRecursion (λ b. b ≢ byte) text
 
--- the text is a front without the byte, then the byte, and then the rest
-pub record SplitsAt (byte : ℕ) (text front rest : List ℕ) : Type 0 where
-  pub text_is : text ≡ front ++ byte ∷ rest
-  pub front_is : IsFreeOf byte front
+-- the text is a prefix without the byte, then the byte, and then the rest
+pub record SplitsAt (byte : ℕ) (text prefix rest : List ℕ) : Type 0 where
+  pub text_is : text ≡ prefix ++ byte ∷ rest
+  pub prefix_is : IsFreeOf byte prefix

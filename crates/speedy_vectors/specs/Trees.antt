@@ -1,8 +1,8 @@
--- What is seen of a tree, and which bytes spell it.
+-- What is seen of a tree, and which bytes encode it.
 use Rattle.std.specs.Prelude.{◌≡◌, ℕ, suc, ◌^◌, ◌<◌, max, List, [], ◌∷◌, length, refl}
 use Rattle.std.proofs.Common.{ap}
 use Rattle.speedy.specs.declared.error.ErrorKind.TheVariants as kinds
-use Rattle.speedy.specs.Encoding.{Encoding}
+use Rattle.speedy.specs.Mode.{Mode}
 use Rattle.speedy.specs.Format.{Format}
 use Rattle.speedy.specs.Laws.{Laws}
 use Rattle.speedy.specs.Lists.{list, list_laws}
@@ -63,14 +63,14 @@ abbrev pub view : Tree → Rose
 view = fold-Tree Rose view_step
 
 -- the value, and a list of children
-abbrev pub tree_step : Encoding → Format Rose → Format Rose
-tree_step encoding F = sequence parts (unsigned_number 1 encoding) (list encoding F).asks (λ _. list encoding F)
+abbrev pub tree_step : Mode → Format Rose → Format Rose
+tree_step mode F = sequence parts (unsigned_number 1 mode) (list mode F).asks (λ _. list mode F)
 
 -- trees of at most so many levels
-abbrev pub tree_levels : ℕ → Encoding → Format Rose
-tree_levels n encoding = levels kinds.OutOfRangeLength (tree_step encoding) n
+abbrev pub tree_levels : ℕ → Mode → Format Rose
+tree_levels n mode = levels kinds.OutOfRangeLength (tree_step mode) n
 
-abbrev pub tree_format : Encoding → Format Rose
+abbrev pub tree_format : Mode → Format Rose
 tree_format = tree_levels 16
 
 forest_back : (rs : Forest) → forest_of (trees_of rs) ≡ rs
@@ -89,11 +89,11 @@ pub apart : (value : ℕ) (children : List Rose) → let both : ℕ × List Rose
     parts (whole value children) ≡ both
 apart value children = ap (λ (rs : List Rose). let both : ℕ × List Rose = (value, rs) in both) (trees_back children)
 
-pub tree_step_laws : (encoding : Encoding) (F : Format Rose) → Laws encoding.strict 5 F
-    → Laws encoding.strict 5 (tree_step encoding F)
-tree_step_laws encoding F laws =
-    sequence_laws {n = 1} {m = 4} (unsigned_number_laws 1 encoding) (λ _. list_laws encoding laws) (λ _. asks_same)
+pub tree_step_laws : (mode : Mode) (F : Format Rose) → Laws mode.strict 5 F
+    → Laws mode.strict 5 (tree_step mode F)
+tree_step_laws mode F laws =
+    sequence_laws {n = 1} {m = 4} (unsigned_number_laws 1 mode) (λ _. list_laws mode laws) (λ _. asks_same)
     (told_apart parts whole joined)
 
-pub tree_laws : (n : ℕ) (encoding : Encoding) → Laws encoding.strict 5 (tree_levels n encoding)
-tree_laws n encoding = levels_laws kinds.OutOfRangeLength tt (tree_step encoding) (tree_step_laws encoding) n
+pub tree_laws : (n : ℕ) (mode : Mode) → Laws mode.strict 5 (tree_levels n mode)
+tree_laws n mode = levels_laws kinds.OutOfRangeLength tt (tree_step mode) (tree_step_laws mode) n

@@ -4,7 +4,7 @@ ghost use Rattle.std.specs.String.{string_bytes};
 ghost use Rattle.speedy.specs.Error.{error_of};
 ghost use Rattle.speedy_vectors.specs.Answer.{hex_of, kind_name, sizes_text, ok_text, refused_text, AnswersAs};
 ghost use Rattle.speedy_vectors.specs.Answer.{AnswersBytes, AnswersLine};
-ghost use Rattle.speedy_vectors.specs.Line.{encoding_of};
+ghost use Rattle.speedy_vectors.specs.Line.{mode_of};
 ghost use Rattle.speedy_vectors.specs.Names.{named};
 
 use crate::by_name::answer_by_name;
@@ -31,7 +31,7 @@ pub fn answer_line(alloc: Global, line: &[u8]) -> Result<Vec<u8>, Error>
 
 // The answer to a line that is of the form, by its order.
 fn answer_good_line(alloc: Global, line: &Line) -> Result<Vec<u8>, AllocError>
-    ensures { let asked = encoding_of line.now.order in
+    ensures { let asked = mode_of line.now.order in
         IfOk result (λ answer. AnswersAs (named line.now.name) asked line.now.bytes.items answer.items) }
 {
     let (name, bytes) = (line.name, line.bytes.as_slice());
@@ -95,7 +95,7 @@ pub(crate) fn named_kind(kind: &ErrorKind) -> (&'static str, Option<(usize, usiz
     }
 }
 
-// The answer to bytes whose front spells a value.
+// The answer to bytes of which a prefix encodes a value.
 fn ok_answer(alloc: Global, count: usize, written: &[u8]) -> Result<Vec<u8>, AllocError>
     ensures { IfOk result (λ text. text.items ≡ ok_text count written.now) }
 {
@@ -123,7 +123,7 @@ pub(crate) fn answer_as<
     T: ReadFrom<&'a [u8], C> + Writable<C>,
     C: Context<Error = Error> + Copy,
 >(alloc: Global, context: C, bytes: &'a [u8]) -> Result<Vec<u8>, AllocError>
-    ensures { let format = T.layout.format (C.encoding context) in
+    ensures { let format = T.layout.format (C.mode context) in
         IfOk result (λ text. AnswersBytes T.layout.least format bytes.now text.items) }
 {
     let (result, count) = bytes.read_with_length::<T>(alloc, context);

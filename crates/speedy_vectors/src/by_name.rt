@@ -44,7 +44,7 @@ fn answer_number<C: Context<Error = Error> + Copy>(
     name: NumberName,
     bytes: &[u8],
 ) -> Result<Vec<u8>, AllocError>
-    ensures { let asked = C.encoding context in
+    ensures { let asked = C.mode context in
         IfOk result (λ answer. AnswersAs (named_number name) asked bytes.now answer.items) }
 {
     for_each_number!(answer_each(name, alloc, context, bytes))
@@ -57,7 +57,7 @@ fn answer_leaf<C: Context<Error = Error> + Copy>(
     name: LeafName,
     bytes: &[u8],
 ) -> Result<Vec<u8>, AllocError>
-    ensures { let asked = C.encoding context in
+    ensures { let asked = C.mode context in
         IfOk result (λ answer. AnswersAs (named_leaf name) asked bytes.now answer.items) }
 {
     for_each_leaf!(answer_each(name, alloc, context, bytes))
@@ -70,7 +70,7 @@ fn answer_composed<C: Context<Error = Error> + Copy>(
     name: ComposedName,
     bytes: &[u8],
 ) -> Result<Vec<u8>, AllocError>
-    ensures { let asked = C.encoding context in
+    ensures { let asked = C.mode context in
         IfOk result (λ answer. AnswersAs (named_composed name) asked bytes.now answer.items) }
 {
     for_each_composed!(answer_each(name, alloc, context, bytes))
@@ -83,7 +83,7 @@ fn answer_list<C: Context<Error = Error> + Copy>(
     name: ListName,
     bytes: &[u8],
 ) -> Result<Vec<u8>, AllocError>
-    ensures { let asked = C.encoding context in
+    ensures { let asked = C.mode context in
         IfOk result (λ answer. AnswersAs (named_list name) asked bytes.now answer.items) }
 {
     for_each_list!(answer_each(name, alloc, context, bytes))
@@ -96,7 +96,7 @@ fn answer_gathered<C: Context<Error = Error> + Copy>(
     name: GatheredName,
     bytes: &[u8],
 ) -> Result<Vec<u8>, AllocError>
-    ensures { let asked = C.encoding context in
+    ensures { let asked = C.mode context in
         IfOk result (λ answer. AnswersAs (named_gathered name) asked bytes.now answer.items) }
 {
     for_each_gathered!(answer_each(name, alloc, context, bytes))
@@ -109,7 +109,7 @@ fn answer_lent<C: Context<Error = Error> + Copy>(
     name: LentName,
     bytes: &[u8],
 ) -> Result<Vec<u8>, AllocError>
-    ensures { let asked = C.encoding context in
+    ensures { let asked = C.mode context in
         IfOk result (λ answer. AnswersAs (named_lent name) asked bytes.now answer.items) }
 {
     for_each_lent!(answer_each(name, alloc, context, bytes))
@@ -122,7 +122,7 @@ fn answer_own<C: Context<Error = Error> + Copy>(
     name: OwnName,
     bytes: &[u8],
 ) -> Result<Vec<u8>, AllocError>
-    ensures { let asked = C.encoding context in
+    ensures { let asked = C.mode context in
         IfOk result (λ answer. AnswersAs (named_own name) asked bytes.now answer.items) }
 {
     for_each_own!(answer_each(name, alloc, context, bytes))
@@ -135,7 +135,7 @@ pub fn answer_by_name<C: Context<Error = Error> + Copy>(
     name: TypeName,
     bytes: &[u8],
 ) -> Result<Vec<u8>, AllocError>
-    ensures { let asked = C.encoding context in
+    ensures { let asked = C.mode context in
         IfOk result (λ answer. AnswersAs (named name) asked bytes.now answer.items) }
 {
     match name {

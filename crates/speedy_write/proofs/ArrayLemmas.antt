@@ -4,7 +4,7 @@ use Rattle.std.specs.Prelude.{Result, refl}
 use Rattle.std.proofs.Common.{sym, ◌∙◌, subst, arith}
 use Rattle.std.proofs.lemmas.List.{length-map, map-append}
 use Rattle.speedy_base.specs.declared.error.Error.{Error}
-use Rattle.speedy_base.specs.Encoding.{Encoding}
+use Rattle.speedy_base.specs.Mode.{Mode}
 use Rattle.speedy_layout.specs.Format.{Format, Each}
 use Rattle.speedy_layout.specs.Lists.{repeat, vector}
 use Rattle.speedy_layout.specs.Owned.{owned_content}
@@ -18,7 +18,7 @@ module _ {A V : Type 0} (R : V → List ℕ → Type 0) (seen : A → V) (n : �
   abbrev OfItems : List V → List ℕ → Type 0
   OfItems vs b = (length vs ≡ n) × Each R vs b
 
-  -- what spells all items together spells each array
+  -- what encodes all items together encodes each array
   arrays_of : (arrays : List (List A)) → All (λ array. length array ≡ n) arrays → (b : List ℕ)
       → Each R (map seen (flat_map (λ x. x) arrays)) b → Each OfItems (map (map seen) arrays) b
   arrays_of [] whole b h = h
@@ -36,27 +36,27 @@ module _ {A V : Type 0} (R : V → List ℕ → Type 0) (seen : A → V) (n : �
       subst (λ (vs : List V). Each R vs b) (sym (map-append seen x (flat_map (λ y. y) xs)))
       (Each-append R (map seen x) (map seen (flat_map (λ y. y) xs)) b (Parts-as (λ s k. k.1) (items_of xs) h))
 
-module _ {E : Type 0} (gives : Error → E → Type 0) {A V : Type 0} (F : Encoding → Format V) (seen : A → V) {n : ℕ}
+module _ {E : Type 0} (gives : Error → E → Type 0) {A V : Type 0} (F : Mode → Format V) (seen : A → V) {n : ℕ}
     (arrays : List (List A))
     (old new : WriterState) (appended : List ℕ → Type 0) where
   arrays_written : (result : Result (Unit {0}) E) → All (λ array. length array ≡ n) arrays
       → WritesEach gives F seen (flat_map (λ x. x) arrays) result old new appended
-      → WritesEach gives (λ encoding. vector n (F encoding)) (map seen) arrays result old new appended
+      → WritesEach gives (λ mode. vector n (F mode)) (map seen) arrays result old new appended
   unfolding vector owned_content repeat
   arrays_written result whole w =
-      let writes = (F old.encoding).writes in
-      let spells = (F old.encoding).spells in
+      let writes = (F old.mode).writes in
+      let encodes = (F old.mode).encodes in
       let all = length-map (flat_map (λ x. x) arrays) seen in
       Writes-as (λ _ k. k) (λ b h. (length-map arrays (map seen), arrays_of writes seen n arrays whole b h.1))
       (λ b h. (b, (all, items_of writes seen n arrays b h.1), refl))
-      (λ b h. (b, (all, items_of spells seen n arrays b h.1))) w
+      (λ b h. (b, (all, items_of encodes seen n arrays b h.1))) w
 
   -- where the items were written together, so were the arrays
   pub bulk_written : (written : Option (Result (Unit {0}) E)) (unchanged : Type 0) (items : List A)
       → All (λ array. length array ≡ n) arrays → items ≡ flat_map (λ x. x) arrays
       → MatchOption written unchanged (λ result. WritesEach gives F seen items result old new appended)
       → MatchOption written unchanged
-      (λ result. WritesEach gives (λ encoding. vector n (F encoding)) (map seen) arrays result old new appended)
+      (λ result. WritesEach gives (λ mode. vector n (F mode)) (map seen) arrays result old new appended)
   bulk_written None unchanged items whole same h = h
   bulk_written (Some result) unchanged items whole same h =
       arrays_written result whole (subst (λ xs. WritesEach gives F seen xs result old new appended) same h)

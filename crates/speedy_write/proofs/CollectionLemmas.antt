@@ -9,13 +9,13 @@ use Rattle.std.specs.Iterator.{Yields, YieldsFirst, Drains, AlwaysYields}
 use Rattle.std.specs.Map.Iter.{TakesFirst}
 use Rattle.speedy_base.specs.declared.error.ErrorKind.{ErrorKind}
 use Rattle.speedy_base.specs.declared.error.Error.{Error}
-use Rattle.speedy_base.specs.Encoding.{Encoding}
+use Rattle.speedy_base.specs.Mode.{Mode}
 use Rattle.speedy_layout.specs.Codes.{coding}
 use Rattle.speedy_layout.specs.Format.{Format}
 use Rattle.speedy_layout.specs.GatheredLemmas.{gathered_writes, gathered_form, gathered_form_length}
 use Rattle.speedy_layout.specs.Gathering.{IsGathering, hashed_items, items_of, gathered}
 use Rattle.speedy_layout.specs.Laws.{Laws, Codec}
-use Rattle.speedy_layout.specs.Lists.{repeat, vector, counted_list}
+use Rattle.speedy_layout.specs.Lists.{repeat, vector, prefixed_list}
 use Rattle.speedy_layout.specs.Owned.{owned_content, borrowed_content}
 use Rattle.speedy_layout.specs.Prefixed.{Numbers}
 use Rattle.speedy_layout.specs.Sequences.{sequence}
@@ -29,7 +29,7 @@ use Rattle.speedy_write.proofs.ListLemmas.{first_items_refused, next_refused}
 -- ---- item by item
 
 module _ {E U S A V : Type 0} {gives : Error → E → Type 0} {becomes : U → S → Type 0}
-    {steps : S → Option A → S → Type 0} {seen : A → V} {F : Encoding → Format V} {items : U} (it : S) (walked : List A)
+    {steps : S → Option A → S → Type 0} {seen : A → V} {F : Mode → Format V} {items : U} (it : S) (walked : List A)
     (now next : S) (it_is : becomes items it) (walk : Yields steps it walked now) where
   -- no item is left
   pub all_items_written : {old new : WriterState} {appended : List ℕ → Type 0} → steps now None next
@@ -45,10 +45,11 @@ module _ {E U S A V : Type 0} {gives : Error → E → Type 0} {becomes : U → 
 
   -- the next one is refused
   pub next_item_refused : {least : ℕ} {e : E} {result : Result (Unit {0}) E} {old mid new : WriterState}
-      {front back whole : List ℕ → Type 0} (x : A) → ((a b : List ℕ) → front a → back b → whole (a ++ b))
-      → ((encoding : Encoding) → Laws encoding.strict least (F encoding))
-      → IsErrAnd result (λ r. r ≡ e) → steps now (Some x) next → WritesEach gives F seen walked (Ok tt) old mid front
-      → Writes gives F (seen x) (Err e) mid new back → WritesItems becomes steps seen gives F items result old new whole
+      {prefix suffix whole : List ℕ → Type 0} (x : A) → ((a b : List ℕ) → prefix a → suffix b → whole (a ++ b))
+      → ((mode : Mode) → Laws mode.strict least (F mode))
+      → IsErrAnd result (λ r. r ≡ e) → steps now (Some x) next → WritesEach gives F seen walked (Ok tt) old mid prefix
+      → Writes gives F (seen x) (Err e) mid new suffix
+      → WritesItems becomes steps seen gives F items result old new whole
   next_item_refused {e = e} {result = result} {old = old} {new = new} {whole = whole} x join laws passed step h w =
       subst (λ (r : Result (Unit {0}) E). WritesItems becomes steps seen gives F items r old new whole)
       (passed_on result e passed) (record {
@@ -62,29 +63,29 @@ module _ {E U S A V : Type 0} {gives : Error → E → Type 0} {becomes : U → 
 -- ---- the items that were walked, among all
 
 module _ {E S A V : Type 0} {gives : Error → E → Type 0} {steps : S → Option A → S → Type 0} {seen : A → V}
-    {F : Encoding → Format V} {items : S} {shown : List V} {old new : WriterState} {appended : List ℕ → Type 0} where
+    {F : Mode → Format V} {items : S} {shown : List V} {old new : WriterState} {appended : List ℕ → Type 0} where
   all_shown : (result : Result (Unit {0}) E) → AlwaysYields steps seen items shown
       → WritesItems (λ s r. r ≡ s) steps seen gives F items result old new appended
-      → Writes gives (λ encoding. repeat (length shown) (F encoding)) shown result old new appended
+      → Writes gives (λ mode. repeat (length shown) (F mode)) shown result old new appended
   all_shown result always w =
       by result (subst (λ s. AlwaysYields steps seen s shown) (sym w.iterator_is) always) w.writes w.are_walked where
         by : (result : Result (Unit {0}) E) → AlwaysYields steps seen w.iterator shown
             → WritesEach gives F seen w.walked result old new appended
             → MatchResult result (λ _. Drains steps w.iterator w.walked)
             (λ _. (rest : S) × Yields steps w.iterator w.walked rest)
-            → Writes gives (λ encoding. repeat (length shown) (F encoding)) shown result old new appended
+            → Writes gives (λ mode. repeat (length shown) (F mode)) shown result old new appended
         by (Ok done) always written walked =
             let same = gives_Drains steps seen w.walked shown w.iterator always walked in
             subst
-            (λ (vs : List V). Writes gives (λ encoding. repeat (length vs) (F encoding)) vs (Ok done) old new appended)
+            (λ (vs : List V). Writes gives (λ mode. repeat (length vs) (F mode)) vs (Ok done) old new appended)
             same
             (subst
-            (λ (n : ℕ). Writes gives (λ encoding. repeat n (F encoding)) (map seen w.walked) (Ok done) old new appended)
+            (λ (n : ℕ). Writes gives (λ mode. repeat n (F mode)) (map seen w.walked) (Ok done) old new appended)
             (sym (length-map w.walked seen)) written)
         by (Err e) always written walked =
             let left = gives_left steps seen w.walked shown w.iterator walked.0 always walked.1 in
             subst
-            (λ (vs : List V). Writes gives (λ encoding. repeat (length vs) (F encoding)) vs (Err e) old new appended)
+            (λ (vs : List V). Writes gives (λ mode. repeat (length vs) (F mode)) vs (Err e) old new appended)
             (sym left.1)
             (first_items_refused F (length w.walked) (map seen w.walked) left.0 (length-map w.walked seen) written)
 
@@ -92,9 +93,9 @@ module _ {E S A V : Type 0} {gives : Error → E → Type 0} {steps : S → Opti
   pub shown_items_written : {count : ℕ} {result : Result (Unit {0}) E} → count ≡ length shown
       → AlwaysYields steps seen items shown
       → WritesItems (λ s r. r ≡ s) steps seen gives F items result old new appended
-      → Writes gives (λ encoding. repeat count (F encoding)) shown result old new appended
+      → Writes gives (λ mode. repeat count (F mode)) shown result old new appended
   shown_items_written {result = result} same always w =
-      subst (λ (n : ℕ). Writes gives (λ encoding. repeat n (F encoding)) shown result old new appended) (sym same)
+      subst (λ (n : ℕ). Writes gives (λ mode. repeat n (F mode)) shown result old new appended) (sym same)
       (all_shown result always w)
 
 -- an iterator that shows what is left always gives it
@@ -116,25 +117,26 @@ left_in_order left seen {s = s} same =
 -- ---- the collection
 
 items_of_refuses : {X : Type 0} (hashed : Bool) (count : Format ℕ) (L : Format X)
-    → (items_of hashed count L).refuses_writing ≡ (counted_list count L).refuses_writing
+    → (items_of hashed count L).refuses_writing ≡ (prefixed_list count L).refuses_writing
 unfolding hashed_items
 items_of_refuses false count L = refl
 items_of_refuses true count L = refl
 
 module _ {E : Type 0} {gives : Error → E → Type 0} {result : Result (Unit {0}) E} {old new : WriterState}
-    {appended : List ℕ → Type 0} (count : Encoding → Format ℕ) where
+    {appended : List ℕ → Type 0} (count : Mode → Format ℕ) where
   -- lent items are written as the items
-  lent_items : {X : Type 0} {shown : List X} (F : Encoding → Format X)
-      → Writes gives (λ f. counted_list (count f) (borrowed_content (F f))) shown result old new appended
-      → Writes gives (λ f. counted_list (count f) (F f)) shown result old new appended
+  lent_items : {X : Type 0} {shown : List X} (F : Mode → Format X)
+      → Writes gives (λ f. prefixed_list (count f) (borrowed_content (F f))) shown result old new appended
+      → Writes gives (λ f. prefixed_list (count f) (F f)) shown result old new appended
   unfolding sequence vector owned_content repeat borrowed_content
   lent_items F w = Writes-as (λ _ k. k) (λ _ h. h) (λ b h. (b, h, refl)) (λ b h. (b, h)) w
 
   -- and so are pairs of lent parts
-  lent_pairs : {K V : Type 0} {shown : List (K × V)} (F : Encoding → Format K) (G : Encoding → Format V)
-      → Writes gives (λ f. counted_list (count f) (pair (borrowed_content (F f)) (borrowed_content (G f)))) shown result
+  lent_pairs : {K V : Type 0} {shown : List (K × V)} (F : Mode → Format K) (G : Mode → Format V)
+      → Writes gives (λ f. prefixed_list (count f) (pair (borrowed_content (F f)) (borrowed_content (G f)))) shown
+      result
       old new appended
-      → Writes gives (λ f. counted_list (count f) (pair (F f) (G f))) shown result old new appended
+      → Writes gives (λ f. prefixed_list (count f) (pair (F f) (G f))) shown result old new appended
   unfolding sequence vector owned_content repeat borrowed_content
   lent_pairs F G w = Writes-as (λ _ k. k) (λ _ h. h) (λ b h. (b, h, refl)) (λ b h. (b, h)) w
 
@@ -143,12 +145,12 @@ module _ {E S : Type 0} {gives : Error → E → Type 0} {hashed : Bool} {whole 
   -- a form of a collection is written as the collection
   form_written_as : {X : Type 0} {stands : List X → S → Type 0} {are_written : List X → Type 0} {shown : List X}
       (item : Codec X) → IsGathering hashed stands are_written → stands shown whole × are_written shown
-      → Writes gives (λ f. counted_list (numbers.codec.format f) (item.format f)) shown result old new appended
+      → Writes gives (λ f. prefixed_list (numbers.codec.format f) (item.format f)) shown result old new appended
       → Writes gives (λ f. gathered hashed f (numbers.codec.format f) stands are_written (item.format f)) whole result
       old new appended
   unfolding coding
   form_written_as {stands = stands} {are_written = are_written} {shown = shown} item is form w =
-      let f = old.encoding in
+      let f = old.mode in
       let count = numbers.codec.format f in
       let laws = numbers.codec.laws f in
       let smaller = numbers.smaller f in
@@ -161,7 +163,7 @@ module _ {E S : Type 0} {gives : Error → E → Type 0} {hashed : Bool} {whole 
   -- the lent items of a set, where they are a form of it
   pub set_written : {X : Type 0} {stands : List X → S → Type 0} {are_written : List X → Type 0} {shown : List X}
       (item : Codec X) → IsGathering hashed stands are_written → stands shown whole × are_written shown
-      → Writes gives (λ f. counted_list (numbers.codec.format f) (borrowed_content (item.format f))) shown result old
+      → Writes gives (λ f. prefixed_list (numbers.codec.format f) (borrowed_content (item.format f))) shown result old
       new appended
       → Writes gives (λ f. gathered hashed f (numbers.codec.format f) stands are_written (item.format f)) whole result
       old new appended
@@ -171,7 +173,7 @@ module _ {E S : Type 0} {gives : Error → E → Type 0} {hashed : Bool} {whole 
   pub map_written : {K V : Type 0} {stands : List (K × V) → S → Type 0} {are_written : List (K × V) → Type 0}
       {shown : List (K × V)} (key : Codec K) (value : Codec V) → IsGathering hashed stands are_written
       → stands shown whole × are_written shown
-      → Writes gives (λ f. counted_list (numbers.codec.format f)
+      → Writes gives (λ f. prefixed_list (numbers.codec.format f)
       (pair (borrowed_content (key.format f)) (borrowed_content (value.format f)))) shown result old new appended
       → Writes gives (λ f. gathered hashed f (numbers.codec.format f) stands are_written
       (pair (key.format f) (value.format f))) whole result old new appended

@@ -7,7 +7,7 @@ use Rattle.std.proofs.Common.{sym, ◌∙◌, ap, subst, arith}
 use Rattle.std.proofs.Math.ListN.{get_or}
 use Rattle.std.proofs.lemmas.List.{length-append, length-map, map-append}
 use Rattle.speedy_base.specs.declared.error.Error.{Error}
-use Rattle.speedy_base.specs.Encoding.{Encoding}
+use Rattle.speedy_base.specs.Mode.{Mode}
 use Rattle.speedy_layout.specs.Format.{Format, Each}
 use Rattle.speedy_layout.specs.Laws.{Laws}
 use Rattle.speedy_layout.specs.Lists.{each_more, repeat, repeat_laws}
@@ -17,25 +17,25 @@ use Rattle.speedy_write.specs.Counting.{counting_state, CountAppends, CountsEach
 use Rattle.speedy_write.specs.WaysOfWriting.{NeedsIn}
 use Rattle.speedy_write.proofs.ListLemmas.{first_items}
 
--- all written forms of a value have one length
+-- all canonical encodings of a value have one length
 one_length : {V : Type 0} {strict : Bool} {least : ℕ} {L : Format V} → Laws strict least L → (v : V) (b c : List ℕ)
     → L.writes v b → L.writes v c → length b ≡ length c
 one_length laws v b c h k =
-    let x = laws.shortest v b c h (laws.written_spells v c k) in
-    let y = laws.shortest v c b k (laws.written_spells v b h) in
+    let x = laws.shortest v b c h (laws.written_encodes v c k) in
+    let y = laws.shortest v c b k (laws.written_encodes v b h) in
     omega arith
 
 -- a sum below its greatest value is the length of what was written
-pub counted : {E : Type 0} {gives : Error → E → Type 0} {V : Type 0} {F : Encoding → Format V} {v : V}
-    {encoding at : Encoding} {least sum size answered : ℕ} {targets : List GName} {after : WriterState} {u : Unit {0}}
-    → Laws encoding.strict least (F encoding) → at ≡ encoding → sum ≡ 0 → answered ≡ size → answered < 2 ^ 64 - 1
+pub counted : {E : Type 0} {gives : Error → E → Type 0} {V : Type 0} {F : Mode → Format V} {v : V}
+    {mode at : Mode} {least sum size answered : ℕ} {targets : List GName} {after : WriterState} {u : Unit {0}}
+    → Laws mode.strict least (F mode) → at ≡ mode → sum ≡ 0 → answered ≡ size → answered < 2 ^ 64 - 1
     → Writes gives F v (Ok u) (counting_state at targets) after (λ b. CountAppends sum b size)
-    → NeedsIn gives (F encoding) v (Ok answered)
+    → NeedsIn gives (F mode) v (Ok answered)
 counted {gives = gives} {F = F} {v = v} {sum = sum} {size = size} {answered = answered} {targets = targets}
-    {after = after} {u = u} laws same_encoding starts is less w =
+    {after = after} {u = u} laws same_mode starts is less w =
     let put =
-    (subst (λ (f : Encoding). Writes gives F v (Ok u) (counting_state f targets) after (λ b. CountAppends sum b size))
-    same_encoding w).answer in
+    (subst (λ (f : Mode). Writes gives F v (Ok u) (counting_state f targets) after (λ b. CountAppends sum b size))
+    same_mode w).answer in
     let long : answered ≡ length put.bytes = let e = put.is_appended in omega (arith, starts, is, less) in
     record {
       written = (put.bytes, put.is_written, long);
@@ -63,27 +63,27 @@ one_more_counted {x = x} writes seen items i within is h k = (
 )
 
 -- a writer that counts the bytes of items does as it would in writing them
-pub items_counted : {E A V : Type 0} {gives : Error → E → Type 0} {F : Encoding → Format V} {least size : ℕ}
-    {result : Result (Unit {0}) E} {old new : WriterState} {appended : List ℕ → Type 0} {encoding : Encoding}
+pub items_counted : {E A V : Type 0} {gives : Error → E → Type 0} {F : Mode → Format V} {least size : ℕ}
+    {result : Result (Unit {0}) E} {old new : WriterState} {appended : List ℕ → Type 0} {mode : Mode}
     (seen : A → V) (items : List A)
-    → ((encoding : Encoding) → Laws encoding.strict least (F encoding)) → encoding ≡ old.encoding
-    → CountsEach (F encoding).writes (map seen items) size
+    → ((mode : Mode) → Laws mode.strict least (F mode)) → mode ≡ old.mode
+    → CountsEach (F mode).writes (map seen items) size
     → ((bytes : List ℕ) → length bytes ≡ size → WritesBytes gives bytes result old new appended)
     → WritesEach gives F seen items result old new appended
 unfolding repeat
 items_counted {F = F} {size = size} {old = old} seen items laws same h told =
-    let k = subst (λ (e : Encoding). CountsEach (F e).writes (map seen items) size) same h in
+    let k = subst (λ (e : Mode). CountsEach (F e).writes (map seen items) size) same h in
     form_written (λ e. repeat_laws (laws e) (length items)) (length-map items seen, k.1) (told k.0 k.2)
 
 -- and of one
-pub item_counted : {E V : Type 0} {gives : Error → E → Type 0} {F : Encoding → Format V} {least size : ℕ}
-    {result : Result (Unit {0}) E} {old new : WriterState} {appended : List ℕ → Type 0} {encoding : Encoding} {v : V}
-    → ((encoding : Encoding) → Laws encoding.strict least (F encoding)) → encoding ≡ old.encoding
-    → ((bytes : List ℕ) × (F encoding).writes v bytes × (size ≡ length bytes))
+pub item_counted : {E V : Type 0} {gives : Error → E → Type 0} {F : Mode → Format V} {least size : ℕ}
+    {result : Result (Unit {0}) E} {old new : WriterState} {appended : List ℕ → Type 0} {mode : Mode} {v : V}
+    → ((mode : Mode) → Laws mode.strict least (F mode)) → mode ≡ old.mode
+    → ((bytes : List ℕ) × (F mode).writes v bytes × (size ≡ length bytes))
     → ((bytes : List ℕ) → length bytes ≡ size → WritesBytes gives bytes result old new appended)
     → Writes gives F v result old new appended
 item_counted {F = F} {size = size} {v = v} laws same h told =
-    let k = subst (λ (e : Encoding). (bytes : List ℕ) × (F e).writes v bytes × (size ≡ length bytes)) same h in
+    let k = subst (λ (e : Mode). (bytes : List ℕ) × (F e).writes v bytes × (size ≡ length bytes)) same h in
     form_written laws k.1 (told k.0 (sym k.2))
 
 -- ---- a writer whose context was lent
@@ -98,20 +98,20 @@ pub stays_same : {W : Type 0} {state : W → WriterState} {appends : W → List 
     → StaysAs state appends old old
 stays_same = record { state_is = refl; joins = λ _ _ h. h }
 
--- a writer that has its context back, with the encoding that this had, changes nothing that a write sees
+-- a writer that has its context back, with the mode that this had, changes nothing that a write sees
 pub context_back : {W C : Type 0} {state : W → WriterState} {appends : W → List ℕ → W → Type 0}
-    {with_context : W → C → W} (at : W → C) (encoding : C → Encoding)
-    → ((w : W) → (state w).encoding ≡ encoding (at w))
-    → ((w : W) (c : C) → state (with_context w c) ≡ record (state w) { encoding = encoding c })
+    {with_context : W → C → W} (at : W → C) (mode : C → Mode)
+    → ((w : W) → (state w).mode ≡ mode (at w))
+    → ((w : W) (c : C) → state (with_context w c) ≡ record (state w) { mode = mode c })
     → ((w : W) → appends w [] w)
     → ((a b c : W) (s t : List ℕ) → appends a s b → appends b t c → appends a (s ++ t) c)
     → ((a b : W) (s : List ℕ) (c : C) → appends a s b → appends a s (with_context b c) × appends (with_context a c) s b)
-    → (w after : W) (lent c : C) → lent ≡ at w → encoding c ≡ encoding lent → after ≡ with_context w c
+    → (w after : W) (lent c : C) → lent ≡ at w → mode c ≡ mode lent → after ≡ with_context w c
     → StaysAs state appends w after
-context_back {state = state} {appends = appends} {with_context = with_context} at encoding encoding_at state_with
+context_back {state = state} {appends = appends} {with_context = with_context} at mode mode_at state_with
     nothing additive appends_with w after lent c value kept is = subst (StaysAs state appends w) (sym is) (record {
       state_is =
           state_with w c
-          ∙ ap (λ e. record (state w) { encoding = e }) (kept ∙ (ap encoding value ∙ sym (encoding_at w)));
+          ∙ ap (λ e. record (state w) { mode = e }) (kept ∙ (ap mode value ∙ sym (mode_at w)));
       joins = λ bytes v h. additive w (with_context w c) v [] bytes (appends_with w w [] c (nothing w)).0 h;
     })

@@ -7,7 +7,7 @@ use Rattle.speedy_base.specs.declared.error.Error.{Error}
 use Rattle.speedy_base.specs.declared.device.Faults.{Faults}
 use Rattle.speedy_base.specs.MemoryDevices.{no_faults}
 use Rattle.speedy_base.specs.FailedCalls.{HasGrown}
-use Rattle.speedy_base.specs.Encoding.{Encoding}
+use Rattle.speedy_base.specs.Mode.{Mode}
 use Rattle.speedy_layout.specs.Format.{Format}
 use Rattle.speedy_layout.specs.Laws.{Laws}
 use Rattle.speedy_write.specs.Writing.{WriterState, Writes}
@@ -22,11 +22,11 @@ none_grown faults same grown =
     let none : faults.count ≡ 0 = ap (λ (f : Faults). f.count) same in
     elim grown [ inl h ↦ omega (arith, h, none) | inr h ↦ omega (arith, h, none) ]
 
-module _ {E : Type 0} {gives : Error → E → Type 0} {V : Type 0} {F : Encoding → Format V} {v : V} where
+module _ {E : Type 0} {gives : Error → E → Type 0} {V : Type 0} {F : Mode → Format V} {v : V} where
   -- a write into a buffer that has the room is never refused
-  never_refused : {encoding : Encoding} {targets : List GName} {room : ℕ} {e : E} {after : WriterState}
-      {appended : List ℕ → Type 0} (bytes : List ℕ) → (F encoding).writes v bytes → length bytes ≤ room
-      → after.faults ≡ no_faults → Writes gives F v (Err e) (buffer_state encoding targets room) after appended → ⊥
+  never_refused : {mode : Mode} {targets : List GName} {room : ℕ} {e : E} {after : WriterState}
+      {appended : List ℕ → Type 0} (bytes : List ℕ) → (F mode).writes v bytes → length bytes ≤ room
+      → after.faults ≡ no_faults → Writes gives F v (Err e) (buffer_state mode targets room) after appended → ⊥
   never_refused {after = after} bytes writes fit none w =
       elim w.answer.because [
         | inl h ↦ none_grown after.faults none h.0
@@ -34,26 +34,26 @@ module _ {E : Type 0} {gives : Error → E → Type 0} {V : Type 0} {F : Encodin
       ]
 
   -- a write into the whole of a buffer, whatever its state was called
-  module _ {encoding at : Encoding} {targets : List GName} {p q : ℕ} {old A B : List ℕ} {after : WriterState}
-      (same_encoding : at ≡ encoding) (same_buffer : A ≡ old) (starts : p ≡ 0) where
+  module _ {mode at : Mode} {targets : List GName} {p q : ℕ} {old A B : List ℕ} {after : WriterState}
+      (same_mode : at ≡ mode) (same_buffer : A ≡ old) (starts : p ≡ 0) where
     restated : {result : Result (Unit {0}) E}
         → Writes gives F v result (buffer_state at targets (length A - p)) after (λ b. BufferAppends p A b q B)
-        → Writes gives F v result (buffer_state encoding targets (length old)) after (λ b. BufferAppends 0 old b q B)
+        → Writes gives F v result (buffer_state mode targets (length old)) after (λ b. BufferAppends 0 old b q B)
     restated {result = result} w =
         let x =
-        subst (λ (f : Encoding). Writes gives F v result (buffer_state f targets (length A - p)) after
-        (λ b. BufferAppends p A b q B)) same_encoding w in
+        subst (λ (f : Mode). Writes gives F v result (buffer_state f targets (length A - p)) after
+        (λ b. BufferAppends p A b q B)) same_mode w in
         let y =
-        subst (λ (a : List ℕ). Writes gives F v result (buffer_state encoding targets (length a - p)) after
+        subst (λ (a : List ℕ). Writes gives F v result (buffer_state mode targets (length a - p)) after
         (λ b. BufferAppends p a b q B)) same_buffer x in
         let z =
-        subst (λ (m : ℕ). Writes gives F v result (buffer_state encoding targets (length old - m)) after
+        subst (λ (m : ℕ). Writes gives F v result (buffer_state mode targets (length old - m)) after
         (λ b. BufferAppends m old b q B)) starts y in
-        subst (λ (room : ℕ). Writes gives F v result (buffer_state encoding targets room) after
+        subst (λ (room : ℕ). Writes gives F v result (buffer_state mode targets room) after
         (λ b. BufferAppends 0 old b q B)) (let e : length old - 0 ≡ length old = omega arith in e) z
 
-    -- it succeeds where a written form fits
-    pub fill_succeeds : (bytes : List ℕ) (result : Result (Unit {0}) E) → (F encoding).writes v bytes
+    -- it succeeds where a canonical encoding fits
+    pub fill_succeeds : (bytes : List ℕ) (result : Result (Unit {0}) E) → (F mode).writes v bytes
         → length bytes ≤ length old → after.faults ≡ no_faults
         → Writes gives F v result (buffer_state at targets (length A - p)) after (λ b. BufferAppends p A b q B)
         → IsOk result
@@ -62,16 +62,16 @@ module _ {E : Type 0} {gives : Error → E → Type 0} {V : Type 0} {F : Encodin
 
     -- and what it puts stands at the front
     pub fill_stands : {least : ℕ} {new : List ℕ} (result : Result (Unit {0}) E)
-        → ((encoding : Encoding) → Laws encoding.strict least (F encoding)) → IsOk result → new ≡ B
+        → ((mode : Mode) → Laws mode.strict least (F mode)) → IsOk result → new ≡ B
         → Writes gives F v result (buffer_state at targets (length A - p)) after (λ b. BufferAppends p A b q B)
-        → Stands (F encoding) v old new
+        → Stands (F mode) v old new
     fill_stands (Ok u) laws ok same w =
         let put = (restated w).answer in
         record {
           bytes = put.bytes;
           is_shortest = record {
             is_written = put.is_written;
-            shortest = λ others k. (laws encoding).shortest v put.bytes others put.is_written k;
+            shortest = λ others k. (laws mode).shortest v put.bytes others put.is_written k;
           };
           new_is = same ∙ put_in_front refl refl put.is_appended;
         }

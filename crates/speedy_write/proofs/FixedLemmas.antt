@@ -9,34 +9,34 @@ use Rattle.std.proofs.lemmas.Slice.{take-put_mid}
 use Rattle.speedy_base.specs.declared.endianness.Endianness.{Endianness}
 use Rattle.speedy_base.specs.declared.error.Error.{Error}
 use Rattle.speedy_base.specs.Device.{SinkState}
-use Rattle.speedy_base.specs.Encoding.{Encoding}
+use Rattle.speedy_base.specs.Mode.{Mode}
 use Rattle.speedy_layout.specs.Format.{Format, Each}
 use Rattle.speedy_layout.specs.Laws.{Laws}
 use Rattle.speedy_layout.specs.Lists.{each_append}
-use Rattle.speedy_write.specs.CollectorLemmas.{put_length, part_front}
+use Rattle.speedy_write.specs.CollectorLemmas.{put_length, part_prefix}
 use Rattle.speedy_write.specs.Collectors.{buffer_state, sink_state, BufferAppends}
 use Rattle.speedy_write.specs.FixedBytes.{PutsAt, PutsBehind}
-use Rattle.speedy_write.specs.Gathering.{Gathers}
+use Rattle.speedy_write.specs.Buffering.{Buffers}
 use Rattle.speedy_write.specs.Writing.{WritesEach, WritesBytes}
-use Rattle.speedy_write.proofs.GatheringLemmas.{waits_too}
+use Rattle.speedy_write.proofs.BufferingLemmas.{waits_too}
 use Rattle.speedy_write.proofs.ListLemmas.{values_are_written}
 
-module _ {E A V : Type 0} {gives : Error → E → Type 0} {F : Encoding → Format V} {least : ℕ} {encoding : Encoding}
+module _ {E A V : Type 0} {gives : Error → E → Type 0} {F : Mode → Format V} {least : ℕ} {mode : Mode}
     {order : Endianness} {at end size : ℕ} {buffer after : List ℕ}
-    (laws : (encoding : Encoding) → Laws encoding.strict least (F encoding)) (seen : A → V) (values : List A)
-    (same : order ≡ encoding.order)
+    (laws : (mode : Mode) → Laws mode.strict least (F mode)) (seen : A → V) (values : List A)
+    (same : order ≡ mode.order)
     (p : PutsAt F seen values size order at buffer end after) where
   -- behind what a buffer holds
   pub put_in_buffer : {targets : List GName}
-      → WritesEach gives F seen values (Ok tt) (buffer_state encoding targets (length buffer - at))
-      (buffer_state encoding targets (length after - end)) (λ b. BufferAppends at buffer b end after)
+      → WritesEach gives F seen values (Ok tt) (buffer_state mode targets (length buffer - at))
+      (buffer_state mode targets (length after - end)) (λ b. BufferAppends at buffer b end after)
   put_in_buffer {targets = targets} =
       let length_is = put_length at buffer p.bytes end after p.are_put in
       let end_is = p.are_put.end_is in
       let within = p.are_put.within in
-      let written : WritesBytes gives p.bytes (Ok tt) (buffer_state encoding targets (length buffer - at))
-      (buffer_state encoding targets (length after - end)) (λ b. BufferAppends at buffer b end after) = record {
-        kept = record { fixed = refl; encoding = refl; faults = omega arith; waits = λ settled. settled };
+      let written : WritesBytes gives p.bytes (Ok tt) (buffer_state mode targets (length buffer - at))
+      (buffer_state mode targets (length after - end)) (λ b. BufferAppends at buffer b end after) = record {
+        kept = record { fixed = refl; mode = refl; faults = omega arith; waits = λ settled. settled };
         answer = record {
           bytes = p.bytes;
           is_written = refl;
@@ -51,17 +51,17 @@ module _ {E A V : Type 0} {gives : Error → E → Type 0} {F : Encoding → For
   -- behind what a vector holds in front of zeros
   pub put_in_vec : {targets : List GName} {most : ℕ} (old kept : List ℕ) → length buffer ≤ most
       → take at buffer ≡ take at old → kept ≡ after
-      → WritesEach gives F seen values (Ok tt) (buffer_state encoding targets (most - at))
-      (buffer_state encoding targets (most - end)) (λ b. take end kept ≡ take at old ++ b)
-  put_in_vec {targets = targets} {most = most} old kept short front back =
+      → WritesEach gives F seen values (Ok tt) (buffer_state mode targets (most - at))
+      (buffer_state mode targets (most - end)) (λ b. take end kept ≡ take at old ++ b)
+  put_in_vec {targets = targets} {most = most} old kept short prefix suffix =
       let end_is = p.are_put.end_is in
       let within = p.are_put.within in
       let all : take end kept ≡ take at old ++ p.bytes =
-      ap (take end) (back ∙ p.are_put.after_is)
-      ∙ (part_front at buffer p.bytes end end_is within ∙ ap (λ (l : List ℕ). l ++ p.bytes) front) in
-      let written : WritesBytes gives p.bytes (Ok tt) (buffer_state encoding targets (most - at))
-      (buffer_state encoding targets (most - end)) (λ b. take end kept ≡ take at old ++ b) = record {
-        kept = record { fixed = refl; encoding = refl; faults = omega arith; waits = λ settled. settled };
+      ap (take end) (suffix ∙ p.are_put.after_is)
+      ∙ (part_prefix at buffer p.bytes end end_is within ∙ ap (λ (l : List ℕ). l ++ p.bytes) prefix) in
+      let written : WritesBytes gives p.bytes (Ok tt) (buffer_state mode targets (most - at))
+      (buffer_state mode targets (most - end)) (λ b. take end kept ≡ take at old ++ b) = record {
+        kept = record { fixed = refl; mode = refl; faults = omega arith; waits = λ settled. settled };
         answer = record {
           bytes = p.bytes;
           is_written = refl;
@@ -74,24 +74,24 @@ module _ {E A V : Type 0} {gives : Error → E → Type 0} {F : Encoding → For
       values_are_written laws seen values same p.is_written written
 
 -- behind what waits in a room
-pub put_behind : {A V : Type 0} {F : Encoding → Format V} {order : Endianness} {at end size : ℕ} {buffer after : List ℕ}
+pub put_behind : {A V : Type 0} {F : Mode → Format V} {order : Endianness} {at end size : ℕ} {buffer after : List ℕ}
     (seen : A → V) (values : List A) (start : ℕ) → PutsAt F seen values size order at buffer end after → start ≤ at
     → at ≤ length buffer → PutsBehind F seen values order (drop start (take at buffer)) (drop start (take end after))
 put_behind {at = at} {end = end} {buffer = buffer} seen values start p begins lies = record {
   bytes = p.bytes;
   all_is = ap (λ (l : List ℕ). drop start (take end l)) p.are_put.after_is
-      ∙ (ap (drop start) (part_front at buffer p.bytes end p.are_put.end_is p.are_put.within)
+      ∙ (ap (drop start) (part_prefix at buffer p.bytes end p.are_put.end_is p.are_put.within)
       ∙ drop-append-le start (take at buffer) p.bytes (omega (arith, length-take-le at buffer lies)));
   is_written = p.is_written;
 }
 
 -- values that wait are written
-pub values_wait : {E A V : Type 0} {gives : Error → E → Type 0} {F : Encoding → Format V} {least : ℕ}
-    {encoding : Encoding} {order : Endianness} {name : GName} {v w : List ℕ} {s : SinkState}
-    (laws : (encoding : Encoding) → Laws encoding.strict least (F encoding)) (seen : A → V) (values : List A)
-    → order ≡ encoding.order → PutsBehind F seen values order v w
-    → WritesEach gives F seen values (Ok tt) (sink_state encoding name s) (sink_state encoding name s)
-    (λ b. Gathers s v b s w)
+pub values_wait : {E A V : Type 0} {gives : Error → E → Type 0} {F : Mode → Format V} {least : ℕ}
+    {mode : Mode} {order : Endianness} {name : GName} {v w : List ℕ} {s : SinkState}
+    (laws : (mode : Mode) → Laws mode.strict least (F mode)) (seen : A → V) (values : List A)
+    → order ≡ mode.order → PutsBehind F seen values order v w
+    → WritesEach gives F seen values (Ok tt) (sink_state mode name s) (sink_state mode name s)
+    (λ b. Buffers s v b s w)
 values_wait laws seen values same p = values_are_written laws seen values same p.is_written (waits_too p.bytes p.all_is)
 
 -- ---- values that go through a chunk
@@ -104,10 +104,10 @@ module _ {A V : Type 0} (R : V → List ℕ → Type 0) (seen : A → V) where
   chunk_put done some at k output bytes put same within h p =
       let together = each_append R (map seen done) (map seen some) (take at output) put h
       (subst (Each R (map seen some)) (sym same) p) in
-      let front =
+      let prefix =
       take-put_mid at k output put (at + length bytes) (ap (λ (l : List ℕ). at + length l) (sym same)) within in
       subst (λ (vs : List V). Each R vs (take (at + length bytes) (put_mid at k output put)))
-      (sym (map-append seen done some)) (subst (Each R (map seen done ++ map seen some)) (sym front) together)
+      (sym (map-append seen done some)) (subst (Each R (map seen done ++ map seen some)) (sym prefix) together)
 
   -- with the last of them all are put
   pub all_chunks_put : (values done rest : List A) (at size : ℕ) (output : List ℕ) → length rest ≡ 0

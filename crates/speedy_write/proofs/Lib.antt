@@ -3,7 +3,7 @@ pub mod CollectionLemmas
 pub mod CountLemmas
 pub mod FillLemmas
 pub mod FixedLemmas
-pub mod GatheringLemmas
+pub mod BufferingLemmas
 pub mod ListLemmas
 pub mod FrameLemmas
 pub mod NonZeroLemmas

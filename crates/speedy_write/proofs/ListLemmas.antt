@@ -10,7 +10,7 @@ use Rattle.speedy_base.specs.declared.error.Error.{Error}
 use Rattle.speedy_base.specs.declared.endianness.Endianness.{Endianness}
 use Rattle.speedy_base.specs.Digits.{AreBytes}
 use Rattle.speedy_base.specs.Error.{passed_on}
-use Rattle.speedy_base.specs.Encoding.{Encoding}
+use Rattle.speedy_base.specs.Mode.{Mode}
 use Rattle.speedy_layout.specs.Format.{Format, Parts, Each}
 use Rattle.speedy_layout.specs.Laws.{Laws}
 use Rattle.speedy_layout.specs.Lists.{each_append, repeat, repeat_laws}
@@ -25,19 +25,19 @@ use Rattle.speedy_write.specs.Sequences.{is_sequence, first_refused, second_writ
 module _ {V : Type 0} (R : V → List ℕ → Type 0) where
   pub Each-append : (xs ys : List V) (b : List ℕ) → Parts (Each R xs) (Each R ys) b → Each R (xs ++ ys) b
   Each-append xs ys b p =
-      subst (Each R (xs ++ ys)) (sym p.whole_is) (each_append R xs ys p.front p.back p.first_is p.second_is)
+      subst (Each R (xs ++ ys)) (sym p.whole_is) (each_append R xs ys p.prefix p.suffix p.first_is p.second_is)
 
   pub Each-parts : (xs ys : List V) (b : List ℕ) → Each R (xs ++ ys) b → Parts (Each R xs) (Each R ys) b
-  Each-parts [] ys b h = record { front = []; back = b; whole_is = refl; first_is = refl; second_is = h }
+  Each-parts [] ys b h = record { prefix = []; suffix = b; whole_is = refl; first_is = refl; second_is = h }
   Each-parts (x ∷ xs) ys b h =
-      let r = Each-parts xs ys h.back h.second_is in
+      let r = Each-parts xs ys h.suffix h.second_is in
       record {
-        front = h.front ++ r.front;
-        back = r.back;
-        whole_is = h.whole_is ∙ (ap (λ z. h.front ++ z) r.whole_is ∙ sym (append_assoc h.front r.front r.back));
+        prefix = h.prefix ++ r.prefix;
+        suffix = r.suffix;
+        whole_is = h.whole_is ∙ (ap (λ z. h.prefix ++ z) r.whole_is ∙ sym (append_assoc h.prefix r.prefix r.suffix));
         first_is = record {
-          front = h.front;
-          back = r.front;
+          prefix = h.prefix;
+          suffix = r.prefix;
           whole_is = refl;
           first_is = h.first_is;
           second_is = r.first_is;
@@ -46,7 +46,7 @@ module _ {V : Type 0} (R : V → List ℕ → Type 0) where
       }
 
   Each-one : (x : V) (b : List ℕ) → R x b → Each R (x ∷ []) b
-  Each-one x b h = record { front = b; back = []; whole_is = sym (append-nil b); first_is = h; second_is = refl }
+  Each-one x b h = record { prefix = b; suffix = []; whole_is = sym (append-nil b); first_is = h; second_is = refl }
 
   -- the items before one, that one, and those after it
   abbrev Three : ℕ → List V → V → List V → List ℕ → Type 0
@@ -75,7 +75,7 @@ all_items items i {x} within is = ap (λ y. take i items ++ y ∷ drop (suc i) i
 
 -- no item is written yet
 pub no_items_written : {E : Type 0} {gives : Error → E → Type 0} {A V : Type 0} {old : WriterState}
-    {appended : List ℕ → Type 0} (F : Encoding → Format V) (seen : A → V) → appended []
+    {appended : List ℕ → Type 0} (F : Mode → Format V) (seen : A → V) → appended []
     → WritesEach gives F seen [] (Ok tt) old old appended
 unfolding repeat
 no_items_written {old = old} F seen h = record {
@@ -83,15 +83,16 @@ no_items_written {old = old} F seen h = record {
   answer = Put-as (λ b k. (refl, k)) (Put-nothing old h);
 }
 
-module _ {E : Type 0} {gives : Error → E → Type 0} {A V : Type 0} {F : Encoding → Format V} {old mid new : WriterState}
-    {front back whole : List ℕ → Type 0} (join : (a b : List ℕ) → front a → back b → whole (a ++ b)) (seen : A → V)
+module _ {E : Type 0} {gives : Error → E → Type 0} {A V : Type 0} {F : Mode → Format V} {old mid new : WriterState}
+    {prefix suffix whole : List ℕ → Type 0} (join : (a b : List ℕ) → prefix a → suffix b → whole (a ++ b))
+    (seen : A → V)
     (xs : List A) (x : A) where
   -- one more item is written
-  pub next_written : {done : Unit {0}} → WritesEach gives F seen xs (Ok tt) old mid front
-      → Writes gives F (seen x) (Ok done) mid new back → WritesEach gives F seen (xs ++ x ∷ []) (Ok tt) old new whole
+  pub next_written : {done : Unit {0}} → WritesEach gives F seen xs (Ok tt) old mid prefix
+      → Writes gives F (seen x) (Ok done) mid new suffix → WritesEach gives F seen (xs ++ x ∷ []) (Ok tt) old new whole
   unfolding repeat
   next_written h w =
-      let R = (F old.encoding).writes in
+      let R = (F old.mode).writes in
       let vs = map seen xs in
       let item = Put-as (Each-one R (seen x)) (Writes-at h.kept w).answer in
       let all = Put-as (Each-append R vs (seen x ∷ [])) (Put-both join (Put-as (λ b k. k.1) h.answer) item) in
@@ -105,20 +106,22 @@ module _ {E : Type 0} {gives : Error → E → Type 0} {A V : Type 0} {F : Encod
 
   -- where the next item is refused, the items before it, that one and others after it are
   three_refused : {least : ℕ} {e : E} {result : Result (Unit {0}) E}
-      → ((encoding : Encoding) → Laws encoding.strict least (F encoding)) → IsErrAnd result (λ r. r ≡ e)
-      → WritesEach gives F seen xs (Ok tt) old mid front → Writes gives F (seen x) (Err e) mid new back → (ys : List A)
+      → ((mode : Mode) → Laws mode.strict least (F mode)) → IsErrAnd result (λ r. r ≡ e)
+      → WritesEach gives F seen xs (Ok tt) old mid prefix → Writes gives F (seen x) (Err e) mid new suffix
+      → (ys : List A)
       → let rest : List V = map seen ys in
       let n = length xs in
-      Writes gives (λ encoding. pair (repeat n (F encoding)) (pair (F encoding) (repeat (length rest) (F encoding))))
+      Writes gives (λ mode. pair (repeat n (F mode)) (pair (F mode) (repeat (length rest) (F mode))))
       (map seen xs, (seen x, rest)) result old new whole
   three_refused laws passed h w ys =
-      second_written is_sequence refl (λ encoding. repeat_laws (laws encoding) (length xs)) join h
+      second_written is_sequence refl (λ mode. repeat_laws (laws mode) (length xs)) join h
       (first_refused is_sequence refl passed w)
 
   -- and so is their list
   pub next_refused : {least : ℕ} {e : E} {result : Result (Unit {0}) E}
-      → ((encoding : Encoding) → Laws encoding.strict least (F encoding)) → IsErrAnd result (λ r. r ≡ e)
-      → WritesEach gives F seen xs (Ok tt) old mid front → Writes gives F (seen x) (Err e) mid new back → (ys : List A)
+      → ((mode : Mode) → Laws mode.strict least (F mode)) → IsErrAnd result (λ r. r ≡ e)
+      → WritesEach gives F seen xs (Ok tt) old mid prefix → Writes gives F (seen x) (Err e) mid new suffix
+      → (ys : List A)
       → WritesEach gives F seen (xs ++ x ∷ ys) result old new whole
   unfolding repeat sequence
   next_refused laws passed h w ys =
@@ -126,7 +129,7 @@ module _ {E : Type 0} {gives : Error → E → Type 0} {A V : Type 0} {F : Encod
       let vs = map seen xs in
       let rest = map seen ys in
       let parts : map seen (xs ++ x ∷ ys) ≡ vs ++ seen x ∷ rest = map-append seen xs (x ∷ ys) in
-      let R = (F old.encoding).writes in
+      let R = (F old.mode).writes in
       let turned : (S : V → List ℕ → Type 0) (b : List ℕ) → Each S (map seen (xs ++ x ∷ ys)) b
       → Three S n vs (seen x) rest b =
       λ S b k. Each-three S n vs (seen x) rest b (length-map xs seen) (subst (λ (us : List V). Each S us b) parts k) in
@@ -135,18 +138,19 @@ module _ {E : Type 0} {gives : Error → E → Type 0} {A V : Type 0} {F : Encod
         length-map (xs ++ x ∷ ys) seen,
         subst (λ (us : List V). Each R us b) (sym parts) (Three-each R n vs (seen x) rest b k),
       ))
-      (λ b k. (b, turned R b k.1, refl)) (λ b k. (b, turned (F old.encoding).spells b k.1))
+      (λ b k. (b, turned R b k.1, refl)) (λ b k. (b, turned (F old.mode).encodes b k.1))
       (three_refused laws passed h w ys)
 
 -- items are written after others
-module _ {E : Type 0} {gives : Error → E → Type 0} {A V : Type 0} (F : Encoding → Format V) {old mid new : WriterState}
-    {front back whole : List ℕ → Type 0} (join : (a b : List ℕ) → front a → back b → whole (a ++ b)) (seen : A → V)
+module _ {E : Type 0} {gives : Error → E → Type 0} {A V : Type 0} (F : Mode → Format V) {old mid new : WriterState}
+    {prefix suffix whole : List ℕ → Type 0} (join : (a b : List ℕ) → prefix a → suffix b → whole (a ++ b))
+    (seen : A → V)
     (xs ys : List A) where
-  pub more_written : {done : Unit {0}} → WritesEach gives F seen xs (Ok tt) old mid front
-      → WritesEach gives F seen ys (Ok done) mid new back → WritesEach gives F seen (xs ++ ys) (Ok tt) old new whole
+  pub more_written : {done : Unit {0}} → WritesEach gives F seen xs (Ok tt) old mid prefix
+      → WritesEach gives F seen ys (Ok done) mid new suffix → WritesEach gives F seen (xs ++ ys) (Ok tt) old new whole
   unfolding repeat
   more_written h w =
-      let R = (F old.encoding).writes in
+      let R = (F old.mode).writes in
       let all = Put-as (Each-append R (map seen xs) (map seen ys))
       (Put-both join (Put-as (λ b k. k.1) h.answer) (Put-as (λ b k. k.1) (Writes-at h.kept w).answer)) in
       record {
@@ -158,19 +162,19 @@ module _ {E : Type 0} {gives : Error → E → Type 0} {A V : Type 0} (F : Encod
       }
 
 -- the same of the items of a list that stand before an index, and of the one that stands there
-module _ {E : Type 0} {gives : Error → E → Type 0} {A V : Type 0} {F : Encoding → Format V} {x : A}
-    {old mid new : WriterState} {front back whole : List ℕ → Type 0}
-    (join : (a b : List ℕ) → front a → back b → whole (a ++ b)) (seen : A → V) (items : List A) (i : ℕ)
+module _ {E : Type 0} {gives : Error → E → Type 0} {A V : Type 0} {F : Mode → Format V} {x : A}
+    {old mid new : WriterState} {prefix suffix whole : List ℕ → Type 0}
+    (join : (a b : List ℕ) → prefix a → suffix b → whole (a ++ b)) (seen : A → V) (items : List A) (i : ℕ)
     (within : i < length items) (is : x ≡ get_or items i x) where
-  pub one_more_written : {done : Unit {0}} → WritesEach gives F seen (take i items) (Ok tt) old mid front
-      → Writes gives F (seen x) (Ok done) mid new back
+  pub one_more_written : {done : Unit {0}} → WritesEach gives F seen (take i items) (Ok tt) old mid prefix
+      → Writes gives F (seen x) (Ok done) mid new suffix
       → WritesEach gives F seen (take (i + 1) items) (Ok tt) old new whole
   one_more_written h w = subst (λ (us : List A). WritesEach gives F seen us (Ok tt) old new whole)
       (sym (first_items items i within is)) (next_written join seen (take i items) x h w)
 
   pub items_refused : {least : ℕ} {e : E} {result : Result (Unit {0}) E}
-      → ((encoding : Encoding) → Laws encoding.strict least (F encoding)) → IsErrAnd result (λ r. r ≡ e)
-      → WritesEach gives F seen (take i items) (Ok tt) old mid front → Writes gives F (seen x) (Err e) mid new back
+      → ((mode : Mode) → Laws mode.strict least (F mode)) → IsErrAnd result (λ r. r ≡ e)
+      → WritesEach gives F seen (take i items) (Ok tt) old mid prefix → Writes gives F (seen x) (Err e) mid new suffix
       → WritesEach gives F seen items result old new whole
   items_refused {result = result} laws passed h w =
       subst (λ (us : List A). WritesEach gives F seen us result old new whole) (all_items items i within is)
@@ -190,38 +194,39 @@ module _ {V : Type 0} (R : V → List ℕ → Type 0) (n : ℕ) (vs more : List 
   Each-two l h = Parts-as (λ s k. (l, k)) (λ s k. (refl, k)) (Each-parts R vs more b h)
 
 module _ {E V : Type 0} {gives : Error → E → Type 0} {e : E} {old new : WriterState} {appended : List ℕ → Type 0}
-    (F : Encoding → Format V) (n : ℕ) (vs more : List V) where
-  two_refused : Writes gives (λ encoding. repeat n (F encoding)) vs (Err e) old new appended
-      → Writes gives (λ encoding. pair (repeat n (F encoding)) (repeat (length more) (F encoding))) (vs, more) (Err e)
+    (F : Mode → Format V) (n : ℕ) (vs more : List V) where
+  two_refused : Writes gives (λ mode. repeat n (F mode)) vs (Err e) old new appended
+      → Writes gives (λ mode. pair (repeat n (F mode)) (repeat (length more) (F mode))) (vs, more) (Err e)
       old new appended
   two_refused w = first_refused is_sequence refl refl w
 
   -- where the first items are refused, all are
-  pub first_items_refused : length vs ≡ n → Writes gives (λ encoding. repeat n (F encoding)) vs (Err e) old new appended
-      → Writes gives (λ encoding. repeat (length (vs ++ more)) (F encoding)) (vs ++ more) (Err e) old new appended
+  pub first_items_refused : length vs ≡ n → Writes gives (λ mode. repeat n (F mode)) vs (Err e) old new appended
+      → Writes gives (λ mode. repeat (length (vs ++ more)) (F mode)) (vs ++ more) (Err e) old new appended
   unfolding repeat sequence
   first_items_refused l w =
       Writes-as (λ kind k. elim k [ inl y ↦ y | inr y ↦ y.1 ])
-      (λ b k. (refl, Two-each (F old.encoding).writes n vs more b k))
-      (λ b k. (b, Each-two (F old.encoding).writes n vs more b l k.1, refl))
-      (λ b k. (b, Each-two (F old.encoding).spells n vs more b l k.1)) (two_refused w)
+      (λ b k. (refl, Two-each (F old.mode).writes n vs more b k))
+      (λ b k. (b, Each-two (F old.mode).writes n vs more b l k.1, refl))
+      (λ b k. (b, Each-two (F old.mode).encodes n vs more b l k.1)) (two_refused w)
 
 -- some items are written, others after them are refused, and so are all
-module _ {E : Type 0} {gives : Error → E → Type 0} {A V : Type 0} {F : Encoding → Format V} {old mid new : WriterState}
-    {front back whole : List ℕ → Type 0} (join : (a b : List ℕ) → front a → back b → whole (a ++ b)) (seen : A → V)
+module _ {E : Type 0} {gives : Error → E → Type 0} {A V : Type 0} {F : Mode → Format V} {old mid new : WriterState}
+    {prefix suffix whole : List ℕ → Type 0} (join : (a b : List ℕ) → prefix a → suffix b → whole (a ++ b))
+    (seen : A → V)
     (xs ys more : List A) {e : E} where
-  both_refused : {least : ℕ} → ((encoding : Encoding) → Laws encoding.strict least (F encoding))
-      → WritesEach gives F seen xs (Ok tt) old mid front → WritesEach gives F seen ys (Err e) mid new back
+  both_refused : {least : ℕ} → ((mode : Mode) → Laws mode.strict least (F mode))
+      → WritesEach gives F seen xs (Ok tt) old mid prefix → WritesEach gives F seen ys (Err e) mid new suffix
       → let rest : List V = map seen ys ++ map seen more in
-      Writes gives (λ encoding. pair (repeat (length xs) (F encoding)) (repeat (length rest) (F encoding)))
+      Writes gives (λ mode. pair (repeat (length xs) (F mode)) (repeat (length rest) (F mode)))
       (map seen xs, rest) (Err e) old new whole
   both_refused laws h w =
-      second_written is_sequence refl (λ encoding. repeat_laws (laws encoding) (length xs)) join h
+      second_written is_sequence refl (λ mode. repeat_laws (laws mode) (length xs)) join h
       (first_items_refused F (length ys) (map seen ys) (map seen more) (length-map ys seen) w)
 
   pub later_items_refused : {least : ℕ} {result : Result (Unit {0}) E}
-      → ((encoding : Encoding) → Laws encoding.strict least (F encoding)) → IsErrAnd result (λ r. r ≡ e)
-      → WritesEach gives F seen xs (Ok tt) old mid front → WritesEach gives F seen ys (Err e) mid new back
+      → ((mode : Mode) → Laws mode.strict least (F mode)) → IsErrAnd result (λ r. r ≡ e)
+      → WritesEach gives F seen xs (Ok tt) old mid prefix → WritesEach gives F seen ys (Err e) mid new suffix
       → WritesEach gives F seen (xs ++ (ys ++ more)) result old new whole
   unfolding repeat sequence
   later_items_refused {result = result} laws passed h w =
@@ -229,7 +234,7 @@ module _ {E : Type 0} {gives : Error → E → Type 0} {A V : Type 0} {F : Encod
       let vs = map seen xs in
       let rest = map seen ys ++ map seen more in
       let all = map seen (xs ++ (ys ++ more)) in
-      let R = (F old.encoding).writes in
+      let R = (F old.mode).writes in
       let parts : all ≡ vs ++ rest = map-append seen xs (ys ++ more) ∙ ap (λ us. vs ++ us) (map-append seen ys more) in
       let turned : (S : V → List ℕ → Type 0) (b : List ℕ) → Each S all b → Two S n vs rest b =
       λ S b k. Each-two S n vs rest b (length-map xs seen) (subst (λ (us : List V). Each S us b) parts k) in
@@ -239,7 +244,7 @@ module _ {E : Type 0} {gives : Error → E → Type 0} {A V : Type 0} {F : Encod
         length-map (xs ++ (ys ++ more)) seen,
         subst (λ (us : List V). Each R us b) (sym parts) (Two-each R n vs rest b k),
       ))
-      (λ b k. (b, turned R b k.1, refl)) (λ b k. (b, turned (F old.encoding).spells b k.1)) (both_refused laws h w) in
+      (λ b k. (b, turned R b k.1, refl)) (λ b k. (b, turned (F old.mode).encodes b k.1)) (both_refused laws h w) in
       subst (λ (r : Result (Unit {0}) E). WritesEach gives F seen (xs ++ (ys ++ more)) r old new whole)
       (passed_on result e passed) refused
 
@@ -248,31 +253,32 @@ module _ {E : Type 0} {gives : Error → E → Type 0} {A V : Type 0} {F : Encod
 -- a chunk is cut off the rest
 pub cut_off : {A : Type 0} {items some more : List A} (rest done : List A) (n : ℕ) → some ≡ take n rest
     → more ≡ drop n rest → items ≡ done ++ rest → items ≡ done ++ (some ++ more)
-cut_off rest done n front back is = is ∙ ap (λ us. done ++ us) (sym (ap₂ ◌++◌ front back ∙ take-append-drop n rest))
+cut_off rest done n prefix suffix is = is ∙ ap (λ us. done ++ us)
+    (sym (ap₂ ◌++◌ prefix suffix ∙ take-append-drop n rest))
 
-module _ {E A V : Type 0} {gives : Error → E → Type 0} {F : Encoding → Format V} {least : ℕ} {mid new : WriterState}
-    {back : List ℕ → Type 0} {order : Endianness}
-    (laws : (encoding : Encoding) → Laws encoding.strict least (F encoding)) (seen : A → V) (some : List A) {b : List ℕ}
-    (same : order ≡ mid.encoding.order)
-    (put : (encoding : Encoding) → order ≡ encoding.order → Each (F encoding).writes (map seen some) b) where
+module _ {E A V : Type 0} {gives : Error → E → Type 0} {F : Mode → Format V} {least : ℕ} {mid new : WriterState}
+    {suffix : List ℕ → Type 0} {order : Endianness}
+    (laws : (mode : Mode) → Laws mode.strict least (F mode)) (seen : A → V) (some : List A) {b : List ℕ}
+    (same : order ≡ mid.mode.order)
+    (put : (mode : Mode) → order ≡ mode.order → Each (F mode).writes (map seen some) b) where
   -- the bytes of values are written as they are
-  pub values_are_written : {result : Result (Unit {0}) E} → WritesBytes gives b result mid new back
-      → WritesEach gives F seen some result mid new back
+  pub values_are_written : {result : Result (Unit {0}) E} → WritesBytes gives b result mid new suffix
+      → WritesEach gives F seen some result mid new suffix
   unfolding repeat
   values_are_written w =
-      form_written (λ e. repeat_laws (laws e) (length some)) (length-map some seen, put mid.encoding same) w
+      form_written (λ e. repeat_laws (laws e) (length some)) (length-map some seen, put mid.mode same) w
 
-  module _ {old : WriterState} {front whole : List ℕ → Type 0}
-      (join : (a b : List ℕ) → front a → back b → whole (a ++ b)) (done : List A)
-      (h : WritesEach gives F seen done (Ok tt) old mid front) where
+  module _ {old : WriterState} {prefix whole : List ℕ → Type 0}
+      (join : (a b : List ℕ) → prefix a → suffix b → whole (a ++ b)) (done : List A)
+      (h : WritesEach gives F seen done (Ok tt) old mid prefix) where
     -- one chunk more is written
-    pub values_written : {x : Unit {0}} → WritesBytes gives b (Ok x) mid new back
+    pub values_written : {x : Unit {0}} → WritesBytes gives b (Ok x) mid new suffix
         → WritesEach gives F seen (done ++ some) (Ok tt) old new whole
     values_written w = more_written F join seen done some h (values_are_written w)
 
     -- where one is refused, all are
     pub values_refused : {e : E} {result : Result (Unit {0}) E} {items : List A} (more : List A)
-        → items ≡ done ++ (some ++ more) → IsErrAnd result (λ r. r ≡ e) → WritesBytes gives b (Err e) mid new back
+        → items ≡ done ++ (some ++ more) → IsErrAnd result (λ r. r ≡ e) → WritesBytes gives b (Err e) mid new suffix
         → WritesEach gives F seen items result old new whole
     values_refused {result = result} more is passed w =
         subst (λ (us : List A). WritesEach gives F seen us result old new whole) (sym is)
@@ -287,6 +293,6 @@ unfolding repeat unsigned_number
 byte_items_written {items = items} {old = old} h w =
     form_written (λ e. repeat_laws (unsigned_number_laws 1 e) (length items)) (
       length-map items (λ n. n),
-      subst (λ (vs : List ℕ). Each (unsigned_number 1 old.encoding).writes vs items) (sym (map-id items))
-          (each_byte old.encoding.order items h),
+      subst (λ (vs : List ℕ). Each (unsigned_number 1 old.mode).writes vs items) (sym (map-id items))
+          (each_byte old.mode.order items h),
     ) w

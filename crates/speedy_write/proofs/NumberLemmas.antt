@@ -7,10 +7,10 @@ use Rattle.std.specs.Int.{Width, cast_unsigned, cast_signed}
 use Rattle.std.specs.Int.RustNames.{FitsSigned}
 use Rattle.speedy_base.specs.declared.error.ErrorKind.TheVariants as kinds
 use Rattle.speedy_base.specs.declared.error.Error.{Error}
-use Rattle.speedy_base.specs.Digits.{SpellsNumber, digits}
+use Rattle.speedy_base.specs.Digits.{EncodesNumber, digits}
 use Rattle.speedy_base.specs.declared.endianness.Endianness.TheVariants.{LittleEndian}
-use Rattle.speedy_base.specs.DigitsLemmas.{SpellsNumber-below, SpellsNumber-digits}
-use Rattle.speedy_base.specs.Encoding.{Encoding}
+use Rattle.speedy_base.specs.DigitsLemmas.{EncodesNumber-below, EncodesNumber-digits}
+use Rattle.speedy_base.specs.Mode.{Mode}
 use Rattle.speedy_base.specs.Error.{error_of}
 use Rattle.speedy_layout.specs.Codes.{coding, Accepts-exact_means}
 use Rattle.speedy_layout.specs.Flags.{written_flag}
@@ -33,19 +33,19 @@ module _ {E : Type 0} {gives : Error → E → Type 0} {result : Result (Unit {0
   signed_value_written {z = z} w range h =
       subst (λ (y : ℤ). Writes gives (signed_number w) y result old new appended) (to_z-of_z w z range) h
 
--- a value that no bytes spell is refused before anything is written
-pub unspelled_refused : {E V : Type 0} {gives : Error → E → Type 0} {F : Encoding → Format V} {v : V} {e : E}
-    {old : WriterState} {appended : List ℕ → Type 0} {strict : Bool} {least : ℕ} → Laws strict least (F old.encoding)
-    → ((b : List ℕ) → (F old.encoding).spells v b → ⊥) → gives (error_of kinds.OutOfRangeLength) e
+-- a value that no bytes encode is refused before anything is written
+pub undecodable_refused : {E V : Type 0} {gives : Error → E → Type 0} {F : Mode → Format V} {v : V} {e : E}
+    {old : WriterState} {appended : List ℕ → Type 0} {strict : Bool} {least : ℕ} → Laws strict least (F old.mode)
+    → ((b : List ℕ) → (F old.mode).encodes v b → ⊥) → gives (error_of kinds.OutOfRangeLength) e
     → Writes gives F v (Err e) old old appended
-unspelled_refused {v = v} {old = old} laws unspelled given = record {
+undecodable_refused {v = v} {old = old} laws undecodable given = record {
   kept = Kept-same old;
   answer = record {
-    beginning = λ b h. absurd (unspelled b (laws.written_spells v b h));
+    beginning = λ b h. absurd (undecodable b (laws.written_encodes v b h));
     because = inr (record {
       no_fault = refl;
-      no_fit = λ b h _. unspelled b (laws.written_spells v b h);
-      no_spelling = λ _ b h. unspelled b h;
+      no_fit = λ b h _. undecodable b (laws.written_encodes v b h);
+      no_encoding = λ _ b h. undecodable b h;
       kind = inr (inl given);
     });
   };
@@ -56,8 +56,8 @@ pub too_long_refused : {E : Type 0} {gives : Error → E → Type 0} (width : �
     {appended : List ℕ → Type 0} → 256 ^ width ≤ n → gives (error_of kinds.OutOfRangeLength) e
     → Writes gives (unsigned_number width) n (Err e) old old appended
 unfolding unsigned_number
-too_long_refused width {n = n} {old = old} long given = unspelled_refused (unsigned_number_laws width old.encoding)
-    (λ b h. let below = SpellsNumber-below width old.encoding.order n b h in omega arith) given
+too_long_refused width {n = n} {old = old} long given = undecodable_refused (unsigned_number_laws width old.mode)
+    (λ b h. let below = EncodesNumber-below width old.mode.order n b h in omega arith) given
 
 -- a length of at most so many is written as the number is
 pub length_written : {E : Type 0} {gives : Error → E → Type 0} (width greatest : ℕ) {n : ℕ}
@@ -72,8 +72,8 @@ pub past_greatest_refused : {E : Type 0} {gives : Error → E → Type 0} (width
     → Writes gives (length_number width greatest) n (Err e) old old appended
 unfolding coding
 past_greatest_refused width greatest {old = old} past given =
-    unspelled_refused {F = length_number width greatest} ((length_codec width greatest).laws old.encoding)
-    (λ b h. let means = Accepts-exact_means old.encoding.strict _ _ _ _ h.stands in
+    undecodable_refused {F = length_number width greatest} ((length_codec width greatest).laws old.mode)
+    (λ b h. let means = Accepts-exact_means old.mode.strict _ _ _ _ h.stands in
     let same = means.0 in let within = means.1 in omega arith) given
 
 -- std's byte of a flag is what the flag is written as
@@ -87,15 +87,15 @@ pub duration_is_chosen : (n seconds nanos : ℕ) → seconds ≡ n / 1_000_000_0
 duration_is_chosen n seconds nanos s m small = (omega arith, omega arith, omega arith)
 
 -- a small number is written as itself
-no_digits : SpellsNumber 0 LittleEndian 0 []
+no_digits : EncodesNumber 0 LittleEndian 0 []
 unfolding digits
-no_digits = SpellsNumber-digits 0 LittleEndian 0 (omega arith)
+no_digits = EncodesNumber-digits 0 LittleEndian 0 (omega arith)
 
-pub small_written : (encoding : Encoding) (n : ℕ) → n < 128 → (varint encoding).writes n (n ∷ [])
+pub small_written : (mode : Mode) (n : ℕ) → n < 128 → (varint mode).writes n (n ∷ [])
 unfolding varint coding
-small_written encoding n small = record {
+small_written mode n small = record {
   code = ((0, n), 0);
-  code_is = prefixed_written encoding 0 n 0 n []
+  code_is = prefixed_written mode 0 n 0 n []
       (record { at_most_eight = omega arith; low_is_below = small; byte_is = omega arith }) no_digits;
   stands = (
     record { at_most_eight = omega arith; enough = small; no_shorter = λ j less. absurd (omega arith) },

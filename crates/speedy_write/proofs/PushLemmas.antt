@@ -11,9 +11,9 @@ use Rattle.speedy_write.specs.CollectorLemmas.{sink_additive}
 pub record PushedSoFar (bytes rest : List ℕ) (old new : SinkState) : Type 0 where
   pub no_fault : new.faults ≡ old.faults
   pub waits : IsTrue new.settled → IsTrue old.settled
-  pub front : List ℕ
-  pub bytes_are : bytes ≡ front ++ rest
-  pub taken : Takes old front new
+  pub prefix : List ℕ
+  pub bytes_are : bytes ≡ prefix ++ rest
+  pub taken : Takes old prefix new
 
 -- the rest of the rest, as a slice of it
 abbrev pub past : ℕ → List ℕ → List ℕ
@@ -25,9 +25,9 @@ more_pushed {bytes = bytes} {rest = rest} {n = n} {s = s} {t = t} {u = u} so_far
     subst (λ (x : List ℕ). PushedSoFar bytes x s u) (sym (take_rest rest n)) (record {
       no_fault = p.no_fault ∙ so_far.no_fault;
       waits = λ settled. so_far.waits (p.waits settled);
-      front = so_far.front ++ take n rest;
-      bytes_are = so_far.bytes_are ∙ (ap (λ (x : List ℕ). so_far.front ++ x) (sym (take-append-drop n rest))
-          ∙ sym (append_assoc so_far.front (take n rest) (drop n rest)));
+      prefix = so_far.prefix ++ take n rest;
+      bytes_are = so_far.bytes_are ∙ (ap (λ (x : List ℕ). so_far.prefix ++ x) (sym (take-append-drop n rest))
+          ∙ sym (append_assoc so_far.prefix (take n rest) (drop n rest)));
       taken = sink_additive so_far.taken (record { kept = p.kept; taken_is = p.moved });
     })
 
@@ -36,6 +36,6 @@ pub some_to_push : {bytes rest : List ℕ} {s t : SinkState} → PushedSoFar byt
     → bytes ≡ [] → ⊥
 some_to_push {bytes = bytes} {rest = rest} so_far some none =
     let h = eqb-false (length rest) 0 (sym some) in
-    let l = ap length so_far.bytes_are ∙ length-append so_far.front rest in
+    let l = ap length so_far.bytes_are ∙ length-append so_far.prefix rest in
     let m = ap length none in
     omega arith

@@ -5,13 +5,13 @@ use Rattle.std.proofs.Common.{ap, subst, inl, inr}
 use Rattle.speedy_base.specs.declared.error.Error.{Error}
 use Rattle.speedy_base.specs.Device.{SinkState}
 use Rattle.speedy_base.specs.DeviceLemmas.{grown}
-use Rattle.speedy_base.specs.Encoding.{Encoding}
+use Rattle.speedy_base.specs.Mode.{Mode}
 use Rattle.speedy_base.specs.FailedCalls.{IsOfFailedCall}
 use Rattle.speedy_layout.specs.Format.{Format}
 use Rattle.speedy_layout.specs.Laws.{Laws}
 use Rattle.speedy_write.specs.Writing.{WriterKind, WriterState, Unwritten, Writes}
 use Rattle.speedy_write.specs.Collectors.{sink_state, Takes}
-use Rattle.speedy_write.specs.WaysOfWriting.{RefusesUnspelled, WritesToStreamIn, WritesAndFlushesIn, WritesToFileIn}
+use Rattle.speedy_write.specs.WaysOfWriting.{RefusesUndecodable, WritesToStreamIn, WritesAndFlushesIn, WritesToFileIn}
 
 module _ {E : Type 0} {gives : Error → E → Type 0} {V : Type 0} {v : V} where
   -- what is written to a sink of a file and flushed
@@ -21,19 +21,19 @@ module _ {E : Type 0} {gives : Error → E → Type 0} {V : Type 0} {v : V} wher
   file_written old new (Err e) w =
       record { written = tt; refused = elim w.0.refused [ inl h ↦ inl (h.0, h.2) | inr h ↦ inr h.1 ] }
 
-  -- where space has no bound, what is not written has no spelling
-  no_spelling : {L : Format V} {e : E} {old new : WriterState} → old.space ≡ None → Unwritten gives L v e old new
-      → RefusesUnspelled gives L v e
-  no_spelling none h = record {
-    no_spelling = h.no_spelling none;
+  -- where space has no bound, what is not written has no encoding
+  no_encoding : {L : Format V} {e : E} {old new : WriterState} → old.space ≡ None → Unwritten gives L v e old new
+      → RefusesUndecodable gives L v e
+  no_encoding none h = record {
+    no_encoding = h.no_encoding none;
     kind = elim h.kind [ inl k ↦ absurd (k.0 none) | inr k ↦ k ];
   }
 
-  module _ {F : Encoding → Format V} {encoding : Encoding} {least : ℕ}
-      (laws : Laws encoding.strict least (F encoding)) where
-    to_stream : {other : Encoding} {name other_name : GName} (s t : SinkState) (result : Result (Unit {0}) E)
-        → Writes gives F v result (sink_state encoding name s) (sink_state other other_name t) (λ b. Takes s b t)
-        → WritesToStreamIn gives (F encoding) v result s t
+  module _ {F : Mode → Format V} {mode : Mode} {least : ℕ}
+      (laws : Laws mode.strict least (F mode)) where
+    to_stream : {other : Mode} {name other_name : GName} (s t : SinkState) (result : Result (Unit {0}) E)
+        → Writes gives F v result (sink_state mode name s) (sink_state other other_name t) (λ b. Takes s b t)
+        → WritesToStreamIn gives (F mode) v result s t
     to_stream s t (Ok _) w =
         let put = w.answer in
         record {
@@ -54,9 +54,9 @@ module _ {E : Type 0} {gives : Error → E → Type 0} {V : Type 0} {v : V} wher
         }
     to_stream s t (Err e) w =
         let why : IsOfFailedCall gives e s.faults t.faults
-        ⊎ ((t.faults ≡ s.faults) × RefusesUnspelled gives (F encoding) v e) = elim w.answer.because [
+        ⊎ ((t.faults ≡ s.faults) × RefusesUndecodable gives (F mode) v e) = elim w.answer.because [
           | inl h ↦ inl (h.1 refl)
-          | inr h ↦ inr (h.no_fault, no_spelling refl h)
+          | inr h ↦ inr (h.no_fault, no_encoding refl h)
         ] in
         record {
           kept = record { tells = ap (λ (kind : WriterKind). kind.tells) w.kept.fixed; faults = w.kept.faults };
@@ -65,21 +65,21 @@ module _ {E : Type 0} {gives : Error → E → Type 0} {V : Type 0} {v : V} wher
           written = tt;
           succeeds = λ bytes k clean. absurd (elim why [
             | inl h ↦ clean (grown h.0 s.faults t.faults h.1)
-            | inr h ↦ h.1.no_spelling bytes k
+            | inr h ↦ h.1.no_encoding bytes k
           ]);
           refused = why;
           begun = w.answer.beginning;
         }
 
     -- a write into a collector, whatever the states of its sink were called
-    pub stream_written : {at other : Encoding} {name other_name : GName} {old new : SinkState} (s t : SinkState)
-        → at ≡ encoding → s ≡ old → t ≡ new → (result : Result (Unit {0}) E)
+    pub stream_written : {at other : Mode} {name other_name : GName} {old new : SinkState} (s t : SinkState)
+        → at ≡ mode → s ≡ old → t ≡ new → (result : Result (Unit {0}) E)
         → Writes gives F v result (sink_state at name s) (sink_state other other_name t) (λ b. Takes s b t)
-        → WritesToStreamIn gives (F encoding) v result old new
-    stream_written {other = other} {name = name} {other_name = other_name} {old = old} s t same_encoding starts
+        → WritesToStreamIn gives (F mode) v result old new
+    stream_written {other = other} {name = name} {other_name = other_name} {old = old} s t same_mode starts
         ends result w =
         let x = to_stream s t result
-        (subst (λ (f : Encoding). Writes gives F v result (sink_state f name s) (sink_state other other_name t)
-        (λ b. Takes s b t)) same_encoding w) in
-        subst (λ (b : SinkState). WritesToStreamIn gives (F encoding) v result old b) ends
-        (subst (λ (a : SinkState). WritesToStreamIn gives (F encoding) v result a t) starts x)
+        (subst (λ (f : Mode). Writes gives F v result (sink_state f name s) (sink_state other other_name t)
+        (λ b. Takes s b t)) same_mode w) in
+        subst (λ (b : SinkState). WritesToStreamIn gives (F mode) v result old b) ends
+        (subst (λ (a : SinkState). WritesToStreamIn gives (F mode) v result a t) starts x)

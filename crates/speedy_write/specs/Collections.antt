@@ -2,14 +2,14 @@
 use Rattle.std.specs.Prelude.{ℕ, List, Option, Result, MatchResult}
 use Rattle.std.specs.Iterator.{Yields, Drains}
 use Rattle.speedy_base.specs.declared.error.Error.{Error}
-use Rattle.speedy_base.specs.Encoding.{Encoding}
+use Rattle.speedy_base.specs.Mode.{Mode}
 use Rattle.speedy_layout.specs.Format.{Format}
 use Rattle.speedy_write.specs.Writing.{WriterState, WritesEach}
 
 module _ {U S A V : Type 0} (becomes : U → S → Type 0) (steps : S → Option A → S → Type 0) (seen : A → V) where
   -- The write of the items that an iterator gives, one after the other. Where it succeeds they are all its items, and
   -- where it is refused those as far as the one that was refused.
-  pub record WritesItems {E : Type 0} (gives : Error → E → Type 0) (F : Encoding → Format V) (items : U)
+  pub record WritesItems {E : Type 0} (gives : Error → E → Type 0) (F : Mode → Format V) (items : U)
       (result : Result (Unit {0}) E) (old new : WriterState) (appended : List ℕ → Type 0) : Type 0 where
     pub iterator : S
     pub iterator_is : becomes items iterator

@@ -22,18 +22,18 @@ put_length p A s q B h =
     omega arith
 
 -- the parts of a buffer that bytes were put into
-pub part_front : (p : ℕ) (A s : List ℕ) (q : ℕ) → q ≡ p + length s → q ≤ length A
+pub part_prefix : (p : ℕ) (A s : List ℕ) (q : ℕ) → q ≡ p + length s → q ≤ length A
     → take q (take p A ++ (s ++ drop q A)) ≡ take p A ++ s
-part_front p A s q e h =
-    let front : length (take p A ++ s) ≡ q = length-append (take p A) s ∙ (let l = length-take p A in omega arith) in
-    ap (take q) (sym (append_assoc (take p A) s (drop q A))) ∙ take_at (take p A ++ s) (drop q A) q front
+part_prefix p A s q e h =
+    let prefix : length (take p A ++ s) ≡ q = length-append (take p A) s ∙ (let l = length-take p A in omega arith) in
+    ap (take q) (sym (append_assoc (take p A) s (drop q A))) ∙ take_at (take p A ++ s) (drop q A) q prefix
 
 part_back : (p : ℕ) (A s : List ℕ) (q n : ℕ) → q ≡ p + length s → q ≤ length A
     → drop (q + n) (take p A ++ (s ++ drop q A)) ≡ drop (q + n) A
 part_back p A s q n e h =
-    let front : length (take p A ++ s) ≡ q = length-append (take p A) s ∙ (let l = length-take p A in omega arith) in
+    let prefix : length (take p A ++ s) ≡ q = length-append (take p A) s ∙ (let l = length-take p A in omega arith) in
     ap (drop (q + n)) (sym (append_assoc (take p A) s (drop q A)))
-    ∙ (ap (λ m. drop (m + n) ((take p A ++ s) ++ drop q A)) (sym front)
+    ∙ (ap (λ m. drop (m + n) ((take p A ++ s) ++ drop q A)) (sym prefix)
     ∙ (drop-append-add (take p A ++ s) (drop q A) n ∙ drop-drop n q A))
 
 -- what is put after what was put
@@ -43,8 +43,8 @@ pub buffer_additive : {p : ℕ} {A s : List ℕ} {q : ℕ} {B t : List ℕ} {r :
 buffer_additive {p = p} {A = A} {s = s} {q = q} {B = B} {t = t} {r = r} h k =
     let l = length-append s t in
     let same_length : length B ≡ length A = put_length p A s q B h in
-    let front : take q B ≡ take p A ++ s = ap (take q) h.after_is ∙ part_front p A s q h.end_is h.within in
-    let back : drop r B ≡ drop r A =
+    let prefix : take q B ≡ take p A ++ s = ap (take q) h.after_is ∙ part_prefix p A s q h.end_is h.within in
+    let suffix : drop r B ≡ drop r A =
     ap (λ m. drop m B) k.end_is
     ∙ (ap (drop (q + length t)) h.after_is
     ∙ (part_back p A s q (length t) h.end_is h.within ∙ ap (λ m. drop m A) (sym k.end_is))) in
@@ -52,7 +52,7 @@ buffer_additive {p = p} {A = A} {s = s} {q = q} {B = B} {t = t} {r = r} h k =
       end_is = let x = h.end_is in let y = k.end_is in omega arith;
       within = let y = k.within in omega arith;
       after_is =
-          k.after_is ∙ (ap (λ x. x ++ (t ++ drop r B)) front ∙ (ap (λ x. (take p A ++ s) ++ (t ++ x)) back
+          k.after_is ∙ (ap (λ x. x ++ (t ++ drop r B)) prefix ∙ (ap (λ x. (take p A ++ s) ++ (t ++ x)) suffix
           ∙ (append_assoc (take p A) s (t ++ drop r A) ∙ ap (λ x. take p A ++ x) (sym (append_assoc s t (drop r A))))));
     }
 

@@ -6,8 +6,8 @@ use Rattle.speedy_write.specs.declared.collectors.SizeCalculatorCollector.{SizeC
 use Rattle.speedy_write.specs.declared.collectors.VecCollector.{VecCollector}
 use Rattle.speedy_write.specs.declared.collectors.WritingCollector.{WritingCollector}
 use Rattle.speedy_write.specs.declared.counting.CountingCollector.{CountingCollector}
-use Rattle.speedy_write.specs.declared.gathering.Waiting.{Waiting}
-use Rattle.speedy_write.specs.declared.gathering.GatheringCollector.{GatheringCollector}
+use Rattle.speedy_write.specs.declared.buffering.Waiting.{Waiting}
+use Rattle.speedy_write.specs.declared.buffering.BufferingCollector.{BufferingCollector}
 
 -- the context and the buffer that a collector borrows, and how many bytes it has written at the buffer's front
 pub record BufferModel (C : Type 0) : Type 0 where
@@ -70,14 +70,14 @@ abbrev pub waiting : Waiting → List ℕ
 waiting w = drop w.start (take w.end w.room.now)
 
 -- the context that a collector that gathers holds, the sink that it borrows, and the bytes that wait for it
-pub record GatheringModel (S C : Type 0) : Type 0 where
+pub record BufferingModel (S C : Type 0) : Type 0 where
   pub context : C
   pub sink : S
   pub sink_name : GName
   pub waits : List ℕ
 
-abbrev pub gathering_model : {S C : Type 0} → GatheringCollector S C → GatheringModel S C
-gathering_model w = record {
+abbrev pub buffering_model : {S C : Type 0} → BufferingCollector S C → BufferingModel S C
+buffering_model w = record {
   context = w.context;
   sink = w.sink.now;
   sink_name = w.sink.ghost_name;

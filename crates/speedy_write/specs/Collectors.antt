@@ -5,34 +5,34 @@ use Rattle.std.specs.Borrow.{GName}
 use Rattle.speedy_base.specs.declared.error.ErrorKind.TheVariants as kinds
 use Rattle.speedy_base.specs.Device.{SinkState, SinkKept}
 use Rattle.speedy_base.specs.MemoryDevices.{no_faults}
-use Rattle.speedy_base.specs.Encoding.{Encoding}
+use Rattle.speedy_base.specs.Mode.{Mode}
 use Rattle.speedy_write.specs.Writing.{WriterState}
 
 -- a collector over a buffer, with so many bytes left
-abbrev pub buffer_state : Encoding → List GName → ℕ → WriterState
-buffer_state encoding targets left = record {
+abbrev pub buffer_state : Mode → List GName → ℕ → WriterState
+buffer_state mode targets left = record {
   fixed = record { tells = true; tells_faults = true; full = kinds.UnexpectedEndOfOutputBuffer; targets = targets };
-  encoding = encoding;
+  mode = mode;
   faults = no_faults;
   space = Some left;
   settled = true;
 }
 
 -- the collector of sizes, with this sum
-abbrev pub size_state : Encoding → List GName → ℕ → WriterState
-size_state encoding targets size = record {
+abbrev pub size_state : Mode → List GName → ℕ → WriterState
+size_state mode targets size = record {
   fixed = record { tells = false; tells_faults = true; full = kinds.OutOfRangeLength; targets = targets };
-  encoding = encoding;
+  mode = mode;
   faults = no_faults;
   space = Some (2 ^ 64 - 1 - size);
   settled = true;
 }
 
 -- a collector over a sink of this name, which has no bound
-abbrev pub sink_state : Encoding → GName → SinkState → WriterState
-sink_state encoding name sink = record {
+abbrev pub sink_state : Mode → GName → SinkState → WriterState
+sink_state mode name sink = record {
   fixed = record { tells = sink.tells; tells_faults = true; full = kinds.OutOfRangeLength; targets = name ∷ [] };
-  encoding = encoding;
+  mode = mode;
   faults = sink.faults;
   space = None;
   settled = sink.settled;

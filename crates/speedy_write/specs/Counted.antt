@@ -4,7 +4,7 @@ use Rattle.std.proofs.Common.{ap, sym}
 use Rattle.std.proofs.lemmas.List.{length-map}
 use Rattle.std.specs.Str.{IsUtf8}
 use Rattle.speedy_base.specs.declared.error.Error.{Error}
-use Rattle.speedy_base.specs.Encoding.{Encoding}
+use Rattle.speedy_base.specs.Mode.{Mode}
 use Rattle.speedy_layout.specs.Codes.{coding}
 use Rattle.speedy_layout.specs.Format.{Format}
 use Rattle.speedy_layout.specs.Lists.{vector, list_parts}
@@ -24,16 +24,16 @@ counts_bytes slice text same = ap (λ (s : List ℕ). let p : ℕ × List ℕ = 
 
 module _ {E : Type 0} {gives : Error → E → Type 0} {result : Result (Unit {0}) E} {old new : WriterState}
     {appended : List ℕ → Type 0} where
-  pub items_written : {A V : Type 0} (F : Encoding → Format V) (seen : A → V) (items : List A)
+  pub items_written : {A V : Type 0} (F : Mode → Format V) (seen : A → V) (items : List A)
       → WritesEach gives F seen items result old new appended
-      → Writes gives (λ encoding. vector (length items) (F encoding)) (map seen items) result old new appended
+      → Writes gives (λ mode. vector (length items) (F mode)) (map seen items) result old new appended
   unfolding vector owned_content
   items_written F seen items w = Writes-as (λ _ k. k) (λ _ h. h) (λ b h. (b, h, refl)) (λ b h. (b, h)) w
 
   pub text_bytes_written : {text slice : List ℕ} → slice ≡ text → IsUtf8 text
       → WritesBytes gives slice result old new appended
-      → Writes gives (λ encoding. text_of_length encoding (length slice)) text result old new appended
+      → Writes gives (λ mode. text_of_length mode (length slice)) text result old new appended
   unfolding text_of_length owned_content coding raw_bytes
   text_bytes_written {text = text} {slice = slice} same utf8 w =
-      form_written (λ encoding. text_of_length_laws encoding (length slice))
+      form_written (λ mode. text_of_length_laws mode (length slice))
       (record { code = slice; code_is = (refl, refl); stands = (same, utf8) }) w

@@ -4,15 +4,15 @@ use Rattle.std.specs.Borrow.{GName}
 use Rattle.std.proofs.Common.{arith, length-append}
 use Rattle.speedy_base.specs.declared.error.ErrorKind.TheVariants as kinds
 use Rattle.speedy_base.specs.MemoryDevices.{no_faults}
-use Rattle.speedy_base.specs.Encoding.{Encoding}
+use Rattle.speedy_base.specs.Mode.{Mode}
 use Rattle.speedy_layout.specs.Format.{Each}
 use Rattle.speedy_write.specs.Writing.{WriterState}
 
 -- a collector that counts has no bound
-abbrev pub counting_state : Encoding → List GName → WriterState
-counting_state encoding targets = record {
+abbrev pub counting_state : Mode → List GName → WriterState
+counting_state mode targets = record {
   fixed = record { tells = false; tells_faults = true; full = kinds.OutOfRangeLength; targets = targets };
-  encoding = encoding;
+  mode = mode;
   faults = no_faults;
   space = None;
   settled = true;
@@ -28,6 +28,6 @@ count_nothing n fits = omega arith
 pub count_additive : (a b c : ℕ) (s t : List ℕ) → CountAppends a s b → CountAppends b t c → CountAppends a (s ++ t) c
 count_additive a b c s t h k = omega (arith, length-append s t)
 
--- the values, one after another, have a written form of so many bytes
+-- the values, one after another, have a canonical encoding of so many bytes
 abbrev pub CountsEach : {V : Type 0} → (V → List ℕ → Type 0) → List V → ℕ → Type 0
 CountsEach writes vs size = (bytes : List ℕ) × Each writes vs bytes × (length bytes ≡ size)

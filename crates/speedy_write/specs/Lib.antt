@@ -5,7 +5,7 @@ pub mod Counting
 pub mod CollectorLemmas
 pub mod CollectorModels
 pub mod FixedBytes
-pub mod Gathering
+pub mod Buffering
 pub mod Sequences
 pub mod Codes
 pub mod Prefixed

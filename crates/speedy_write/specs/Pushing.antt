@@ -12,7 +12,7 @@ pub record PushesAll {E : Type 0} (gives : Error → E → Type 0) (bytes : List
   -- what succeeds had no failed push
   pub no_fault : OnOk result (new.faults ≡ old.faults)
   pub all : OnOk result (Takes old bytes new)
-  pub partly : OnErr result ((front : List ℕ) × (rest : List ℕ) × (bytes ≡ front ++ rest) × Takes old front new)
+  pub partly : OnErr result ((prefix : List ℕ) × (rest : List ℕ) × (bytes ≡ prefix ++ rest) × Takes old prefix new)
   -- one push failed, and its error is answered
   pub fault : IfErr result (λ e. IsOfFailedCall gives e old.faults new.faults)
   -- what waited goes on waiting

@@ -6,7 +6,7 @@ use Rattle.std.proofs.lemmas.List.{append_assoc, length-append}
 use Rattle.speedy_base.specs.declared.error.ErrorKind.{ErrorKind}
 use Rattle.speedy_base.specs.declared.error.Error.{Error}
 use Rattle.speedy_base.specs.DeviceLemmas.{fault_after}
-use Rattle.speedy_base.specs.Encoding.{Encoding}
+use Rattle.speedy_base.specs.Mode.{Mode}
 use Rattle.speedy_base.specs.Error.{error_of, IsNamed-more, passed_on}
 use Rattle.speedy_base.specs.FailedCalls.{IsOfFault}
 use Rattle.speedy_layout.specs.Format.{Format, Parts, Asks}
@@ -52,14 +52,14 @@ less_nothing (Some s) = ap Some (omega arith)
 pub Kept-after : {a b c : WriterState} → Kept a b → Kept b c → Kept a c
 Kept-after h k = record {
   fixed = k.fixed ∙ h.fixed;
-  encoding = k.encoding ∙ h.encoding;
+  mode = k.mode ∙ h.mode;
   faults = let x = h.faults in let y = k.faults in omega arith;
   waits = λ settled. h.waits (k.waits settled);
 }
 
 -- a writer that stays as it is
 pub Kept-same : (a : WriterState) → Kept a a
-Kept-same a = record { fixed = refl; encoding = refl; faults = omega arith; waits = λ settled. settled }
+Kept-same a = record { fixed = refl; mode = refl; faults = omega arith; waits = λ settled. settled }
 
 -- what was put is said in other words
 pub Put-as : {writes other appended : List ℕ → Type 0} {old new : WriterState} → ((b : List ℕ) → writes b → other b)
@@ -85,16 +85,16 @@ Put-nothing old h = record {
 }
 
 -- one part was put after the other
-pub Put-both : {first second front back whole : List ℕ → Type 0} {old mid new : WriterState}
-    → ((a b : List ℕ) → front a → back b → whole (a ++ b)) → Put first old mid front → Put second mid new back
+pub Put-both : {first second prefix suffix whole : List ℕ → Type 0} {old mid new : WriterState}
+    → ((a b : List ℕ) → prefix a → suffix b → whole (a ++ b)) → Put first old mid prefix → Put second mid new suffix
     → Put (Parts first second) old new whole
 Put-both {old = old} join p q =
     let l = length-append p.bytes q.bytes in
     record {
       bytes = p.bytes ++ q.bytes;
       is_written = record {
-        front = p.bytes;
-        back = q.bytes;
+        prefix = p.bytes;
+        suffix = q.bytes;
         whole_is = refl;
         first_is = p.is_written;
         second_is = q.is_written;
@@ -107,13 +107,13 @@ Put-both {old = old} join p q =
       no_fault = q.no_fault ∙ p.no_fault;
     }
 
--- the written forms of a value have one length
+-- the canonical encodings of a value have one length
 pub one_length : {V : Type 0} {strict : Bool} {least : ℕ} {F : Format V} → Laws strict least F → (v : V) (a b : List ℕ)
     → F.writes v a
     → F.writes v b → length a ≡ length b
 one_length laws v a b h k =
-    let l = laws.shortest v a b h (laws.written_spells v b k) in
-    let m = laws.shortest v b a k (laws.written_spells v a h) in
+    let l = laws.shortest v a b h (laws.written_encodes v b k) in
+    let m = laws.shortest v b a k (laws.written_encodes v a h) in
     omega arith
 
 -- ---- the same write in other words
@@ -123,16 +123,16 @@ pub IsOutOfRange-more : {E : Type 0} (gives : Error → E → Type 0) {names mor
 IsOutOfRange-more gives e n (inl h) = inl h
 IsOutOfRange-more gives e n (inr h) = inr (IsNamed-more gives e n h)
 
-module _ {E : Type 0} {gives : Error → E → Type 0} {U V : Type 0} {F : Encoding → Format U} {G : Encoding → Format V}
+module _ {E : Type 0} {gives : Error → E → Type 0} {U V : Type 0} {F : Mode → Format U} {G : Mode → Format V}
     {u : U} {v : V} {old new : WriterState} {appended : List ℕ → Type 0} where
-  -- Between two formats: the written forms of the one are among those of the other, which are as long as one of these,
-  -- and what the other spells the one spells too.
+  -- Between two formats: the canonical encodings of the one are among those of the other, which are as long as one of
+  -- these, and what the other encodes the one encodes too.
   pub Writes-as : {result : Result (Unit {0}) E}
-      → ((kind : ErrorKind) → (F old.encoding).refuses_writing kind → (G old.encoding).refuses_writing kind)
-      → ((b : List ℕ) → (F old.encoding).writes u b → (G old.encoding).writes v b)
-      → ((b : List ℕ) → (G old.encoding).writes v b
-      → (d : List ℕ) × (F old.encoding).writes u d × (length d ≡ length b))
-      → ((b : List ℕ) → (G old.encoding).spells v b → (d : List ℕ) × (F old.encoding).spells u d)
+      → ((kind : ErrorKind) → (F old.mode).refuses_writing kind → (G old.mode).refuses_writing kind)
+      → ((b : List ℕ) → (F old.mode).writes u b → (G old.mode).writes v b)
+      → ((b : List ℕ) → (G old.mode).writes v b
+      → (d : List ℕ) × (F old.mode).writes u d × (length d ≡ length b))
+      → ((b : List ℕ) → (G old.mode).encodes v b → (d : List ℕ) × (F old.mode).encodes u d)
       → Writes gives F u result old new appended → Writes gives G v result old new appended
   Writes-as {result = Ok _} n f g h w = record { kept = w.kept; answer = Put-as f w.answer }
   Writes-as {result = Err e} n f g h w = record {
@@ -141,9 +141,9 @@ module _ {E : Type 0} {gives : Error → E → Type 0} {U V : Type 0} {F : Encod
       beginning = λ b k. let d = g b k in
           let x = w.answer.beginning d.0 d.1 in
           record {
-            front = x.front;
+            prefix = x.prefix;
             rest = x.rest;
-            is_written = f (x.front ++ x.rest) x.is_written;
+            is_written = f (x.prefix ++ x.rest) x.is_written;
             is_appended = x.is_appended;
           };
       because = elim w.answer.because [
@@ -151,22 +151,22 @@ module _ {E : Type 0} {gives : Error → E → Type 0} {U V : Type 0} {F : Encod
         | inr x ↦ inr (record {
           no_fault = x.no_fault;
           no_fit = λ b k fit. let d = g b k in x.no_fit d.0 d.1 (subst (λ (n : ℕ). Fits n old.space) (sym d.2) fit);
-          no_spelling = λ s b k. let d = h b k in x.no_spelling s d.0 d.1;
+          no_encoding = λ s b k. let d = h b k in x.no_encoding s d.0 d.1;
           kind = elim x.kind [ inl y ↦ inl y | inr y ↦ inr (IsOutOfRange-more gives e n y) ];
         })
       ];
     };
   }
 
-module _ {E : Type 0} {gives : Error → E → Type 0} {V : Type 0} {F : Encoding → Format V} {v : V}
+module _ {E : Type 0} {gives : Error → E → Type 0} {V : Type 0} {F : Mode → Format V} {v : V}
     {result : Result (Unit {0}) E} {old new : WriterState} {appended : List ℕ → Type 0} where
-  -- the bytes of a written form are written as the value is
-  pub form_written : {least : ℕ} {bytes : List ℕ} → ((encoding : Encoding) → Laws encoding.strict least (F encoding))
-      → (F old.encoding).writes v bytes → WritesBytes gives bytes result old new appended
+  -- the bytes of a canonical encoding are written as the value is
+  pub form_written : {least : ℕ} {bytes : List ℕ} → ((mode : Mode) → Laws mode.strict least (F mode))
+      → (F old.mode).writes v bytes → WritesBytes gives bytes result old new appended
       → Writes gives F v result old new appended
   form_written {bytes = bytes} laws written =
-      Writes-as (λ _ k. absurd k) (λ b e. subst ((F old.encoding).writes v) (sym e) written)
-      (λ b k. (bytes, refl, one_length (laws old.encoding) v bytes b written k)) (λ _ _. (bytes, refl))
+      Writes-as (λ _ k. absurd k) (λ b e. subst ((F old.mode).writes v) (sym e) written)
+      (λ b k. (bytes, refl, one_length (laws old.mode) v bytes b written k)) (λ _ _. (bytes, refl))
 
   -- a state that is another one too, from which what was appended is said in other words
   pub Writes-from : {other : WriterState} {more : List ℕ → Type 0} → old ≡ other → ((b : List ℕ) → appended b → more b)
@@ -176,10 +176,10 @@ module _ {E : Type 0} {gives : Error → E → Type 0} {V : Type 0} {F : Encodin
     answer = by result w.answer;
   }) where
     by : (r : Result (Unit {0}) E)
-        → MatchResult r (λ _. Put ((F old.encoding).writes v) old new appended)
-        (λ e. Refused gives (F old.encoding) v e old new appended)
-        → MatchResult r (λ _. Put ((F old.encoding).writes v) old new more)
-        (λ e. Refused gives (F old.encoding) v e old new more)
+        → MatchResult r (λ _. Put ((F old.mode).writes v) old new appended)
+        (λ e. Refused gives (F old.mode) v e old new appended)
+        → MatchResult r (λ _. Put ((F old.mode).writes v) old new more)
+        (λ e. Refused gives (F old.mode) v e old new more)
     by (Ok _) p = record {
       bytes = p.bytes;
       is_written = p.is_written;
@@ -190,23 +190,23 @@ module _ {E : Type 0} {gives : Error → E → Type 0} {V : Type 0} {F : Encodin
     }
     by (Err e) r = record {
       beginning = λ b h. let x = r.beginning b h in record {
-        front = x.front;
+        prefix = x.prefix;
         rest = x.rest;
         is_written = x.is_written;
-        is_appended = f x.front x.is_appended;
+        is_appended = f x.prefix x.is_appended;
       };
       because = r.because;
     }
 
-  -- an encoding that was kept
+  -- a mode that was kept
   pub Writes-at : {before : WriterState} → Kept before old → Writes gives F v result old new appended
-      → Writes gives (λ _. F before.encoding) v result old new appended
+      → Writes gives (λ _. F before.mode) v result old new appended
   Writes-at k w =
-      let here : Writes gives (λ _. F old.encoding) v result old new appended = record {
+      let here : Writes gives (λ _. F old.mode) v result old new appended = record {
         kept = w.kept;
         answer = w.answer;
       } in
-      subst (λ (e : Encoding). Writes gives (λ _. F e) v result old new appended) k.encoding here
+      subst (λ (e : Mode). Writes gives (λ _. F e) v result old new appended) k.mode here
 
 -- no bytes are written
 pub unit_written : {E : Type 0} {gives : Error → E → Type 0} {old : WriterState}
@@ -217,47 +217,47 @@ unit_written {old = old} h = record { kept = Kept-same old; answer = Put-nothing
 
 -- ---- one part after another
 
--- a format that is one part after another, under each encoding
-pub record IsSequence {U V : Type 0} {W : U → Type 0} (split : V → (u : U) × W u) (F : Encoding → Format U)
-    (asks : Encoding → Asks) (G : Encoding → (u : U) → Format (W u)) (H : Encoding → Format V) : Type 1 where
-  pub is : (encoding : Encoding) → H encoding ≡ sequence split (F encoding) (asks encoding) (G encoding)
+-- a format that is one part after another, under each mode
+pub record IsSequence {U V : Type 0} {W : U → Type 0} (split : V → (u : U) × W u) (F : Mode → Format U)
+    (asks : Mode → Asks) (G : Mode → (u : U) → Format (W u)) (H : Mode → Format V) : Type 1 where
+  pub is : (mode : Mode) → H mode ≡ sequence split (F mode) (asks mode) (G mode)
 
-pub is_sequence : {U V : Type 0} {W : U → Type 0} {split : V → (u : U) × W u} {F : Encoding → Format U}
-    {asks : Encoding → Asks} {G : Encoding → (u : U) → Format (W u)}
-    → IsSequence split F asks G (λ encoding. sequence split (F encoding) (asks encoding) (G encoding))
+pub is_sequence : {U V : Type 0} {W : U → Type 0} {split : V → (u : U) × W u} {F : Mode → Format U}
+    {asks : Mode → Asks} {G : Mode → (u : U) → Format (W u)}
+    → IsSequence split F asks G (λ mode. sequence split (F mode) (asks mode) (G mode))
 is_sequence = record { is = λ _. refl }
 
 module _ {E : Type 0} {gives : Error → E → Type 0} {U V : Type 0} {W : U → Type 0} {split : V → (u : U) × W u}
-    {F : Encoding → Format U}
-    {asks : Encoding → Asks} {G : Encoding → (u : U) → Format (W u)} {H : Encoding → Format V} {v : V}
+    {F : Mode → Format U}
+    {asks : Mode → Asks} {G : Mode → (u : U) → Format (W u)} {H : Mode → Format V} {v : V}
     (sequenced : IsSequence split F asks G H) where
   -- the format is the sequence
   restated : {result : Result (Unit {0}) E} {old new : WriterState} {appended : List ℕ → Type 0}
-      → Writes gives (λ _. sequence split (F old.encoding) (asks old.encoding) (G old.encoding)) v result
+      → Writes gives (λ _. sequence split (F old.mode) (asks old.mode) (G old.mode)) v result
       old new appended
       → Writes gives H v result old new appended
   restated {result = result} {old = old} {new = new} {appended = appended} w =
       let x =
-      subst (λ (L : Format V). Writes gives (λ _. L) v result old new appended) (sym (sequenced.is old.encoding)) w in
+      subst (λ (L : Format V). Writes gives (λ _. L) v result old new appended) (sym (sequenced.is old.mode)) w in
       record { kept = x.kept; answer = x.answer }
 
   refused : {e : E} {old new : WriterState} {appended : List ℕ → Type 0}
       → Writes gives F (split v).0 (Err e) old new appended
-      → Writes gives (λ _. sequence split (F old.encoding) (asks old.encoding) (G old.encoding)) v (Err e)
+      → Writes gives (λ _. sequence split (F old.mode) (asks old.mode) (G old.mode)) v (Err e)
       old new appended
   unfolding sequence
   refused {e = e} {old = old} w = record {
     kept = w.kept;
     answer = record {
       beginning = λ b k.
-          let x = w.answer.beginning k.front k.first_is in
+          let x = w.answer.beginning k.prefix k.first_is in
           record {
-            front = x.front;
-            rest = x.rest ++ k.back;
+            prefix = x.prefix;
+            rest = x.rest ++ k.suffix;
             is_written = record {
-              front = x.front ++ x.rest;
-              back = k.back;
-              whole_is = sym (append_assoc x.front x.rest k.back);
+              prefix = x.prefix ++ x.rest;
+              suffix = k.suffix;
+              whole_is = sym (append_assoc x.prefix x.rest k.suffix);
               first_is = x.is_written;
               second_is = k.second_is;
             };
@@ -267,23 +267,23 @@ module _ {E : Type 0} {gives : Error → E → Type 0} {U V : Type 0} {W : U →
         | inl x ↦ inl x
         | inr x ↦ inr (record {
           no_fault = x.no_fault;
-          no_fit = λ b k fit. x.no_fit k.front k.first_is (fits_first old.space (length k.front) (length k.back)
-              (subst (λ n. Fits n old.space) (ap length k.whole_is ∙ length-append k.front k.back) fit));
-          no_spelling = λ s b k. x.no_spelling s k.front k.first_is;
+          no_fit = λ b k fit. x.no_fit k.prefix k.first_is (fits_first old.space (length k.prefix) (length k.suffix)
+              (subst (λ n. Fits n old.space) (ap length k.whole_is ∙ length-append k.prefix k.suffix) fit));
+          no_encoding = λ s b k. x.no_encoding s k.prefix k.first_is;
           kind = elim x.kind [ inl y ↦ inl y | inr y ↦ inr (IsOutOfRange-more gives e (λ _ k. inl k) y) ];
         })
       ];
     };
   }
 
-  module _ {old mid new : WriterState} {front back whole : List ℕ → Type 0}
-      (one : (a b : List ℕ) → (F old.encoding).writes (split v).0 a → (F old.encoding).writes (split v).0 b
+  module _ {old mid new : WriterState} {prefix suffix whole : List ℕ → Type 0}
+      (one : (a b : List ℕ) → (F old.mode).writes (split v).0 a → (F old.mode).writes (split v).0 b
       → length a ≡ length b)
-      (join : (a b : List ℕ) → front a → back b → whole (a ++ b))
-      (k : Kept old mid) (p : Put ((F old.encoding).writes (split v).0) old mid front) where
+      (join : (a b : List ℕ) → prefix a → suffix b → whole (a ++ b))
+      (k : Kept old mid) (p : Put ((F old.mode).writes (split v).0) old mid prefix) where
     written : (result : Result (Unit {0}) E)
-        → Writes gives (λ _. G old.encoding (split v).0) (split v).1 result mid new back
-        → Writes gives (λ _. sequence split (F old.encoding) (asks old.encoding) (G old.encoding)) v
+        → Writes gives (λ _. G old.mode (split v).0) (split v).1 result mid new suffix
+        → Writes gives (λ _. sequence split (F old.mode) (asks old.mode) (G old.mode)) v
         result old new whole
     unfolding sequence
     written (Ok _) w = record { kept = Kept-after k w.kept; answer = Put-both join p w.answer }
@@ -291,18 +291,18 @@ module _ {E : Type 0} {gives : Error → E → Type 0} {U V : Type 0} {W : U →
       kept = Kept-after k w.kept;
       answer = record {
         beginning = λ b h.
-            let x = w.answer.beginning h.back h.second_is in
+            let x = w.answer.beginning h.suffix h.second_is in
             record {
-              front = p.bytes ++ x.front;
+              prefix = p.bytes ++ x.prefix;
               rest = x.rest;
               is_written = record {
-                front = p.bytes;
-                back = x.front ++ x.rest;
-                whole_is = append_assoc p.bytes x.front x.rest;
+                prefix = p.bytes;
+                suffix = x.prefix ++ x.rest;
+                whole_is = append_assoc p.bytes x.prefix x.rest;
                 first_is = p.is_written;
                 second_is = x.is_written;
               };
-              is_appended = join p.bytes x.front p.is_appended x.is_appended;
+              is_appended = join p.bytes x.prefix p.is_appended x.is_appended;
             };
         because = elim w.answer.because [
           | inl x ↦
@@ -311,14 +311,15 @@ module _ {E : Type 0} {gives : Error → E → Type 0} {U V : Type 0} {W : U →
           | inr x ↦ inr (record {
             no_fault = x.no_fault ∙ p.no_fault;
             no_fit = λ b h fit.
-                let l : length b ≡ length p.bytes + length h.back =
-                let m = one h.front p.bytes h.first_is p.is_written in
-                let q = ap length h.whole_is ∙ length-append h.front h.back in
+                let l : length b ≡ length p.bytes + length h.suffix =
+                let m = one h.prefix p.bytes h.first_is p.is_written in
+                let q = ap length h.whole_is ∙ length-append h.prefix h.suffix in
                 omega arith in
-                x.no_fit h.back h.second_is
-                (subst (Fits (length h.back)) (sym p.space)
-                (fits_second old.space (length p.bytes) (length h.back) (subst (λ n. Fits n old.space) l fit)));
-            no_spelling = λ s b h. x.no_spelling (p.space ∙ less_none old.space (length p.bytes) s) h.back h.second_is;
+                x.no_fit h.suffix h.second_is
+                (subst (Fits (length h.suffix)) (sym p.space)
+                (fits_second old.space (length p.bytes) (length h.suffix) (subst (λ n. Fits n old.space) l fit)));
+            no_encoding = λ s b h. x.no_encoding (p.space ∙ less_none old.space (length p.bytes) s) h.suffix
+                h.second_is;
             kind = elim x.kind [
               | inl y ↦ inl (
                 (λ s. y.0 (p.space ∙ less_none old.space (length p.bytes) s)),
@@ -342,14 +343,14 @@ module _ {E : Type 0} {gives : Error → E → Type 0} {U V : Type 0} {W : U →
 
     -- once the first part is written, the whole is written as the second part is
     pub second_written : {least : ℕ} {done : Unit {0}} {result : Result (Unit {0}) E} {mid : WriterState}
-        {front back whole : List ℕ → Type 0}
-        → ((encoding : Encoding) → Laws encoding.strict least (F encoding))
-        → ((a b : List ℕ) → front a → back b → whole (a ++ b))
-        → Writes gives F p.0 (Ok done) old mid front → Writes gives (λ encoding. G encoding p.0) p.1 result mid new back
+        {prefix suffix whole : List ℕ → Type 0}
+        → ((mode : Mode) → Laws mode.strict least (F mode))
+        → ((a b : List ℕ) → prefix a → suffix b → whole (a ++ b))
+        → Writes gives F p.0 (Ok done) old mid prefix → Writes gives (λ mode. G mode p.0) p.1 result mid new suffix
         → Writes gives H v result old new whole
-    second_written {done = done} {result = result} {mid = mid} {front = front} {back = back} laws join h w =
-        let first = subst (λ (p : (u : U) × W u). Writes gives F p.0 (Ok done) old mid front) (sym same) h in
+    second_written {done = done} {result = result} {mid = mid} {prefix = prefix} {suffix = suffix} laws join h w =
+        let first = subst (λ (p : (u : U) × W u). Writes gives F p.0 (Ok done) old mid prefix) (sym same) h in
         let second =
-        subst (λ (p : (u : U) × W u). Writes gives (λ encoding. G encoding p.0) p.1 result mid new back) (sym same) w in
-        restated (written (one_length (laws old.encoding) (split v).0) join first.kept first.answer result
+        subst (λ (p : (u : U) × W u). Writes gives (λ mode. G mode p.0) p.1 result mid new suffix) (sym same) w in
+        restated (written (one_length (laws old.mode) (split v).0) join first.kept first.answer result
         (Writes-at first.kept second))

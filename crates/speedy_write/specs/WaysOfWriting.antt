@@ -4,7 +4,7 @@ use Rattle.std.specs.Prelude.{OnErr, IfErr, IsOkAnd, IsErrAnd, IsTrue}
 use Rattle.std.specs.declared.io.Error.{Error as StdIoError}
 use Rattle.speedy_base.specs.declared.error.ErrorKind.TheVariants as kinds
 use Rattle.speedy_base.specs.declared.error.Error.{Error}
-use Rattle.speedy_base.specs.Encoding.{Encoding}
+use Rattle.speedy_base.specs.Mode.{Mode}
 use Rattle.speedy_base.specs.Error.{error_of}
 use Rattle.speedy_base.specs.Device.{SinkState, SinkKept}
 use Rattle.speedy_base.specs.FailedCalls.{HasGrown, IsErrorOf, IsOfFailedCall}
@@ -13,19 +13,19 @@ use Rattle.speedy_layout.specs.Format.{Format}
 use Rattle.speedy_write.specs.Collectors.{Takes}
 use Rattle.speedy_write.specs.Writing.{IsOutOfRange, Begun}
 
--- the bytes are a written form of the value, and no spelling of it is shorter
+-- the bytes are a canonical encoding of the value, and no encoding of it is shorter
 pub record IsShortest {V : Type 0} (L : Format V) (v : V) (bytes : List ℕ) : Type 0 where
   pub is_written : L.writes v bytes
-  pub shortest : (others : List ℕ) → L.spells v others → length bytes ≤ length others
+  pub shortest : (others : List ℕ) → L.encodes v others → length bytes ≤ length others
 
--- a shortest written form stands at the buffer's front, and what lies past it is as it was
+-- a shortest canonical encoding stands at the buffer's front, and what lies past it is as it was
 pub record Stands {V : Type 0} (L : Format V) (v : V) (old new : List ℕ) : Type 0 where
   pub bytes : List ℕ
   pub is_shortest : IsShortest L v bytes
   pub new_is : new ≡ bytes ++ drop (length bytes) old
 
 module _ {E : Type 0} (gives : Error → E → Type 0) where
-  -- a value whose written form has `usize::MAX` bytes or more is refused as out of range, and in no other way
+  -- a value whose canonical encoding has `usize::MAX` bytes or more is refused as out of range, and in no other way
   abbrev pub RefusesTooLong : {V A : Type 0} → Format V → V → Result A E → Type 0
   RefusesTooLong L v result =
       (bytes : List ℕ) → L.writes v bytes → 2 ^ 64 - 1 ≤ length bytes
@@ -33,14 +33,14 @@ module _ {E : Type 0} (gives : Error → E → Type 0) where
 
   -- what `bytes_needed` answers
   pub record NeedsIn {V : Type 0} (L : Format V) (v : V) (result : Result ℕ E) : Type 0 where
-    -- a number that is answered is the length of a written form
+    -- a number that is answered is the length of a canonical encoding
     pub written : IfOk result (λ n. (bytes : List ℕ) × L.writes v bytes × (n ≡ length bytes))
-    -- the length of a written form is answered, if it is below `usize::MAX`
+    -- the length of a canonical encoding is answered, if it is below `usize::MAX`
     pub answers : (bytes : List ℕ) → L.writes v bytes → length bytes < 2 ^ 64 - 1
         → IsOkAnd result (λ n. n ≡ length bytes)
     -- and is refused from there on
     pub too_long : RefusesTooLong L v result
-    -- a kind that the type names for writing is left to values without a written form
+    -- a kind that the type names for writing is left to values without a canonical encoding
     pub refused : IfErr result (IsOutOfRange gives L.refuses_writing)
 
   -- a buffer of this size is refused, and so many bytes were needed
@@ -51,7 +51,7 @@ module _ {E : Type 0} (gives : Error → E → Type 0) where
   pub record WritesToBufferIn {V : Type 0} (L : Format V) (v : V) (result : Result (Unit {0}) E)
       (old new : List ℕ) : Type 0 where
     pub written : OnOk result (Stands L v old new)
-    -- a value whose written form fits is never refused
+    -- a value whose canonical encoding fits is never refused
     pub fits : (bytes : List ℕ) → L.writes v bytes → length bytes < 2 ^ 64 - 1 → length bytes ≤ length old → IsOk result
     -- a shorter buffer is refused, with both sizes
     pub too_small : (bytes : List ℕ) → L.writes v bytes → length bytes < 2 ^ 64 - 1 → length old < length bytes
@@ -69,14 +69,14 @@ module _ {E : Type 0} (gives : Error → E → Type 0) where
       (result : Result A E) : Type 0 where
     pub written : IfOk result (λ vec. IsShortest L v (items vec))
     pub too_long : RefusesTooLong L v result
-    -- a refusal means want of memory, or that the value has no spelling that can be counted
+    -- a refusal means want of memory, or that the value has no encoding that can be counted
     pub refused : IfErr result (λ e. gives (error_of kinds.OutOfMemory) e
-        ⊎ (((bytes : List ℕ) → L.spells v bytes → length bytes < 2 ^ 64 - 1 → ⊥)
+        ⊎ (((bytes : List ℕ) → L.encodes v bytes → length bytes < 2 ^ 64 - 1 → ⊥)
         × IsOutOfRange gives L.refuses_writing e))
 
-  -- the refusal of a value that has no spelling
-  pub record RefusesUnspelled {V : Type 0} (L : Format V) (v : V) (e : E) : Type 0 where
-    pub no_spelling : (bytes : List ℕ) → L.spells v bytes → ⊥
+  -- the refusal of a value that has no encoding
+  pub record RefusesUndecodable {V : Type 0} (L : Format V) (v : V) (e : E) : Type 0 where
+    pub no_encoding : (bytes : List ℕ) → L.encodes v bytes → ⊥
     pub kind : IsOutOfRange gives L.refuses_writing e
 
   -- what the ways of writing to a sink do
@@ -87,15 +87,15 @@ module _ {E : Type 0} (gives : Error → E → Type 0) where
     pub no_flush : IsTrue new.settled → IsTrue old.settled
     -- what succeeds had no failed push
     pub no_fault : OnOk result (new.faults ≡ old.faults)
-    -- and the sink took a shortest written form
+    -- and the sink took a shortest canonical encoding
     pub written : OnOk result ((bytes : List ℕ) × IsShortest L v bytes × Takes old bytes new)
-    -- a value that has a spelling is never refused where no push fails
-    pub succeeds : (bytes : List ℕ) → L.spells v bytes → (HasGrown old.faults new.faults → ⊥) → IsOk result
-    -- a refusal is the error of the one push that failed; or none failed, and the value has no spelling
+    -- a value that has an encoding is never refused where no push fails
+    pub succeeds : (bytes : List ℕ) → L.encodes v bytes → (HasGrown old.faults new.faults → ⊥) → IsOk result
+    -- a refusal is the error of the one push that failed; or none failed, and the value has no encoding
     pub refused : IfErr result
-        (λ e. IsOfFailedCall gives e old.faults new.faults ⊎ ((new.faults ≡ old.faults) × RefusesUnspelled L v e))
-    -- what is refused leaves a beginning of a written form in the sink, where there is one
-    pub begun : OnErr result ((bytes : List ℕ) → L.writes v bytes → Begun (L.writes v) (λ front. Takes old front new))
+        (λ e. IsOfFailedCall gives e old.faults new.faults ⊎ ((new.faults ≡ old.faults) × RefusesUndecodable L v e))
+    -- what is refused leaves a beginning of a canonical encoding in the sink, where there is one
+    pub begun : OnErr result ((bytes : List ℕ) → L.writes v bytes → Begun (L.writes v) (λ prefix. Takes old prefix new))
 
   -- what a write to a sink and a flush behind it do: the write with what waits left out of sight, and where both
   -- succeed nothing waits
@@ -107,38 +107,38 @@ module _ {E : Type 0} (gives : Error → E → Type 0) where
   -- which of its calls failed. So this speaks of the value and the error alone; what the same code does to a caller's
   -- sink, `WritesAndFlushes` says.
   pub record WritesToFileIn {V : Type 0} (L : Format V) (v : V) (result : Result (Unit {0}) E) : Type 0 where
-    -- what succeeds has a shortest written form
+    -- what succeeds has a shortest canonical encoding
     pub written : OnOk result ((bytes : List ℕ) × IsShortest L v bytes)
-    -- a refusal is what the error of some call became, or the value has no spelling
-    pub refused : IfErr result (λ e. ((error : StdIoError) × IsErrorOf gives error e) ⊎ RefusesUnspelled L v e)
+    -- a refusal is what the error of some call became, or the value has no encoding
+    pub refused : IfErr result (λ e. ((error : StdIoError) × IsErrorOf gives error e) ⊎ RefusesUndecodable L v e)
 
 -- ---- the words of contracts
 
--- They take which errors become those of the context, `C.Error.from_gives`, and the encoding that the context asks.
+-- They take which errors become those of the context, `C.Error.from_gives`, and the mode that the context asks.
 module _ {E A V : Type 0} (gives : Error → E → Type 0) where
   -- the number of bytes
-  abbrev pub Needs : (A → V) → Codec V → Encoding → A → Result ℕ E → Type 0
-  Needs seen codec encoding value = NeedsIn gives (codec.format encoding) (seen value)
+  abbrev pub Needs : (A → V) → Codec V → Mode → A → Result ℕ E → Type 0
+  Needs seen codec mode value = NeedsIn gives (codec.format mode) (seen value)
 
   -- to a buffer, before and behind
-  abbrev pub WritesToBuffer : (A → V) → Codec V → Encoding → A → Result (Unit {0}) E → List ℕ → List ℕ → Type 0
-  WritesToBuffer seen codec encoding value = WritesToBufferIn gives (codec.format encoding) (seen value)
+  abbrev pub WritesToBuffer : (A → V) → Codec V → Mode → A → Result (Unit {0}) E → List ℕ → List ℕ → Type 0
+  WritesToBuffer seen codec mode value = WritesToBufferIn gives (codec.format mode) (seen value)
 
   -- to a vector, whose items are these
-  abbrev pub WritesToVec : {R : Type 0} → (A → V) → Codec V → Encoding → A → (R → List ℕ) → Result R E → Type 0
-  WritesToVec seen codec encoding value = WritesToVecIn gives (codec.format encoding) (seen value)
+  abbrev pub WritesToVec : {R : Type 0} → (A → V) → Codec V → Mode → A → (R → List ℕ) → Result R E → Type 0
+  WritesToVec seen codec mode value = WritesToVecIn gives (codec.format mode) (seen value)
 
   -- to a file
-  abbrev pub WritesToFile : (A → V) → Codec V → Encoding → A → Result (Unit {0}) E → Type 0
-  WritesToFile seen codec encoding value = WritesToFileIn gives (codec.format encoding) (seen value)
+  abbrev pub WritesToFile : (A → V) → Codec V → Mode → A → Result (Unit {0}) E → Type 0
+  WritesToFile seen codec mode value = WritesToFileIn gives (codec.format mode) (seen value)
 
   module _ {S : Type 0} (sink : S → SinkState) where
     -- to a sink, which is seen so
-    abbrev pub WritesToStream : (A → V) → Codec V → Encoding → A → Result (Unit {0}) E → S → S → Type 0
-    WritesToStream seen codec encoding value result old new =
-        WritesToStreamIn gives (codec.format encoding) (seen value) result (sink old) (sink new)
+    abbrev pub WritesToStream : (A → V) → Codec V → Mode → A → Result (Unit {0}) E → S → S → Type 0
+    WritesToStream seen codec mode value result old new =
+        WritesToStreamIn gives (codec.format mode) (seen value) result (sink old) (sink new)
 
     -- and a flush behind it
-    abbrev pub WritesAndFlushes : (A → V) → Codec V → Encoding → A → Result (Unit {0}) E → S → S → Type 0
-    WritesAndFlushes seen codec encoding value result old new =
-        WritesAndFlushesIn gives (codec.format encoding) (seen value) result (sink old) (sink new)
+    abbrev pub WritesAndFlushes : (A → V) → Codec V → Mode → A → Result (Unit {0}) E → S → S → Type 0
+    WritesAndFlushes seen codec mode value result old new =
+        WritesAndFlushesIn gives (codec.format mode) (seen value) result (sink old) (sink new)

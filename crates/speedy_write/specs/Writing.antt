@@ -9,7 +9,7 @@ use Rattle.speedy_base.specs.declared.device.Faults.{Faults}
 use Rattle.speedy_base.specs.declared.error.Error.{Error}
 use Rattle.speedy_base.specs.Error.{error_of, IsNamed}
 use Rattle.speedy_base.specs.FailedCalls.{IsOfFault}
-use Rattle.speedy_base.specs.Encoding.{Encoding}
+use Rattle.speedy_base.specs.Mode.{Mode}
 use Rattle.speedy_layout.specs.Codecs.{Codec, unsigned_codec, signed_codec}
 use Rattle.speedy_layout.specs.Format.{Format, plain_format}
 use Rattle.speedy_layout.specs.Lists.{repeat}
@@ -29,7 +29,7 @@ pub record WriterKind : Type 0 where
 pub record WriterState : Type 0 where
   pub fixed : WriterKind
   -- what its context asks of the bytes
-  pub encoding : Encoding
+  pub mode : Mode
   -- its device's failed calls
   pub faults : Faults
   -- how many more bytes fit, where there is a bound
@@ -50,12 +50,12 @@ less (Some space) n = Some (space - n)
 -- what every write keeps, a refused one too
 pub record Kept (old new : WriterState) : Type 0 where
   pub fixed : new.fixed ≡ old.fixed
-  pub encoding : new.encoding ≡ old.encoding
+  pub mode : new.mode ≡ old.mode
   pub faults : old.faults.count ≤ new.faults.count
   -- what waited goes on waiting: a write makes no flush
   pub waits : IsTrue new.settled → IsTrue old.settled
 
--- a written form was put, just it was appended, and no call of the device failed
+-- a canonical encoding was put, just it was appended, and no call of the device failed
 pub record Put (writes : List ℕ → Type 0) (old new : WriterState) (appended : List ℕ → Type 0) : Type 0 where
   pub bytes : List ℕ
   pub is_written : writes bytes
@@ -64,28 +64,28 @@ pub record Put (writes : List ℕ → Type 0) (old new : WriterState) (appended 
   pub space : new.space ≡ less old.space (length bytes)
   pub no_fault : new.faults ≡ old.faults
 
--- a beginning of a written form was appended
+-- a beginning of a canonical encoding was appended
 pub record Begun (writes : List ℕ → Type 0) (appended : List ℕ → Type 0) : Type 0 where
-  pub front : List ℕ
+  pub prefix : List ℕ
   pub rest : List ℕ
-  pub is_written : writes (front ++ rest)
-  pub is_appended : appended front
+  pub is_written : writes (prefix ++ rest)
+  pub is_appended : appended prefix
 
 -- the bytes and nothing else
 abbrev pub Just : List ℕ → List ℕ → Type 0
 Just bytes b = b ≡ bytes
 
 module _ {E : Type 0} (gives : Error → E → Type 0) where
-  -- the refusal of a value that has no written form, or none of so few bytes that they can be counted
+  -- the refusal of a value that has no canonical encoding, or none of so few bytes that they can be counted
   abbrev pub IsOutOfRange : (ErrorKind → Type 0) → E → Type 0
   IsOutOfRange names e = gives (error_of kinds.OutOfRangeLength) e ⊎ IsNamed gives names e
 
-  -- why a write was refused though no call of the device failed: no written form fits
+  -- why a write was refused though no call of the device failed: no canonical encoding fits
   pub record Unwritten {V : Type 0} (F : Format V) (v : V) (e : E) (old new : WriterState) : Type 0 where
     pub no_fault : new.faults ≡ old.faults
     pub no_fit : (b : List ℕ) → F.writes v b → Fits (length b) old.space → ⊥
-    -- without a bound there is no spelling at all
-    pub no_spelling : old.space ≡ None → (b : List ℕ) → F.spells v b → ⊥
+    -- without a bound there is no encoding at all
+    pub no_encoding : old.space ≡ None → (b : List ℕ) → F.encodes v b → ⊥
     pub kind : ((old.space ≢ None) × gives (error_of old.fixed.full) e) ⊎ IsOutOfRange F.refuses_writing e
 
   -- a refusal
@@ -96,20 +96,21 @@ module _ {E : Type 0} (gives : Error → E → Type 0) where
     -- call failed
     pub because : IsOfFault gives old.fixed.tells_faults e old.faults new.faults ⊎ Unwritten F v e old new
 
-  -- The write of a value, in the format of the writer's encoding. What succeeds appends a written form that fits, and
-  -- no call of the device failed. What is refused appends a beginning of one, where there is one; and either a call of
-  -- the device failed, and this is its error where the writer tells it, or none failed and no written form fits.
-  pub record Writes {V : Type 0} (F : Encoding → Format V) (v : V) (result : Result (Unit {0}) E)
+  -- The write of a value, in the format under the writer's mode. What succeeds appends a canonical encoding that fits,
+  -- and no call of the device failed. What is refused appends a beginning of one, where there is one; and either a
+  -- call of the device failed, and this is its error where the writer tells it, or none failed and no canonical
+  -- encoding fits.
+  pub record Writes {V : Type 0} (F : Mode → Format V) (v : V) (result : Result (Unit {0}) E)
       (old new : WriterState) (appended : List ℕ → Type 0) : Type 0 where
     pub kept : Kept old new
-    pub answer : MatchResult result (λ _. Put ((F old.encoding).writes v) old new appended)
-        (λ e. Refused (F old.encoding) v e old new appended)
+    pub answer : MatchResult result (λ _. Put ((F old.mode).writes v) old new appended)
+        (λ e. Refused (F old.mode) v e old new appended)
 
   -- the write of items, seen as values of a format, one after the other
-  abbrev pub WritesEach : {A V : Type 0} → (Encoding → Format V) → (A → V) → List A → Result (Unit {0}) E
+  abbrev pub WritesEach : {A V : Type 0} → (Mode → Format V) → (A → V) → List A → Result (Unit {0}) E
       → WriterState → WriterState
       → (List ℕ → Type 0) → Type 0
-  WritesEach F seen items = Writes (λ encoding. repeat (length items) (F encoding)) (map seen items)
+  WritesEach F seen items = Writes (λ mode. repeat (length items) (F mode)) (map seen items)
 
   -- the write of these bytes
   abbrev pub WritesBytes : List ℕ → Result (Unit {0}) E → WriterState → WriterState → (List ℕ → Type 0) → Type 0
@@ -132,7 +133,7 @@ module _ {E S : Type 0} (gives : Error → E → Type 0) (state : S → WriterSt
 
   module _ (appends : S → List ℕ → S → Type 0) where
     -- the write of a value of a format, and of a codec
-    abbrev pub WritesAs : {A V : Type 0} → (A → V) → (Encoding → Format V) → A → Result (Unit {0}) E → S → S → Type 0
+    abbrev pub WritesAs : {A V : Type 0} → (A → V) → (Mode → Format V) → A → Result (Unit {0}) E → S → S → Type 0
     WritesAs seen format value result old new =
         Writes gives format (seen value) result (state old) (state new) (λ b. appends old b new)
 

@@ -83,14 +83,14 @@ impl<'a, C: Context, U> Writer<C> for BufferCollector<'a, C, U> {
 
     ghost with_context = { λ w c. record w { context = record w.context { now = c } } };
 
-    ghost state = { λ w. buffer_state (C.encoding w.context.now)
+    ghost state = { λ w. buffer_state (C.mode w.context.now)
         (w.context.ghost_name ∷ w.buffer.ghost_name ∷ []) (length w.buffer.now - w.position) };
 
     ghost appends = { λ a s b. BufferAppends a.position a.buffer.now s b.position b.buffer.now };
 
     ghost can_write = { λ w n. Some (nat_le n (length w.buffer.now - w.position)) };
 
-    ghost encoding_at = { λ w. refl };
+    ghost mode_at = { λ w. refl };
 
     ghost state_with = { λ w c. refl };
 
@@ -213,14 +213,14 @@ impl<'a, C: Context> Writer<C> for VecCollector<'a, C> {
 
     ghost with_context = { λ w c. record w { context = record w.context { now = c } } };
 
-    ghost state = { λ w. buffer_state (C.encoding w.context.now)
+    ghost state = { λ w. buffer_state (C.mode w.context.now)
         (w.context.ghost_name ∷ w.bytes.ghost_name ∷ []) (vec_model w).room };
 
     ghost appends = { λ a s b. (vec_model b).bytes ≡ (vec_model a).bytes ++ s };
 
     ghost can_write = { λ w n. Some (nat_le n (vec_model w).room) };
 
-    ghost encoding_at = { λ w. refl };
+    ghost mode_at = { λ w. refl };
 
     ghost state_with = { λ w c. refl };
 
@@ -396,13 +396,13 @@ impl<'s, S: Sink, C: Context> Writer<C> for WritingCollector<'s, S, C> {
 
     ghost with_context = { λ w c. record w { context = c } };
 
-    ghost state = { λ w. sink_state (C.encoding w.context) w.sink.ghost_name (S.sink w.sink.now) };
+    ghost state = { λ w. sink_state (C.mode w.context) w.sink.ghost_name (S.sink w.sink.now) };
 
     ghost appends = { λ a s b. Takes (S.sink a.sink.now) s (S.sink b.sink.now) };
 
     ghost can_write = { λ w n. None };
 
-    ghost encoding_at = { λ w. refl };
+    ghost mode_at = { λ w. refl };
 
     ghost state_with = { λ w c. refl };
 
@@ -517,13 +517,13 @@ impl<'a, C: Context> Writer<C> for SizeCalculatorCollector<'a, C> {
 
     ghost with_context = { λ w c. record w { context = record w.context { now = c } } };
 
-    ghost state = { λ w. size_state (C.encoding w.context.now) (w.context.ghost_name ∷ []) w.size };
+    ghost state = { λ w. size_state (C.mode w.context.now) (w.context.ghost_name ∷ []) w.size };
 
     ghost appends = { λ a s b. SizeAppends a.size s b.size };
 
     ghost can_write = { λ w n. Some (nat_le n (2 ^ 64 - 1 - w.size)) };
 
-    ghost encoding_at = { λ w. refl };
+    ghost mode_at = { λ w. refl };
 
     ghost state_with = { λ w c. refl };
 

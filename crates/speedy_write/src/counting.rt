@@ -47,13 +47,13 @@ impl<'a, C: Context> Writer<C> for CountingCollector<'a, C> {
 
     ghost with_context = { λ w c. record w { context = record w.context { now = c } } };
 
-    ghost state = { λ w. counting_state (C.encoding w.context.now) (w.context.ghost_name ∷ []) };
+    ghost state = { λ w. counting_state (C.mode w.context.now) (w.context.ghost_name ∷ []) };
 
     ghost appends = { λ a s b. CountAppends a.size s b.size };
 
     ghost can_write = { λ w n. None };
 
-    ghost encoding_at = { λ w. refl };
+    ghost mode_at = { λ w. refl };
 
     ghost state_with = { λ w c. refl };
 

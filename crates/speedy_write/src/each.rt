@@ -54,8 +54,8 @@ const MOST_BYTES: usize = 2_147_483_647;
 //
 // Each is counted from zero, so that a compiler sees where each takes as many, and multiplies.
 fn count_each<C: Context, T: Writable<C>>(items: &[T], context: &mut C) -> Option<usize>
-    ensures encoding { C.encoding context.new ≡ C.encoding context.old }
-    ensures counts { let format = T.layout.format (C.encoding context.old) in
+    ensures mode { C.mode context.new ≡ C.mode context.old }
+    ensures counts { let format = T.layout.format (C.mode context.old) in
         IfSome result (λ size. CountsEach format.writes (map T.seen items.now) size) }
 {
     if items.len() > MOST {

@@ -1,6 +1,6 @@
 //! Values that are always written as as many bytes: many of them go to the writer by chunks.
 ghost use Rattle.std.specs.Prelude.{◌≡◌, ◌<◌, ◌≤◌, ◌+◌, ◌*◌, ℕ, length, map};
-ghost use Rattle.speedy_base.specs.Encoding.{Encoding};
+ghost use Rattle.speedy_base.specs.Mode.{Mode};
 ghost use Rattle.speedy_layout.specs.Format.{Each};
 ghost use Rattle.speedy_write.specs.FixedBytes.{PutsAt};
 ghost use Rattle.speedy_write.specs.Writing.{RefusesFull, WritesValue, WritesValues};
@@ -26,8 +26,8 @@ pub trait FixedBytes<T: Layout> {
     /// Puts the bytes of the value, in the order, which fill the output.
     fn put(value: &T, order: Endianness, output: &mut [u8])
         requires { length output.old ≡ Self.BYTES }
-        ensures { (encoding : Encoding) → order ≡ encoding.order →
-            (T.layout.format encoding).writes (T.seen value.now) output.new };
+        ensures { (mode : Mode) → order ≡ mode.order →
+            (T.layout.format mode).writes (T.seen value.now) output.new };
 }
 
 /// Numbers are put as their digits.
@@ -98,8 +98,8 @@ impl FixedBytes<Duration> for Codes {
 #[inline(always)]
 pub(crate) fn put_number<T: FixedNumber>(number: T, order: Endianness, output: &mut [u8])
     requires { length output.old ≡ T.SIZE }
-    ensures { (encoding : Encoding) → order ≡ encoding.order →
-        (T.layout.format encoding).writes (T.seen number) output.new }
+    ensures { (mode : Mode) → order ≡ mode.order →
+        (T.layout.format mode).writes (T.seen number) output.new }
 {
     number.encode(order, output);
 }
@@ -124,8 +124,8 @@ pub(crate) fn write_number<T: FixedNumber, C: Context, W: Writer<C>>(
 #[inline]
 fn put_values<T: Layout, P: FixedBytes<T>>(values: &[T], order: Endianness, output: &mut [u8])
     requires { length output.old ≡ length values.now * P.BYTES }
-    ensures { (encoding : Encoding) → order ≡ encoding.order →
-        Each (T.layout.format encoding).writes (map T.seen values.now) output.new }
+    ensures { (mode : Mode) → order ≡ mode.order →
+        Each (T.layout.format mode).writes (map T.seen values.now) output.new }
 {
     let mut at = 0;
     for value in values {
@@ -163,8 +163,8 @@ const LEAST_COPIED: usize = 64;
 #[inline(always)]
 fn put_by_chunks<T: Layout, P: FixedBytes<T>>(values: &[T], order: Endianness, output: &mut [u8])
     requires { length output.old ≡ length values.now * P.BYTES }
-    ensures { (encoding : Encoding) → order ≡ encoding.order →
-        Each (T.layout.format encoding).writes (map T.seen values.now) output.new }
+    ensures { (mode : Mode) → order ≡ mode.order →
+        Each (T.layout.format mode).writes (map T.seen values.now) output.new }
 {
     P::has_few_bytes();
     let mut chunk = [0; CHUNK];

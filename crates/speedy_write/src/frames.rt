@@ -25,7 +25,7 @@ fn write_counted_value<C: Context, T: Writable<C>, W: Writer<C>>(
     length: usize,
     writer: &mut W,
 ) -> Result<(), C::Error>
-    requires { let format = T.layout.format (W.state writer.old).encoding in
+    requires { let format = T.layout.format (W.state writer.old).mode in
         (bytes : List ℕ) × format.writes (T.seen value.now) bytes × (length ≡ count bytes) }
     ensures { Writes C.Error.from_gives T.layout.format (T.seen value.now) result
         (W.state writer.old) (W.state writer.new) (λ b. W.appends writer.old b writer.new) }

@@ -2,6 +2,7 @@
 #![tactic(auto)]
 
 pub mod addresses;
+mod buffering;
 pub mod cases;
 mod collections;
 pub mod collectors;
@@ -12,7 +13,6 @@ mod fixed;
 pub mod flags;
 pub mod floats;
 pub mod frames;
-mod gathering;
 pub mod leaves;
 pub mod lists;
 pub mod magic;

@@ -24,7 +24,7 @@ pub fn write_to_stream_and_flush_with_ctx<C: Context, T: Writable<C>, S: Sink>(
     context: C,
     sink: &mut S,
 ) -> Result<(), C::Error>
-    ensures { WritesAndFlushes C.Error.from_gives S.sink T.seen T.layout (C.encoding context)
+    ensures { WritesAndFlushes C.Error.from_gives S.sink T.seen T.layout (C.mode context)
         value.now result sink.old sink.new }
 {
     write_and_flush(value, alloc, context, sink, &mut [0; SINK_ROOM])

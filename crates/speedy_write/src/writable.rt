@@ -1,15 +1,15 @@
 //! Types that can be written, and the ways of writing them.
 ghost use Rattle.std.specs.Prelude.{◌≡◌, ◌≤◌, ℕ, List, length, MatchOption, MatchResult, IsOk};
 ghost use Rattle.speedy_base.specs.Error.{error_of};
-ghost use Rattle.speedy_base.specs.Encoding.{plain_encoding};
+ghost use Rattle.speedy_base.specs.Mode.{plain_mode};
 ghost use Rattle.speedy_write.specs.Writing.{WritesValue, WritesValues};
 ghost use Rattle.speedy_write.specs.WaysOfWriting.{Needs, IsShortest, Stands, WritesToBuffer, WritesToVec};
 ghost use Rattle.speedy_write.specs.WaysOfWriting.{WritesToStream, WritesAndFlushes, WritesToFile};
 
+use crate::buffering::BufferingCollector;
 use crate::collectors::{VecCollector, error_of_failed_call};
 pub use crate::collectors::{BufferCollector, SizeCalculatorCollector, WritingCollector};
 use crate::counting::CountingCollector;
-use crate::gathering::GatheringCollector;
 use crate::writer::Writer;
 use speedy_base::context::{Context, PlainContext};
 use speedy_base::device::{Counted, Sink};
@@ -65,8 +65,8 @@ pub trait Writable<C: Context>: Layout {
 
     /// The number of bytes that the value is written in. `usize::MAX` bytes and more are the error `OutOfRangeLength`.
     final fn bytes_needed(&self, context: &mut C) -> Result<usize, C::Error>
-        ensures encoding { C.encoding context.new ≡ C.encoding context.old }
-        ensures needs { Needs C.Error.from_gives Self.seen Self.layout (C.encoding context.old)
+        ensures mode { C.mode context.new ≡ C.mode context.old }
+        ensures needs { Needs C.Error.from_gives Self.seen Self.layout (C.mode context.old)
             self.now result }
     {
         let mut counter = CountingCollector::new(context);
@@ -87,7 +87,7 @@ pub trait Writable<C: Context>: Layout {
     where
         C: PlainContext,
         ensures { WritesToBuffer C.Error.from_gives Self.seen Self.layout
-            (plain_encoding Endianness.LittleEndian) self.now result buffer.old buffer.new }
+            (plain_mode Endianness.LittleEndian) self.now result buffer.old buffer.new }
     {
         self.write_to_buffer_with_ctx(C::plain(), buffer)
     }
@@ -97,7 +97,7 @@ pub trait Writable<C: Context>: Layout {
     /// A buffer that is too short is the error `OutputBufferIsTooSmall`, with both sizes in bytes.
     #[inline]
     final fn write_to_buffer_with_ctx(&self, context: C, buffer: &mut [u8]) -> Result<(), C::Error>
-        ensures { WritesToBuffer C.Error.from_gives Self.seen Self.layout (C.encoding context)
+        ensures { WritesToBuffer C.Error.from_gives Self.seen Self.layout (C.mode context)
             self.now result buffer.old buffer.new }
     {
         let mut context = context;
@@ -112,9 +112,9 @@ pub trait Writable<C: Context>: Layout {
         context: &mut C,
         buffer: &mut [u8],
     ) -> Result<(), C::Error>
-        ensures encoding { C.encoding context.new ≡ C.encoding context.old }
+        ensures mode { C.mode context.new ≡ C.mode context.old }
         ensures writes { WritesToBuffer C.Error.from_gives Self.seen Self.layout
-            (C.encoding context.old) self.now result buffer.old buffer.new }
+            (C.mode context.old) self.now result buffer.old buffer.new }
     {
         let needed = self.bytes_needed(context)?;
         let length = buffer.len();
@@ -130,7 +130,7 @@ pub trait Writable<C: Context>: Layout {
     where
         C: PlainContext,
         ensures { WritesToVec C.Error.from_gives Self.seen Self.layout
-            (plain_encoding Endianness.LittleEndian) self.now (λ vec. vec.items) result }
+            (plain_mode Endianness.LittleEndian) self.now (λ vec. vec.items) result }
     {
         self.write_to_vec_with_ctx(alloc, C::plain())
     }
@@ -138,7 +138,7 @@ pub trait Writable<C: Context>: Layout {
     /// Encodes the value into a vector, under the context.
     #[inline]
     final fn write_to_vec_with_ctx(&self, alloc: Global, context: C) -> Result<Vec<u8>, C::Error>
-        ensures { WritesToVec C.Error.from_gives Self.seen Self.layout (C.encoding context) self.now
+        ensures { WritesToVec C.Error.from_gives Self.seen Self.layout (C.mode context) self.now
             (λ vec. vec.items) result }
     {
         let mut context = context;
@@ -151,9 +151,9 @@ pub trait Writable<C: Context>: Layout {
         alloc: Global,
         context: &mut C,
     ) -> Result<Vec<u8>, C::Error>
-        ensures encoding { C.encoding context.new ≡ C.encoding context.old }
+        ensures mode { C.mode context.new ≡ C.mode context.old }
         ensures writes { WritesToVec C.Error.from_gives Self.seen Self.layout
-            (C.encoding context.old) self.now (λ vec. vec.items) result }
+            (C.mode context.old) self.now (λ vec. vec.items) result }
     {
         let needed = self.bytes_needed(context)?;
         fill_vec(self, alloc, context, needed)
@@ -165,7 +165,7 @@ pub trait Writable<C: Context>: Layout {
     where
         C: PlainContext,
         ensures { WritesToStream C.Error.from_gives S.sink Self.seen Self.layout
-            (plain_encoding Endianness.LittleEndian) self.now result sink.old sink.new }
+            (plain_mode Endianness.LittleEndian) self.now result sink.old sink.new }
     {
         self.write_to_stream_with_ctx(alloc, C::plain(), sink)
     }
@@ -181,7 +181,7 @@ pub trait Writable<C: Context>: Layout {
         sink: &mut S,
     ) -> Result<(), C::Error>
         ensures { WritesToStream C.Error.from_gives S.sink Self.seen Self.layout
-            (C.encoding context) self.now result sink.old sink.new }
+            (C.mode context) self.now result sink.old sink.new }
     {
         write_gathered(self, alloc, context, sink, &mut [0; SINK_ROOM])
     }
@@ -197,7 +197,7 @@ pub trait Writable<C: Context>: Layout {
     where
         C: PlainContext,
         ensures { WritesToFile C.Error.from_gives Self.seen Self.layout
-            (plain_encoding Endianness.LittleEndian) self.now result }
+            (plain_mode Endianness.LittleEndian) self.now result }
     {
         self.write_to_file_with_ctx(rt, alloc, C::plain(), path)
     }
@@ -214,7 +214,7 @@ pub trait Writable<C: Context>: Layout {
         context: C,
         path: P,
     ) -> Result<(), C::Error>
-        ensures { WritesToFile C.Error.from_gives Self.seen Self.layout (C.encoding context)
+        ensures { WritesToFile C.Error.from_gives Self.seen Self.layout (C.mode context)
             self.now result }
     {
         let file = match fs::create(rt, path) {
@@ -239,10 +239,10 @@ fn write_gathered<C: Context, T: Writable<C>, S: Sink>(
     sink: &mut S,
     room: &mut [u8],
 ) -> Result<(), C::Error>
-    ensures { WritesToStream C.Error.from_gives S.sink T.seen T.layout (C.encoding context)
+    ensures { WritesToStream C.Error.from_gives S.sink T.seen T.layout (C.mode context)
         value.now result sink.old sink.new }
 {
-    let mut collector = GatheringCollector::new(alloc, context, sink, room);
+    let mut collector = BufferingCollector::new(alloc, context, sink, room);
     match value.write_to(&mut collector) {
         Ok(()) => {
             let outcome = collector.push_waiting();
@@ -264,7 +264,7 @@ pub(crate) fn write_and_flush<C: Context, T: Writable<C>, S: Sink>(
     sink: &mut S,
     room: &mut [u8],
 ) -> Result<(), C::Error>
-    ensures { WritesAndFlushes C.Error.from_gives S.sink T.seen T.layout (C.encoding context)
+    ensures { WritesAndFlushes C.Error.from_gives S.sink T.seen T.layout (C.mode context)
         value.now result sink.old sink.new }
 {
     write_gathered(value, alloc, context, sink, room)?;
@@ -281,12 +281,12 @@ fn fill<C: Context, T: Writable<C>, U>(
     context: &mut C,
     buffer: &mut [u8],
 ) -> Result<(), C::Error>
-    requires { let format = T.layout.format (C.encoding context.old) in
+    requires { let format = T.layout.format (C.mode context.old) in
         ((bytes : List ℕ) × format.writes (T.seen value.now) bytes
         × (length bytes ≤ length buffer.old)) }
-    ensures encoding { C.encoding context.new ≡ C.encoding context.old }
+    ensures mode { C.mode context.new ≡ C.mode context.old }
     ensures succeeds { IsOk result }
-    ensures stands { let format = T.layout.format (C.encoding context.old) in
+    ensures stands { let format = T.layout.format (C.mode context.old) in
         Stands format (T.seen value.now) buffer.old buffer.new }
 {
     let mut collector: BufferCollector<C, U> = BufferCollector::for_use(context, buffer);
@@ -308,10 +308,10 @@ fn fill_vec<C: Context, T: Writable<C>>(
     context: &mut C,
     room: usize,
 ) -> Result<Vec<u8>, C::Error>
-    requires { let format = T.layout.format (C.encoding context.old) in
+    requires { let format = T.layout.format (C.mode context.old) in
         ((bytes : List ℕ) × format.writes (T.seen value.now) bytes × (length bytes ≡ room)) }
-    ensures encoding { C.encoding context.new ≡ C.encoding context.old }
-    ensures fills { let format = T.layout.format (C.encoding context.old) in
+    ensures mode { C.mode context.new ≡ C.mode context.old }
+    ensures fills { let format = T.layout.format (C.mode context.old) in
         MatchResult result (λ vec. IsShortest format (T.seen value.now) vec.items)
         (C.Error.from_gives (error_of ErrorKind.OutOfMemory)) }
 {

@@ -85,12 +85,12 @@ pub trait Writer<C: Context> {
         ensures says { result ≡ can_write self.now size }
         ensures right { IsRight result size (state self.now).space };
 
-    /// The encoding is the context's.
-    ghost encoding_at: { (w : Self) → (state w).encoding ≡ C.encoding (at w) };
+    /// The mode is the context's.
+    ghost mode_at: { (w : Self) → (state w).mode ≡ C.mode (at w) };
 
-    /// Another context changes the encoding alone.
+    /// Another context changes the mode alone.
     ghost state_with: { (w : Self) (c : C) →
-        state (with_context w c) ≡ record (state w) { encoding = C.encoding c } };
+        state (with_context w c) ≡ record (state w) { mode = C.mode c } };
 
     /// Between a state and itself lies nothing.
     ghost nothing: { (w : Self) → appends w [] w };
@@ -106,7 +106,7 @@ pub trait Writer<C: Context> {
     /// The byte order of numbers.
     #[inline(always)]
     final fn endianness(&self) -> Endianness
-        ensures { result ≡ (state self.now).encoding.order }
+        ensures { result ≡ (state self.now).mode.order }
     {
         self.context().endianness()
     }

@@ -2,7 +2,7 @@
 ghost use Rattle.std.specs.Prelude.{◌≡◌, ◌<◌, ◌≤◌, ℕ, List, IsErrAnd};
 ghost use Rattle.speedy.specs.declared.error.ErrorKind.{ErrorKind};
 ghost use Rattle.speedy.specs.declared.error.ErrorKind.TheVariants.{OutOfRangeLength};
-ghost use Rattle.speedy.specs.Encoding.{Encoding};
+ghost use Rattle.speedy.specs.Mode.{Mode};
 ghost use Rattle.speedy.specs.Error.{error_of};
 ghost use Rattle.speedy_vectors.specs.Trees.{Rose, FitsDigits, depth, view};
 
@@ -12,12 +12,12 @@ use speedy::{Context, Layout, Writable};
 /// A tree that bytes encode has at most 16 levels, each one of those has a canonical encoding where its counts fit, and
 /// every error that the type names is the same.
 pub fn levels_are_bounded()
-    ensures spelled { let format = ⟦<Tree as Layout>⟧.layout.format in
-        (f : Encoding) (r : Rose) (bytes : List ℕ) → (format f).spells r bytes → depth r ≤ 16 }
+    ensures encoded { let format = ⟦<Tree as Layout>⟧.layout.format in
+        (f : Mode) (r : Rose) (bytes : List ℕ) → (format f).encodes r bytes → depth r ≤ 16 }
     ensures written { let format = ⟦<Tree as Layout>⟧.layout.format in
-        (f : Encoding) (r : Rose) → FitsDigits r → depth r ≤ 16 → (bytes : List ℕ) × (format f).writes r bytes }
+        (f : Mode) (r : Rose) → FitsDigits r → depth r ≤ 16 → (bytes : List ℕ) × (format f).writes r bytes }
     ensures named { let format = ⟦<Tree as Layout>⟧.layout.format in
-        (f : Encoding) (kind : ErrorKind) → (format f).names kind → kind ≡ OutOfRangeLength }
+        (f : Mode) (kind : ErrorKind) → (format f).names kind → kind ≡ OutOfRangeLength }
 {}
 
 /// How many bytes a tree of more levels needs: an error.

@@ -13,7 +13,7 @@ returns g c =
     let fixed = c.in_ok-outcome.ensures.kept.fixed in
     let same_name = made.same_buffer in
     let finished = c.finish.ensures.buffer in
-    let front = put_in_front made.position made.buffer put.is_appended in
+    let prefix = put_in_front made.position made.buffer put.is_appended in
     (c.written_items_are_read.ensures.made put.bytes {rest = drop (length put.bytes) c.args.buffer.now} put.is_written.1
-    (sym (length-map _ _)) (grind (arith, front)) c.new-reader.ensures.state
-    (ap g.C.Context.encoding (sym made.context)) c.read_vec.ensures.reads).same
+    (sym (length-map _ _)) (grind (arith, prefix)) c.new-reader.ensures.state
+    (ap g.C.Context.mode (sym made.context)) c.read_vec.ensures.reads).same

@@ -12,7 +12,7 @@ loop-i-init g c =
     let none = ap (map seen_message) c.new-messages.ensures.items in (
       ap length none,
       none_read none (ap (λ model. (g.S.Source.source model.source).tells) made)
-          (ap (λ model. model.ring.bytes ++ (g.S.Source.source model.source).to_come) made),
+          (ap (λ model. model.ring.bytes ++ (g.S.Source.source model.source).remaining) made),
     )
 
 pub loop-i-preserved : goal.loop-i-preserved
@@ -34,9 +34,9 @@ returns-in-None-clause-all g c =
     (λ told are_bytes fit. (rw c.in-None.is at next.next) (told_message _ told are_bytes fit) refl)
 
 pub returns-in_err-message-clause-refused : goal.returns-in_err-message-clause-refused
-returns-in_err-message-clause-refused g c = λ messages spelled tells are_bytes fit.
+returns-in_err-message-clause-refused g c = λ messages encoded tells are_bytes fit.
     rw (← passed_on _ _ c.from_residual-in_err-message.ensures.1)
-    (refused_by_failure messages c.loop-i.invariant.1 spelled refl tells are_bytes fit refl
+    (refused_by_failure messages c.loop-i.invariant.1 encoded refl tells are_bytes fit refl
     c.in_err-message.ensures.refused c.in_err-message.ensures.ended)
 
 pub returns-in_err-message-clause-kind : goal.returns-in_err-message-clause-kind

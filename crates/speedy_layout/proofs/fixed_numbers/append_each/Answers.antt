@@ -3,7 +3,7 @@ use Rattle.std.specs.Iterator.Adapters.{map_source, map_callee}
 use Rattle.std.specs.Slice.Iter.{chunks_exact_rest, chunks_exact_size}
 use Rattle.speedy_base.specs.Digits.{AreBytes}
 use Rattle.speedy_base.specs.DigitsLemmas.{AreBytes-slice}
-use Rattle.speedy_layout.specs.FixedNumbers.{spelled_in}
+use Rattle.speedy_layout.specs.FixedNumbers.{encoded_in}
 use Rattle.speedy_layout.specs.Format.{Each}
 use Rattle.speedy_layout.proofs.FixedNumberLemmas.{each_taken, on_success}
 use Rattle.speedy_layout.proofs.fixed_numbers.append_each.Goals as goal
@@ -11,7 +11,7 @@ use Rattle.speedy_layout.proofs.fixed_numbers.append_each.Goals as goal
 pub returns : goal.returns
 returns g c =
     let ran = c.extend.ensures.ran in
-    let S = spelled_in g.T.Layout.layout.format c.args.order in
+    let S = encoded_in g.T.Layout.layout.format c.args.order in
     let source = ap map_source ran.2 ∙ c.map.ensures.source in
     let bytes = ap chunks_exact_rest source ∙ c.chunks_exact.ensures.rest in
     on_success _ c.extend.result ran.4 (λ drains.

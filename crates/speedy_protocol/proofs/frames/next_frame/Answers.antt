@@ -7,7 +7,7 @@ use Rattle.speedy_protocol.proofs.frames.next_frame.Goals as goal
 pub returns : goal.returns
 unfolding vector repeat owned_content
 returns g c =
-    let counted = c.in_ok-frame.ensures.reads.answer.front_is.0 in
+    let counted = c.in_ok-frame.ensures.reads.answer.prefix_is.0 in
     let same = length-map c.in_ok-frame.frame.items (λ n. n) in
     let within = c.if-length-gt-LIMIT.false in
     record { limited = omega arith }

@@ -13,4 +13,4 @@ returns g c =
     let number = c.in_ok-tag.ensures in
     second_decides (tagged_composes g.N.Prefix.numbers.codec.format g.T.Cases.choices _)
     (g.N.Prefix.numbers.codec.laws _) number
-    (rw number.kept.encoding at c.read_case.ensures) (λ _. refl)
+    (rw number.kept.mode at c.read_case.ensures) (λ _. refl)

@@ -19,7 +19,7 @@ loop-at-preserved g c =
     let sized = c.take_each.auto.places ∙ room in
     let same = same_len_mid at (at + some - at) places c.take_each.new.places c.take_each.auto.places in
     let order =
-    c.endianness.ensures ∙ ap (λ e. e.order) (c.in_ok-read_bytes.ensures.kept.encoding ∙ so_far.kept.encoding) in (
+    c.endianness.ensures ∙ ap (λ e. e.order) (c.in_ok-read_bytes.ensures.kept.mode ∙ so_far.kept.mode) in (
       omega (arith, same, c.loop-at.invariant.0),
       same ∙ c.loop-at.invariant.1,
       rw (put_behind places c.take_each.new.places at some c.loop-at.invariant.0 (omega (arith, sized)))

@@ -8,7 +8,7 @@ abbrev pub invariant-loop-at : goal.invariant-loop-at
 invariant-loop-at g l =
     let old = g.R.LendingReader.state l.fn.reader in
     (l.at ≤ length l.places) × (length l.places ≡ length l.initial.places)
-    × ReadSoFar (Each (g.T.Layout.layout.format old.encoding).spells (map g.T.Layout.seen (take l.at l.places))) old
+    × ReadSoFar (Each (g.T.Layout.layout.format old.mode).encodes (map g.T.Layout.seen (take l.at l.places))) old
     (g.R.LendingReader.state l.reader)
 
 abbrev pub decreases-loop-at : goal.decreases-loop-at

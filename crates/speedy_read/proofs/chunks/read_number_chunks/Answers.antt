@@ -44,7 +44,7 @@ loop-left-preserved g c =
       rw added.1 (more_numbers g.T.Layout.layout.laws g.met.T.FixedNumber.is_fixed _ g.T.Layout.seen c.args.count
           c.loop-left.numbers.items added.0 _
           (c.endianness.ensures ∙ ap (λ e. e.order)
-          (c.in_ok-read_bytes.ensures.kept.encoding ∙ so_far.kept.encoding)) so_far c.in_ok-read_bytes.ensures
+          (c.in_ok-read_bytes.ensures.kept.mode ∙ so_far.kept.mode)) so_far c.in_ok-read_bytes.ensures
           added.2),
     )
 

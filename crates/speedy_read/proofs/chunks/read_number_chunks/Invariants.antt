@@ -8,7 +8,7 @@ invariant-loop-left g l =
     let old = g.R.LendingReader.state l.fn.reader in
     let numbers = l.numbers.items in
     (l.left ≤ l.count) × (length numbers ≡ l.count - l.left)
-    × ReadSoFar (Each (g.T.Layout.layout.format old.encoding).spells (map g.T.Layout.seen numbers)) old
+    × ReadSoFar (Each (g.T.Layout.layout.format old.mode).encodes (map g.T.Layout.seen numbers)) old
     (g.R.LendingReader.state l.reader)
 
 abbrev pub decreases-loop-left : goal.decreases-loop-left

@@ -13,7 +13,7 @@ returns-in_err-item g c =
     let so_far = c.loop-i.invariant in
     next_refused {new = g.R.LendingReader.state c.read_from.new.reader} so_far (g.T.Layout.layout.laws _)
     (let t = c.loop-i-test.true in omega arith) c.from_residual.ensures.1
-    (rw so_far.kept.encoding at c.in_err-item.ensures)
+    (rw so_far.kept.mode at c.in_err-item.ensures)
 
 pub returns-then-is_err : goal.returns-then-is_err
 returns-then-is_err g c = room_refused _ (Kept-after c.loop-i.invariant.kept c.in_ok-item.ensures.kept)
@@ -22,7 +22,7 @@ returns-then-is_err g c = room_refused _ (Kept-after c.loop-i.invariant.kept c.i
 pub loop-i-preserved : goal.loop-i-preserved
 loop-i-preserved g c =
     let so_far = c.loop-i.invariant in
-    one_gathered so_far (rw so_far.kept.encoding at c.in_ok-item.ensures)
+    one_gathered so_far (rw so_far.kept.mode at c.in_ok-item.ensures)
     (on_success c.add.result (sym c.if-is_err.ensures.value) c.add.ensures so_far.so_far.items so_far.so_far.gathered)
     (λ strict. (c.accepts-is_written.ensures so_far.so_far.items so_far.so_far.gathered
     (so_far.so_far.written strict)).0 (c.if-not-is_written.false))
@@ -31,7 +31,7 @@ pub returns-then-not-is_written : goal.returns-then-not-is_written
 returns-then-not-is_written g c =
     let so_far = c.loop-i.invariant in
     item_not_written so_far {next = c.add.new.self} (let t = c.loop-i-test.true in omega arith) c.requires
-    (rw so_far.kept.encoding at c.in_ok-item.ensures)
+    (rw so_far.kept.mode at c.in_ok-item.ensures)
     (on_success c.add.result (sym c.if-is_err.ensures.value) c.add.ensures so_far.so_far.items so_far.so_far.gathered)
     (λ h. let accepted = (c.accepts-is_written.ensures so_far.so_far.items so_far.so_far.gathered
     (so_far.so_far.written c.requires)).1 h in let not_accepted = c.if-not-is_written.true in absurd (cc))

@@ -10,4 +10,4 @@ invariant-loop-i g l =
       gathers = g.F.FromItems.gathers;
       are_written = g.F.FromItems.are_written;
     } in
-    GatheredSoFar gathering (g.T.Layout.layout.format old.encoding) l._i l.items old (g.R.LendingReader.state l.reader)
+    GatheredSoFar gathering (g.T.Layout.layout.format old.mode) l._i l.items old (g.R.LendingReader.state l.reader)

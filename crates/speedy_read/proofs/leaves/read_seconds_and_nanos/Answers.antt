@@ -9,6 +9,6 @@ returns-in_err-read_bytes g c = two_refused 8 4 c.from_residual.ensures.1 c.in_e
 pub returns : goal.returns
 returns g c =
     let bytes = c.read_bytes.new.output in
-    let back = take_all 4 (drop 8 bytes) (omega (arith, length-drop 8 bytes, c.read_bytes.auto.output)) in
+    let suffix = take_all 4 (drop 8 bytes) (omega (arith, length-drop 8 bytes, c.read_bytes.auto.output)) in
     two_read (take 8 bytes) (take 4 (drop 8 bytes)) c.in_ok-read_bytes.ensures c.endianness-order.ensures
-    (sym (ap (λ l. take 8 bytes ++ l) back ∙ take-append-drop 8 bytes)) c.read_u64.ensures c.read_u32.ensures
+    (sym (ap (λ l. take 8 bytes ++ l) suffix ∙ take-append-drop 8 bytes)) c.read_u64.ensures c.read_u32.ensures

@@ -14,7 +14,7 @@ loop-i-preserved g c =
       ap length items
           ∙ (length_push (map g.T.Layout.seen c.loop-i.items.items) (g.T.Layout.seen c.in_ok-item.item)
           ∙ omega (arith, c.loop-i.invariant.0)),
-      item_more _ _ so_far (rw so_far.kept.encoding at c.in_ok-item.ensures) items,
+      item_more _ _ so_far (rw so_far.kept.mode at c.in_ok-item.ensures) items,
     )
 
 pub returns : goal.returns
@@ -28,7 +28,7 @@ returns-in_err-item g c shown =
     omega arith in
     refused_item (g.T.Layout.layout.laws _) _ _ {new = g.R.LendingReader.state c.read_from.new.reader} fewer so_far
     c.from_residual-in_err-item.ensures.1
-    (rw so_far.kept.encoding at c.in_err-item.ensures)
+    (rw so_far.kept.mode at c.in_err-item.ensures)
 
 pub returns-in_err-items : goal.returns-in_err-items
 returns-in_err-items g c shown =

@@ -7,5 +7,5 @@ abbrev pub invariant-loop-i : goal.invariant-loop-i
 invariant-loop-i g l =
     let old = g.R.LendingReader.state l.fn.reader in
     let items = map g.T.Layout.seen l.items.items in
-    (length items ≡ l.i) × ReadSoFar (Each (g.T.Layout.layout.format old.encoding).spells items) old
+    (length items ≡ l.i) × ReadSoFar (Each (g.T.Layout.layout.format old.mode).encodes items) old
     (g.R.LendingReader.state l.reader)

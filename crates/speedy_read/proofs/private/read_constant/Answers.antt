@@ -1,6 +1,6 @@
 use Rattle.std.proofs.Common.{◌≡◌, ℕ, ◌+◌, ◌-◌, length, take, drop, refl, ◌∙◌, ap, arith}
 use Rattle.std.proofs.lemmas.List.{length-append, length-drop, length-take-le}
-use Rattle.speedy_read.proofs.ByteLemmas.{front_of}
+use Rattle.speedy_read.proofs.ByteLemmas.{prefix_of}
 use Rattle.speedy_read.proofs.ConstantLemmas.{none_compared, chunk_compared, comparison_refused, chunk_fewer, all_there}
 use Rattle.speedy_read.proofs.ConstantLemmas.{constant_read, constant_differs}
 use Rattle.speedy_read.proofs.private.read_constant.Goals as goal
@@ -24,14 +24,14 @@ loop-at-smaller g c = omega arith
 pub loop-at-preserved : goal.loop-at-preserved
 loop-at-preserved g c =
     let size = length-take-le c.min-size.result c.loop-at.chunk (omega (arith, c.loop-at.invariant.1)) in
-    let back : (c.loop-at.at + c.min-size.result) - c.loop-at.at ≡ c.min-size.result = omega arith in (
+    let suffix : (c.loop-at.at + c.min-size.result) - c.loop-at.at ≡ c.min-size.result = omega arith in (
       omega arith,
       length-append c.read_bytes.new.output (drop c.min-size.result c.loop-at.chunk)
           ∙ omega (arith, c.read_bytes.auto.output, length-drop c.min-size.result c.loop-at.chunk, size),
       chunk_compared c.args.constant.now c.loop-at.at _ _ size (omega arith) c.loop-at.invariant.2
-          c.in_ok-read_bytes.ensures (front_of c.min-size.result c.read_bytes.new.output
+          c.in_ok-read_bytes.ensures (prefix_of c.min-size.result c.read_bytes.new.output
           (drop c.min-size.result c.loop-at.chunk) (c.read_bytes.auto.output ∙ size))
-          (ap (λ (n : ℕ). take n (drop c.loop-at.at c.args.constant.now)) back) c.are_still_the_same-same.ensures,
+          (ap (λ (n : ℕ). take n (drop c.loop-at.at c.args.constant.now)) suffix) c.are_still_the_same-same.ensures,
       λ none. let l = ap length none in absurd (omega arith),
     )
 

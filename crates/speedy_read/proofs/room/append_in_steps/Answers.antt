@@ -1,6 +1,6 @@
 use Rattle.std.proofs.Common.{◌≡◌, ◌∙◌, ◌+◌, ◌*◌, [], ◌++◌, ap, map, take, subst, subst₂, sym, arith}
 use Rattle.std.proofs.lemmas.List.{append_assoc, append-nil, map-append, take_all}
-use Rattle.speedy_layout.specs.FixedNumbers.{spelled_in}
+use Rattle.speedy_layout.specs.FixedNumbers.{encoded_in}
 use Rattle.speedy_layout.specs.Format.{Each}
 use Rattle.speedy_layout.specs.Lists.{each_append}
 use Rattle.speedy_read.proofs.StepLemmas.{steps_within, steps_done, step_length, step_behind}
@@ -22,7 +22,7 @@ append_each-requires g c =
 
 pub loop-at-preserved : goal.loop-at-preserved
 loop-at-preserved g c =
-    let S = spelled_in g.T.Layout.layout.format c.args.order in
+    let S = encoded_in g.T.Layout.layout.format c.args.order in
     let within = steps_within g.met.T.FixedNumber.is_fixed.has_bytes c.SIZE.ensures (c.loop-at.at + c.min-some.result)
     c.args.digits.now (omega arith) in
     let before = c.loop-at.invariant.1 in
@@ -47,6 +47,6 @@ returns g c =
     let items = c.loop-at.invariant.1 in (
       items.0,
       items.1,
-      subst (λ b. Each (spelled_in g.T.Layout.layout.format c.args.order)
+      subst (λ b. Each (encoded_in g.T.Layout.layout.format c.args.order)
           (map g.T.Layout.seen items.0) b) (take_all _ c.args.digits.now done) items.2,
     )

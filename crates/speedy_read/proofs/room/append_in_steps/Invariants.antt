@@ -1,5 +1,5 @@
 use Rattle.std.specs.Prelude.{◌≡◌, ◌≤◌, ◌-◌, ◌*◌, ◌++◌, List, map, take}
-use Rattle.speedy_layout.specs.FixedNumbers.{spelled_in}
+use Rattle.speedy_layout.specs.FixedNumbers.{encoded_in}
 use Rattle.speedy_layout.specs.Format.{Each}
 use Rattle.speedy_read.proofs.room.append_in_steps.Given as goal
 
@@ -7,7 +7,7 @@ use Rattle.speedy_read.proofs.room.append_in_steps.Given as goal
 abbrev pub invariant-loop-at : goal.invariant-loop-at
 invariant-loop-at g l =
     (l.at ≤ l.count) × ((more : List g.row.T.Denot) × (l.numbers.items ≡ l.initial.numbers.items ++ more)
-    × Each (spelled_in g.T.Layout.layout.format l.order) (map g.T.Layout.seen more)
+    × Each (encoded_in g.T.Layout.layout.format l.order) (map g.T.Layout.seen more)
     (take (l.at * g.T.FixedSize.SIZE) l.digits))
 
 abbrev pub decreases-loop-at : goal.decreases-loop-at

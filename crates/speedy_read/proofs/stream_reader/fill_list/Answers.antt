@@ -6,13 +6,13 @@ use borrow.Rule.Slice.PartMut.{put_mid}
 use Rattle.speedy_read.proofs.stream_reader.fill_list.Goals as goal
 
 -- what was pulled lies behind what was there
-filled_on : (output pulled to_come more : List ℕ) (i n : ℕ) → i ≤ length output → n ≤ length pulled
-    → to_come ≡ take n pulled ++ more
-    → take i output ++ to_come ≡ take (i + n) (put_mid i (length output - i) output pulled) ++ more
-filled_on output pulled to_come more i n p r moved =
-    let front = length-take-le i output p in
+filled_on : (output pulled remaining more : List ℕ) (i n : ℕ) → i ≤ length output → n ≤ length pulled
+    → remaining ≡ take n pulled ++ more
+    → take i output ++ remaining ≡ take (i + n) (put_mid i (length output - i) output pulled) ++ more
+filled_on output pulled remaining more i n p r moved =
+    let prefix = length-take-le i output p in
     let behind = drop (length output - i) (drop i output) in
-    let e = ap (λ k. take (k + n) (take i output ++ (pulled ++ behind))) (sym front) ∙ take-append-add (take i output)
+    let e = ap (λ k. take (k + n) (take i output ++ (pulled ++ behind))) (sym prefix) ∙ take-append-add (take i output)
     (pulled ++ behind) n ∙ ap (λ l. take i output ++ l) (take-append-le n pulled behind r) in
     ap (λ l. take i output ++ l) moved ∙ sym (append_assoc (take i output) (take n pulled) more)
     ∙ ap (λ l. l ++ more) (sym e)

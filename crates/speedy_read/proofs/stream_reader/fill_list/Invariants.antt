@@ -8,7 +8,7 @@ invariant-loop-filled g l =
     × ((source l.source).faults ≡ (source l.fn.source).faults)
     × (l.filled ≤ length l.output)
     × (IsTrue (source l.fn.source).tells
-    → (source l.fn.source).to_come ≡ take l.filled l.output ++ (source l.source).to_come)
+    → (source l.fn.source).remaining ≡ take l.filled l.output ++ (source l.source).remaining)
 
 abbrev pub decreases-loop-filled : goal.decreases-loop-filled
 decreases-loop-filled g l = length l.initial.output - l.filled

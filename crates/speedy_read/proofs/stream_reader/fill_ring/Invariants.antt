@@ -8,7 +8,7 @@ invariant-loop-ring g l =
     × ((source l.source).faults ≡ (source l.fn.source).faults)
     × (l.ring.capacity ≡ l.fn.ring.capacity)
     × (IsTrue (source l.fn.source).tells
-    → l.ring.bytes ++ (source l.source).to_come ≡ l.fn.ring.bytes ++ (source l.fn.source).to_come)
+    → l.ring.bytes ++ (source l.source).remaining ≡ l.fn.ring.bytes ++ (source l.fn.source).remaining)
     × (l.count ≤ length l.fn.ring.bytes → (l.ring ≡ l.fn.ring) × (source l.source ≡ source l.fn.source))
     × (l.reads_ahead ≡ false → length l.ring.bytes ≤ max (length l.fn.ring.bytes) l.count)
 

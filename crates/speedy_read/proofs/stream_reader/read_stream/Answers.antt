@@ -9,5 +9,5 @@ returns g c =
     let same_name = view_name c.over-reader.result made in
     let given_name = c.into_source.ensures.same_source in
     let given = c.into_source.ensures.source in
-    stream_answered g.S.Source.source g.C.Context.encoding g.T.Layout.layout.format c.over-reader.result
+    stream_answered g.S.Source.source g.C.Context.mode g.T.Layout.layout.format c.over-reader.result
     c.read_from-value.new.reader made c.in-Ok.ensures.made (grind arith) c.read_from-value.ensures

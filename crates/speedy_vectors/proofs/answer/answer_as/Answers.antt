@@ -6,7 +6,7 @@ use Rattle.speedy_vectors.proofs.answer.answer_as.Goals as goal
 
 pub returns : goal.returns
 returns g c =
-    let format = g.T.Layout.layout.format (g.C.Context.encoding c.args.context) in
+    let format = g.T.Layout.layout.format (g.C.Context.mode c.args.context) in
     let read = rw c.in-Err.is at c.read_with_length-result.ensures in
     IfOk-weaker c.refused_answer.result _ _
     (λ text is. refusal_answers g.T.Layout.seen g.T.Layout.layout.least format c.in-Err.error _ c.args.bytes.now

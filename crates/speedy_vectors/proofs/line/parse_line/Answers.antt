@@ -16,7 +16,7 @@ returns-in_default-order_of c = λ order name bytes is.
     let first = c.in-Some.ensures in
     let second = c.in-Some-split_at.ensures in
     c.in_default-order_of.ensures order
-    (line_splits _ _ _ _ order name bytes first.front_is second.front_is
+    (line_splits _ _ _ _ order name bytes first.prefix_is second.prefix_is
     (fields _ _ _ _ _ first.text_is second.text_is) is).0
 
 pub returns-in_default-name_of : goal.returns-in_default-name_of
@@ -24,7 +24,7 @@ returns-in_default-name_of c = λ order name bytes is.
     let first = c.in-Some.ensures in
     let second = c.in-Some-split_at.ensures in
     c.in_default-name_of.ensures name
-    (line_splits _ _ _ _ order name bytes first.front_is second.front_is
+    (line_splits _ _ _ _ order name bytes first.prefix_is second.prefix_is
     (fields _ _ _ _ _ first.text_is second.text_is) is).1
 
 pub returns-in-None : goal.returns-in-None
@@ -32,6 +32,6 @@ returns-in-None c = λ order name bytes is.
     let first = c.in-Some.ensures in
     let second = c.in-Some-split_at.ensures in
     let hex =
-    (line_splits _ _ _ _ order name bytes first.front_is second.front_is
+    (line_splits _ _ _ _ order name bytes first.prefix_is second.prefix_is
     (fields _ _ _ _ _ first.text_is second.text_is) is).2 in
     (rw c.in-None.is at c.in_ok-bytes.ensures) bytes hex

@@ -25,7 +25,7 @@ read_levels-returns-in_err-length g t c =
     {new = g.R.LendingReader.state c.read_length.new.reader} (omega arith)
     (refused_second (tree_composes _ _) (unsigned_number_laws 1 _) {A = List Rose} {seen = λ rs. rs} value
     c.from_residual-in_err-length.ensures.1
-    (refused_first (list_composes _ _) refl (rw value.kept.encoding at c.in_err-length.ensures)))
+    (refused_first (list_composes _ _) refl (rw value.kept.mode at c.in_err-length.ensures)))
 
 pub read_levels-returns-in_err-children : goal.read_levels-returns-in_err-children
 read_levels-returns-in_err-children g t c =
@@ -35,8 +35,8 @@ read_levels-returns-in_err-children g t c =
     {new = g.R.LendingReader.state c.read_children.new.reader} (omega arith)
     (refused_second (tree_composes _ _) (unsigned_number_laws 1 _) {A = List Rose} {seen = λ rs. rs} value
     c.from_residual-in_err-children.ensures.1
-    (refused_second (list_composes _ _) (unsigned_number_laws 4 _) (rw value.kept.encoding at number) refl
-    (rw (number.kept.encoding, value.kept.encoding) at c.in_err-children.ensures)))
+    (refused_second (list_composes _ _) (unsigned_number_laws 4 _) (rw value.kept.mode at number) refl
+    (rw (number.kept.mode, value.kept.mode) at c.in_err-children.ensures)))
 
 pub read_levels-returns : goal.read_levels-returns
 read_levels-returns g t c =
@@ -45,8 +45,8 @@ read_levels-returns g t c =
     level_read kinds.OutOfRangeLength (tree_step _)
     {new = g.R.LendingReader.state c.read_children.new.reader} (omega arith)
     (got_both (tree_composes _ _) {A = List Rose} {seen = λ rs. rs} {y = map view c.in_ok-children.children.items} value
-    (got_both (list_composes _ _) (rw value.kept.encoding at number)
-    (rw (number.kept.encoding, value.kept.encoding) at c.in_ok-children.ensures) refl) (view_made _ _))
+    (got_both (list_composes _ _) (rw value.kept.mode at number)
+    (rw (number.kept.mode, value.kept.mode) at c.in_ok-children.ensures) refl) (view_made _ _))
 
 pub read_children-loop-i-init : goal.read_children-loop-i-init
 read_children-loop-i-init g t c = rw c.new-children.ensures.items (refl, none_so_far refl)
@@ -58,7 +58,7 @@ read_children-loop-i-preserved g t c =
       ap length items
           ∙ (length_push (map view c.loop-i.children.items) (view c.in_ok-child.child)
           ∙ omega (arith, c.loop-i.invariant.0)),
-      item_more _ _ so_far (rw so_far.kept.encoding at c.in_ok-child.ensures) items,
+      item_more _ _ so_far (rw so_far.kept.mode at c.in_ok-child.ensures) items,
     )
 
 pub read_children-returns-in_err-child : goal.read_children-returns-in_err-child
@@ -69,7 +69,7 @@ read_children-returns-in_err-child g t c =
     omega arith in
     refused_item (tree_laws _ _) _ _ {new = g.R.LendingReader.state c.read_levels.new.reader} fewer so_far
     c.from_residual.ensures.1
-    (rw so_far.kept.encoding at c.in_err-child.ensures)
+    (rw so_far.kept.mode at c.in_err-child.ensures)
 
 pub read_children-returns-in-Err : goal.read_children-returns-in-Err
 read_children-returns-in-Err g t c =

@@ -14,5 +14,5 @@ abbrev pub invariant-read_children-loop-i : goal.invariant-read_children-loop-i
 invariant-read_children-loop-i g l =
     let old = g.R.LendingReader.state l.fn.reader in
     let items = map view l.children.items in
-    (length items ≡ l.i) × ReadSoFar (Each (tree_levels l.levels old.encoding).spells items) old
+    (length items ≡ l.i) × ReadSoFar (Each (tree_levels l.levels old.mode).encodes items) old
     (g.R.LendingReader.state l.reader)

@@ -10,30 +10,30 @@ use Rattle.speedy_write.proofs.each.write_item.Goals as goal
 pub returns-in-Some : goal.returns-in-Some
 returns-in-Some g c =
     let W = g.met.W.Writer in
-    let back =
-    context_back g.W.Writer.at g.C.Context.encoding W.encoding_at W.state_with W.nothing W.additive W.appends_with in
+    let suffix =
+    context_back g.W.Writer.at g.C.Context.mode W.mode_at W.state_with W.nothing W.additive W.appends_with in
     let w = c.args.writer.now in
     let value = c.context_mut.ensures.value in
-    let same = back w _ _ _ value c.bytes_needed.ensures.encoding refl in
+    let same = suffix w _ _ _ value c.bytes_needed.ensures.mode refl in
     Writes-from same.state_is (λ b. same.joins b _)
     (item_counted g.T.Layout.layout.laws
-    (ap g.C.Context.encoding value
-    ∙ (sym (W.encoding_at w) ∙ sym (ap (λ (s : WriterState). s.encoding) same.state_is)))
+    (ap g.C.Context.mode value
+    ∙ (sym (W.mode_at w) ∙ sym (ap (λ (s : WriterState). s.mode) same.state_is)))
     c.in-Ok.ensures.needs.written c.in-Some.ensures)
 
 pub returns : goal.returns
 returns g c =
     let W = g.met.W.Writer in
-    let back =
-    context_back g.W.Writer.at g.C.Context.encoding W.encoding_at W.state_with W.nothing W.additive W.appends_with in
+    let suffix =
+    context_back g.W.Writer.at g.C.Context.mode W.mode_at W.state_with W.nothing W.additive W.appends_with in
     let w = c.args.writer.now in
     let same : StaysAs g.W.Writer.state g.W.Writer.appends w c.if-COUNTS.writer = elim c.if-COUNTS.branch [
-      | then-COUNTS+in-Ok+in_default-count_bytes h ↦ back w _ _ _ h.context_mut.ensures.value
-          h.bytes_needed.ensures.encoding (h.writer-is ∙ h.in_default-count_bytes.ensures)
+      | then-COUNTS+in-Ok+in_default-count_bytes h ↦ suffix w _ _ _ h.context_mut.ensures.value
+          h.bytes_needed.ensures.mode (h.writer-is ∙ h.in_default-count_bytes.ensures)
       | then-COUNTS+in_default+in-Err-1 h ↦
-          back w _ _ _ h.context_mut.ensures.value h.bytes_needed.ensures.encoding h.writer-is
+          suffix w _ _ _ h.context_mut.ensures.value h.bytes_needed.ensures.mode h.writer-is
       | then-COUNTS+in_default+in-Ok-1 h ↦
-          back w _ _ _ h.context_mut.ensures.value h.bytes_needed.ensures.encoding h.writer-is
+          suffix w _ _ _ h.context_mut.ensures.value h.bytes_needed.ensures.mode h.writer-is
       | else-COUNTS h ↦ subst (StaysAs g.W.Writer.state g.W.Writer.appends w) (sym h.writer-is) stays_same
     ] in
     Writes-from same.state_is (λ b. same.joins b _) c.write_to.ensures

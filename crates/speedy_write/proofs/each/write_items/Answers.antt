@@ -9,27 +9,27 @@ use Rattle.speedy_write.proofs.each.write_items.Goals as goal
 pub returns-in-Some-count_bytes : goal.returns-in-Some-count_bytes
 returns-in-Some-count_bytes g c =
     let W = g.met.W.Writer in
-    let back =
-    context_back g.W.Writer.at g.C.Context.encoding W.encoding_at W.state_with W.nothing W.additive W.appends_with in
+    let suffix =
+    context_back g.W.Writer.at g.C.Context.mode W.mode_at W.state_with W.nothing W.additive W.appends_with in
     let w = c.args.writer.now in
     let value = c.context_mut.ensures.value in
-    let same = back w _ _ _ value c.count_each.ensures.encoding refl in
+    let same = suffix w _ _ _ value c.count_each.ensures.mode refl in
     Writes-from same.state_is (λ b. same.joins b _)
     (items_counted g.T.Layout.seen c.args.items.now g.T.Layout.layout.laws
-    (ap g.C.Context.encoding value
-    ∙ (sym (W.encoding_at w) ∙ sym (ap (λ (s : WriterState). s.encoding) same.state_is)))
+    (ap g.C.Context.mode value
+    ∙ (sym (W.mode_at w) ∙ sym (ap (λ (s : WriterState). s.mode) same.state_is)))
     c.in-Some.ensures.counts c.in-Some-count_bytes.ensures)
 
 pub returns : goal.returns
 returns g c =
     let W = g.met.W.Writer in
-    let back =
-    context_back g.W.Writer.at g.C.Context.encoding W.encoding_at W.state_with W.nothing W.additive W.appends_with in
+    let suffix =
+    context_back g.W.Writer.at g.C.Context.mode W.mode_at W.state_with W.nothing W.additive W.appends_with in
     let w = c.args.writer.now in
     let same : StaysAs g.W.Writer.state g.W.Writer.appends w c.if-COUNTS.writer = elim c.if-COUNTS.branch [
-      | then-COUNTS+in-Some+in_default-count_bytes h ↦ back w _ _ _ h.context_mut.ensures.value
-          h.count_each.ensures.encoding (h.writer-is ∙ h.in_default-count_bytes.ensures)
-      | then-COUNTS+in_default h ↦ back w _ _ _ h.context_mut.ensures.value h.count_each.ensures.encoding h.writer-is
+      | then-COUNTS+in-Some+in_default-count_bytes h ↦ suffix w _ _ _ h.context_mut.ensures.value
+          h.count_each.ensures.mode (h.writer-is ∙ h.in_default-count_bytes.ensures)
+      | then-COUNTS+in_default h ↦ suffix w _ _ _ h.context_mut.ensures.value h.count_each.ensures.mode h.writer-is
       | else-COUNTS h ↦ subst (StaysAs g.W.Writer.state g.W.Writer.appends w) (sym h.writer-is) stays_same
     ] in
     Writes-from same.state_is (λ b. same.joins b _) c.write_many.ensures

@@ -16,7 +16,7 @@ loop-rest-preserved g c =
     let done = before.1 in
     let some = c.split_at.result.0.now in
     let put_length = c.put_values.auto.output in
-    let front_length = c.split_at.ensures.front_len in
+    let prefix_length = c.split_at.ensures.front_len in
     let back_length = c.split_at.ensures.back_len in
     let few = c.has_few_bytes.ensures in
     let fits : length some * c.BYTES-in-loop-rest.result ≤ length c.loop-rest.chunk = grind (
@@ -24,14 +24,14 @@ loop-rest-preserved g c =
       common_steps,
       c.BYTES-in-loop-rest.array_long,
       c.min.ensures,
-      front_length,
+      prefix_length,
       c.BYTES.ensures,
       c.BYTES-in-loop-rest.ensures,
       few,
     ) in (
       chunk_ends c.loop-rest.at (length c.loop-rest.rest.now) (length some) (length c.split_at.result.1.now)
           g.P.FixedBytes.BYTES (length c.put_values.new.output) (length c.loop-rest.output) before.0
-          (omega (arith, front_length, back_length))
+          (omega (arith, prefix_length, back_length))
           (put_length ∙ (length-take-le _ _ fits ∙ ap (λ (n : ℕ). length some * n) c.BYTES-in-loop-rest.ensures))
           ∙ sym (same_len_mid _ _ _ _ c.copy_from_slice.ensures.len),
       done ++ some,

@@ -1,5 +1,5 @@
 use Rattle.std.proofs.Common.{◌≡◌, ◌+◌, ◌*◌, ◌++◌, List, length, map, take}
-use Rattle.speedy_base.specs.Encoding.{Encoding}
+use Rattle.speedy_base.specs.Mode.{Mode}
 use Rattle.speedy_layout.specs.Format.{Each}
 use Rattle.speedy_write.proofs.fixed.put_by_chunks.Given as goal
 
@@ -8,8 +8,8 @@ abbrev pub invariant-loop-rest : goal.invariant-loop-rest
 invariant-loop-rest g l =
     (l.at + length l.rest * g.P.FixedBytes.BYTES ≡ length l.output)
     × (done : List g.row.T.Denot) × (l.values ≡ done ++ l.rest)
-    × ((encoding : Encoding) → l.order ≡ encoding.order
-    → Each (g.T.Layout.layout.format encoding).writes (map g.T.Layout.seen done) (take l.at l.output))
+    × ((mode : Mode) → l.order ≡ mode.order
+    → Each (g.T.Layout.layout.format mode).writes (map g.T.Layout.seen done) (take l.at l.output))
 
 abbrev pub decreases-loop-rest : goal.decreases-loop-rest
 decreases-loop-rest g l = length l.rest

@@ -1,5 +1,5 @@
 use Rattle.std.proofs.Common.{◌≡◌, ◌*◌, length, map, take}
-use Rattle.speedy_base.specs.Encoding.{Encoding}
+use Rattle.speedy_base.specs.Mode.{Mode}
 use Rattle.speedy_layout.specs.Format.{Each}
 use Rattle.speedy_write.proofs.fixed.put_values.Given as goal
 
@@ -7,6 +7,6 @@ use Rattle.speedy_write.proofs.fixed.put_values.Given as goal
 abbrev pub invariant-loop-value : goal.invariant-loop-value
 invariant-loop-value g l =
     (l.at ≡ l.value-index * g.P.FixedBytes.BYTES) × (length l.output ≡ length l.values * g.P.FixedBytes.BYTES)
-    × ((encoding : Encoding) → l.order ≡ encoding.order
-    → Each (g.T.Layout.layout.format encoding).writes (map g.T.Layout.seen (take l.value-index l.values))
+    × ((mode : Mode) → l.order ≡ mode.order
+    → Each (g.T.Layout.layout.format mode).writes (map g.T.Layout.seen (take l.value-index l.values))
     (take l.at l.output))

@@ -6,7 +6,7 @@ use Rattle.speedy_write.proofs.writable.fill_vec.Goals as goal
 
 pub returns-then-room-le-MOST_ZEROED-clause-fills : goal.returns-then-room-le-MOST_ZEROED-clause-fills
 returns-then-room-le-MOST_ZEROED-clause-fills g c =
-    let F = g.T.Layout.layout.format (g.C.Context.encoding c.args.context.now) in
+    let F = g.T.Layout.layout.format (g.C.Context.mode c.args.context.now) in
     let v = g.T.Layout.seen c.args.value.now in
     let buffer = c.fill.new.buffer in
     let sized : length buffer ≡ c.resize.new.self.len = c.fill.auto.buffer ∙ c.as_mut_slice.ensures.len in

@@ -1,5 +1,5 @@
 use Rattle.std.proofs.Common.{ap, refl, arith}
-use Rattle.speedy_write.proofs.GatheringLemmas.{gathered_pushed, gathered_refused}
+use Rattle.speedy_write.proofs.BufferingLemmas.{gathered_pushed, gathered_refused}
 use Rattle.speedy_write.proofs.StreamLemmas.{stream_written}
 use Rattle.speedy_write.proofs.writable.write_gathered.Goals as goal
 
@@ -14,8 +14,8 @@ returns-in-Ok g c =
     let pushed_name = c.push_waiting-outcome.ensures.same_sink in
     let given_name = c.into_sink.ensures.same_sink in
     let given = c.into_sink.ensures.sink in
-    stream_written (g.T.Layout.layout.laws _) {other = g.C.Context.encoding writer.context}
-    {other_name = writer.sink.ghost_name} _ _ (ap g.C.Context.encoding made.context) (ap g.S.Sink.sink made.sink)
+    stream_written (g.T.Layout.layout.laws _) {other = g.C.Context.mode writer.context}
+    {other_name = writer.sink.ghost_name} _ _ (ap g.C.Context.mode made.context) (ap g.S.Sink.sink made.sink)
     (ap g.S.Sink.sink (grind arith)) outcome
     (gathered_pushed outcome written c.push_waiting-outcome.ensures.pushes)
 
@@ -28,6 +28,6 @@ returns-in-Err g c =
     let same_name = made.same_sink in
     let given_name = c.into_sink-in-Err.ensures.same_sink in
     let given = c.into_sink-in-Err.ensures.sink in
-    stream_written (g.T.Layout.layout.laws _) {other = g.C.Context.encoding writer.context}
-    {other_name = writer.sink.ghost_name} _ _ (ap g.C.Context.encoding made.context) (ap g.S.Sink.sink made.sink)
+    stream_written (g.T.Layout.layout.laws _) {other = g.C.Context.mode writer.context}
+    {other_name = writer.sink.ghost_name} _ _ (ap g.C.Context.mode made.context) (ap g.S.Sink.sink made.sink)
     (ap g.S.Sink.sink (grind arith)) _ (gathered_refused refl refused)

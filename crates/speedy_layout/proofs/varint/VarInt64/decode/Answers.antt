@@ -2,10 +2,10 @@ use Rattle.std.proofs.Common.{◌≡◌, ℕ, ◌+◌, ◌*◌, ◌^◌, ◌++�
 use Rattle.std.specs.Int.{w64, from_le_bytes}
 use Rattle.speedy_base.specs.DigitsLemmas.{AreBytes-slice}
 use Rattle.speedy_base.specs.declared.endianness.Endianness.TheVariants.{LittleEndian}
-use Rattle.speedy_base.specs.Encoding.{plain_encoding}
+use Rattle.speedy_base.specs.Mode.{plain_mode}
 use Rattle.speedy_layout.specs.Varint.{VarintParts, varint-accepted}
 use Rattle.speedy_layout.proofs.VarintForms.{varint-below_64}
-use Rattle.speedy_layout.proofs.VarintCode.{zeros, mark_below, high_at_eight, high_below_eight, SpellsNumber-padded}
+use Rattle.speedy_layout.proofs.VarintCode.{zeros, mark_below, high_at_eight, high_below_eight, EncodesNumber-padded}
 use Rattle.speedy_layout.proofs.varint.VarInt64.decode.Goals as goal
 use Rattle.speedy_layout.proofs.varint.VarInt64.decode.Goals.{then-more-lt8, else-more-lt8}
 
@@ -32,16 +32,16 @@ parts c = record {
   low = c.requires.0;
   rest = c.from_le_bytes.result;
   first_is = c.requires.1;
-  tail_is = SpellsNumber-padded c.from_le_bytes.result c.args.rest.now c.requires.1.at_most_eight
+  tail_is = EncodesNumber-padded c.from_le_bytes.result c.args.rest.now c.requires.1.at_most_eight
       (AreBytes-slice _ c.type_inv.rest) (digits_are c);
   value_is = ap (λ (i : ℕ). i + c.from_le_bytes.result) (high_is c);
 }
 
 pub overflow_add-result : goal.overflow_add-result
 overflow_add-result c =
-    let encoding = plain_encoding LittleEndian in
+    let mode = plain_mode LittleEndian in
     let small =
-    varint-below_64 encoding _ _ (varint-accepted encoding _ _ _ (parts c) (λ (h : false ≡ true). absurd (cc))) in
+    varint-below_64 mode _ _ (varint-accepted mode _ _ _ (parts c) (λ (h : false ≡ true). absurd (cc))) in
     omega arith
 
 pub returns : goal.returns

@@ -1,7 +1,7 @@
 use Rattle.std.proofs.Common.{◌≡◌, ℕ, ◌+◌, ◌-◌, ◌/◌, ◌^◌, sym, ap, ◌∙◌, subst, refl, arith, ◌<◌}
 use Rattle.std.specs.Int.{w64}
 use Rattle.speedy_base.specs.declared.endianness.Endianness.TheVariants.{LittleEndian}
-use Rattle.speedy_base.specs.DigitsLemmas.{listed-all, SpellsNumber-to_le_bytes}
+use Rattle.speedy_base.specs.DigitsLemmas.{listed-all, EncodesNumber-to_le_bytes}
 use Rattle.speedy_layout.specs.Varint.{capacity-below_64}
 use Rattle.speedy_layout.specs.Zigzag.{varint_number}
 use Rattle.speedy_layout.proofs.VarintCode.{byte_power, low_below, no_low, first_byte_is, first_byte_fits, written}
@@ -44,7 +44,7 @@ low_is_still c =
 pub returns-clause-written : goal.returns-clause-written
 returns-clause-written c = λ e.
     let n = varint_number c.args.self in
-    let digits = SpellsNumber-to_le_bytes w64 LittleEndian n c.to_le_bytes-digits.result refl
+    let digits = EncodesNumber-to_le_bytes w64 LittleEndian n c.to_le_bytes-digits.result refl
     (capacity-below_64 c.more_bytes-more.result n c.more_bytes-more.ensures.at_most_eight
     c.more_bytes-more.ensures.enough) c.to_le_bytes-digits.ensures in
     let width = digits.width_is in

@@ -1,4 +1,4 @@
 use Rattle.speedy_layout.proofs.views.ArrayView.iter.Goals as goal
 
-pub returns-clause-spelled : goal.returns-clause-spelled
-returns-clause-spelled g c = c.items_of.ensures.spelled g.row.N c.args.self.now.whole
+pub returns-clause-encoded : goal.returns-clause-encoded
+returns-clause-encoded g c = c.items_of.ensures.encoded g.row.N c.args.self.now.whole

@@ -1,10 +1,10 @@
 use Rattle.speedy_base.specs.DigitsLemmas.{AreBytes-slice}
-use Rattle.speedy_layout.specs.Views.{shown_items_spelled}
+use Rattle.speedy_layout.specs.Views.{shown_items_encoded}
 use Rattle.speedy_layout.proofs.views.ArrayView.over.Goals as goal
 
-pub returns-clause-spelled : goal.returns-clause-spelled
-returns-clause-spelled g c =
+pub returns-clause-encoded : goal.returns-clause-encoded
+returns-clause-encoded g c =
     let bytes = c.args.bytes.now in
     let size = g.T.FixedSize.SIZE in
-    shown_items_spelled g.T.ViewItem.decoded size g.T.Layout.seen _ g.met.T.ViewItem.decodes _ bytes
+    shown_items_encoded g.T.ViewItem.decoded size g.T.Layout.seen _ g.met.T.ViewItem.decodes _ bytes
     g.met.T.ViewItem.some_bytes c.requires (AreBytes-slice bytes c.type_inv.bytes)

@@ -28,23 +28,23 @@ returns-in_err-short-in-0 g c =
     let tag =
     code_read _ address_tag_code {seen' = λ (b : Bool). b} {y = false} c.in-0.is (λ _. c.in-0.is) c.in_ok-tag.ensures in
     refused_second (ip_address_composes _) (address_tag.laws _) tag c.from_residual-in_err-short-in-0.ensures.1
-    (rw tag.kept.encoding at c.in_err-short-in-0.ensures)
+    (rw tag.kept.mode at c.in_err-short-in-0.ensures)
 
 pub returns-in_ok-short-in-0 : goal.returns-in_ok-short-in-0
 returns-in_ok-short-in-0 g c =
     let tag =
     code_read _ address_tag_code {seen' = λ (b : Bool). b} {y = false} c.in-0.is (λ _. c.in-0.is) c.in_ok-tag.ensures in
-    got_both (ip_address_composes _) tag (rw tag.kept.encoding at c.in_ok-short-in-0.ensures) refl
+    got_both (ip_address_composes _) tag (rw tag.kept.mode at c.in_ok-short-in-0.ensures) refl
 
 pub returns-in_err-long-in-1 : goal.returns-in_err-long-in-1
 returns-in_err-long-in-1 g c =
     let tag =
     code_read _ address_tag_code {seen' = λ (b : Bool). b} {y = true} c.in-1.is (λ _. c.in-1.is) c.in_ok-tag.ensures in
     refused_second (ip_address_composes _) (address_tag.laws _) tag c.from_residual-in_err-long-in-1.ensures.1
-    (rw tag.kept.encoding at c.in_err-long-in-1.ensures)
+    (rw tag.kept.mode at c.in_err-long-in-1.ensures)
 
 pub returns-in_ok-long-in-1 : goal.returns-in_ok-long-in-1
 returns-in_ok-long-in-1 g c =
     let tag =
     code_read _ address_tag_code {seen' = λ (b : Bool). b} {y = true} c.in-1.is (λ _. c.in-1.is) c.in_ok-tag.ensures in
-    got_both (ip_address_composes _) tag (rw tag.kept.encoding at c.in_ok-long-in-1.ensures) refl
+    got_both (ip_address_composes _) tag (rw tag.kept.mode at c.in_ok-long-in-1.ensures) refl

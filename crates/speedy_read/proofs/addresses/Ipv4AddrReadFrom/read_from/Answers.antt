@@ -1,6 +1,6 @@
 use Rattle.std.proofs.Common.{sym, subst}
 use Rattle.speedy_base.specs.declared.endianness.Endianness.TheVariants.{BigEndian}
-use Rattle.speedy_base.specs.Digits.{SpellsNumber}
+use Rattle.speedy_base.specs.Digits.{EncodesNumber}
 use Rattle.speedy_read.specs.Codes.{code_refused, exact_code_read}
 use Rattle.speedy_read.proofs.addresses.Ipv4AddrReadFrom.read_from.Goals as goal
 
@@ -9,5 +9,5 @@ returns-in_err-number g c = code_refused _ _ c.from_residual.ensures.1 c.in_err-
 
 pub returns : goal.returns
 returns g c = exact_code_read _ _ _
-    (subst (SpellsNumber 4 BigEndian c.in_ok-number.number) (sym c.from.ensures) c.bytes_of_u32.ensures)
+    (subst (EncodesNumber 4 BigEndian c.in_ok-number.number) (sym c.from.ensures) c.bytes_of_u32.ensures)
     c.in_ok-number.ensures

@@ -1,7 +1,7 @@
 use Rattle.std.proofs.Common.{◌≡◌, sym, ◌∙◌, ap, subst}
 use Rattle.std.specs.Net.Addr.{octets_of, ipv6_octets}
 use Rattle.speedy_base.specs.declared.endianness.Endianness.TheVariants.{BigEndian}
-use Rattle.speedy_base.specs.Digits.{SpellsNumber}
+use Rattle.speedy_base.specs.Digits.{EncodesNumber}
 use Rattle.speedy_layout.specs.Addresses.{octets_of-segments_of}
 use Rattle.speedy_read.specs.Codes.{code_refused, exact_code_read}
 use Rattle.speedy_read.proofs.addresses.Ipv6AddrReadFrom.read_from.Goals as goal
@@ -14,5 +14,5 @@ returns g c =
     let octets = c.bytes_of_u128.ensures in
     let same : ipv6_octets c.from.result ≡ c.bytes_of_u128.result =
     ap octets_of c.from.ensures ∙ octets_of-segments_of 8 c.bytes_of_u128.result octets.width_is octets.are_bytes in
-    exact_code_read _ _ _ (subst (SpellsNumber 16 BigEndian c.in_ok-number.number) (sym same) c.bytes_of_u128.ensures)
+    exact_code_read _ _ _ (subst (EncodesNumber 16 BigEndian c.in_ok-number.number) (sym same) c.bytes_of_u128.ensures)
     c.in_ok-number.ensures

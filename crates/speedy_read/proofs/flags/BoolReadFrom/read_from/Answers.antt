@@ -17,16 +17,16 @@ pub returns-then-demands_written_form : goal.returns-then-demands_written_form
 returns-then-demands_written_form g c =
     let number = c.in_ok-number.ensures in
     code_not_written _ flag_code (unsigned_number_laws 1 _) flag_reads_wider
-    (demanded number.kept.encoding c.demands_written_form.ensures c.if-demands_written_form.true)
+    (demanded number.kept.mode c.demands_written_form.ensures c.if-demands_written_form.true)
     (λ b. not_written_flag _ b c.if-not-is_written.true) c.error_not_written_form.ensures number
 
 is_written : (g : Over) (c : goal.Joined-else-not-is_written g)
-    → IsTrue (g.R.LendingReader.state c.args.reader.now).encoding.strict
+    → IsTrue (g.R.LendingReader.state c.args.reader.now).mode.strict
     → c.in_ok-number.number ≡ written_flag (not (nat_eq c.in_ok-number.number 0))
 is_written g c strict =
     elim c.else-not-is_written.branch [
       | else-not-is_written-via-then-not-is_written+else-demands_written_form w ↦
-          absurd (not_demanded c.in_ok-number.ensures.kept.encoding w.demands_written_form.ensures
+          absurd (not_demanded c.in_ok-number.ensures.kept.mode w.demands_written_form.ensures
           w.if-demands_written_form.false strict)
       | else-not-is_written-via-else-not-is_written w ↦ number_is_written_flag _ w.if-not-is_written.false
     ]

@@ -16,10 +16,10 @@ pub returns-in_err-value : goal.returns-in_err-value
 returns-in_err-value g c =
     let flag = c.in_ok-is_some.ensures in
     refused_second (option_composes _) (flag_codec.laws _) (rw c.if-not-is_some.false at flag)
-    c.from_residual-in_err-value.ensures.1 (rw flag.kept.encoding at c.in_err-value.ensures)
+    c.from_residual-in_err-value.ensures.1 (rw flag.kept.mode at c.in_err-value.ensures)
 
 pub returns : goal.returns
 returns g c =
     let flag = c.in_ok-is_some.ensures in
     got_both (option_composes _) (rw c.if-not-is_some.false at flag)
-    (rw flag.kept.encoding at c.in_ok-value.ensures) refl
+    (rw flag.kept.mode at c.in_ok-value.ensures) refl

@@ -10,9 +10,9 @@ pub returns-in_err-value : goal.returns-in_err-value
 returns-in_err-value g c =
     let length = c.in_ok-length.ensures in
     refused_second (frame_composes _ _ _) (g.N.Prefix.numbers.codec.laws _) length
-    c.from_residual-in_err-value.ensures.1 (rw length.kept.encoding at c.in_err-value.ensures)
+    c.from_residual-in_err-value.ensures.1 (rw length.kept.mode at c.in_err-value.ensures)
 
 pub returns : goal.returns
 returns g c =
     let length = c.in_ok-length.ensures in
-    got_both (frame_composes _ _ _) length (rw length.kept.encoding at c.in_ok-value.ensures) refl
+    got_both (frame_composes _ _ _) length (rw length.kept.mode at c.in_ok-value.ensures) refl

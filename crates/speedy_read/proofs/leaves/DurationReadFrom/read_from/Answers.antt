@@ -17,7 +17,7 @@ pub returns-then-demands_written_form : goal.returns-then-demands_written_form
 returns-then-demands_written_form g c =
     let parts = c.in_ok-seconds.ensures in
     code_not_written _ duration_code (seconds_and_nanos_codec.laws _) duration_reads_wider
-    (demanded parts.kept.encoding c.demands_written_form.ensures c.if-demands_written_form.true)
+    (demanded parts.kept.mode c.demands_written_form.ensures c.if-demands_written_form.true)
     (λ n h. let less = h.2 in let more = c.if-is_written.false in omega arith) c.error_not_written_form.ensures parts
 
 pub returns-then-seconds-carried : goal.returns-then-seconds-carried
@@ -32,4 +32,4 @@ returns g c =
     let e = c.new-2.ensures in
     code_read _ duration_code (e, omega arith)
     (λ strict. absurd
-    (not_demanded parts.kept.encoding c.demands_written_form.ensures c.if-demands_written_form.false strict)) parts
+    (not_demanded parts.kept.mode c.demands_written_form.ensures c.if-demands_written_form.false strict)) parts

@@ -1,13 +1,13 @@
 use Rattle.std.proofs.Common.{refl}
-use Rattle.speedy_read.specs.Counted.{counted_list_composes}
+use Rattle.speedy_read.specs.Counted.{prefixed_list_composes}
 use Rattle.speedy_read.specs.Sequences.{refused_first, second_decides}
 use Rattle.speedy_read.proofs.lists.VecReadTold.read_behind.Goals as goal
 
 pub returns-in_err-length : goal.returns-in_err-length
-returns-in_err-length g c = refused_first (counted_list_composes _ _) c.from_residual.ensures.1 c.in_err-length.ensures
+returns-in_err-length g c = refused_first (prefixed_list_composes _ _) c.from_residual.ensures.1 c.in_err-length.ensures
 
 pub returns : goal.returns
 returns g c =
     let number = c.in_ok-length.ensures in
-    second_decides (counted_list_composes _ _) (g.N.Prefix.numbers.codec.laws _) number
-    (rw number.kept.encoding at c.read_vec.ensures.reads) (λ _. refl)
+    second_decides (prefixed_list_composes _ _) (g.N.Prefix.numbers.codec.laws _) number
+    (rw number.kept.mode at c.read_vec.ensures.reads) (λ _. refl)

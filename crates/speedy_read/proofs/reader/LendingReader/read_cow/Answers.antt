@@ -6,8 +6,9 @@ use Rattle.speedy_read.proofs.reader.LendingReader.read_cow.Goals as goal
 pub returns-then-ends_before-clause-reads : goal.returns-then-ends_before-clause-reads
 returns-then-ends_before-clause-reads g c =
     let old = g.Self.LendingReader.state c.args.self.now in
-    refused_early (g.T.Layout.layout.laws old.encoding) _
+    refused_early (g.T.Layout.layout.laws old.mode) _
     (input_ended g.C.Error.From.from_gives g.C.Error.IsEof.eof old.fixed.ends_by_device _ c.error_end_of_input.ensures
     (g.met.C.Context.keeps_eof _ _ c.error_end_of_input.ensures))
-    (λ told fit. subst (λ (least : ℕ). length old.to_come < c.args.length * least) c.minimum_bytes_needed-least.ensures
+    (λ told fit. subst (λ (least : ℕ). length old.remaining < c.args.length * least)
+    c.minimum_bytes_needed-least.ensures
     (c.ends_before.ensures.fewer c.if-ends_before.true told fit))

@@ -30,16 +30,16 @@ returns-then-demands_written_form g c =
     let first = c.in_ok-first.ensures in
     let rest = c.in_ok-read_bytes.ensures in
     varint_not_written _ c.decode-number.ensures
-    (demanded (rest.kept.encoding ∙ first.kept.encoding) c.demands_written_form.ensures c.if-demands_written_form.true)
+    (demanded (rest.kept.mode ∙ first.kept.mode) c.demands_written_form.ensures c.if-demands_written_form.true)
     (λ h. let fewest = c.is_written_with.ensures.1 h in let other = c.if-not-is_written_with.true in absurd (cc))
     c.error_not_written_form.ensures first _ rest
 
-is_written : (g : Over) (c : goal.After-from-2 g) → IsTrue (g.Self.LendingReader.state c.args.self.now).encoding.strict
+is_written : (g : Over) (c : goal.After-from-2 g) → IsTrue (g.Self.LendingReader.state c.args.self.now).mode.strict
     → IsFewest (length c.read_bytes.new.output) c.decode-number.result.0
 is_written g c strict =
     elim c.else-not-is_written_with.branch [
       | else-not-is_written_with-via-then-not-is_written_with+else-demands_written_form w ↦
-          absurd (not_demanded (c.in_ok-read_bytes.ensures.kept.encoding ∙ c.in_ok-first.ensures.kept.encoding)
+          absurd (not_demanded (c.in_ok-read_bytes.ensures.kept.mode ∙ c.in_ok-first.ensures.kept.mode)
           w.demands_written_form.ensures w.if-demands_written_form.false strict)
       | else-not-is_written_with-via-else-not-is_written_with w ↦
           c.is_written_with.ensures.0 w.if-not-is_written_with.false

@@ -66,15 +66,15 @@ returns-else-first-eq0 g c =
     let none = c.requires.nothing_held in
     let output = c.pull.new.output in
     let n = c.in-Ok.first in
-    let front = length-take-le n output c.in-Ok.ensures.within in
+    let prefix = length-take-le n output c.in-Ok.ensures.within in
     let first = past_read ring ring refl none {gives = g.C.Error.From.from_gives} {eof = g.C.Error.IsEof.eof}
     {seen = λ (u : Unit {0}). take n output} {x = tt} refl (one_call n c.in-Ok.ensures)
-    (sym (ap (λ (l : List ℕ). l ++ take n output) none)) (omega (arith, ap length none, front))
+    (sym (ap (λ (l : List ℕ). l ++ take n output) none)) (omega (arith, ap length none, prefix))
     (omega (arith, ap length none, c.if-first-eq0.false)) in
     rest_read _ _ (take n output) c.read_on.result (more_bytes n [] (take n output) (none_so_far refl) first refl)
     (omega (
       arith,
-      front,
+      prefix,
       c.in-Ok.ensures.within,
       c.pull.auto.output,
       length-take-le (length output - n) (drop n output) (omega (arith, length-drop n output)),

@@ -9,9 +9,9 @@ pub returns-in_err-second : goal.returns-in_err-second
 returns-in_err-second g c =
     let first = c.in_ok-first.ensures in
     refused_second pair_composes (g.T0.Layout.layout.laws _) first c.from_residual-in_err-second.ensures.1
-    (rw first.kept.encoding at c.in_err-second.ensures)
+    (rw first.kept.mode at c.in_err-second.ensures)
 
 pub returns : goal.returns
 returns g c =
     let first = c.in_ok-first.ensures in
-    got_both pair_composes first (rw first.kept.encoding at c.in_ok-second.ensures) refl
+    got_both pair_composes first (rw first.kept.mode at c.in_ok-second.ensures) refl

@@ -31,6 +31,6 @@ returns-clause-reads g c =
     let item = g.met.T.ViewItem in
     let lent = c.in_ok-bytes.ensures in
     view_lent g.T.FixedSize.SIZE _ (item.one_size _) g.row.N g.T.ViewItem.decoded g.T.Layout.seen item.some_bytes
-    (λ bytes l are. c.spelled_as_little.ensures _ bytes (item.decodes bytes l are))
+    (λ bytes l are. c.encoded_as_little.ensures _ bytes (item.decodes bytes l are))
     (ap (λ b. map g.T.Layout.seen (shown_items g.T.ViewItem.decoded g.T.FixedSize.SIZE b)) c.over.ensures.bytes)
     lent.range (rw c.in-Some.ensures at lent.reads)

@@ -32,7 +32,7 @@ returns-clause-reads g c =
     {seen = λ view. map g.T.Layout.seen (shown_items g.T.ViewItem.decoded g.T.FixedSize.SIZE view.bytes.now)}
     c.in_ok-length.ensures
     (view_lent g.T.FixedSize.SIZE _ (item.one_size _) _ g.T.ViewItem.decoded g.T.Layout.seen item.some_bytes
-    (λ bytes l are. c.spelled_as_little.ensures _ bytes (item.decodes bytes l are))
+    (λ bytes l are. c.encoded_as_little.ensures _ bytes (item.decodes bytes l are))
     (ap (λ b. map g.T.Layout.seen (shown_items g.T.ViewItem.decoded g.T.FixedSize.SIZE b)) c.over.ensures.bytes)
     lent.range (rw c.size_of_items.ensures at lent.reads))
     (λ _. refl)

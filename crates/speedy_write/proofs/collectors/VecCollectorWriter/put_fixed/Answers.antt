@@ -9,7 +9,7 @@ returns-clause-puts g c _ =
     let same = c.as_mut_slice.ensures.value in
     let same_length = c.as_mut_slice.ensures.len in
     let short = c.reach.ensures.length.1 in
-    put_in_vec {encoding = g.C.Context.encoding w.context.now} g.T.Layout.layout.laws g.T.Layout.seen
+    put_in_vec {mode = g.C.Context.mode w.context.now} g.T.Layout.layout.laws g.T.Layout.seen
     c.args.values.now c.endianness-order.ensures c.put_values_at-self.ensures w.bytes.now.items _ (omega arith)
     (ap (take w.position) same ∙ c.reach.ensures.bytes w.position w.has_room.0)
     (take_at _ _ _ (c.put_values_at-self.auto.buffer ∙ same_length))

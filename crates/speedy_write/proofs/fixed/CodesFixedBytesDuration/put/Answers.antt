@@ -10,8 +10,8 @@ unfolding coding sequence unsigned_number
 returns c e same = record {
   code = (c.as_secs.result, c.subsec_nanos.result);
   code_is = record {
-    front = c.put_number.new.output;
-    back = c.put_number-2.new.output;
+    prefix = c.put_number.new.output;
+    suffix = c.put_number-2.new.output;
     whole_is = refl;
     first_is = c.put_number.ensures e same;
     second_is = c.put_number-2.ensures e same;

@@ -9,10 +9,10 @@ pub returns-in_err-length : goal.returns-in_err-length
 returns-in_err-length g c =
     let W = g.met.W.Writer in
     let value = c.context_mut.ensures.value in
-    let same = context_back g.W.Writer.at g.C.Context.encoding W.encoding_at W.state_with W.nothing W.additive
-    W.appends_with c.args.writer.now _ _ _ value c.in_err-length.ensures.encoding refl in
-    let here = ap g.C.Context.encoding value ∙ (sym (W.encoding_at c.args.writer.now)
-    ∙ sym (ap (λ (s : WriterState). s.encoding) same.state_is)) in
+    let same = context_back g.W.Writer.at g.C.Context.mode W.mode_at W.state_with W.nothing W.additive
+    W.appends_with c.args.writer.now _ _ _ value c.in_err-length.ensures.mode refl in
+    let here = ap g.C.Context.mode value ∙ (sym (W.mode_at c.args.writer.now)
+    ∙ sym (ap (λ (s : WriterState). s.mode) same.state_is)) in
     Writes-from same.state_is (λ b. same.joins b _)
     (frame_uncounted g.N.Prefix.numbers g.T.Layout.layout c.from_residual.ensures.1
     (rw here at c.in_err-length.ensures.needs) (W.nothing _))
@@ -21,10 +21,10 @@ pub returns-in_err-write_number : goal.returns-in_err-write_number
 returns-in_err-write_number g c =
     let W = g.met.W.Writer in
     let value = c.context_mut.ensures.value in
-    let same = context_back g.W.Writer.at g.C.Context.encoding W.encoding_at W.state_with W.nothing W.additive
-    W.appends_with c.args.writer.now _ _ _ value c.in_ok-length.ensures.encoding refl in
-    let here = ap g.C.Context.encoding value ∙ (sym (W.encoding_at c.args.writer.now)
-    ∙ sym (ap (λ (s : WriterState). s.encoding) same.state_is)) in
+    let same = context_back g.W.Writer.at g.C.Context.mode W.mode_at W.state_with W.nothing W.additive
+    W.appends_with c.args.writer.now _ _ _ value c.in_ok-length.ensures.mode refl in
+    let here = ap g.C.Context.mode value ∙ (sym (W.mode_at c.args.writer.now)
+    ∙ sym (ap (λ (s : WriterState). s.mode) same.state_is)) in
     let needs = rw here at c.in_ok-length.ensures.needs in
     Writes-from same.state_is (λ b. same.joins b _)
     (frame_written g.N.Prefix.numbers g.T.Layout.layout needs.written (counted_below needs)
@@ -34,20 +34,20 @@ pub write_counted_value-requires : goal.write_counted_value-requires
 write_counted_value-requires g c =
     let W = g.met.W.Writer in
     let value = c.context_mut.ensures.value in
-    let same = context_back g.W.Writer.at g.C.Context.encoding W.encoding_at W.state_with W.nothing W.additive
-    W.appends_with c.args.writer.now _ _ _ value c.in_ok-length.ensures.encoding refl in
-    let here = ap g.C.Context.encoding value ∙ (sym (W.encoding_at c.args.writer.now)
-    ∙ sym (ap (λ (s : WriterState). s.encoding) same.state_is)) in
-    rw (c.in_ok-write_number.ensures.kept.encoding, ← here) c.in_ok-length.ensures.needs.written
+    let same = context_back g.W.Writer.at g.C.Context.mode W.mode_at W.state_with W.nothing W.additive
+    W.appends_with c.args.writer.now _ _ _ value c.in_ok-length.ensures.mode refl in
+    let here = ap g.C.Context.mode value ∙ (sym (W.mode_at c.args.writer.now)
+    ∙ sym (ap (λ (s : WriterState). s.mode) same.state_is)) in
+    rw (c.in_ok-write_number.ensures.kept.mode, ← here) c.in_ok-length.ensures.needs.written
 
 pub returns : goal.returns
 returns g c =
     let W = g.met.W.Writer in
     let value = c.context_mut.ensures.value in
-    let same = context_back g.W.Writer.at g.C.Context.encoding W.encoding_at W.state_with W.nothing W.additive
-    W.appends_with c.args.writer.now _ _ _ value c.in_ok-length.ensures.encoding refl in
-    let here = ap g.C.Context.encoding value ∙ (sym (W.encoding_at c.args.writer.now)
-    ∙ sym (ap (λ (s : WriterState). s.encoding) same.state_is)) in
+    let same = context_back g.W.Writer.at g.C.Context.mode W.mode_at W.state_with W.nothing W.additive
+    W.appends_with c.args.writer.now _ _ _ value c.in_ok-length.ensures.mode refl in
+    let here = ap g.C.Context.mode value ∙ (sym (W.mode_at c.args.writer.now)
+    ∙ sym (ap (λ (s : WriterState). s.mode) same.state_is)) in
     let needs = rw here at c.in_ok-length.ensures.needs in
     Writes-from same.state_is (λ b. same.joins b _)
     (frame_written g.N.Prefix.numbers g.T.Layout.layout needs.written (counted_below needs)

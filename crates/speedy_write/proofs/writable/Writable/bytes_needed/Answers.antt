@@ -8,7 +8,7 @@ returns g c =
     let differs = c.if-size.false in
     let range = c.finish-size.type_inv in
     record {
-      encoding = grind arith;
-      needs = counted (g.Self.Layout.layout.laws _) (ap g.C.Context.encoding made.context) made.size
+      mode = grind arith;
+      needs = counted (g.Self.Layout.layout.laws _) (ap g.C.Context.mode made.context) made.size
           c.finish-size.ensures.size (omega arith) c.in_ok-outcome.ensures;
     }

@@ -1,13 +1,13 @@
 use Rattle.std.proofs.Common.{◌≡◌, ℕ, List, subst}
-use Rattle.speedy_base.specs.Encoding.{Encoding}
+use Rattle.speedy_base.specs.Mode.{Mode}
 use Rattle.speedy_layout.specs.Varint.{varint, varint_laws}
 use Rattle.speedy_write.specs.Sequences.{form_written}
 use Rattle.speedy_write.proofs.NumberLemmas.{small_written}
 use Rattle.speedy_write.proofs.writer.Writer.write_u64_varint.Goals as goal
 
-renamed : (encoding : Encoding) (m n : ℕ) (bytes : List ℕ) → m ≡ n → (varint encoding).writes m bytes
-    → (varint encoding).writes n bytes
-renamed encoding m n bytes same h = subst (λ (i : ℕ). (varint encoding).writes i bytes) same h
+renamed : (mode : Mode) (m n : ℕ) (bytes : List ℕ) → m ≡ n → (varint mode).writes m bytes
+    → (varint mode).writes n bytes
+renamed mode m n bytes same h = subst (λ (i : ℕ). (varint mode).writes i bytes) same h
 
 pub returns-then-value-lt128-clause-writes : goal.returns-then-value-lt128-clause-writes
 returns-then-value-lt128-clause-writes g c =

@@ -1,4 +1,0 @@
-use Rattle.speedy_write.proofs.gathering.GatheringCollector.write_past.Goals as goal
-
-pub returns : goal.returns
-returns g c = c.write_past.ensures _ _
