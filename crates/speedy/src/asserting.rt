@@ -102,7 +102,7 @@ fn encoding_of<'a>(rt: &impl Abort, followed: &'a [u8]) -> &'a [u8] {
     encoding
 }
 
-/// A buffer of so many bytes, each of them 9.
+/// A buffer of `length` bytes, each of them 9.
 fn make_buffer(rt: &impl Abort, alloc: Global, length: usize) -> Vec<u8> {
     vec![in alloc; 9; length].expect(rt, "a buffer")
 }

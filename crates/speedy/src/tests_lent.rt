@@ -145,7 +145,7 @@ fn a_copying_reader_lends_nothing_for_longer(rt: HostRuntime) {
     assert_same(&rt, reader.finish(), 5);
 }
 
-/// Asserts that the value is read of any buffer, of so many bytes at the front.
+/// Asserts that the value is read of any buffer, of `count` bytes at the front.
 fn assert_read_owned<T: ReadableOwned<LittleEndian> + PartialEq>(
     rt: &impl Abort,
     alloc: Global,

@@ -96,7 +96,7 @@ fn make_wide(rt: &impl Abort, alloc: Global, order: Endianness, count: u8) -> (V
     (numbers, bytes)
 }
 
-/// Asserts that so many numbers are written to a vector and to a sink as one by one.
+/// Asserts that `count` numbers are written to a vector and to a sink as one by one.
 fn assert_wide_written(rt: &impl Abort, alloc: Global, order: Endianness, count: u8) {
     let (numbers, bytes) = make_wide(rt, alloc, order, count);
     let written = numbers.write_to_vec_with_ctx(alloc, order);
@@ -107,7 +107,7 @@ fn assert_wide_written(rt: &impl Abort, alloc: Global, order: Endianness, count:
     assert_bytes(rt, sink.into_bytes().as_slice(), bytes.as_slice());
 }
 
-/// Asserts that so many numbers are read of a buffer, lent or copied, and of a source with and without reading ahead.
+/// Asserts that `count` numbers are read of a buffer, lent or copied, and of a source with and without reading ahead.
 fn assert_wide_read(rt: &impl Abort, alloc: Global, order: Endianness, count: u8) {
     let (numbers, bytes) = make_wide(rt, alloc, order, count);
     let mut reader = BufferReader::new(alloc, order, &bytes);

@@ -8,7 +8,7 @@ use std::alloc::Global;
 use std::collections::HashMap;
 use std::process::Abort;
 
-/// A hashed map of so many numbers' digits, each with the square of its number.
+/// A hashed map of the digits of `count` numbers, each with the square of its number.
 fn make_squares(rt: &impl Abort, alloc: Global, count: u8) -> HashMap<String, u16> {
     let mut map = HashMap::new(alloc);
     for number in 0..count {

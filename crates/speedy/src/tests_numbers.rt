@@ -17,7 +17,7 @@ fn numbers_lie_in_the_order_of_their_context(rt: HostRuntime) {
     assert_encoding(&rt, rt.alloc(), 2, &rows);
 }
 
-/// Asserts that each form without a context reads the value, of so many bytes at the front.
+/// Asserts that each form without a context reads the value, of `count` bytes at the front.
 fn assert_read_without_context<'a, C: PlainContext, T: Readable<'a, C> + Debug + PartialEq>(
     rt: &impl Abort,
     alloc: Global,

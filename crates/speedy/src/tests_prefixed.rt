@@ -49,7 +49,7 @@ fn a_list_stands_behind_a_length_of_variable_width(rt: HostRuntime) {
     assert_bytes(&rt, again.value.as_slice(), list.value.as_slice());
 }
 
-/// A text of so many bytes.
+/// A text of `length` bytes.
 fn text_of(rt: &impl Abort, alloc: Global, length: usize) -> String {
     make_text(rt, alloc, "a")
         .repeat(alloc, length)

@@ -126,7 +126,7 @@ fn an_item_that_stands_twice_is_one(rt: HostRuntime) {
     assert_refused(&rt, alloc, outcome, "NotWrittenForm");
 }
 
-/// The numbers below so many.
+/// The numbers below `count`.
 fn numbers_below(rt: &impl Abort, alloc: Global, count: u16) -> BTreeSet<u16> {
     let mut set = BTreeSet::new(alloc);
     for number in 0..count {

@@ -44,7 +44,7 @@ fn assert_shows<T: ViewItem + PartialEq + Debug>(
     assert_left(rt, view.into_iter(), items);
 }
 
-/// Asserts the same of a view of so many items.
+/// Asserts the same of a view of `N` items.
 fn assert_array_shows<T: ViewItem + PartialEq + Debug, const N: usize>(
     rt: &impl Abort,
     view: &ArrayView<'_, T, N>,

@@ -33,7 +33,7 @@ SourceKept old new = DeviceKept old.tells new.tells old.faults new.faults
 abbrev pub SinkKept : SinkState → SinkState → Type 0
 SinkKept old new = DeviceKept old.tells new.tells old.faults new.faults
 
--- the source tells its bytes, and at least so many remain
+-- the source tells its bytes, and at least n remain
 abbrev pub Holds : SourceState → ℕ → Type 0
 Holds source size = IsTrue source.tells × (size ≤ length source.remaining)
 

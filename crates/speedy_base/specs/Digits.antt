@@ -19,7 +19,7 @@ abbrev pub little_digits : ℕ → ℕ → List ℕ
 little_digits zero n = []
 little_digits (suc width) n = n % 256 ∷ little_digits width (n / 256)
 
--- the digits of a number, so many of them
+-- the n digits of a number
 unfoldable pub digits : Endianness → ℕ → ℕ → List ℕ
 digits LittleEndian width n = little_digits width n
 digits BigEndian width n = reverse (little_digits width n)
@@ -28,7 +28,7 @@ digits BigEndian width n = reverse (little_digits width n)
 abbrev pub AreBytes : List ℕ → Type 0
 AreBytes bytes = AllByRecursion (λ b. b < 256) bytes
 
--- README, "as-is": so many digits, each a byte, with this value in this order
+-- README, "as-is": n digits, each a byte, with this value in this order
 pub record EncodesNumber (width : ℕ) (order : Endianness) (n : ℕ) (bytes : List ℕ) : Type 0 where
   pub width_is : length bytes ≡ width
   pub are_bytes : AreBytes bytes

@@ -214,7 +214,7 @@ EncodesNumber-below width order n bytes s =
 
 -- ---- encodings by std's conversions
 
--- the items of a list from index i onward, so many of them
+-- n items of a list from index i onward
 abbrev pub listed : List ℕ → ℕ → ℕ → List ℕ
 listed bytes i zero = []
 listed bytes i (suc k) = get_or bytes i 0 ∷ listed bytes (suc i) k

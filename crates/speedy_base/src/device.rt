@@ -92,7 +92,7 @@ pub trait Sink {
 impl Source for &[u8] {
     ghost source = { λ s. bytes_source s.now };
 
-    /// Whether so many bytes are left.
+    /// Whether `size` bytes are left.
     #[inline(always)]
     fn can_pull_at_least(&self, size: usize) -> bool
         ensures holds { IsTrue result → Holds (bytes_source self.now.now) size }
@@ -179,7 +179,8 @@ impl Sink for VecSink {
         Ok(bytes.len())
     }
 
-    /// Asks for room for so many bytes more. Where there is no memory for them, a push may still find some for fewer.
+    /// Asks for room for `additional` bytes more. Where there is no memory for them, a push may still find some for
+    /// fewer.
     fn reserve(&mut self, additional: usize)
         ensures { vec_sink_state self.new ≡ vec_sink_state self.old }
     {

@@ -11,7 +11,7 @@ use std::os::unix::net::SocketAddr;
 use std::path::PathBuf;
 use std::rt::Files;
 
-/// A device that fails once, where it is told to, and then moves at most so many bytes a call. It counts its calls.
+/// A device that fails once, where it is told to, and then moves at most `most` bytes a call. It counts its calls.
 #[derive(Drop)]
 struct Device {
     fails_with: Option<io::ErrorKind>,

@@ -23,7 +23,7 @@ impl Plan {
     }
 }
 
-/// A source or a sink that moves at most so many bytes a call. One of its calls fails, counted from 1, pulls, pushes
+/// A source or a sink that moves at most `most` bytes a call. One of its calls fails, counted from 1, pulls, pushes
 /// and flushes together: it moves nothing, and the calls after it go on. It tells no bytes.
 #[derive(Drop)]
 pub(crate) struct Failing<D> {
@@ -61,7 +61,7 @@ impl<D> Failing<D> {
     }
 }
 
-/// A source that gives at most so many of the bytes a pull, and of which no pull fails.
+/// A source that gives at most `most` of the bytes a pull, and of which no pull fails.
 pub(crate) fn make_pieces(bytes: &[u8], most: usize) -> Failing<&[u8]> {
     Failing::new(bytes, most, 0, io::ErrorKind::Other)
 }

@@ -20,7 +20,7 @@ fn append(rt: &impl Abort, ring: &mut CircularBuffer, bytes: &[u8]) {
     ring.appended(count);
 }
 
-/// Takes so many bytes.
+/// Takes `count` bytes.
 fn consume(rt: &impl Abort, ring: &mut CircularBuffer, count: usize) {
     assert!(rt; count <= ring.len(), "too few bytes");
     ring.consume(count);

@@ -103,7 +103,7 @@ fn make_reader<'s, S: Source>(
     StreamReader::new(alloc, LittleEndian {}, source, is_buffering).expect(rt, "a reader")
 }
 
-/// Asserts that a vector of 10,000 bytes is read of a source that gives so many a pull, and that no more than the 9
+/// Asserts that a vector of 10,000 bytes is read of a source that gives `most` a pull, and that no more than the 9
 /// bytes after it are left, and all of these where nothing is read ahead.
 fn assert_long_vector(rt: &impl Abort, alloc: Global, most: usize, is_buffering: bool) {
     let mut bytes = vec![in alloc; 7; 10_013].expect(rt, "a buffer");
@@ -137,7 +137,7 @@ fn an_option_is_read_a_byte_a_pull(rt: HostRuntime) {
     }
 }
 
-/// Asserts that a vector of 513 numbers is read of a source that gives so many bytes a pull, and answers how many pulls
+/// Asserts that a vector of 513 numbers is read of a source that gives `most` bytes a pull, and answers how many pulls
 /// there were.
 fn count_pulls(rt: &impl Abort, alloc: Global, most: usize, is_buffering: bool) -> usize {
     let mut bytes = vec![in alloc; 7; 1_039].expect(rt, "a buffer");
@@ -235,7 +235,7 @@ fn values_without_bytes_are_streamed_without_a_pull(rt: HostRuntime) {
     assert_not_pulled::<((), [u16; 0])>(&rt, alloc, &((), []));
 }
 
-/// Asserts that a read of so many bytes is refused as an end of the input, where the source lacks one of them: with the
+/// Asserts that a read of `count` bytes is refused as an end of the input, where the source lacks one of them: with the
 /// kind of a device's error, or as `UnexpectedEndOfInput` where there is none.
 fn assert_ends_early(
     rt: &impl Abort,
@@ -273,7 +273,7 @@ fn a_long_read_that_ends_early_is_refused_by_the_way_it_takes(rt: HostRuntime) {
     }
 }
 
-/// Asserts that a list of so many numbers of 2 bytes, of which the last byte lacks, is refused by a buffered reader as
+/// Asserts that a list of `count` numbers of 2 bytes, of which the last byte lacks, is refused by a buffered reader as
 /// an end of the input: with the kind of a device's error, or as `UnexpectedEndOfInput` where there is none.
 fn assert_list_ends_early(rt: &impl Abort, alloc: Global, count: u16, kind: Option<io::ErrorKind>) {
     let numbers = vec![in alloc; 7_u16; usize::from(count)].expect(rt, "a vector");

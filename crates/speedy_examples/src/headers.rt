@@ -79,7 +79,7 @@ pub fn begins_header(alloc: Global, bytes: &[u8]) -> Result<(), Error>
     read_constant(&mut reader, b"REC1")
 }
 
-/// The records of a log, at most so many, without a last one that was cut short.
+/// The records of a log, at most `greatest`, without a last one that was cut short.
 pub fn read_log(alloc: Global, bytes: &[u8], greatest: usize) -> Result<Vec<(u16, String)>, Error>
     ensures records { let it = ⟦<(u16, String) as Layout>⟧ in
         let format = it.layout.format (plain_mode Endianness.LittleEndian) in

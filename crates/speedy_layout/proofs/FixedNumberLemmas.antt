@@ -143,7 +143,7 @@ none_left : {width : ℕ} (xs : List ℕ) (count : ℕ) → length xs ≡ count 
 none_left xs zero e l = empty xs (omega (arith, e))
 none_left xs (suc count) e l = absurd (omega (arith, e, l))
 
--- what a function makes of each chunk of so many bytes, where the bytes are of whole chunks
+-- what a function makes of each chunk of n bytes, where the bytes are of whole chunks
 module _ {A F V : Type 0} (S : V → List ℕ → Type 0) (seen : A → V) (width : ℕ) (some : 0 < width) {decoded : List ℕ → A}
     (decodes : (bytes : List ℕ) → length bytes ≡ width → AreBytes bytes → S (seen (decoded bytes)) bytes)
     {g : Mut F (Bor (List ℕ) × Unit {0}) A} {f : F}

@@ -16,7 +16,7 @@ use Rattle.speedy_base.specs.Mode.{Mode}
 use Rattle.speedy_layout.specs.Varint.{IsFirstByte, StartsVarint, HasNoShorter, varint, capacity}
 use Rattle.speedy_layout.proofs.VarintForms.{varint-written}
 
--- the mark of so many leading ones
+-- the mark of n leading ones
 pub mark : (k : ℕ) → k ≤ 8 → 256 / 2 ^ k ≡ 2 ^ (8 - k)
 mark zero l = refl
 mark (suc zero) l = refl
@@ -42,7 +42,7 @@ byte_power (suc (suc (suc (suc (suc (suc (suc zero))))))) l = refl
 byte_power (suc (suc (suc (suc (suc (suc (suc (suc zero)))))))) l = refl
 byte_power (suc (suc (suc (suc (suc (suc (suc (suc (suc k))))))))) l = absurd (omega arith)
 
--- a number of so many bits needs so many bytes after the first one
+-- a number of n bits needs m bytes after the first one
 pub no_shorter_from_power : (k n : ℕ) → (0 < k → 2 ^ (7 * k) ≤ n) → HasNoShorter k n
 no_shorter_from_power k n h j l =
     let up : 2 ^ (7 * (j + 1)) ≤ 2 ^ (7 * k) = pow_mono {i = 7 * (j + 1)} {j = 7 * k} (omega arith) in

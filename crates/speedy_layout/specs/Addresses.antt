@@ -24,7 +24,7 @@ octets_is_code width mode =
     exact_is_code (λ kind h. absurd h) (λ n v w h k. EncodesNumber-same_bytes width BigEndian n v w h k)
     (λ n m v h k. EncodesNumber-same_value width BigEndian n m v h k)
 
--- addresses of so many octets: their number
+-- addresses of n octets: their number
 abbrev pub address_codec : ℕ → Codec (List ℕ)
 address_codec width = coding_codec (octets_code width) (unsigned_codec width) (octets_is_code width)
 

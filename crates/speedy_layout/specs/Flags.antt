@@ -91,7 +91,7 @@ pub branch_asks : {V W : Type 0} (L : Format V) (M : Format W) (b : Bool)
 branch_asks L M true = asks_left L.asks M.asks
 branch_asks L M false = asks_right L.asks M.asks
 
--- its least size is that of the tag and so many bytes more as each of the two has
+-- its least size is that of the tag, and as many bytes more as each of the two has
 abbrev pub variant_codec : {U V W : Type 0} (split : U → (b : Bool) × Branch V W b)
     (join : (b : Bool) → Branch V W b → U) → ((v : U) → join (split v).0 (split v).1 ≡ v) → Codec Bool
     → (first : Codec V) (second : Codec W) (n : ℕ) → n ≤ first.least → n ≤ second.least → Codec U

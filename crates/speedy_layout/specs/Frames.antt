@@ -19,7 +19,7 @@ use Rattle.speedy_layout.specs.Texts.{raw_bytes, raw_bytes_laws}
 abbrev pub frame_parts : List ℕ → ℕ × List ℕ
 frame_parts bytes = (length bytes, bytes)
 
--- a number of bytes, which is encoded as a format of numbers says, and then so many
+-- a number of bytes, which is encoded as a format of numbers says, and then the bytes
 abbrev pub prefixed_bytes : Format ℕ → Asks → Format (List ℕ)
 prefixed_bytes number asks = sequence frame_parts number asks raw_bytes
 

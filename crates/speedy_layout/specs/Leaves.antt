@@ -62,7 +62,7 @@ seconds_and_nanos = seconds_and_nanos_codec.format
 abbrev pub together : ℕ × ℕ → ℕ
 together p = p.0 * 1_000_000_000 + p.1
 
--- they mean the duration of so many nanoseconds, if one can be so long; it is written with less than a second of
+-- they mean the duration of n nanoseconds, if one can be so long; it is written with less than a second of
 -- nanoseconds
 abbrev pub duration_code : Code (ℕ × ℕ) ℕ
 duration_code = record {

@@ -1,4 +1,4 @@
--- Lists: so many items one after the other, and counted lists.
+-- Lists: n items one after the other, and counted lists.
 use Rattle.std.specs.Prelude.{◌≡◌, ℕ, zero, suc, ◌+◌, ◌*◌, ◌≤◌, List, [], ◌∷◌, ◌++◌, length, Bool, true, false, refl}
 use Rattle.std.proofs.Common.{sym, ◌∙◌, ap, ap₂, subst, inl, inr, arith}
 use Rattle.std.proofs.lemmas.List.{append_assoc, append-nil, length-append}
@@ -9,7 +9,7 @@ use Rattle.speedy_layout.specs.Numbers.{unsigned_number, unsigned_number_laws}
 use Rattle.speedy_layout.specs.Owned.{owned_content, owned_content_laws}
 use Rattle.speedy_layout.specs.Sequences.{AsksAtMost, asks_same, sequence, sequence_laws, across, Parts-as}
 
--- so many items, one after the other
+-- n items, one after the other
 unfoldable pub repeat : {V : Type 0} → ℕ → Format V → Format (List V)
 repeat n F = record {
   encodes = λ vs bytes. (length vs ≡ n) × Each F.encodes vs bytes;
@@ -20,7 +20,7 @@ repeat n F = record {
   asks = F.asks;
 }
 
--- so many items that are read into a vector
+-- n items that are read into a vector
 unfoldable pub vector : {V : Type 0} → ℕ → Format V → Format (List V)
 vector n F = owned_content (repeat n F)
 
@@ -28,7 +28,7 @@ vector n F = owned_content (repeat n F)
 abbrev pub list_parts : {V : Type 0} → List V → ℕ × List V
 list_parts vs = (length vs, vs)
 
--- a count, which is encoded as a format of numbers says, and then so many items
+-- a count, which is encoded as a format of numbers says, and then the items
 abbrev pub prefixed_list : {V : Type 0} → Format ℕ → Format V → Format (List V)
 prefixed_list count F = sequence list_parts count (record F.asks { memory = true }) (λ n. vector n F)
 
@@ -110,7 +110,7 @@ module _ {V : Type 0} {strict : Bool} {least : ℕ} {F : Format V} (laws : Laws 
       let m = ap length k.whole_is ∙ length-append k.prefix k.suffix in
       omega arith
 
-  -- so many items have at least so many times the least size
+  -- n items have at least n times the least size
   pub each_size : (vs : List V) (b : List ℕ) → Each F.encodes vs b → length vs * least ≤ length b
   each_size [] b h = omega arith
   each_size (v ∷ vs) b h =
@@ -191,7 +191,7 @@ prefixed_list_codec count item = record {
 abbrev pub list_codec : {V : Type 0} → Codec V → Codec (List V)
 list_codec item = record { least = 4; format = λ f. list f (item.format f); laws = λ f. list_laws f (item.laws f) }
 
--- so many items are encoded
+-- n items are encoded
 pub vector_length : {V : Type 0} (n : ℕ) (F : Format V) (vs : List V) (bytes : List ℕ) → (vector n F).encodes vs bytes
     → length vs ≡ n
 unfolding vector owned_content repeat

@@ -10,7 +10,7 @@ use Rattle.speedy_layout.specs.Laws.{Codec}
 use Rattle.speedy_layout.specs.Codes.{subset_codec}
 use Rattle.speedy_layout.specs.Numbers.{unsigned_codec, signed_codec}
 
--- numbers of so many digits other than 0
+-- numbers of n digits other than 0
 abbrev pub non_zero_codec : ℕ → Codec ℕ
 non_zero_codec width = subset_codec (λ n. n ≢ 0) kinds.ZeroNonZero tt (unsigned_codec width)
 

@@ -1,4 +1,4 @@
--- Numbers, "as-is": so many digits in the byte order of the mode. Signed ones are in two's complement.
+-- Numbers, "as-is": n digits in the byte order of the mode. Signed ones are in two's complement.
 use Rattle.std.specs.Prelude.{◌≡◌, ℕ, ℤ, ◌-◌, ◌^◌, ◌≤◌, List, ◌++◌, length, take, drop, refl}
 use Rattle.std.proofs.Common.{sym, ◌∙◌, ap, subst, arith}
 use Rattle.std.proofs.lemmas.List.{take_at, drop_at}
@@ -13,7 +13,7 @@ use Rattle.speedy_layout.specs.Format.{Format, plain_format}
 use Rattle.speedy_layout.specs.Laws.{Laws, Codec, plain_laws}
 use Rattle.speedy_layout.specs.Codes.{subset_codec, coding, Accepts-exact_means}
 
--- numbers of so many bytes
+-- numbers of n bytes
 unfoldable pub unsigned_number : ℕ → Mode → Format ℕ
 unsigned_number width mode = plain_format (EncodesNumber width mode.order)
 
@@ -72,7 +72,7 @@ usize_codec = subset_codec FitsUsize kinds.OutOfRangeUsize tt (unsigned_codec 8)
 abbrev pub usize_number : Mode → Format ℕ
 usize_number = usize_codec.format
 
--- numbers of so many digits that are at most so great; greater ones are refused as lengths
+-- numbers of w digits that are at most `greatest`; greater ones are refused as lengths
 abbrev pub length_codec : ℕ → ℕ → Codec ℕ
 length_codec width greatest = subset_codec (λ n. n ≤ greatest) kinds.OutOfRangeLength tt (unsigned_codec width)
 

@@ -47,7 +47,7 @@ pub length_asks : (width greatest : ℕ) (f : Mode) → (length_number width gre
 unfolding coding unsigned_number
 length_asks width greatest f = refl
 
--- numbers of so many bytes
+-- numbers of n bytes
 abbrev pub unsigned_numbers : ℕ → Numbers
 unsigned_numbers width = record {
   codec = unsigned_codec width;
@@ -59,7 +59,7 @@ unsigned_numbers width = record {
 abbrev pub varint_numbers : Numbers
 varint_numbers = record { codec = varint_codec; none_asked = varint_asks; smaller = varint_smaller }
 
--- numbers of so many bytes that are at most so great; greater ones are refused as lengths
+-- numbers of w bytes that are at most `greatest`; greater ones are refused as lengths
 abbrev pub length_numbers : ℕ → ℕ → Numbers
 length_numbers width greatest = record {
   codec = length_codec width greatest;

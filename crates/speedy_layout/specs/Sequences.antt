@@ -126,7 +126,7 @@ module _ {U V : Type 0} {W : U → Type 0} {split : V → (u : U) × W u} {L : F
         let joined = across s t r q h.prefix h.suffix k.prefix k.suffix h.whole_is k.whole_is e in
         let first =
         laws.decodes (split v).0 (split w).0 h.prefix k.prefix (h.suffix ++ r) (k.suffix ++ q) h.first_is k.first_is
-            joined
+        joined
         in
         let second = second_decodes M strict m more h.suffix k.suffix r q (split v) h.second_is first.2 (split w).0
         first.0

@@ -16,11 +16,11 @@ use Rattle.speedy_layout.specs.Numbers.{unsigned_number, unsigned_codec, same_pr
 use Rattle.speedy_layout.specs.Owned.{owned_content, owned_codec}
 use Rattle.speedy_layout.specs.Sequences.{AsksAtMost, asks_same, sequence, sequence_laws}
 
--- so many bytes, as they are
+-- n bytes, as they are
 unfoldable pub raw_bytes : ℕ → Format (List ℕ)
 raw_bytes n = plain_format (λ v bytes. (v ≡ bytes) × (length bytes ≡ n))
 
--- so many bytes, whatever they are
+-- n bytes, whatever they are
 unfoldable pub any_bytes : ℕ → Format (Unit {0})
 any_bytes n = plain_format (λ _ bytes. length bytes ≡ n)
 
@@ -34,7 +34,7 @@ unfoldable pub constant_bytes : Mode → List ℕ → Format (List ℕ)
 constant_bytes mode constant =
     coding mode (exact_code (λ u v. (u ≡ v) × (v ≡ constant)) (IsExpected constant)) (raw_bytes (length constant))
 
--- a text of so many bytes; others are refused
+-- a text of n bytes; others are refused
 unfoldable pub text_of_length : Mode → ℕ → Format (List ℕ)
 text_of_length mode n = owned_content (subset mode IsUtf8 kinds.InvalidUtf8 (raw_bytes n))
 
@@ -42,7 +42,7 @@ text_of_length mode n = owned_content (subset mode IsUtf8 kinds.InvalidUtf8 (raw
 abbrev pub text_parts : List ℕ → ℕ × List ℕ
 text_parts text = (length text, text)
 
--- a number of bytes, which is encoded as a format of numbers says, and then a text of so many
+-- a number of bytes, which is encoded as a format of numbers says, and then a text of just these
 abbrev pub prefixed_text : Mode → Format ℕ → Format (List ℕ)
 prefixed_text mode count =
     sequence text_parts count (record asks_nothing { memory = true }) (text_of_length mode)

@@ -18,7 +18,7 @@ use Rattle.speedy_layout.specs.Codes.{Accepts-exact_means, Accepts-is, Accepts-m
 use Rattle.speedy_layout.specs.Numbers.{unsigned_number, unsigned_number_laws, unsigned_codec, WritesSmaller}
 use Rattle.speedy_layout.specs.Sequences.{AsksAtMost, asks_same, sequence, sequence_laws}
 
--- a first byte: so many leading one bits, and a low part below the first zero bit, which is 0 where no bit is left for
+-- a first byte: n leading one bits, and a low part below the first zero bit, which is 0 where no bit is left for
 -- it
 pub record IsFirstByte (ones low byte : ℕ) : Type 0 where
   pub at_most_eight : ones ≤ 8
@@ -37,7 +37,7 @@ low_first mode = record mode { order = LittleEndian }
 abbrev pub HasNoShorter : ℕ → ℕ → Type 0
 HasNoShorter more n = (j : ℕ) → j < more → 2 ^ (7 * (j + 1)) ≤ n
 
--- so many bytes after the first one hold the number, and no fewer
+-- n bytes after the first one hold the number, and no fewer
 pub record IsFewest (more n : ℕ) : Type 0 where
   pub at_most_eight : more ≤ 8
   pub enough : n < 2 ^ (7 - more) * 256 ^ more
@@ -59,7 +59,7 @@ pub record VarintParts (first : ℕ) (tail : List ℕ) (n : ℕ) : Type 0 where
   pub tail_is : EncodesNumber (length tail) LittleEndian rest tail
   pub value_is : n ≡ low * 256 ^ length tail + rest
 
--- a first byte after which so many bytes follow
+-- a first byte after which n bytes follow
 abbrev pub StartsVarint : ℕ → ℕ → Type 0
 StartsVarint more first = (low : ℕ) × IsFirstByte more low first
 
@@ -103,7 +103,7 @@ StartsVarint-byte k x h =
     let e = h.1.byte_is in
     omega arith
 
--- ---- how much so many bytes hold
+-- ---- how much n bytes hold
 
 -- up to 7 bytes after the first one hold what is below this power
 pub capacity : (k : ℕ) → k ≤ 7 → 2 ^ (7 - k) * 256 ^ k ≡ 2 ^ (7 * (k + 1))
@@ -271,7 +271,7 @@ prefixed-is mode p bytes h =
 
 -- ---- the laws
 
--- the code of so many bytes
+-- the code of n bytes
 abbrev code_of : ℕ → ℕ → (ℕ × ℕ) × ℕ
 code_of n k = ((k, n / 256 ^ k), n % 256 ^ k)
 

@@ -12,7 +12,7 @@ use Rattle.speedy_base.specs.Mode.{Mode, plain_mode}
 use Rattle.speedy_layout.specs.Format.{Format, Each}
 use Rattle.speedy_layout.specs.Numbers.{unsigned_number, signed_number}
 
--- so many items of so many bytes each, from the front on
+-- count items of size bytes each, from the first byte on
 abbrev pub decode_each : {A : Type 0} → (List ℕ → A) → ℕ → ℕ → List ℕ → List A
 decode_each decoded size zero bytes = []
 decode_each decoded size (suc n) bytes = decoded (take size bytes) ∷ decode_each decoded size n (drop size bytes)
@@ -38,11 +38,11 @@ module _ {A : Type 0} (decoded : List ℕ → A) (size : ℕ) where
 
 -- ---- sizes
 
--- the bytes of so many items
+-- the bytes of n items
 pub so_many_items : (n size : ℕ) → 0 < size → n * size / size ≡ n
 so_many_items n size some = mul-div_cancel n some
 
--- bytes of so many items show so many
+-- the bytes of n items show n of them
 pub length-shown_many : {A : Type 0} (decoded : List ℕ → A) (size n : ℕ) (bytes : List ℕ) → 0 < size
     → length bytes ≡ n * size
     → length (shown_items decoded size bytes) ≡ n
@@ -106,7 +106,7 @@ signed_byte_alike mode z bytes h = record {
 
 -- ---- for readers of views
 
--- items of one size have together so many bytes
+-- items of one size have together n bytes
 pub each_one_size : {V : Type 0} {R : V → List ℕ → Type 0} {size : ℕ}
     → ((v : V) (bytes : List ℕ) → R v bytes → length bytes ≡ size)
     → (vs : List V) (bytes : List ℕ) → Each R vs bytes → length bytes ≡ length vs * size

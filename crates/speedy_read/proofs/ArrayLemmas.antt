@@ -57,7 +57,7 @@ module _ {V : Type 0} {F : Mode → Format V} {least width : ℕ}
       (λ s h. (whole, subst (λ (b : List ℕ). Each (vector m (F mode)).encodes (seen y) b) h.0 stand)) read
 
   module _ {size : ℕ} (is : size ≡ m * width) where
-    -- so many arrays have so many times the bytes of one
+    -- n arrays have n times the bytes of one
     arrays_sized : (mode : Mode) (vss : List (List V)) (bytes : List ℕ)
         → Each (vector m (F mode)).encodes vss bytes → length bytes ≡ length vss * size
     unfolding vector owned_content repeat
@@ -69,7 +69,7 @@ module _ {V : Type 0} {F : Mode → Format V} {least width : ℕ}
         let l = ap length h.whole_is ∙ length-append h.prefix h.suffix in
         omega (arith, one, more, l)
 
-    -- so many arrays are read where so many times their bytes are
+    -- n arrays are read where n times their bytes are
     pub arrays_cover : (n : ℕ) {all : ℕ} → all ≡ n * size → (mode : Mode)
         → Covers (raw_bytes all) (vector n (vector m (F mode)))
     unfolding raw_bytes vector owned_content repeat

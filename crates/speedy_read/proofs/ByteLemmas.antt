@@ -33,7 +33,7 @@ behind bytes zeros slice start is at =
     let left = length-drop start slice in
     length-take-le (length slice - start) (drop start slice) (omega (arith, left)) ∙ omega (arith, whole, at)
 
--- what is put behind a list, where zeros stood, in a slice of a vector of so many items
+-- what is put behind a list, where zeros stood, in a slice of a vector of n items
 pub filled_behind : (bytes zeros items slice output : List ℕ) (start len : ℕ) → items ≡ bytes ++ zeros → slice ≡ items
     → start ≡ length bytes → length slice ≡ len → length output ≡ length zeros
     → let put : List ℕ = put_mid start (length slice - start) slice output in
@@ -55,7 +55,7 @@ pub from_ok : {A E T : Type 0} (r : Result A E) → is_err r ≡ false → OnOk 
 from_ok (Ok x) e h = h
 from_ok (Err x) e h = absurd (cc)
 
--- so many bytes were taken so far
+-- n bytes were taken so far
 abbrev pub SkippedSoFar : ℕ → ReaderState → ReaderState → Type 0
 SkippedSoFar count old new = ReadSoFar (λ s. length s ≡ count) old new
 
@@ -158,7 +158,7 @@ module _ {E : Type 0} {gives : Error → E → Type 0} {eof : E → Bool} {B : T
             (each_byte mode.order (seen' y) are),
       ))
 
--- so many bytes are read where any are, so many
+-- n bytes are read where any n bytes are
 any_cover_raw : (n : ℕ) → Covers (any_bytes n) (raw_bytes n)
 unfolding any_bytes raw_bytes
 any_cover_raw n = record {
@@ -168,7 +168,7 @@ any_cover_raw n = record {
   asks = asks_same;
 }
 
--- some bytes were read, and then the others of so many
+-- some of n bytes were read, and then the others
 pub rest_read : {E : Type 0} {gives : Error → E → Type 0} {eof : E → Bool} {A : Type 0} {seen seen' : A → List ℕ}
     {old mid new : ReaderState} (size total : ℕ) (prefix : List ℕ) (result : Result A E)
     → BytesSoFar prefix old mid → length prefix + size ≡ total → ((x : A) → seen' x ≡ prefix ++ seen x)

@@ -32,7 +32,7 @@ past_usize m n k past same fits =
       | inr h ↦ absurd (past (omega (arith, h, same, fits)))
     ]
 
--- the bytes of so many numbers
+-- the bytes of n numbers
 pub all_digits : {all width : ℕ} (n size : ℕ) → all ≡ n * size → size ≡ width → all ≡ n * width
 all_digits n size is same = is ∙ ap (λ s. n * s) same
 
@@ -43,7 +43,7 @@ same_count some zero (suc n) e = absurd (omega (arith, some, e))
 same_count some (suc m) zero e = absurd (omega (arith, some, e))
 same_count some (suc m) (suc n) e = ap suc (same_count some m n (omega (arith, e)))
 
--- a chunk of so many numbers among all
+-- a chunk of n numbers among all
 pub within_all : (width k n : ℕ) → k ≤ n → k * width ≤ n * width
 within_all width zero n l = omega arith
 within_all width (suc k) zero l = absurd (omega arith)
@@ -75,7 +75,7 @@ module _ {V : Type 0} {F : Mode → Format V} {least width : ℕ}
   each_sized mode vs bytes h =
       each_length fixed mode.order vs bytes (each_as (fixed.encodes mode) vs bytes h)
 
-  -- so many values are read where so many times their bytes are
+  -- n values are read where n times their bytes are
   fixed_covers : (n : ℕ) (mode : Mode) → Covers (any_bytes (n * width)) (vector n (F mode))
   unfolding any_bytes vector owned_content repeat
   fixed_covers n mode = record {
@@ -121,7 +121,7 @@ module _ {V : Type 0} {F : Mode → Format V} {least width : ℕ}
         (chunk_refused size {seen' = λ (u : Unit {0}). u} count
         (chunk_within width (length xs) some n size within sized) skipped refl read)
 
--- so many numbers were appended as their bytes were
+-- n numbers were appended as their bytes were
 module _ {V A : Type 0} {F : Mode → Format V} {width : ℕ} (fixed : IsFixed width F) (seen : A → V) where
   pub count_of_digits : (order : Endianness) (more : List A) (bytes : List ℕ) (n : ℕ)
       → Each (encoded_in F order) (map seen more) bytes → length bytes ≡ n * width → length more ≡ n
@@ -165,7 +165,7 @@ pub none_lent : {X A : Type 0} (shown : A → List ℕ) (size : ℕ) {old new : 
 none_lent {X = X} {A = A} shown size {old = old} {new = new} is h =
     subst (λ (o : Option (Result A X)). LendsUntilUsed shown size o old new) is h
 
--- so many bytes were lent
+-- n bytes were lent
 pub lent_length : {X A : Type 0} {shown : A → List ℕ} (size : ℕ) {old new : ReaderState} {x : A}
     → Reads (ends_alone {E = X}) (λ _. true) shown (raw_bytes size) (Ok x) old new → length (shown x) ≡ size
 unfolding raw_bytes

@@ -22,7 +22,7 @@ use Rattle.speedy_read.specs.Counted.{prefixed_list_composes}
 use Rattle.speedy_read.specs.Collections.{Gatherer, GotItems, NotWritten, Collects}
 use Rattle.speedy_read.proofs.ListLemmas.{item_more, refused_item}
 
--- from old to mid so many items were read, which gather to the collection
+-- from old to mid n items were read, which gather to the collection
 pub record GatheredSoFar {T F V : Type 0} (g : Gatherer T F V) (L : Format V) (n : ℕ) (whole : F)
     (old mid : ReaderState) : Type 0 where
   pub kept : Kept old mid
@@ -251,7 +251,7 @@ collected_read {V = V} {g = g} {c = c} {L = L} {n = n} {gives = gives} {eof = eo
       ]
     ]
 
--- a coded list is read as its length, and then so many items
+-- a coded list is read as its length, and then the items
 coded_list_composes : {V S : Type 0} (count : Format ℕ) (L : Format V) (mode : Mode) (c : Code (List V) S)
     → Composes count (λ n. coding mode c (vector n L)) (coding mode c (prefixed_list count L)) (λ n s. s)
 unfolding coding sequence

@@ -16,7 +16,7 @@ use Rattle.speedy_read.specs.ReadingLemmas.{ReadSoFar, more_so_far, none_so_far,
 use Rattle.speedy_read.specs.Codes.{Covers, code_means_nothing, refused_covered}
 use Rattle.speedy_read.proofs.ByteLemmas.{SkippedSoFar, chunk_refused}
 
--- from old to mid so many bytes were read, which are as far as that the constant or not
+-- from old to mid n bytes were read, which are as far as that the constant or not
 abbrev pub ComparedSoFar : List ℕ → ℕ → Bool → ReaderState → ReaderState → Type 0
 ComparedSoFar constant at same old mid =
     ReadSoFar (λ s. (length s ≡ at) × (IsTrue same ↔ (s ≡ take at constant))) old mid
@@ -24,7 +24,7 @@ ComparedSoFar constant at same old mid =
 pub none_compared : (constant : List ℕ) {old : ReaderState} → ComparedSoFar constant 0 true old old
 none_compared constant = none_so_far (refl, (λ _. refl, λ _. refl))
 
--- what is read where so many bytes are skipped
+-- what is read where n bytes are skipped
 any_covers_constant : (mode : Mode) (constant : List ℕ)
     → Covers (any_bytes (length constant)) (constant_bytes mode constant)
 unfolding any_bytes constant_bytes coding raw_bytes
@@ -90,7 +90,7 @@ chunk_fewer {E = E} {gives = gives} {eof = eof} {B = B} size {old = old} {mid = 
       ]
     ])
 
--- where so many were read, not fewer remained
+-- where n were read, not fewer remained
 pub all_there : (constant : List ℕ) {at : ℕ} {same : Bool} {old mid : ReaderState} → at ≡ length constant
     → ComparedSoFar constant at same old mid
     → IsTrue old.fixed.tells → length old.remaining < length constant → ⊥

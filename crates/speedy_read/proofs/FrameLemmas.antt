@@ -30,7 +30,7 @@ use Rattle.speedy_read.specs.Reading.{ReaderState, Got, IsTold, refusing_kinds, 
 use Rattle.speedy_read.specs.ReadingLemmas.{IsTold-part, Reads-passed, part_refused}
 use Rattle.speedy_read.specs.Sequences.{Composes}
 
--- the number of bytes is read, and then a value that fills so many
+-- the number of bytes is read, and then a value that fills these
 pub frame_composes : {V : Type 0} (f : Mode) (number : Format ℕ) (F : Format V)
     → Composes number (filling f F) (frame f number F) (λ n v. v)
 unfolding frame coding sequence raw_bytes
@@ -86,7 +86,7 @@ frame_composes f number F = record {
   asks_second = λ n. asks_right number.asks (frame_asks F.asks);
 }
 
--- where so many bytes are refused, a value that fills them is
+-- where n bytes are refused, a value that fills them is
 pub bytes_cover_filling : {V : Type 0} (f : Mode) (F : Format V) (n : ℕ) → Covers (raw_bytes n) (filling f F n)
 unfolding coding raw_bytes
 bytes_cover_filling f F n = record {
@@ -279,7 +279,7 @@ AreBytes-zeros : (n : ℕ) → AreBytes (replicate n 0)
 AreBytes-zeros zero = tt
 AreBytes-zeros (suc n) = (lit< tt, AreBytes-zeros n)
 
--- where so many numbers of one digit are refused, a value that fills so many bytes is
+-- where n numbers of one digit are refused, a value that fills n bytes is
 vector_undecodable : {E V : Type 0} {gives : Error → E → Type 0} {eof : E → Bool} (f : Mode) (F : Format V) (n : ℕ)
     {e : E} {bytes : List ℕ} → AreBytes bytes
     → Undecodable gives eof (vector n (unsigned_number 1 f)) e bytes → Undecodable gives eof (filling f F n) e bytes

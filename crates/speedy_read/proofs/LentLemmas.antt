@@ -71,7 +71,7 @@ content_covers none = record {
   asks = record { lending = λ _. refl; hashed = λ t. t; memory = λ t. absurd (cc) };
 }
 
--- where so many items of one size are encoded, there are the bytes of so many
+-- where n items of one size are encoded, there are the bytes of n items
 pub bytes_cover_items : {V : Type 0} (size : ℕ) (F : Format V)
     → ((v : V) (bytes : List ℕ) → F.encodes v bytes → length bytes ≡ size) → (n : ℕ) {all : ℕ} → n * size ≡ all
     → Covers (raw_bytes all) (repeat n F)
@@ -117,7 +117,7 @@ module _ {E : Type 0} {gives : Error → E → Type 0} {eof : E → Bool} {old n
     });
   }
 
-  -- so many were lent
+  -- n were lent
   pub lent_length : {A : Type 0} {shows : A → List ℕ} {n : ℕ} {x : A}
       → Reads gives eof shows (borrowed_content (raw_bytes n)) (Ok x) old new → length (shows x) ≡ n
   unfolding borrowed_content raw_bytes

@@ -32,7 +32,7 @@ pub seen_added : {X V : Type 0} (seen : X → V) (xs zs : List X) (x : X) → zs
     → map seen zs ≡ map seen xs ++ seen x ∷ []
 seen_added seen xs zs x added = ap (map seen) added ∙ map-append seen xs (x ∷ [])
 
--- a list is read as its length, and then so many items
+-- a list is read as its length, and then the items
 pub list_composes : {V : Type 0} (L : Format V) (mode : Mode)
     → Composes (unsigned_number 4 mode) (λ n. vector n L) (list mode L) (λ n vs. vs)
 unfolding list
@@ -59,7 +59,7 @@ module _ {V : Type 0} {strict : Bool} {least : ℕ} {L : Format V} (laws : Laws 
 
   module _ {E : Type 0} {gives : Error → E → Type 0} {eof : E → Bool} {B : Type 0} {seen' : B → List V} (n : ℕ)
       {old : ReaderState} where
-    -- fewer bytes remain than so many items have at least
+    -- fewer bytes remain than n items have at least
     pub refused_early : {e : E} → IsEnd gives eof old.fixed.ends_by_device e
         → (IsTrue old.fixed.tells → length old.remaining < 2 ^ 64 - 1 → length old.remaining < n * least)
         → Reads gives eof seen' (vector n L) (Err e) old old

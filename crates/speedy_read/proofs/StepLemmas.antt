@@ -6,7 +6,7 @@ use Rattle.std.proofs.Math.Seq.{take-append-add}
 use Rattle.std.proofs.lemmas.List.{length-take-le, length-drop, take-append-drop}
 use Rattle.speedy_read.proofs.ChunkLemmas.{within_all}
 
--- so many numbers are within the digits
+-- n numbers are within the digits
 pub steps_within : {width size : ℕ} → 0 < width → size ≡ width → (n : ℕ) (digits : List ℕ) → n ≤ length digits / size
     → n * width ≤ length digits
 steps_within positive is n digits within =

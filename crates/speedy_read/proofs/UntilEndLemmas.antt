@@ -21,7 +21,7 @@ pub where_none : {A P : Type 0} (Q : A → Type 0) (next : Option A) → ((x : A
 where_none Q (Some x) none h = absurd (none x refl)
 where_none Q None none h = h
 
--- from old to mid so many items were read, and gather to the whole
+-- from old to mid n items were read, and gather to the whole
 pub record ItemsSoFar {T F V : Type 0} (seen : T → V) (gathers : List T → F → Type 0) (L : Format V) (n : ℕ) (whole : F)
     (old mid : ReaderState) : Type 0 where
   pub items : List T

@@ -167,7 +167,7 @@ pub whole_sized : (more first : ℕ) (room : List ℕ) → length room ≡ 9 →
     → length (take (more + 1) room) ≡ more + 1
 whole_sized more first room l h = let small = h.1.at_most_eight in length-take-le (more + 1) room (omega arith)
 
--- an encoding that begins with this first byte has so many bytes in all
+-- an encoding that begins with this first byte has n bytes in all
 whole_length : (mode : Mode) (more first n : ℕ) (bytes rest others : List ℕ) → StartsVarint more first
     → (varint mode).encodes n bytes → bytes ++ rest ≡ first ∷ others → length bytes ≡ more + 1
 whole_length mode more first n bytes rest others starts h e =
@@ -210,7 +210,7 @@ rest_not_malformed mode more first bytes rest starts is few (inr h) =
     let w = p.width_is in
     omega arith
 
--- bytes of which no prefix is so many are fewer
+-- bytes of which no prefix has n are fewer than n
 too_few : {E : Type 0} {gives : Error → E → Type 0} {eof : E → Bool} {e : E} (n : ℕ) (bytes : List ℕ)
     → Undecodable gives eof (raw_bytes n) e bytes → length bytes < n
 unfolding raw_bytes

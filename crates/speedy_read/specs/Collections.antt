@@ -19,7 +19,7 @@ abbrev pub gatherer : {T F V : Type 0} → (T → V) → (List T → F → Type 
 gatherer seen gathers are_written = record { seen = seen; gathers = gathers; are_written = are_written }
 
 module _ {T F V : Type 0} (g : Gatherer T F V) (L : Format V) (n : ℕ) where
-  -- so many items, one after another, which gather to the collection, and are written of it if that is demanded
+  -- n items, one after another, which gather to the collection, and are written of it if that is demanded
   pub record GotItems (whole : F) (old new : ReaderState) : Type 0 where
     pub items : List T
     pub count_is : length items ≡ n
@@ -37,7 +37,7 @@ module _ {T F V : Type 0} (g : Gatherer T F V) (L : Format V) (n : ℕ) where
     pub gathered : g.gathers items whole
     pub not_written : g.are_written items → ⊥
 
-  -- A read of so many items and what they gather to. What is answered is gathered of items that a prefix of the
+  -- A read of n items and what they gather to. What is answered is gathered of items that a prefix of the
   -- remaining bytes encodes, and just that prefix is taken. A clean refusal means that no prefix encodes so many
   -- items, or none that are written of a collection where that is demanded.
   pub record Collects {E : Type 0} (gives : Error → E → Type 0) (eof : E → Bool) (result : Result F E)

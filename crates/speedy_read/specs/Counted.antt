@@ -1,4 +1,4 @@
--- Lists and texts behind a count of any format: a count is read, and then so many items or bytes.
+-- Lists and texts behind a count of any format: a count is read, and then the items or bytes.
 use Rattle.std.specs.Prelude.{◌≡◌, ℕ, List, length}
 use Rattle.std.proofs.Common.{sym, ◌∙◌, ap}
 use Rattle.speedy_base.specs.Mode.{Mode}
@@ -15,7 +15,7 @@ prefixed_list_composes {V = V} count F =
     sequence_composes list_parts (vector_asks F)
     (λ n vs s h. ap (λ (m : ℕ). let whole : ℕ × List V = (m, vs) in whole) (vector_length n F vs s h))
 
--- a text of so many bytes has so many
+-- a text of n bytes has n
 text_length : (mode : Mode) (n : ℕ) (t s : List ℕ) → (text_of_length mode n).encodes t s → length t ≡ n
 unfolding text_of_length owned_content coding raw_bytes
 text_length mode n t s h =

@@ -12,7 +12,7 @@ use Rattle.speedy_layout.specs.Frames.{frame_code, frame_asks, AreCounted}
 use Rattle.speedy_layout.specs.Texts.{raw_bytes}
 use Rattle.speedy_read.specs.Reading.{refusing_kinds}
 
--- values that fill so many bytes
+-- values that fill n bytes
 abbrev pub filling : {V : Type 0} → Mode → Format V → ℕ → Format V
 filling f F n = record (coding f (frame_code F) (raw_bytes n)) { asks = frame_asks F.asks }
 
@@ -31,7 +31,7 @@ module _ {E : Type 0} (gives : Error → E → Type 0) where
       (λ x. F.encodes (seen x) bytes × AreCounted bytes)
       (λ e. (gives (error_of kinds.OutOfMemory) e × IsTrue F.asks.memory) ⊎ Unfilled F lends e bytes)
 
-  -- what is made of a read of which so many bytes are left: an answer that left some, and an end of the frame's bytes,
+  -- what is made of a read of which n bytes are left: an answer that left some, and an end of the frame's bytes,
   -- are refused as a length
   abbrev pub FillsIfNoneLeft : {A : Type 0} → (E → Bool) → Result A E → ℕ → Result A E → Type 0
   FillsIfNoneLeft eof read left result =

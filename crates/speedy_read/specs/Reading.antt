@@ -150,7 +150,7 @@ abbrev pub IsRight : Option Bool → ReaderState → ℕ → Type 0
 IsRight answer old n =
     (b : Bool) → answer ≡ Some b → IsTrue old.fixed.tells → IsTrue b ↔ (n ≤ length old.remaining)
 
--- the reader tells its bytes, and at least so many remain
+-- the reader tells its bytes, and at least n remain
 abbrev pub Expects : ReaderState → ℕ → Type 0
 Expects old n = IsTrue old.fixed.tells × (n ≤ length old.remaining)
 
@@ -164,7 +164,7 @@ LendsAll shows lent old new =
 abbrev pub ends_alone : {E : Type 0} → Error → E → Type 0
 ends_alone error _ = error ≡ error_of kinds.UnexpectedEndOfInput
 
--- What a read answers that lends bytes until the reader is used again: as a read of so many bytes, refused by the one
+-- What a read answers that lends bytes until the reader is used again: as a read of n bytes, refused by the one
 -- error that says that they ended; or nothing is lent, and none is taken.
 abbrev pub LendsUntilUsed : {A E : Type 0} → (A → List ℕ) → ℕ → Option (Result A E) → ReaderState → ReaderState → Type 0
 LendsUntilUsed shows n lent old new =
@@ -188,7 +188,7 @@ module _ {E S : Type 0} (errors : Errors E) (state : S → ReaderState) where
   PeeksValue seen codec result old new =
       Peeks errors.from_gives errors.eof seen (codec.format (state old).mode) result (state old) (state new)
 
-  -- a read, and a peek, of a number of so many bytes, and of a signed one of a width
+  -- a read, and a peek, of a number of n bytes, and of a signed one of a width
   abbrev pub ReadsUnsigned : ℕ → Result ℕ E → S → S → Type 0
   ReadsUnsigned width = ReadsValue (λ n. n) (unsigned_codec width)
 
@@ -208,11 +208,11 @@ module _ {E S : Type 0} (errors : Errors E) (state : S → ReaderState) where
   abbrev pub PeeksInto : {A : Type 0} → List ℕ → List ℕ → Result A E → S → S → Type 0
   PeeksInto output filled = PeeksValue (λ _. filled) (raw_bytes_codec (length output))
 
-  -- a read of so many bytes, whatever they are
+  -- a read of n bytes, whatever they are
   abbrev pub Skips : ℕ → Result (Unit {0}) E → S → S → Type 0
   Skips n = ReadsAs (λ x. x) (λ _. any_bytes n)
 
-  -- Where fewer bytes than so many remain, whatever they are, a read is refused as an end of them.
+  -- Where fewer than n bytes remain, whatever they are, a read is refused as an end of them.
   abbrev pub RefusesFewer : {A : Type 0} → ℕ → Result A E → S → S → Type 0
   RefusesFewer n result old new =
       IsTrue (state old).fixed.tells → length (state old).remaining < n

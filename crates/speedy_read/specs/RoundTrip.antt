@@ -17,7 +17,7 @@ use Rattle.speedy_read.specs.Reading.{ReaderState, IsTold, Excused, Reads}
 use Rattle.speedy_read.specs.WaysOfReading.{AnswersBuffer, AnswersCopied, WantsMemory, AnswersStreamIn}
 use Rattle.speedy_read.specs.StreamModel.{most_held}
 
--- What a function that reads from a buffer answers where a canonical encoding of so many bytes stands at the front:
+-- What a function that reads from a buffer answers where a canonical encoding of n bytes stands at the front:
 -- the value that was written, and the number of those bytes. It is refused only for want of memory.
 pub record AnswersWritten {E A V : Type 0} (gives : Error → E → Type 0) (seen : A → V) (L : Format V) (v : V) (size : ℕ)
     (result : Result A E) (count : ℕ) : Type 0 where

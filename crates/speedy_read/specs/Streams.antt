@@ -24,7 +24,7 @@ pub record FillsList (output : List ℕ) (result : Result Bool StdIoError) (old 
   -- the first call that fails is the last one
   pub fault : IfErr result (λ error. OneFailed error old.faults new.faults)
 
--- Pulling until a ring holds so many bytes, and whether it does. What was pulled lies behind what the ring held.
+-- Pulling until a ring holds n bytes, and whether it does. What was pulled lies behind what the ring held.
 pub record FillsRing (count : ℕ) (ahead : Bool) (result : Result Bool StdIoError) (held keeps : Ring)
     (old new : SourceState) : Type 0 where
   pub kept : SourceKept old new
@@ -44,7 +44,7 @@ pub record FillsRing (count : ℕ) (ahead : Bool) (result : Result Bool StdIoErr
   pub fault : IfErr result (λ error. (length keeps.bytes < count) × OneFailed error old.faults new.faults)
 
 module _ {E : Type 0} (gives : Error → E → Type 0) (eof : E → Bool) where
-  -- Filling the ring of a reader until it holds so many bytes. Nothing is taken. It is refused by a failed call, as
+  -- Filling the ring of a reader until it holds n bytes. Nothing is taken. It is refused by a failed call, as
   -- what that answered, or where fewer bytes remain.
   pub record Fills {A : Type 0} (count : ℕ) (result : Result A E) (held keeps : Ring)
       (old new : ReaderState) : Type 0 where

@@ -39,7 +39,7 @@ module _ {E : Type 0} (gives : Error → E → Type 0) (eof : E → Bool) where
       pub no_fault : new.faults ≡ old.faults
       pub kind : gives (error_of kinds.OutOfRangeLength) e
 
-    -- behind at most so many items stand bytes that are refused, and no end
+    -- behind at most n items stand bytes that are refused, and no end
     pub record ItemRefused (e : E) (old new : ReaderState) : Type 0 where
       pub items : List T
       pub at_most : length items ≤ greatest
@@ -55,7 +55,7 @@ module _ {E : Type 0} (gives : Error → E → Type 0) (eof : E → Bool) where
     RefusesUntilEnd e old new = Excused gives true e old new ⊎ (TooMany e old new ⊎ ItemRefused e old new)
 
   module _ {T F V : Type 0} (seen : T → V) (gathers : List T → F → Type 0) (L : Format V) (greatest : ℕ) where
-    -- at most so many items at the front of the bytes, one after another, and what they gather to
+    -- at most n items at the front of the bytes, one after another, and what they gather to
     pub record GotUntilEnd (whole : F) (old new : ReaderState) : Type 0 where
       pub items : List T
       pub at_most : length items ≤ greatest
@@ -65,7 +65,7 @@ module _ {E : Type 0} (gives : Error → E → Type 0) (eof : E → Bool) where
       -- nothing in front of the rest is still there
       pub taken : IsTrue old.fixed.tells → (lost : List ℕ) × (begin.rest ≡ lost ++ new.remaining)
 
-    -- A read of items until the bytes end, of at most so many. What is answered is gathered of all items in front of
+    -- A read of items until the bytes end, of at most n. What is answered is gathered of all items in front of
     -- the end.
     pub record ReadsUntilEnd (result : Result F E) (old new : ReaderState) : Type 0 where
       pub kept : Kept old new
@@ -83,7 +83,7 @@ module _ {E : Type 0} (gives : Error → E → Type 0) (eof : E → Bool) where
 
 module _ {E : Type 0} (errors : Errors E) where
   module _ {S : Type 0} (state : S → ReaderState) where
-    -- a read of a codec's values until the bytes end, of at most so many, from a reader that reads see so
+    -- a read of a codec's values until the bytes end, of at most n, from a reader that reads see so
     abbrev pub ReadsValuesUntilEnd : {T F V : Type 0} → (T → V) → (List T → F → Type 0) → Codec V → ℕ
         → Result F E → S → S → Type 0
     ReadsValuesUntilEnd seen gathers codec greatest result old new =
@@ -104,7 +104,7 @@ module _ {E : Type 0} (errors : Errors E) where
   -- What a clean read until the end answers is decided by the bytes. It may want memory in place of any other answer.
   pub record UntilEndIsDecided {T F V : Type 0} (seen : T → V) (gathers : List T → F → Type 0)
       (format : Mode → Format V) : Type 0 where
-    -- at most so many values and then some first bytes of one, or none: the values
+    -- at most n values and then some first bytes of one, or none: the values
     pub cut : {mode : Mode} (vs : List V) (v : V) (bytes prefix more : List ℕ) {greatest : ℕ}
         {result : Result F E} {old new : ReaderState}
         → Each (format mode).encodes vs bytes → (format mode).encodes v (prefix ++ more) → more ≢ []
@@ -113,7 +113,7 @@ module _ {E : Type 0} (errors : Errors E) where
         → CleanUntilEnd errors.from_gives errors.eof seen gathers (format mode) greatest result old new
         → MatchResult result (λ whole. (items : List T) × (map seen items ≡ vs) × gathers items whole)
         (errors.from_gives (error_of kinds.OutOfMemory))
-    -- more values than so many: a refusal
+    -- more than n values: a refusal
     pub too_many : {mode : Mode} (vs : List V) (bytes rest : List ℕ) {greatest : ℕ} {result : Result F E}
         {old new : ReaderState}
         → Each (format mode).encodes vs bytes → greatest < length vs
@@ -121,7 +121,7 @@ module _ {E : Type 0} (errors : Errors E) where
         → CleanUntilEnd errors.from_gives errors.eof seen gathers (format mode) greatest result old new
         → MatchResult result (λ _. ⊥)
         (λ e. errors.from_gives (error_of kinds.OutOfRangeLength) e ⊎ errors.from_gives (error_of kinds.OutOfMemory) e)
-    -- at most so many values and then what the type refuses: a refusal that it names
+    -- at most n values and then what the type refuses: a refusal that it names
     pub at_fault : {mode : Mode} (vs : List V) (bytes rest : List ℕ) {greatest : ℕ} {result : Result F E}
         {old new : ReaderState}
         → Each (format mode).encodes vs bytes → (format mode).malformed rest → length vs ≤ greatest

@@ -16,7 +16,7 @@ use Rattle.speedy_read.specs.Reading.{refusing_kinds, IsEnd, Undecodable}
 use Rattle.speedy_read.specs.StreamModel.{most_held}
 use Rattle.speedy_read.specs.Streams.{LeavesTail}
 
--- a prefix of so many bytes is encoded so
+-- a prefix of n bytes is encoded so
 pub record Counts (encoded : List ℕ → Type 0) (count : ℕ) (bytes : List ℕ) : Type 0 where
   pub prefix : List ℕ
   pub rest : List ℕ
@@ -24,7 +24,7 @@ pub record Counts (encoded : List ℕ → Type 0) (count : ℕ) (bytes : List �
   pub prefix_is : encoded prefix
   pub count_is : count ≡ length prefix
 
--- two prefixes of what a source had were taken, by calls that did not fail: one that is encoded so, and at most so many
+-- two prefixes of what a source had were taken, by calls that did not fail: one that is encoded so, and at most n
 -- bytes that were read ahead
 pub record TookPrefix (encoded : List ℕ → Type 0) (most : ℕ) (old new : SourceState) : Type 0 where
   pub prefix : List ℕ

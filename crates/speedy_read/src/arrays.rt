@@ -113,7 +113,7 @@ pub(crate) fn read_number_places<
     }
 }
 
-// The numbers that these bytes encode, so many times as many as there are places, which take so many bytes.
+// The numbers that these bytes encode, `length` times as many as there are places, which take `width` bytes.
 fn places_of<
     P: Places<L, C, T>,
     T: FixedNumber + ReadFrom<L, C>,

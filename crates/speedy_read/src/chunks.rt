@@ -162,7 +162,7 @@ impl<L: AsSlice<u8> + Drop, C: Context> Strategy<L, C, bool> for Flags {
     }
 }
 
-// Reads so many flags, which any bytes are. Those that the reader lends until it is used again are taken at once.
+// Reads `length` flags, which any bytes are. Those that the reader lends until it is used again are taken at once.
 fn read_flags<L: AsSlice<u8> + Drop, C: Context, R: LendingReader<L, C>>(
     reader: &mut R,
     length: usize,
@@ -201,7 +201,7 @@ fn are_in_range(_bytes: &[u8])
     ensures { AreBytes _bytes.now }
 {}
 
-// Reads so many numbers. Those that the reader lends until it is used again are taken at once.
+// Reads `count` numbers. Those that the reader lends until it is used again are taken at once.
 pub(crate) fn read_numbers<
     W: Drop,
     T: FixedNumber,
@@ -294,7 +294,7 @@ fn fill_chunks<T: FixedNumber, L: AsSlice<u8> + Drop, C: Context, R: LendingRead
     Ok(())
 }
 
-// The numbers that these bytes encode, so many.
+// The `length` numbers that these bytes encode.
 fn numbers_of<T: FixedNumber>(
     alloc: Global,
     order: Endianness,
@@ -309,7 +309,7 @@ fn numbers_of<T: FixedNumber>(
     Ok(numbers)
 }
 
-// Reads so many numbers, as many at a time as the chunk has room for.
+// Reads `count` numbers, as many at a time as the chunk has room for.
 #[inline]
 fn read_number_chunks<T: FixedNumber, L: AsSlice<u8> + Drop, C: Context, R: LendingReader<L, C>>(
     reader: &mut R,
@@ -335,8 +335,8 @@ fn read_number_chunks<T: FixedNumber, L: AsSlice<u8> + Drop, C: Context, R: Lend
     Ok(numbers)
 }
 
-// Reads so many bytes. The count may be any, so no more room is asked for than a step ahead of what was read, but where
-// the reader says that so many are there.
+// Reads `length` bytes. The count may be any, so no more room is asked for than a step ahead of what was read, but
+// where the reader says that they are there.
 pub(crate) fn read_byte_chunks<L: AsSlice<u8> + Drop, C: Context, R: LendingReader<L, C>>(
     reader: &mut R,
     length: usize,

@@ -302,7 +302,7 @@ impl<T: SameKey + Hash + Drop, S: BuildHasher + Default + Drop> FromItems<T> for
     }
 }
 
-// Reads so many items and gathers them. It stands outside the trait, so that it is proved once for all types.
+// Reads `length` items and gathers them. It stands outside the trait, so that it is proved once for all types.
 #[inline]
 pub(crate) fn collect_items<
     F: FromItems<T>,

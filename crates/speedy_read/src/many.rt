@@ -287,7 +287,7 @@ pub enum Many<W, T> {
     Owned(Vec<T>),
 }
 
-// Reads so many values, each by itself. It stands outside the trait, so that it is proved once for all types. What
+// Reads `length` values, each by itself. It stands outside the trait, so that it is proved once for all types. What
 // `W` shows is left open, since a function that is told would ask more of an array than its impl knows.
 #[inline]
 pub(crate) fn read_each<

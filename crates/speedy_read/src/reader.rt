@@ -359,7 +359,7 @@ pub trait LendingReader<L: AsSlice<u8> + Drop, C: Context> {
 
     /// The next `length` values, into a vector.
     ///
-    /// It is an error before any item where fewer bytes remain than so many items have at least, if the reader
+    /// It is an error before any item where fewer bytes remain than `length` items have at least, if the reader
     /// says so, and where that many bytes are past `usize::MAX`.
     #[inline(always)]
     final fn read_vec<T: ReadMany<L, C>>(&mut self, length: usize) -> Result<Vec<T>, C::Error>
@@ -501,7 +501,7 @@ pub trait LendingReader<L: AsSlice<u8> + Drop, C: Context> {
         state (with_context r c) ≡ record (state r) { mode = C.mode c } };
 }
 
-/// The bytes ended before so many as were to be lent.
+/// The bytes ended before as many as were to be lent.
 #[derive(Clone, Copy, Debug, PartialEq, Eq)]
 pub struct EndOfInput {}
 
@@ -510,7 +510,7 @@ pub trait Reader<'a, C: Context>: LendingReader<&'a [u8], C> {}
 
 impl<'a, C: Context, R: LendingReader<&'a [u8], C>> Reader<'a, C> for R {}
 
-// Whether it is known before any is read that fewer bytes remain than so many items have at least.
+// Whether it is known before any is read that fewer bytes remain than `length` items have at least.
 pub(crate) fn ends_before<L: AsSlice<u8> + Drop, C: Context, R: LendingReader<L, C>>(
     reader: &R,
     least: usize,

@@ -37,7 +37,7 @@ pub(crate) const SKIPPED_CHUNK: usize = 1024;
 /// The chunk that bytes are read through to be compared with a constant, in bytes.
 pub(crate) const CONSTANT_CHUNK: usize = 64;
 
-// An empty vector, with room for so many items where the reader says that their bytes remain. Only there is
+// An empty vector, with room for `length` items where the reader says that their bytes remain. Only there is
 // memory asked for.
 pub(crate) fn vec_for<T, L: AsSlice<u8> + Drop, C: Context, R: LendingReader<L, C>>(
     reader: &R,
@@ -65,7 +65,7 @@ pub(crate) fn vec_for<T, L: AsSlice<u8> + Drop, C: Context, R: LendingReader<L, 
     }
 }
 
-// Whether the reader says that so many bytes remain, or its source does.
+// Whether the reader says that `size` bytes remain, or its source does.
 #[inline(always)]
 fn are_remaining<L: AsSlice<u8> + Drop, C: Context, R: LendingReader<L, C>>(
     reader: &R,
@@ -78,7 +78,7 @@ fn are_remaining<L: AsSlice<u8> + Drop, C: Context, R: LendingReader<L, C>>(
     reader.can_read_at_least(size) == Some(true) || reader.expects_at_least(size)
 }
 
-// Where there is no room for so many items more, asks for some: for as many as are still to read, but no more than a
+// Where there is no room for `left` items more, asks for some: for as many as are still to read, but no more than a
 // step.
 #[inline(always)]
 fn make_room<T>(items: &mut Vec<T>, more: usize, left: usize) -> Result<(), AllocError>
@@ -137,7 +137,7 @@ fn with_room<T: Drop>(mut items: Vec<T>, left: usize) -> Result<Vec<T>, AllocErr
     Ok(items)
 }
 
-// Appends the numbers that these bytes encode, some of so many that are still to read. Room for them is asked for by
+// Appends the numbers that these bytes encode, some of those that are still to read. Room for them is asked for by
 // steps too.
 #[inline]
 pub(crate) fn append_in_steps<T: FixedNumber>(
@@ -161,7 +161,7 @@ pub(crate) fn append_in_steps<T: FixedNumber>(
     Ok(())
 }
 
-// Adds zeros for as many bytes as there is room for, at most so many. Where there is no room, a step of it is asked
+// Adds zeros for as many bytes as there is room for, at most `left`. Where there is no room, a step of it is asked
 // for.
 #[inline]
 pub(crate) fn open_chunk(bytes: &mut Vec<u8>, left: usize) -> Result<usize, AllocError>

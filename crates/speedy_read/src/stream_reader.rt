@@ -116,7 +116,7 @@ fn fill_list<S: Source>(source: &mut S, output: &mut [u8]) -> Result<bool, io::E
     Ok(true)
 }
 
-// Pulls until the ring holds so many bytes, and says whether it does. Each pull is of all that fits where it reads
+// Pulls until the ring holds `count` bytes, and says whether it does. Each pull is of all that fits where it reads
 // ahead, and else of what lacks.
 fn fill_ring<S: Source>(
     ring: &mut CircularBuffer,
@@ -172,7 +172,7 @@ impl<'s, S: Source, C: Context> StreamReader<'s, S, C> {
         self.source
     }
 
-    // Fills the ring until it holds so many bytes.
+    // Fills the ring until it holds `count` bytes.
     fn fill(&mut self, count: usize) -> Result<(), C::Error>
         requires { count ≤ self.old.ring.capacity }
         ensures { Fills C.Error.from_gives C.Error.eof count result self.old.ring self.new.ring

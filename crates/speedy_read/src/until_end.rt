@@ -26,7 +26,7 @@ fn read_unless_end<T: ReadFrom<L, C>, L: AsSlice<u8> + Drop, C: Context, R: Lend
     }
 }
 
-// Reads items until the bytes end, of which at most so many are allowed, and gathers them one by one.
+// Reads items until the bytes end, of which at most `greatest` are allowed, and gathers them one by one.
 pub(crate) fn collect_until_end<
     F: FromItems<T>,
     T: ReadFrom<L, C>,

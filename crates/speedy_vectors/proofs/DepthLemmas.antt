@@ -26,7 +26,7 @@ each_within n F each (with_tree r rs) b h =
     let more = each_within n F each rs h.suffix h.second_is in
     omega arith
 
--- a tree that is encoded has at most so many levels
+-- a tree that is encoded has at most n levels
 pub encoded_within : (n : ℕ) (mode : Mode) (r : Rose) (b : List ℕ)
     → (tree_levels n mode).encodes r b → depth r ≤ n
 unfolding levels no_value sequence list vector owned_content repeat
@@ -78,7 +78,7 @@ each_written n F form (with_tree r rs) fits within =
       record { prefix = first.0; suffix = more.0; whole_is = refl; first_is = first.1; second_is = more.1 },
     )
 
--- a tree of at most so many levels has a canonical encoding
+-- a tree of at most n levels has a canonical encoding
 pub within_written : (n : ℕ) (mode : Mode) (r : Rose) → FitsDigits r → depth r ≤ n
     → (b : List ℕ) × (tree_levels n mode).writes r b
 unfolding levels no_value sequence list vector owned_content repeat unsigned_number

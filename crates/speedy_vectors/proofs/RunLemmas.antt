@@ -402,7 +402,7 @@ all_answered : (lines : List (List ℕ)) (s t : SinkState) → Answered lines []
 all_answered lines s t h =
     subst (λ (ls : List (List ℕ)). AnsweredAll ls s t) (sym (h.lines_are ∙ append-nil h.done)) h.answered
 
--- so much of the input was answered so far, in so many pieces
+-- so much of the input was answered so far, in n pieces
 pub record RunSoFar (count : ℕ) (pending : List ℕ) (input input_after : SourceState)
     (output output_after : SinkState) : Type 0 where
   pub kept : SourceKept input input_after × SinkKept output output_after

@@ -66,7 +66,7 @@ view = fold-Tree Rose view_step
 abbrev pub tree_step : Mode → Format Rose → Format Rose
 tree_step mode F = sequence parts (unsigned_number 1 mode) (list mode F).asks (λ _. list mode F)
 
--- trees of at most so many levels
+-- trees of at most n levels
 abbrev pub tree_levels : ℕ → Mode → Format Rose
 tree_levels n mode = levels kinds.OutOfRangeLength (tree_step mode) n
 

@@ -6,7 +6,7 @@ use std::alloc::Global;
 use std::io::{self, Read, Write};
 use std::process::Abort;
 
-/// An input that gives at most so many bytes a call, so many at the first, and of which one call fails, counted
+/// An input that gives at most `most` bytes a call, `first` at the first, and of which one call fails, counted
 /// from 1.
 #[derive(Drop)]
 struct Input<'a> {
@@ -18,7 +18,7 @@ struct Input<'a> {
     calls: u8,
 }
 
-/// An output that takes at most so many bytes a call, and of which one call fails, counted from 1, a flush too. It
+/// An output that takes at most `most` bytes a call, and of which one call fails, counted from 1, a flush too. It
 /// counts its flushes, and the calls that come after one.
 #[derive(Drop)]
 struct Output {
@@ -95,7 +95,7 @@ fn input_of(bytes: &[u8]) -> Input<'_> {
     }
 }
 
-/// An output that takes at most so many bytes a call, and of which no call fails.
+/// An output that takes at most `most` bytes a call, and of which no call fails.
 fn output_of(alloc: Global, most: usize) -> Output {
     Output {
         taken: Vec::new(alloc),
@@ -122,7 +122,7 @@ fn run_over(alloc: Global, input: Input<'_>, output: Output) -> (End, u8, Output
     (end, input.into_inner().calls, output.into_inner())
 }
 
-/// Asserts that a run over the input ends well and answers this, in pushes of at most so many bytes, and that the
+/// Asserts that a run over the input ends well and answers this, in pushes of at most `most` bytes, and that the
 /// output is flushed once, after all of them.
 fn assert_answered(rt: &impl Abort, alloc: Global, input: Input<'_>, most: usize, answers: &[u8]) {
     let (end, _, output) = run_over(alloc, input, output_of(alloc, most));
@@ -216,7 +216,7 @@ const ANSWERS: [u8; 27] = *b"bad line\nbad line\nbad line\n";
 /// The kinds with which a call fails: std's own loops would try the second again.
 const KINDS: [io::ErrorKind; 2] = [io::ErrorKind::Other, io::ErrorKind::Interrupted];
 
-/// Asserts that a run over the lines ended with a failed call of the kind, behind so many bytes of their answers.
+/// Asserts that a run over the lines ended with a failed call of the kind, behind `taken` bytes of their answers.
 fn assert_failed(rt: &impl Abort, end: End, kind: io::ErrorKind, output: &Output, taken: usize) {
     assert!(rt; end == End::Device(kind));
     assert!(rt; output.taken.len() == taken && ANSWERS.starts_with(&output.taken));

@@ -20,7 +20,7 @@ fn make_both(rt: &impl Abort, alloc: Global, count: usize) -> (Vec<u16>, Vec<Pla
     (numbers, plain)
 }
 
-/// Asserts that so many numbers are written as the plain items are, to a vector and to a sink, and answers the bytes.
+/// Asserts that the numbers are written as the plain items are, to a vector and to a sink, and answers the bytes.
 fn write_alike(
     rt: &impl Abort,
     alloc: Global,
@@ -85,7 +85,7 @@ fn assert_streamed(
     assert_numbers(rt, &mut reader, numbers);
 }
 
-/// Asserts that so many numbers are written as the plain items are, and that what is read of the bytes by each reader
+/// Asserts that `count` numbers are written as the plain items are, and that what is read of the bytes by each reader
 /// is the same.
 fn assert_alike(rt: &impl Abort, alloc: Global, order: Endianness, count: usize) {
     let (numbers, plain) = make_both(rt, alloc, count);

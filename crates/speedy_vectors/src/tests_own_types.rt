@@ -62,7 +62,7 @@ fn the_record_of_the_original_is_read_of_a_stream(rt: HostRuntime) {
     }
 }
 
-/// A frame without parts, whose note has so many bytes.
+/// A frame without parts, whose note has `count` bytes.
 fn make_frame(rt: &impl Abort, alloc: Global, length: usize) -> Frame {
     let mut note = String::new(alloc);
     for _ in 0..length {

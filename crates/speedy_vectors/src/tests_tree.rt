@@ -9,7 +9,7 @@ use std::process::Abort;
 
 const ORDER: Endianness = Endianness::LittleEndian;
 
-/// A chain of so many levels, each of them the only child of the one before it.
+/// A chain of `levels` levels, each of them the only child of the one before it.
 fn make_chain(rt: &impl Abort, alloc: Global, levels: u8) -> Tree {
     let mut tree = Tree {
         value: levels,

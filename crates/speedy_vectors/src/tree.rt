@@ -51,7 +51,7 @@ impl<C: Context> Writable<C> for Tree {
     }
 }
 
-// Reads a tree of at most so many levels.
+// Reads a tree of at most `levels` levels.
 #[cycle(read)]
 fn read_levels<L: AsSlice<u8> + Drop, C: Context, R: LendingReader<L, C>>(
     reader: &mut R,
@@ -68,8 +68,8 @@ fn read_levels<L: AsSlice<u8> + Drop, C: Context, R: LendingReader<L, C>>(
     Ok(Tree { value, children })
 }
 
-// Reads so many trees of at most so many levels. Room is asked for in steps as they come, whatever their count says,
-// and also where the reader knows that so many bytes are there: each level could claim them.
+// Reads `length` trees of at most `levels` levels. Room is asked for in steps as they come, whatever their count says,
+// and also where the reader knows that `length` bytes are there: each level could claim them.
 #[cycle(read)]
 fn read_children<L: AsSlice<u8> + Drop, C: Context, R: LendingReader<L, C>>(
     reader: &mut R,
@@ -90,7 +90,7 @@ fn read_children<L: AsSlice<u8> + Drop, C: Context, R: LendingReader<L, C>>(
     Ok(children)
 }
 
-// Writes a tree of at most so many levels.
+// Writes a tree of at most `levels` levels.
 #[cycle(write)]
 fn write_levels<C: Context, W: Writer<C>>(
     tree: &Tree,
@@ -109,7 +109,7 @@ fn write_levels<C: Context, W: Writer<C>>(
     write_children(children, writer, levels - 1)
 }
 
-// Writes trees of at most so many levels, one after another.
+// Writes trees of at most `levels` levels, one after another.
 #[cycle(write)]
 fn write_children<C: Context, W: Writer<C>>(
     children: &[Tree],

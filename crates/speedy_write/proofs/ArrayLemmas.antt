@@ -14,7 +14,7 @@ use Rattle.speedy_write.specs.Writing.{WriterState, WritesEach}
 use Rattle.speedy_write.proofs.ListLemmas.{Each-append, Each-parts}
 
 module _ {A V : Type 0} (R : V → List ℕ → Type 0) (seen : A → V) (n : ℕ) where
-  -- the bytes are those of so many items
+  -- the bytes are those of n items
   abbrev OfItems : List V → List ℕ → Type 0
   OfItems vs b = (length vs ≡ n) × Each R vs b
 

@@ -21,7 +21,7 @@ use Rattle.speedy_write.specs.Writing.{WriterState, Writes}
 abbrev pub numbered : {V : Type 0} → Format ℕ → Format V → Format (ℕ × V)
 numbered number F = sequence (λ p. p) number F.asks (λ _. F)
 
--- so many bytes are those of a canonical encoding
+-- n bytes are those of a canonical encoding
 abbrev pub Takes : {V : Type 0} → Format V → V → ℕ → Type 0
 Takes F v n = (bytes : List ℕ) × F.writes v bytes × (n ≡ length bytes)
 

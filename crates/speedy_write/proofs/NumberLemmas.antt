@@ -59,7 +59,7 @@ unfolding unsigned_number
 too_long_refused width {n = n} {old = old} long given = undecodable_refused (unsigned_number_laws width old.mode)
     (λ b h. let below = EncodesNumber-below width old.mode.order n b h in omega arith) given
 
--- a length of at most so many is written as the number is
+-- a length of at most n is written as the number is
 pub length_written : {E : Type 0} {gives : Error → E → Type 0} (width greatest : ℕ) {n : ℕ}
     {result : Result (Unit {0}) E} {old new : WriterState} {appended : List ℕ → Type 0} → n ≤ greatest
     → Writes gives (unsigned_number width) n result old new appended

@@ -8,7 +8,7 @@ use Rattle.speedy_base.specs.MemoryDevices.{no_faults}
 use Rattle.speedy_base.specs.Mode.{Mode}
 use Rattle.speedy_write.specs.Writing.{WriterState}
 
--- a collector over a buffer, with so many bytes left
+-- a collector over a buffer, with n bytes left
 abbrev pub buffer_state : Mode → List GName → ℕ → WriterState
 buffer_state mode targets left = record {
   fixed = record { tells = true; tells_faults = true; full = kinds.UnexpectedEndOfOutputBuffer; targets = targets };

@@ -1,4 +1,4 @@
--- Lists and texts behind a count of any format: what is written of so many items or bytes, where the count was written.
+-- Lists and texts behind a count of any format: what is written of n items or bytes, where the count was written.
 use Rattle.std.specs.Prelude.{◌≡◌, ℕ, List, length, map, Result, refl}
 use Rattle.std.proofs.Common.{ap, sym}
 use Rattle.std.proofs.lemmas.List.{length-map}

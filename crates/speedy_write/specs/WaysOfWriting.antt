@@ -43,7 +43,7 @@ module _ {E : Type 0} (gives : Error → E → Type 0) where
     -- a kind that the type names for writing is left to values without a canonical encoding
     pub refused : IfErr result (IsOutOfRange gives L.refuses_writing)
 
-  -- a buffer of this size is refused, and so many bytes were needed
+  -- a buffer of this size is refused, and n bytes were needed
   abbrev pub IsTooSmall : ℕ → ℕ → E → Type 0
   IsTooSmall actual expected e = gives (error_of (kinds.OutputBufferIsTooSmall actual expected)) e
 

@@ -37,12 +37,12 @@ pub record WriterState : Type 0 where
   -- whether all that its device took was passed on
   pub settled : Bool
 
--- so many bytes fit
+-- n bytes fit
 abbrev pub Fits : ℕ → Option ℕ → Type 0
 Fits n None = Unit {0}
 Fits n (Some space) = n ≤ space
 
--- what is left of the space after so many bytes
+-- what is left of the space after n bytes
 abbrev pub less : Option ℕ → ℕ → Option ℕ
 less None n = None
 less (Some space) n = Some (space - n)
@@ -150,7 +150,7 @@ module _ {E S : Type 0} (gives : Error → E → Type 0) (state : S → WriterSt
     WritesSlice bytes result old new =
         WritesBytes gives bytes result (state old) (state new) (λ b. appends old b new)
 
-    -- the write of a number of so many bytes, and of a signed one of a width
+    -- the write of a number of n bytes, and of a signed one of a width
     abbrev pub WritesNumber : ℕ → ℕ → Result (Unit {0}) E → S → S → Type 0
     WritesNumber width = WritesValue (λ n. n) (unsigned_codec width)
 

@@ -45,7 +45,7 @@ impl<'b> Waiting<'b> {
         }
     }
 
-    // Whether so many bytes more have room.
+    // Whether `count` bytes more have room.
     #[inline(always)]
     fn has_room(&self, count: usize) -> bool
         ensures { IsTrue result ↔ (self.now.end + count ≤ length self.now.room.now) }

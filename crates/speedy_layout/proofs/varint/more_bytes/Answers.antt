@@ -28,7 +28,7 @@ own k n h j l =
     let even : 2 ^ (7 * (j + 1)) ≡ 2 ^ (7 * j + 6) * 2 = ap (λ (i : ℕ). 2 ^ i) one_more ∙ pow-suc 2 (7 * j + 6) in
     omega arith
 
--- so many bits has the number with that bit, and at least one
+-- n bits has the number with that bit, and at least one
 bits : (n : ℕ) → n < 2 ^ 64
     → (b : ℕ) × (count_leading_zeros 64 (bit_or n 1) + b ≡ 64) × (1 ≤ b) × ((n / 2) * 2 + 1 < 2 ^ b)
     × (2 ^ b ≤ 2 * ((n / 2) * 2 + 1) + 1)
