@@ -160,6 +160,18 @@ fn ended<E: From<Error>>(alloc: Global) -> E
     error_end_of_stream(alloc)
 }
 
+// The answer of a call, passed on by its parts, so that a function that the call stands in has its own answer in
+// registers where nothing was called.
+#[inline(always)]
+fn by_parts<E>(answer: Result<(), E>) -> Result<(), E>
+    ensures { result ≡ answer }
+{
+    match answer {
+        Ok(()) => Ok(()),
+        Err(error) => Err(error),
+    }
+}
+
 impl<'s, S: Source, C: Context> StreamReader<'s, S, C> {
     /// The source, behind the bytes that the reader still holds: these are lost.
     #[inline]
@@ -185,19 +197,23 @@ impl<'s, S: Source, C: Context> StreamReader<'s, S, C> {
         }
     }
 
-    // Reads fewer bytes than the ring has room for, and more than it holds.
-    fn read_ahead(&mut self, output: &mut [u8]) -> Result<(), C::Error>
-        requires more { length self.old.ring.bytes < length output.old }
-        requires fits { length output.old < self.old.ring.capacity }
+    // Reads more than the ring holds: by the ring what it has room for, where it reads ahead, and else past it.
+    #[inline(never)]
+    fn read_more(&mut self, output: &mut [u8]) -> Result<(), C::Error>
+        requires { length self.old.ring.bytes < length output.old }
         ensures { ReadsInto C.Error.IsEof (stream_state S.source C.mode) output.old output.new
             result self.old self.new }
     {
+        if !self.is_buffering || self.ring.capacity() <= output.len() {
+            return self.read_past_ring(output);
+        }
         self.fill(output.len())?;
         self.ring.consume_into(output);
         Ok(())
     }
 
-    // Reads all that the ring holds, and the rest straight from the source.
+    // Reads all that the ring holds, and the rest straight from the source, by as many calls as it takes.
+    #[inline(never)]
     fn read_past_ring(&mut self, output: &mut [u8]) -> Result<(), C::Error>
         requires { length self.old.ring.bytes < length output.old }
         ensures { ReadsInto C.Error.IsEof (stream_state S.source C.mode) output.old output.new
@@ -215,7 +231,7 @@ impl<'s, S: Source, C: Context> StreamReader<'s, S, C> {
     // Reads some bytes straight from the source, by one call as a rule: nothing is held of it. It stands inline, so
     // what is rare in it is called.
     #[inline(always)]
-    fn read_straight(&mut self, output: &mut [u8]) -> Result<(), C::Error>
+    fn read_unbuffered(&mut self, output: &mut [u8]) -> Result<(), C::Error>
         requires nothing_held { self.old.ring.bytes ≡ [] }
         requires some { 0 < length output.old }
         ensures { ReadsInto C.Error.IsEof (stream_state S.source C.mode) output.old output.new
@@ -229,60 +245,9 @@ impl<'s, S: Source, C: Context> StreamReader<'s, S, C> {
                 if first == 0 {
                     return Err(ended(self.alloc));
                 }
-                self.read_on(&mut output[first..])
+                by_parts(self.read_past_ring(&mut output[first..]))
             }
             Err(error) => Err(failed_call(self.alloc, error)),
-        }
-    }
-
-    // The same, by as many calls as it takes. It passes on the answer of a call by its parts, so that a caller that it
-    // stands in has its own answer in registers where nothing was called.
-    #[inline(always)]
-    fn read_on(&mut self, output: &mut [u8]) -> Result<(), C::Error>
-        requires nothing_held { self.old.ring.bytes ≡ [] }
-        requires some { 0 < length output.old }
-        ensures { ReadsInto C.Error.IsEof (stream_state S.source C.mode) output.old output.new
-            result self.old self.new }
-    {
-        self.read_rest(output)?;
-        Ok(())
-    }
-
-    #[inline(never)]
-    fn read_rest(&mut self, output: &mut [u8]) -> Result<(), C::Error>
-        requires nothing_held { self.old.ring.bytes ≡ [] }
-        requires some { 0 < length output.old }
-        ensures { ReadsInto C.Error.IsEof (stream_state S.source C.mode) output.old output.new
-            result self.old self.new }
-    {
-        match fill_list(self.source, output) {
-            Ok(true) => Ok(()),
-            Ok(false) => Err(ended(self.alloc)),
-            Err(error) => Err(failed_call(self.alloc, error)),
-        }
-    }
-
-    // Reads more than the ring holds. Its answer goes as that of `read_on`.
-    #[inline(always)]
-    fn read_more(&mut self, output: &mut [u8]) -> Result<(), C::Error>
-        requires { length self.old.ring.bytes < length output.old }
-        ensures { ReadsInto C.Error.IsEof (stream_state S.source C.mode) output.old output.new
-            result self.old self.new }
-    {
-        self.read_elsewhere(output)?;
-        Ok(())
-    }
-
-    #[inline(never)]
-    fn read_elsewhere(&mut self, output: &mut [u8]) -> Result<(), C::Error>
-        requires { length self.old.ring.bytes < length output.old }
-        ensures { ReadsInto C.Error.IsEof (stream_state S.source C.mode) output.old output.new
-            result self.old self.new }
-    {
-        if self.is_buffering && output.len() < self.ring.capacity() {
-            self.read_ahead(output)
-        } else {
-            self.read_past_ring(output)
         }
     }
 }
@@ -309,9 +274,9 @@ impl<'s, 'b, C: Context, S: Source> LendingReader<&'b [u8], C> for StreamReader<
             return Ok(());
         }
         if !self.is_buffering && self.ring.is_empty() {
-            return self.read_straight(output);
+            return self.read_unbuffered(output);
         }
-        self.read_more(output)
+        by_parts(self.read_more(output))
     }
 
     /// Fills the output with the next bytes, and takes none. What is not held yet is pulled into the ring, which may

@@ -1,14 +1,18 @@
-use Rattle.std.specs.Prelude.{◌≡◌, ℕ, ◌-◌, ◌<◌, List, [], ◌++◌, length, take, drop, true, false, Ok, refl}
+use Rattle.std.specs.Prelude.{◌≡◌, ℕ, ◌+◌, ◌-◌, ◌<◌, Bool, true, false, List, [], ◌++◌, length, take, drop}
+use Rattle.std.specs.Prelude.{Result, Ok, refl}
 use Rattle.std.proofs.Common.{sym, ap, ◌∙◌, arith}
 use Rattle.std.proofs.lemmas.Bool.{true≢false}
 use Rattle.std.proofs.lemmas.List.{append-nil, drop_all, length-drop, length-take-le, take_all}
 use borrow.Rule.Slice.PartMut.{put_mid}
+use Rattle.speedy_base.specs.declared.error.Error.{Error}
 use Rattle.speedy_base.specs.Device.{SourceState, Pulls}
+use Rattle.speedy_layout.specs.Format.{Format}
+use Rattle.speedy_read.specs.Reading.{ReaderState, Reads}
 use Rattle.speedy_read.specs.ReadingLemmas.{none_so_far}
 use Rattle.speedy_read.specs.Streams.{FillsList}
 use Rattle.speedy_read.proofs.ByteLemmas.{more_bytes, rest_read}
 use Rattle.speedy_read.proofs.StreamLemmas.{device_ended, past_read, past_ended}
-use Rattle.speedy_read.proofs.stream_reader.StreamReader.read_straight.Goals as goal
+use Rattle.speedy_read.proofs.stream_reader.StreamReader.read_unbuffered.Goals as goal
 
 -- one call fills as much as it moves
 one_call : {old new : SourceState} {output : List ℕ} (n : ℕ) → Pulls (Ok n) old new output
@@ -33,6 +37,12 @@ end_met {output = output} n none some p = record {
   ended = λ less told. omega (arith, ap length (p.ends told none some), some);
   fault = tt;
 }
+
+-- an answer that is passed on
+same_answer : {E : Type 0} {gives : Error → E → Type 0} {eof : E → Bool} {A V : Type 0} {seen : A → V} {L : Format V}
+    {answer result : Result A E} {old new : ReaderState}
+    → result ≡ answer → Reads gives eof seen L answer old new → Reads gives eof seen L result old new
+same_answer is read = rw is read
 
 -- what is read behind the front of an output
 put_behind : (output rest : List ℕ) (n : ℕ) → put_mid n (length output - n) output rest ≡ take n output ++ rest
@@ -71,13 +81,16 @@ returns-else-first-eq0 g c =
     {seen = λ (u : Unit {0}). take n output} {x = tt} refl (one_call n c.in-Ok.ensures)
     (sym (ap (λ (l : List ℕ). l ++ take n output) none)) (omega (arith, ap length none, prefix))
     (omega (arith, ap length none, c.if-first-eq0.false)) in
-    rest_read _ _ (take n output) c.read_on.result (more_bytes n [] (take n output) (none_so_far refl) first refl)
-    (omega (
+    let sized : length (take n output) + length (take (length output - n) (drop n output)) ≡ length c.args.output.now =
+    omega (
       arith,
       prefix,
       c.in-Ok.ensures.within,
       c.pull.auto.output,
       length-take-le (length output - n) (drop n output) (omega (arith, length-drop n output)),
       length-drop n output,
-    ))
-    (λ u. put_behind output c.read_on.new.output n) c.read_on.ensures
+    ) in
+    same_answer c.by_parts.ensures
+    (rest_read _ _ (take n output) c.read_past_ring.result
+    (more_bytes n [] (take n output) (none_so_far refl) first refl) sized
+    (λ u. put_behind output c.read_past_ring.new.output n) c.read_past_ring.ensures)
