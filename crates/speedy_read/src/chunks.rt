@@ -10,13 +10,13 @@ ghost use Rattle.speedy_read.specs.Lending.{many_items};
 ghost use Rattle.speedy_read.specs.Reading.{ReadsValue};
 
 use crate::arrays::read_number_places;
-use crate::lent::lent_in_range;
 use crate::many::{AsBytes, Fills, FromLent, Many, Places, Strategy, read_each};
 use crate::readable::ReadFrom;
 use crate::reader::{EndOfInput, LendingReader};
 use crate::room::{
     CHUNK, LEAST_CHUNK, MIDDLE_CHUNK, SHORT_CHUNK, append_in_steps, open_chunk, vec_for,
 };
+use speedy_base::bytes::bytes_in_range;
 use speedy_base::context::Context;
 use speedy_base::endianness::Endianness;
 use speedy_base::error::{Error, ErrorKind, error_end_of_input, error_out_of_memory};
@@ -83,7 +83,7 @@ impl<L: AsSlice<u8> + Drop, C: Context> Strategy<L, C, u8> for Bytes {
     ) -> Result<Many<W, u8>, C::Error> {
         match reader.read_bytes_borrowed(length) {
             Some(Ok(bytes)) => {
-                lent_in_range(&bytes);
+                bytes_in_range(bytes.as_slice());
                 match W::from_lent::<AsBytes>(bytes, reader.alloc()) {
                     Some(made) => Ok(Many::Made(made)),
                     None => Err(error_out_of_memory()),
@@ -126,7 +126,7 @@ impl<L: AsSlice<u8> + Drop, C: Context> Fills<L, C, u8> for Bytes {
 
     fn fill<R: LendingReader<L, C>>(reader: &mut R, places: &mut [u8]) -> Result<(), C::Error> {
         reader.read_bytes(places)?;
-        are_in_range(places);
+        bytes_in_range(places);
         Ok(())
     }
 }
@@ -188,18 +188,12 @@ fn flags_of<E: From<Error>>(alloc: Global, bytes: &[u8]) -> Result<Vec<bool>, E>
         (E.from_gives (error_of ErrorKind.OutOfMemory)) }
     ensures range { AreBytes bytes.now }
 {
-    are_in_range(bytes);
+    bytes_in_range(bytes);
     match bytes.iter().map(|byte| *byte != 0).collect(alloc) {
         Ok(flags) => Ok(flags),
         Err(_) => Err(error_out_of_memory()),
     }
 }
-
-// What a proof knows of the bytes is their range, which the contents of an output don't show.
-#[inline(always)]
-fn are_in_range(_bytes: &[u8])
-    ensures { AreBytes _bytes.now }
-{}
 
 // Reads `count` numbers. Those that the reader lends until it is used again are taken at once.
 pub(crate) fn read_numbers<
@@ -354,14 +348,6 @@ pub(crate) fn read_byte_chunks<L: AsSlice<u8> + Drop, C: Context, R: LendingRead
         reader.read_bytes(&mut bytes.as_mut_slice()[start..])?;
         left -= size;
     }
-    Ok(in_range(bytes))
-}
-
-// What a proof knows of the bytes is their range, which the contents of a buffer don't show.
-#[inline]
-fn in_range(bytes: Vec<u8>) -> Vec<u8>
-    ensures same { result.items ≡ bytes.items }
-    ensures range { AreBytes result.items }
-{
-    bytes
+    bytes_in_range(bytes.as_slice());
+    Ok(bytes)
 }

@@ -6,6 +6,7 @@ ghost use Rattle.speedy_layout.specs.Codecs.{raw_bytes_codec, borrowed_codec};
 ghost use Rattle.speedy_read.specs.Reading.{ReadsValue};
 
 use crate::reader::LendingReader;
+use speedy_base::bytes::bytes_in_range;
 use speedy_base::context::Context;
 use speedy_base::error::{ErrorKind, error_unsized};
 use std::convert::AsSlice;
@@ -39,19 +40,6 @@ pub(crate) fn read_lent<'a, C: Context, R: LendingReader<&'a [u8], C>>(
         return Err(error_unsized());
     };
     let bytes = lent?;
-    slice_in_range(bytes);
+    bytes_in_range(bytes);
     Ok(bytes)
 }
-
-// What a proof knows of lent bytes is their range, which a type that lends them doesn't show.
-#[inline]
-pub(crate) fn lent_in_range<L: AsSlice<u8> + Drop>(lent: &L)
-    ensures { AreBytes (L.items lent.now) }
-{
-    slice_in_range(lent.as_slice());
-}
-
-#[inline]
-fn slice_in_range(_bytes: &[u8])
-    ensures { AreBytes _bytes.now }
-{}

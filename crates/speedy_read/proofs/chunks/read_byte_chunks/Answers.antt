@@ -30,9 +30,8 @@ loop-left-preserved g c =
 
 pub returns : goal.returns
 returns g c =
-    let same = c.in_range.ensures.same in
-    all_bytes _ (rw (sym same) at c.loop-left.invariant.2) (ap length same ∙ omega (arith, c.loop-left.invariant.1))
-    c.in_range.ensures.range
+    all_bytes _ c.loop-left.invariant.2 (omega (arith, c.loop-left.invariant.1))
+    (rw c.as_slice.ensures.value at c.bytes_in_range.ensures)
 
 pub returns-in_err-bytes : goal.returns-in_err-bytes
 returns-in_err-bytes g c = refused_room _ _ _ Kept-same refl c.from_residual.ensures.1 c.in_err-bytes.ensures.empty

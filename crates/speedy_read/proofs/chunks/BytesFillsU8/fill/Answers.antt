@@ -10,7 +10,7 @@ returns g c =
     got_as {seen = λ (_ : Unit {0}). places} (map-id places)
     (all_bytes {seen' = λ (_ : Unit {0}). places} {y = tt} _
     (more_bytes _ [] places (none_so_far refl) c.in_ok-read_bytes.ensures refl) c.read_bytes.auto.output
-    c.are_in_range.ensures)
+    c.bytes_in_range.ensures)
 
 pub returns-in_err-read_bytes : goal.returns-in_err-read_bytes
 returns-in_err-read_bytes g c =

@@ -7,7 +7,8 @@ use Rattle.speedy_read.proofs.chunks.BytesStrategyU8.read_many_lent.Goals as goa
 
 pub returns-in-Some : goal.returns-in-Some
 returns-in-Some g c = got_as (map-id _ ∙ c.in-Some.ensures)
-    (cow_lent _ _ c.lent_in_range.ensures (rw c.in-Some-Ok.field-0-is at c.in-Some-Ok.ensures.1))
+    (cow_lent _ _ (rw c.as_slice.ensures at c.bytes_in_range.ensures)
+    (rw c.in-Some-Ok.field-0-is at c.in-Some-Ok.ensures.1))
 
 pub returns-in-None-from_lent : goal.returns-in-None-from_lent
 returns-in-None-from_lent g c = refused_room _ _ _ (rw c.in-Some-Ok.field-0-is at c.in-Some-Ok.ensures.1).kept
