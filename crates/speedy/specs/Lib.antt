@@ -18,7 +18,6 @@ pub use Rattle.speedy_layout.specs.Codecs
 pub use Rattle.speedy_layout.specs.Codes
 pub use Rattle.speedy_layout.specs.Collecting
 pub use Rattle.speedy_layout.specs.Collections
-pub use Rattle.speedy_layout.specs.EachMode
 pub use Rattle.speedy_layout.specs.IndexMaps
 pub use Rattle.speedy_layout.specs.StdMaps
 pub use Rattle.speedy_layout.specs.StdSets

@@ -12,16 +12,12 @@ use Rattle.speedy_layout.specs.Format.{Asks, Format, IsOwnKind}
 use Rattle.speedy_layout.specs.Laws.{Laws, Laws-less, Laws-refusing}
 use Rattle.speedy_layout.specs.Numbers.{WritesSmaller}
 use Rattle.speedy_layout.specs.Prefixed.{Numbers, Behind}
-use Rattle.speedy_layout.specs.Sequences.{AsksAtMost, asks_nothing_more, sequence, sequence_laws}
+use Rattle.speedy_layout.specs.Sequences.{AsksAtMost, asks_nothing_more, counted_parts, sequence, sequence_laws}
 use Rattle.speedy_layout.specs.Texts.{raw_bytes, raw_bytes_laws}
-
--- bytes, behind their number
-abbrev pub frame_parts : List ℕ → ℕ × List ℕ
-frame_parts bytes = (length bytes, bytes)
 
 -- a number of bytes, which is encoded as a format of numbers says, and then the bytes
 abbrev pub prefixed_bytes : Format ℕ → Asks → Format (List ℕ)
-prefixed_bytes number asks = sequence frame_parts number asks raw_bytes
+prefixed_bytes number asks = sequence counted_parts number asks raw_bytes
 
 -- the bytes can be counted
 abbrev pub AreCounted : List ℕ → Type 0

@@ -1,6 +1,5 @@
 pub mod Format
 pub mod Laws
-pub mod EachMode
 pub mod Codes
 pub mod Sequences
 pub mod Numbers

@@ -7,7 +7,8 @@ use Rattle.speedy_layout.specs.Format.{Format, Each}
 use Rattle.speedy_layout.specs.Laws.{Laws, Codec, Laws-less, saturated_size, saturated_laws, Decided}
 use Rattle.speedy_layout.specs.Numbers.{unsigned_number, unsigned_number_laws}
 use Rattle.speedy_layout.specs.Owned.{owned_content, owned_content_laws}
-use Rattle.speedy_layout.specs.Sequences.{AsksAtMost, asks_same, sequence, sequence_laws, across, Parts-as}
+use Rattle.speedy_layout.specs.Sequences.{AsksAtMost, asks_same, counted_parts, sequence, sequence_laws, across}
+use Rattle.speedy_layout.specs.Sequences.{Parts-as}
 
 -- n items, one after the other
 unfoldable pub repeat : {V : Type 0} → ℕ → Format V → Format (List V)
@@ -24,13 +25,9 @@ repeat n F = record {
 unfoldable pub vector : {V : Type 0} → ℕ → Format V → Format (List V)
 vector n F = owned_content (repeat n F)
 
--- a list with its length before it
-abbrev pub list_parts : {V : Type 0} → List V → ℕ × List V
-list_parts vs = (length vs, vs)
-
 -- a count, which is encoded as a format of numbers says, and then the items
 abbrev pub prefixed_list : {V : Type 0} → Format ℕ → Format V → Format (List V)
-prefixed_list count F = sequence list_parts count (record F.asks { memory = true }) (λ n. vector n F)
+prefixed_list count F = sequence counted_parts count (record F.asks { memory = true }) (λ n. vector n F)
 
 -- README, `{length: u32, values: [T]}`: the number of items in four digits, then the items
 unfoldable pub list : {V : Type 0} → Mode → Format V → Format (List V)

@@ -73,6 +73,14 @@ not_asked : (a b : Bool) → (IsTrue a → IsTrue b) → b ≡ false → a ≡ f
 not_asked true b f h = absurd (let t = f refl in (cc))
 not_asked false b f h = refl
 
+-- a list, as its length and its items
+abbrev pub counted_parts : {V : Type 0} → List V → ℕ × List V
+counted_parts vs = (length vs, vs)
+
+-- which are those of a list that has so many
+pub so_many : {V : Type 0} (n : ℕ) (vs : List V) → length vs ≡ n → counted_parts vs ≡ (n, vs)
+so_many {V = V} n vs h = ap (λ (m : ℕ). let whole : ℕ × List V = (m, vs) in whole) h
+
 -- two lists of two parts, each followed by more, joined the other way round
 pub across : (s t r q a b c d : List ℕ) → s ≡ a ++ b → t ≡ c ++ d → s ++ r ≡ t ++ q → a ++ (b ++ r) ≡ c ++ (d ++ q)
 across s t r q a b c d h k e =

@@ -14,7 +14,7 @@ use Rattle.speedy_layout.specs.Laws.{Laws, Codec, Laws-less, plain_laws}
 use Rattle.speedy_layout.specs.Codes.{subset, subset_codec, coding, coding_laws, exact_code, exact_is_code}
 use Rattle.speedy_layout.specs.Numbers.{unsigned_number, unsigned_codec, same_prefixes}
 use Rattle.speedy_layout.specs.Owned.{owned_content, owned_codec}
-use Rattle.speedy_layout.specs.Sequences.{AsksAtMost, asks_same, sequence, sequence_laws}
+use Rattle.speedy_layout.specs.Sequences.{AsksAtMost, asks_same, counted_parts, sequence, sequence_laws}
 
 -- n bytes, as they are
 unfoldable pub raw_bytes : ℕ → Format (List ℕ)
@@ -38,14 +38,10 @@ constant_bytes mode constant =
 unfoldable pub text_of_length : Mode → ℕ → Format (List ℕ)
 text_of_length mode n = owned_content (subset mode IsUtf8 kinds.InvalidUtf8 (raw_bytes n))
 
--- a text with its number of bytes before it
-abbrev pub text_parts : List ℕ → ℕ × List ℕ
-text_parts text = (length text, text)
-
 -- a number of bytes, which is encoded as a format of numbers says, and then a text of just these
 abbrev pub prefixed_text : Mode → Format ℕ → Format (List ℕ)
 prefixed_text mode count =
-    sequence text_parts count (record asks_nothing { memory = true }) (text_of_length mode)
+    sequence counted_parts count (record asks_nothing { memory = true }) (text_of_length mode)
 
 -- README, `{length: u32, bytes: [u8]}`: the number of bytes in four digits, then the UTF-8 bytes
 unfoldable pub text : Mode → Format (List ℕ)

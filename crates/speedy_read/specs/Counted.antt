@@ -4,16 +4,16 @@ use Rattle.std.proofs.Common.{sym, ◌∙◌, ap}
 use Rattle.speedy_base.specs.Mode.{Mode}
 use Rattle.speedy_layout.specs.Codes.{coding, Accepts-exact_means}
 use Rattle.speedy_layout.specs.Format.{Format}
-use Rattle.speedy_layout.specs.Lists.{vector, vector_length, vector_asks, list_parts, prefixed_list}
+use Rattle.speedy_layout.specs.Lists.{vector, vector_length, vector_asks, prefixed_list}
 use Rattle.speedy_layout.specs.Owned.{owned_content}
-use Rattle.speedy_layout.specs.Texts.{raw_bytes, text_of_length, text_asks, text_parts, prefixed_text}
+use Rattle.speedy_layout.specs.Sequences.{counted_parts, so_many}
+use Rattle.speedy_layout.specs.Texts.{raw_bytes, text_of_length, text_asks, prefixed_text}
 use Rattle.speedy_read.specs.Sequences.{Composes, sequence_composes}
 
 pub prefixed_list_composes : {V : Type 0} (count : Format ℕ) (F : Format V)
     → Composes count (λ n. vector n F) (prefixed_list count F) (λ n vs. vs)
-prefixed_list_composes {V = V} count F =
-    sequence_composes list_parts (vector_asks F)
-    (λ n vs s h. ap (λ (m : ℕ). let whole : ℕ × List V = (m, vs) in whole) (vector_length n F vs s h))
+prefixed_list_composes count F =
+    sequence_composes counted_parts (vector_asks F) (λ n vs s h. so_many n vs (vector_length n F vs s h))
 
 -- a text of n bytes has n
 text_length : (mode : Mode) (n : ℕ) (t s : List ℕ) → (text_of_length mode n).encodes t s → length t ≡ n
@@ -25,5 +25,4 @@ text_length mode n t s h =
 pub prefixed_text_composes : (mode : Mode) (count : Format ℕ)
     → Composes count (text_of_length mode) (prefixed_text mode count) (λ n t. t)
 prefixed_text_composes mode count =
-    sequence_composes text_parts (text_asks mode)
-    (λ n t s h. ap (λ (m : ℕ). let whole : ℕ × List ℕ = (m, t) in whole) (text_length mode n t s h))
+    sequence_composes counted_parts (text_asks mode) (λ n t s h. so_many n t (text_length mode n t s h))

@@ -98,7 +98,8 @@ pub stays_same : {W : Type 0} {state : W → WriterState} {appends : W → List 
     → StaysAs state appends old old
 stays_same = record { state_is = refl; joins = λ _ _ h. h }
 
--- a writer that has its context back, with the mode that this had, changes nothing that a write sees
+-- a writer that has its context back, with the mode that this had, changes nothing that a write sees, and writes in
+-- that encoding
 pub context_back : {W C : Type 0} {state : W → WriterState} {appends : W → List ℕ → W → Type 0}
     {with_context : W → C → W} (at : W → C) (mode : C → Mode)
     → ((w : W) → (state w).mode ≡ mode (at w))
@@ -107,11 +108,12 @@ pub context_back : {W C : Type 0} {state : W → WriterState} {appends : W → L
     → ((a b c : W) (s t : List ℕ) → appends a s b → appends b t c → appends a (s ++ t) c)
     → ((a b : W) (s : List ℕ) (c : C) → appends a s b → appends a s (with_context b c) × appends (with_context a c) s b)
     → (w after : W) (lent c : C) → lent ≡ at w → mode c ≡ mode lent → after ≡ with_context w c
-    → StaysAs state appends w after
+    → StaysAs state appends w after × (mode lent ≡ (state after).mode)
 context_back {state = state} {appends = appends} {with_context = with_context} at mode mode_at state_with
-    nothing additive appends_with w after lent c value kept is = subst (StaysAs state appends w) (sym is) (record {
-      state_is =
-          state_with w c
-          ∙ ap (λ e. record (state w) { mode = e }) (kept ∙ (ap mode value ∙ sym (mode_at w)));
+    nothing additive appends_with w after lent c value kept is =
+    let same = ap mode value ∙ sym (mode_at w) in
+    let suffix : StaysAs state appends w after = subst (StaysAs state appends w) (sym is) (record {
+      state_is = state_with w c ∙ ap (λ e. record (state w) { mode = e }) (kept ∙ same);
       joins = λ bytes v h. additive w (with_context w c) v [] bytes (appends_with w w [] c (nothing w)).0 h;
-    })
+    }) in
+    (suffix, same ∙ sym (ap (λ (s : WriterState). s.mode) suffix.state_is))

@@ -7,20 +7,21 @@ use Rattle.speedy_base.specs.declared.error.Error.{Error}
 use Rattle.speedy_base.specs.Mode.{Mode}
 use Rattle.speedy_layout.specs.Codes.{coding}
 use Rattle.speedy_layout.specs.Format.{Format}
-use Rattle.speedy_layout.specs.Lists.{vector, list_parts}
+use Rattle.speedy_layout.specs.Lists.{vector}
 use Rattle.speedy_layout.specs.Owned.{owned_content}
-use Rattle.speedy_layout.specs.Texts.{raw_bytes, text_of_length, text_of_length_laws, text_parts}
+use Rattle.speedy_layout.specs.Sequences.{counted_parts, so_many}
+use Rattle.speedy_layout.specs.Texts.{raw_bytes, text_of_length, text_of_length_laws}
 use Rattle.speedy_write.specs.Writing.{WriterState, Writes, WritesBytes, WritesEach}
 use Rattle.speedy_write.specs.Sequences.{Writes-as, form_written}
 
 -- as many items as are seen
 pub counts_items : {A V : Type 0} (seen : A → V) (items : List A)
-    → list_parts (map seen items) ≡ (length items, map seen items)
-counts_items {V = V} seen items = ap (λ (n : ℕ). let p : ℕ × List V = (n, map seen items) in p) (length-map items seen)
+    → counted_parts (map seen items) ≡ (length items, map seen items)
+counts_items seen items = so_many (length items) (map seen items) (length-map items seen)
 
 -- as many bytes as the text has
-pub counts_bytes : (slice text : List ℕ) → slice ≡ text → text_parts text ≡ (length slice, text)
-counts_bytes slice text same = ap (λ (s : List ℕ). let p : ℕ × List ℕ = (length s, text) in p) (sym same)
+pub counts_bytes : (slice text : List ℕ) → slice ≡ text → counted_parts text ≡ (length slice, text)
+counts_bytes slice text same = so_many (length slice) text (ap length (sym same))
 
 module _ {E : Type 0} {gives : Error → E → Type 0} {result : Result (Unit {0}) E} {old new : WriterState}
     {appended : List ℕ → Type 0} where

@@ -1,6 +1,5 @@
-use Rattle.std.proofs.Common.{◌∙◌, refl, sym, ap, subst}
+use Rattle.std.proofs.Common.{◌∙◌, refl, sym, subst}
 use Rattle.speedy_write.specs.Sequences.{Writes-from}
-use Rattle.speedy_write.specs.Writing.{WriterState}
 use Rattle.speedy_write.proofs.CountLemmas.{StaysAs, stays_same, context_back, item_counted}
 use Rattle.speedy_write.proofs.each.write_item.Goals.{then-COUNTS+in-Ok+in_default-count_bytes}
 use Rattle.speedy_write.proofs.each.write_item.Goals.{then-COUNTS+in_default+in-Err-1, then-COUNTS+in_default+in-Ok-1}
@@ -15,11 +14,8 @@ returns-in-Some g c =
     let w = c.args.writer.now in
     let value = c.context_mut.ensures.value in
     let same = suffix w _ _ _ value c.bytes_needed.ensures.mode refl in
-    Writes-from same.state_is (λ b. same.joins b _)
-    (item_counted g.T.Layout.layout.laws
-    (ap g.C.Context.mode value
-    ∙ (sym (W.mode_at w) ∙ sym (ap (λ (s : WriterState). s.mode) same.state_is)))
-    c.in-Ok.ensures.needs.written c.in-Some.ensures)
+    Writes-from same.0.state_is (λ b. same.0.joins b _)
+    (item_counted g.T.Layout.layout.laws same.1 c.in-Ok.ensures.needs.written c.in-Some.ensures)
 
 pub returns : goal.returns
 returns g c =
@@ -28,12 +24,12 @@ returns g c =
     context_back g.W.Writer.at g.C.Context.mode W.mode_at W.state_with W.nothing W.additive W.appends_with in
     let w = c.args.writer.now in
     let same : StaysAs g.W.Writer.state g.W.Writer.appends w c.if-COUNTS.writer = elim c.if-COUNTS.branch [
-      | then-COUNTS+in-Ok+in_default-count_bytes h ↦ suffix w _ _ _ h.context_mut.ensures.value
-          h.bytes_needed.ensures.mode (h.writer-is ∙ h.in_default-count_bytes.ensures)
+      | then-COUNTS+in-Ok+in_default-count_bytes h ↦ (suffix w _ _ _ h.context_mut.ensures.value
+          h.bytes_needed.ensures.mode (h.writer-is ∙ h.in_default-count_bytes.ensures)).0
       | then-COUNTS+in_default+in-Err-1 h ↦
-          suffix w _ _ _ h.context_mut.ensures.value h.bytes_needed.ensures.mode h.writer-is
+          (suffix w _ _ _ h.context_mut.ensures.value h.bytes_needed.ensures.mode h.writer-is).0
       | then-COUNTS+in_default+in-Ok-1 h ↦
-          suffix w _ _ _ h.context_mut.ensures.value h.bytes_needed.ensures.mode h.writer-is
+          (suffix w _ _ _ h.context_mut.ensures.value h.bytes_needed.ensures.mode h.writer-is).0
       | else-COUNTS h ↦ subst (StaysAs g.W.Writer.state g.W.Writer.appends w) (sym h.writer-is) stays_same
     ] in
     Writes-from same.state_is (λ b. same.joins b _) c.write_to.ensures

@@ -1,6 +1,5 @@
-use Rattle.std.proofs.Common.{◌∙◌, refl, sym, ap, subst}
+use Rattle.std.proofs.Common.{◌∙◌, refl, sym, subst}
 use Rattle.speedy_write.specs.Sequences.{Writes-from}
-use Rattle.speedy_write.specs.Writing.{WriterState}
 use Rattle.speedy_write.proofs.CountLemmas.{StaysAs, stays_same, context_back, items_counted}
 use Rattle.speedy_write.proofs.each.write_items.Goals.{then-COUNTS+in-Some+in_default-count_bytes}
 use Rattle.speedy_write.proofs.each.write_items.Goals.{then-COUNTS+in_default, else-COUNTS}
@@ -14,10 +13,8 @@ returns-in-Some-count_bytes g c =
     let w = c.args.writer.now in
     let value = c.context_mut.ensures.value in
     let same = suffix w _ _ _ value c.count_each.ensures.mode refl in
-    Writes-from same.state_is (λ b. same.joins b _)
-    (items_counted g.T.Layout.seen c.args.items.now g.T.Layout.layout.laws
-    (ap g.C.Context.mode value
-    ∙ (sym (W.mode_at w) ∙ sym (ap (λ (s : WriterState). s.mode) same.state_is)))
+    Writes-from same.0.state_is (λ b. same.0.joins b _)
+    (items_counted g.T.Layout.seen c.args.items.now g.T.Layout.layout.laws same.1
     c.in-Some.ensures.counts c.in-Some-count_bytes.ensures)
 
 pub returns : goal.returns
@@ -27,9 +24,10 @@ returns g c =
     context_back g.W.Writer.at g.C.Context.mode W.mode_at W.state_with W.nothing W.additive W.appends_with in
     let w = c.args.writer.now in
     let same : StaysAs g.W.Writer.state g.W.Writer.appends w c.if-COUNTS.writer = elim c.if-COUNTS.branch [
-      | then-COUNTS+in-Some+in_default-count_bytes h ↦ suffix w _ _ _ h.context_mut.ensures.value
-          h.count_each.ensures.mode (h.writer-is ∙ h.in_default-count_bytes.ensures)
-      | then-COUNTS+in_default h ↦ suffix w _ _ _ h.context_mut.ensures.value h.count_each.ensures.mode h.writer-is
+      | then-COUNTS+in-Some+in_default-count_bytes h ↦ (suffix w _ _ _ h.context_mut.ensures.value
+          h.count_each.ensures.mode (h.writer-is ∙ h.in_default-count_bytes.ensures)).0
+      | then-COUNTS+in_default h ↦
+          (suffix w _ _ _ h.context_mut.ensures.value h.count_each.ensures.mode h.writer-is).0
       | else-COUNTS h ↦ subst (StaysAs g.W.Writer.state g.W.Writer.appends w) (sym h.writer-is) stays_same
     ] in
     Writes-from same.state_is (λ b. same.joins b _) c.write_many.ensures
