@@ -1,9 +1,19 @@
-//! The layout of numbers: so many digits, in the byte order of the mode.
-ghost use Rattle.std.specs.Prelude.{ℕ, ℤ};
-ghost use Rattle.std.specs.Int.{w8, w16, w32, w64, w128};
+//! Numbers: their layout, which is so many digits in the order of the encoding, how they are decoded and encoded, that
+//! views show them and that they are keys. What is said of a width is said here.
+ghost use Rattle.std.specs.Prelude.{ℕ, ℤ, refl};
+ghost use Rattle.std.specs.Cmp.{unsigned_Decides, signed_Decides};
+ghost use Rattle.std.specs.Int.{w8, w16, w32, w64, w128, cast_signed};
+ghost use Rattle.speedy_base.specs.Digits.{number};
 ghost use Rattle.speedy_layout.specs.Codecs.{signed_codec, unsigned_codec, usize_codec};
+ghost use Rattle.speedy_layout.specs.FixedNumbers.{unsigned_fixed, unsigned_decodes, signed_fixed, signed_decodes};
+ghost use Rattle.speedy_layout.specs.Views.{byte_number_alike, signed_byte_alike};
 
+use crate::fixed_numbers::FixedNumber;
 use crate::layout::Layout;
+use crate::same_key::SameKey;
+use crate::view_items::{FixedSize, ZeroCopyable};
+use speedy_base::context::{Context, LittleEndian};
+use speedy_base::endianness::Endianness;
 
 impl Layout for u8 {
     ghost Seen = { ℕ };
@@ -11,6 +21,40 @@ impl Layout for u8 {
     ghost seen = { λ x. x };
 
     ghost layout = { unsigned_codec 1 };
+}
+
+impl FixedSize for u8 {
+    const SIZE: usize = 1;
+
+    ghost SIZE = { 1 };
+}
+
+impl FixedNumber for u8 {
+    ghost decoded = { number };
+
+    #[inline(always)]
+    fn decode(_order: Endianness, bytes: &[u8]) -> u8 {
+        bytes[0]
+    }
+
+    #[inline(always)]
+    fn encode(self, _order: Endianness, output: &mut [u8]) {
+        output[0] = self;
+    }
+
+    ghost least_is = { refl };
+
+    ghost is_fixed = { unsigned_fixed w8 };
+
+    ghost decodes = { unsigned_decodes w8 };
+}
+
+impl<C: Context> ZeroCopyable<C> for u8 {
+    ghost as_little = { λ context. byte_number_alike (C.mode context) };
+}
+
+impl SameKey for u8 {
+    ghost same_key = { unsigned_Decides };
 }
 
 impl Layout for u16 {
@@ -21,12 +65,80 @@ impl Layout for u16 {
     ghost layout = { unsigned_codec 2 };
 }
 
+impl FixedSize for u16 {
+    const SIZE: usize = 2;
+
+    ghost SIZE = { 2 };
+}
+
+impl FixedNumber for u16 {
+    ghost decoded = { number };
+
+    #[inline(always)]
+    fn decode(order: Endianness, bytes: &[u8]) -> u16 {
+        order.read_u16(bytes)
+    }
+
+    #[inline(always)]
+    fn encode(self, order: Endianness, output: &mut [u8]) {
+        output.copy_from_slice(&order.bytes_of_u16(self));
+    }
+
+    ghost least_is = { refl };
+
+    ghost is_fixed = { unsigned_fixed w16 };
+
+    ghost decodes = { unsigned_decodes w16 };
+}
+
+impl ZeroCopyable<LittleEndian> for u16 {
+    ghost as_little = { λ context v bytes encoded. encoded };
+}
+
+impl SameKey for u16 {
+    ghost same_key = { unsigned_Decides };
+}
+
 impl Layout for u32 {
     ghost Seen = { ℕ };
 
     ghost seen = { λ x. x };
 
     ghost layout = { unsigned_codec 4 };
+}
+
+impl FixedSize for u32 {
+    const SIZE: usize = 4;
+
+    ghost SIZE = { 4 };
+}
+
+impl FixedNumber for u32 {
+    ghost decoded = { number };
+
+    #[inline(always)]
+    fn decode(order: Endianness, bytes: &[u8]) -> u32 {
+        order.read_u32(bytes)
+    }
+
+    #[inline(always)]
+    fn encode(self, order: Endianness, output: &mut [u8]) {
+        output.copy_from_slice(&order.bytes_of_u32(self));
+    }
+
+    ghost least_is = { refl };
+
+    ghost is_fixed = { unsigned_fixed w32 };
+
+    ghost decodes = { unsigned_decodes w32 };
+}
+
+impl ZeroCopyable<LittleEndian> for u32 {
+    ghost as_little = { λ context v bytes encoded. encoded };
+}
+
+impl SameKey for u32 {
+    ghost same_key = { unsigned_Decides };
 }
 
 impl Layout for u64 {
@@ -37,12 +149,80 @@ impl Layout for u64 {
     ghost layout = { unsigned_codec 8 };
 }
 
+impl FixedSize for u64 {
+    const SIZE: usize = 8;
+
+    ghost SIZE = { 8 };
+}
+
+impl FixedNumber for u64 {
+    ghost decoded = { number };
+
+    #[inline(always)]
+    fn decode(order: Endianness, bytes: &[u8]) -> u64 {
+        order.read_u64(bytes)
+    }
+
+    #[inline(always)]
+    fn encode(self, order: Endianness, output: &mut [u8]) {
+        output.copy_from_slice(&order.bytes_of_u64(self));
+    }
+
+    ghost least_is = { refl };
+
+    ghost is_fixed = { unsigned_fixed w64 };
+
+    ghost decodes = { unsigned_decodes w64 };
+}
+
+impl ZeroCopyable<LittleEndian> for u64 {
+    ghost as_little = { λ context v bytes encoded. encoded };
+}
+
+impl SameKey for u64 {
+    ghost same_key = { unsigned_Decides };
+}
+
 impl Layout for u128 {
     ghost Seen = { ℕ };
 
     ghost seen = { λ x. x };
 
     ghost layout = { unsigned_codec 16 };
+}
+
+impl FixedSize for u128 {
+    const SIZE: usize = 16;
+
+    ghost SIZE = { 16 };
+}
+
+impl FixedNumber for u128 {
+    ghost decoded = { number };
+
+    #[inline(always)]
+    fn decode(order: Endianness, bytes: &[u8]) -> u128 {
+        order.read_u128(bytes)
+    }
+
+    #[inline(always)]
+    fn encode(self, order: Endianness, output: &mut [u8]) {
+        output.copy_from_slice(&order.bytes_of_u128(self));
+    }
+
+    ghost least_is = { refl };
+
+    ghost is_fixed = { unsigned_fixed w128 };
+
+    ghost decodes = { unsigned_decodes w128 };
+}
+
+impl ZeroCopyable<LittleEndian> for u128 {
+    ghost as_little = { λ context v bytes encoded. encoded };
+}
+
+impl SameKey for u128 {
+    ghost same_key = { unsigned_Decides };
 }
 
 impl Layout for i8 {
@@ -53,12 +233,80 @@ impl Layout for i8 {
     ghost layout = { signed_codec w8 };
 }
 
+impl FixedSize for i8 {
+    const SIZE: usize = 1;
+
+    ghost SIZE = { 1 };
+}
+
+impl FixedNumber for i8 {
+    ghost decoded = { λ order bytes. cast_signed w8 (number order bytes) };
+
+    #[inline(always)]
+    fn decode(order: Endianness, bytes: &[u8]) -> i8 {
+        u8::decode(order, bytes).cast_signed()
+    }
+
+    #[inline(always)]
+    fn encode(self, order: Endianness, output: &mut [u8]) {
+        u8::encode(self.cast_unsigned(), order, output);
+    }
+
+    ghost least_is = { refl };
+
+    ghost is_fixed = { signed_fixed w8 };
+
+    ghost decodes = { signed_decodes w8 };
+}
+
+impl<C: Context> ZeroCopyable<C> for i8 {
+    ghost as_little = { λ context. signed_byte_alike (C.mode context) };
+}
+
+impl SameKey for i8 {
+    ghost same_key = { signed_Decides };
+}
+
 impl Layout for i16 {
     ghost Seen = { ℤ };
 
     ghost seen = { λ x. x };
 
     ghost layout = { signed_codec w16 };
+}
+
+impl FixedSize for i16 {
+    const SIZE: usize = 2;
+
+    ghost SIZE = { 2 };
+}
+
+impl FixedNumber for i16 {
+    ghost decoded = { λ order bytes. cast_signed w16 (number order bytes) };
+
+    #[inline(always)]
+    fn decode(order: Endianness, bytes: &[u8]) -> i16 {
+        order.read_i16(bytes)
+    }
+
+    #[inline(always)]
+    fn encode(self, order: Endianness, output: &mut [u8]) {
+        u16::encode(self.cast_unsigned(), order, output);
+    }
+
+    ghost least_is = { refl };
+
+    ghost is_fixed = { signed_fixed w16 };
+
+    ghost decodes = { signed_decodes w16 };
+}
+
+impl ZeroCopyable<LittleEndian> for i16 {
+    ghost as_little = { λ context v bytes encoded. encoded };
+}
+
+impl SameKey for i16 {
+    ghost same_key = { signed_Decides };
 }
 
 impl Layout for i32 {
@@ -69,12 +317,80 @@ impl Layout for i32 {
     ghost layout = { signed_codec w32 };
 }
 
+impl FixedSize for i32 {
+    const SIZE: usize = 4;
+
+    ghost SIZE = { 4 };
+}
+
+impl FixedNumber for i32 {
+    ghost decoded = { λ order bytes. cast_signed w32 (number order bytes) };
+
+    #[inline(always)]
+    fn decode(order: Endianness, bytes: &[u8]) -> i32 {
+        order.read_i32(bytes)
+    }
+
+    #[inline(always)]
+    fn encode(self, order: Endianness, output: &mut [u8]) {
+        u32::encode(self.cast_unsigned(), order, output);
+    }
+
+    ghost least_is = { refl };
+
+    ghost is_fixed = { signed_fixed w32 };
+
+    ghost decodes = { signed_decodes w32 };
+}
+
+impl ZeroCopyable<LittleEndian> for i32 {
+    ghost as_little = { λ context v bytes encoded. encoded };
+}
+
+impl SameKey for i32 {
+    ghost same_key = { signed_Decides };
+}
+
 impl Layout for i64 {
     ghost Seen = { ℤ };
 
     ghost seen = { λ x. x };
 
     ghost layout = { signed_codec w64 };
+}
+
+impl FixedSize for i64 {
+    const SIZE: usize = 8;
+
+    ghost SIZE = { 8 };
+}
+
+impl FixedNumber for i64 {
+    ghost decoded = { λ order bytes. cast_signed w64 (number order bytes) };
+
+    #[inline(always)]
+    fn decode(order: Endianness, bytes: &[u8]) -> i64 {
+        order.read_i64(bytes)
+    }
+
+    #[inline(always)]
+    fn encode(self, order: Endianness, output: &mut [u8]) {
+        u64::encode(self.cast_unsigned(), order, output);
+    }
+
+    ghost least_is = { refl };
+
+    ghost is_fixed = { signed_fixed w64 };
+
+    ghost decodes = { signed_decodes w64 };
+}
+
+impl ZeroCopyable<LittleEndian> for i64 {
+    ghost as_little = { λ context v bytes encoded. encoded };
+}
+
+impl SameKey for i64 {
+    ghost same_key = { signed_Decides };
 }
 
 impl Layout for i128 {
@@ -85,10 +401,48 @@ impl Layout for i128 {
     ghost layout = { signed_codec w128 };
 }
 
+impl FixedSize for i128 {
+    const SIZE: usize = 16;
+
+    ghost SIZE = { 16 };
+}
+
+impl FixedNumber for i128 {
+    ghost decoded = { λ order bytes. cast_signed w128 (number order bytes) };
+
+    #[inline(always)]
+    fn decode(order: Endianness, bytes: &[u8]) -> i128 {
+        order.read_i128(bytes)
+    }
+
+    #[inline(always)]
+    fn encode(self, order: Endianness, output: &mut [u8]) {
+        u128::encode(self.cast_unsigned(), order, output);
+    }
+
+    ghost least_is = { refl };
+
+    ghost is_fixed = { signed_fixed w128 };
+
+    ghost decodes = { signed_decodes w128 };
+}
+
+impl ZeroCopyable<LittleEndian> for i128 {
+    ghost as_little = { λ context v bytes encoded. encoded };
+}
+
+impl SameKey for i128 {
+    ghost same_key = { signed_Decides };
+}
+
 impl Layout for usize {
     ghost Seen = { ℕ };
 
     ghost seen = { λ x. x };
 
     ghost layout = { usize_codec };
+}
+
+impl SameKey for usize {
+    ghost same_key = { unsigned_Decides };
 }

@@ -38,50 +38,6 @@ pub trait SameKey: Layout + Eq {
     ghost same_key: { (x y : Self) → IsTrue (Self.eq x y) ↔ (Self.seen x ≡ Self.seen y) };
 }
 
-impl SameKey for u8 {
-    ghost same_key = { unsigned_Decides };
-}
-
-impl SameKey for u16 {
-    ghost same_key = { unsigned_Decides };
-}
-
-impl SameKey for u32 {
-    ghost same_key = { unsigned_Decides };
-}
-
-impl SameKey for u64 {
-    ghost same_key = { unsigned_Decides };
-}
-
-impl SameKey for u128 {
-    ghost same_key = { unsigned_Decides };
-}
-
-impl SameKey for usize {
-    ghost same_key = { unsigned_Decides };
-}
-
-impl SameKey for i8 {
-    ghost same_key = { signed_Decides };
-}
-
-impl SameKey for i16 {
-    ghost same_key = { signed_Decides };
-}
-
-impl SameKey for i32 {
-    ghost same_key = { signed_Decides };
-}
-
-impl SameKey for i64 {
-    ghost same_key = { signed_Decides };
-}
-
-impl SameKey for i128 {
-    ghost same_key = { signed_Decides };
-}
-
 impl SameKey for NonZeroU8 {
     ghost same_key = { λ x y. unsigned_Decides (non_zero_u8_get x) (non_zero_u8_get y) };
 }

@@ -4,7 +4,6 @@ ghost use Rattle.speedy_base.specs.Digits.{AreBytes};
 ghost use Rattle.speedy_base.specs.Mode.{Mode, plain_mode};
 ghost use Rattle.speedy_base.specs.declared.endianness.Endianness.TheVariants.{LittleEndian as LittleOrder};
 ghost use Rattle.speedy_layout.specs.FixedNumbers.{few_bytes, size_of_fixed};
-ghost use Rattle.speedy_layout.specs.Views.{byte_number_alike, signed_byte_alike};
 
 use crate::fixed_numbers::FixedNumber;
 use crate::layout::Layout;
@@ -74,104 +73,4 @@ impl<T: FixedNumber> ViewItem for T {
     fn decode(bytes: &[u8]) -> T {
         <T as FixedNumber>::decode(Endianness::LittleEndian, bytes)
     }
-}
-
-impl FixedSize for u8 {
-    const SIZE: usize = 1;
-
-    ghost SIZE = { 1 };
-}
-
-impl<C: Context> ZeroCopyable<C> for u8 {
-    ghost as_little = { λ context. byte_number_alike (C.mode context) };
-}
-
-impl FixedSize for i8 {
-    const SIZE: usize = 1;
-
-    ghost SIZE = { 1 };
-}
-
-impl<C: Context> ZeroCopyable<C> for i8 {
-    ghost as_little = { λ context. signed_byte_alike (C.mode context) };
-}
-
-impl FixedSize for u16 {
-    const SIZE: usize = 2;
-
-    ghost SIZE = { 2 };
-}
-
-impl ZeroCopyable<LittleEndian> for u16 {
-    ghost as_little = { λ context v bytes encoded. encoded };
-}
-
-impl FixedSize for i16 {
-    const SIZE: usize = 2;
-
-    ghost SIZE = { 2 };
-}
-
-impl ZeroCopyable<LittleEndian> for i16 {
-    ghost as_little = { λ context v bytes encoded. encoded };
-}
-
-impl FixedSize for u32 {
-    const SIZE: usize = 4;
-
-    ghost SIZE = { 4 };
-}
-
-impl ZeroCopyable<LittleEndian> for u32 {
-    ghost as_little = { λ context v bytes encoded. encoded };
-}
-
-impl FixedSize for i32 {
-    const SIZE: usize = 4;
-
-    ghost SIZE = { 4 };
-}
-
-impl ZeroCopyable<LittleEndian> for i32 {
-    ghost as_little = { λ context v bytes encoded. encoded };
-}
-
-impl FixedSize for u64 {
-    const SIZE: usize = 8;
-
-    ghost SIZE = { 8 };
-}
-
-impl ZeroCopyable<LittleEndian> for u64 {
-    ghost as_little = { λ context v bytes encoded. encoded };
-}
-
-impl FixedSize for i64 {
-    const SIZE: usize = 8;
-
-    ghost SIZE = { 8 };
-}
-
-impl ZeroCopyable<LittleEndian> for i64 {
-    ghost as_little = { λ context v bytes encoded. encoded };
-}
-
-impl FixedSize for u128 {
-    const SIZE: usize = 16;
-
-    ghost SIZE = { 16 };
-}
-
-impl ZeroCopyable<LittleEndian> for u128 {
-    ghost as_little = { λ context v bytes encoded. encoded };
-}
-
-impl FixedSize for i128 {
-    const SIZE: usize = 16;
-
-    ghost SIZE = { 16 };
-}
-
-impl ZeroCopyable<LittleEndian> for i128 {
-    ghost as_little = { λ context v bytes encoded. encoded };
 }
