@@ -1,4 +1,4 @@
-//! A fixed header: a magic number, a version, and a length.
+//! What stands in front, and a log.
 ghost use Rattle.std.specs.Prelude.{◌≡◌, ◌<◌, ◌++◌, ℕ, List, codes, length, map, IfOk, OnOk, IsErrAnd, IsTrue};
 ghost use Rattle.speedy.specs.Buffers.{bytes_state};
 ghost use Rattle.speedy.specs.Mode.{plain_mode};
@@ -6,68 +6,10 @@ ghost use Rattle.speedy.specs.Error.{is_eof_error};
 ghost use Rattle.speedy.specs.Format.{Each};
 ghost use Rattle.speedy.specs.UntilEnd.{ReadsValuesUntilEnd};
 
-use speedy::magic::{Constant, Magic};
 use speedy::private::read_constant;
 use speedy::readable::BufferReader;
-use speedy::varint::VarInt64;
-use speedy::{
-    Context, Endianness, Error, IsEof, ItemByItem, Layout, LendingReader, LittleEndian, ReadFrom,
-    Writable, Writer,
-};
+use speedy::{Endianness, Error, IsEof, Layout, LendingReader, LittleEndian};
 use std::alloc::Global;
-use std::convert::AsSlice;
-
-/// What stands in front of a body: a magic number, the version of its layout, and the number of its bytes.
-#[derive(Debug, PartialEq, Drop)]
-pub struct Header {
-    pub version: u16,
-    pub length: usize,
-}
-
-/// What a header begins with.
-#[derive(Drop)]
-pub struct Start {}
-
-impl Constant for Start {
-    ghost bytes = { codes "REC1" };
-
-    fn bytes() -> &'static [u8] {
-        b"REC1"
-    }
-}
-
-type Parts = (Magic<Start>, u16, VarInt64);
-
-impl Layout for Header {
-    ghost Seen = { ⟦<Parts as Layout>⟧.Seen };
-
-    ghost seen = { λ it. (codes "REC1", (it.version, it.length)) };
-
-    ghost layout = { ⟦<Parts as Layout>⟧.layout };
-}
-
-impl<L: AsSlice<u8> + Drop, C: Context> ReadFrom<L, C> for Header {
-    type Strategy = ItemByItem<C>;
-
-    fn read_from<R: LendingReader<L, C>>(reader: &mut R) -> Result<Header, C::Error> {
-        let (_, version, length): Parts = reader.read_value()?;
-        Ok(Header {
-            version,
-            length: length.get() as usize,
-        })
-    }
-
-    fn minimum_bytes_needed() -> usize {
-        <Parts as ReadFrom<L, C>>::minimum_bytes_needed()
-    }
-}
-
-impl<C: Context> Writable<C> for Header {
-    fn write_to<W: Writer<C>>(&self, writer: &mut W) -> Result<(), C::Error> {
-        let length = VarInt64::from(self.length as u64);
-        writer.write_value(&(Magic::<Start>::new(), self.version, length))
-    }
-}
 
 /// Whether the bytes begin as a header does. Fewer than the magic number has are an end of input, whatever they are:
 /// more may come.

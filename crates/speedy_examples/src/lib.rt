@@ -3,16 +3,30 @@
 #![tactic(auto)]
 
 pub mod files;
+pub mod generic;
+pub mod growing;
 pub mod headers;
+pub mod left_over;
+pub mod limits;
 pub mod memory;
+pub mod own_header;
+pub mod own_key;
+pub mod own_lent;
 pub mod own_maps;
 pub mod own_numbers;
 pub mod own_parts;
 pub mod own_struct;
 pub mod own_types;
 pub mod readme;
+pub mod records;
+pub mod signing;
+pub mod sockets;
 pub mod streams;
 #[cfg(test)]
 mod tests;
 #[cfg(test)]
 mod tests_own_types;
+#[cfg(test)]
+mod tests_tasks;
+pub mod versions;
+pub mod waiting;

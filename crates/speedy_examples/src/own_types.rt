@@ -1,11 +1,10 @@
-//! Types of your own: a leaf that tests what it reads, a struct of any part, and one that borrows.
+//! Types of your own: a leaf that tests what it reads, and a struct of any part.
 ghost use Rattle.std.specs.Prelude.{◌≡◌, ℕ};
 ghost use Rattle.speedy.specs.Codecs.{subset_codec, unsigned_codec};
 ghost use Rattle.speedy.specs.declared.error.ErrorKind.TheVariants.{InvalidEnumVariant};
 
 use speedy::private::error_invalid_enum_variant;
 use speedy::{Context, ItemByItem, Layout, LendingReader, Part, ReadFrom, Writable, Writer};
-use std::borrow::CowSlice;
 use std::convert::AsSlice;
 
 /// A byte that is 0. It has no size in memory.
@@ -73,35 +72,5 @@ impl<L: AsSlice<u8> + Drop, C: Context, T: ReadFrom<L, C>> ReadFrom<L, C> for La
 impl<C: Context, T: Writable<C>> Writable<C> for Labelled<T> {
     fn write_to<W: Writer<C>>(&self, writer: &mut W) -> Result<(), C::Error> {
         writer.write_value(&(Part(&self.label), Part(&self.value)))
-    }
-}
-
-/// A name and what it stands for, which point into what they are read from.
-#[derive(Drop)]
-pub struct Entry<'a> {
-    pub name: &'a str,
-    pub content: CowSlice<'a, u8>,
-}
-
-impl<'a> Layout for Entry<'a> {
-    ghost Seen = { ⟦<(&'a str, CowSlice<'a, u8>) as Layout>⟧.Seen };
-
-    ghost seen = { λ entry. ⟦<(&'a str, CowSlice<'a, u8>) as Layout>⟧.seen (entry.name, entry.content) };
-
-    ghost layout = { ⟦<(&'a str, CowSlice<'a, u8>) as Layout>⟧.layout };
-}
-
-impl<'a, C: Context> ReadFrom<&'a [u8], C> for Entry<'a> {
-    type Strategy = ItemByItem<C>;
-
-    fn read_from<R: LendingReader<&'a [u8], C>>(reader: &mut R) -> Result<Entry<'a>, C::Error> {
-        let (name, content) = reader.read_value()?;
-        Ok(Entry { name, content })
-    }
-
-    fn minimum_bytes_needed() -> usize
-        ensures { result ≡ 8 }
-    {
-        8
     }
 }

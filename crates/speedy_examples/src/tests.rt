@@ -1,11 +1,12 @@
 //! What the callers of `CALLING.md` and of the README answer.
-use crate::headers::Header;
-use crate::own_types::{Entry, Labelled, Mark};
+use crate::own_header::Header;
+use crate::own_lent::Entry;
+use crate::own_types::{Labelled, Mark};
 use crate::{files, headers, memory, readme, streams};
-use speedy::device::{Source, VecSink};
-use speedy::error::{ErrorKind, error_out_of_range_length, get_error_kind};
-use speedy::readable::{BufferReader, CopyingBufferReader, StreamReader};
-use speedy::{Buffer, Endianness, Error, IsEof, LendingReader, LittleEndian, Reader, Writable};
+use speedy::device::VecSink;
+use speedy::error::get_error_kind;
+use speedy::readable::{BufferReader, CopyingBufferReader};
+use speedy::{Endianness, Error, IsEof, LendingReader, LittleEndian, Reader, Writable};
 use std::alloc::Global;
 use std::borrow::CowSlice;
 use std::fs;
@@ -152,6 +153,8 @@ fn a_record_points_into_what_it_is_read_from(rt: HostRuntime) {
     assert!(rt; entry.name == "Hi" && reader.len() == 1);
     assert!(rt; entry.content.as_slice() == [7, 8, 9].as_slice());
     assert!(rt; matches!(entry.content, CowSlice::Borrowed(_)));
+    let written = Writable::<LittleEndian>::write_to_vec(&entry, alloc).expect(&rt, "bytes");
+    assert!(rt; written.as_slice() == &bytes[..13]);
     let mut context = LittleEndian {};
     let mut reader = CopyingBufferReader::new(alloc, &mut context, &bytes);
     assert_refused(&rt, alloc, reader.read_value::<Entry>(), "Unsized");
@@ -209,93 +212,4 @@ fn records_are_put_behind_those_that_a_file_has(rt: HostRuntime) {
     let mut sink = VecSink::new(alloc);
     files::put_record(alloc, &mut sink, &first).expect(&rt, "it is put");
     assert!(rt; sink.bytes() == [1, 0, 2, 0, 0, 0, b'H', b'i'].as_slice());
-}
-
-/// Whether the bytes ended too soon, in a buffer or in a stream: with more of them there may be a value.
-fn wants_more(error: &Error) -> bool {
-    match get_error_kind(error) {
-        ErrorKind::InputBufferIsTooSmall { .. } => true,
-        _ => error.is_eof(),
-    }
-}
-
-#[test]
-fn a_message_that_is_short_is_told_from_one_that_is_broken(rt: HostRuntime) {
-    let alloc = rt.alloc();
-    let bytes = [2, 1, 2, 0, 0, 0, b'H', 0xff];
-    for length in 0..bytes.len() {
-        let outcome = readme::parse_message(alloc, &bytes[..length]);
-        assert!(rt; wants_more(&outcome.err().expect(&rt, "it is short")));
-    }
-    let outcome = readme::parse_message(alloc, &bytes);
-    assert!(rt; !wants_more(&outcome.err().expect(&rt, "it is broken")));
-}
-
-/// A number and a name, and a mail address, which version 1 did not have.
-fn read_person(
-    reader: &mut BufferReader<'_, LittleEndian>,
-    version: u16,
-) -> Result<(u16, String, Option<String>), Error> {
-    let (number, name) = reader.read_value()?;
-    let mail = if version >= 2 {
-        reader.read_value()?
-    } else {
-        None
-    };
-    Ok((number, name, mail))
-}
-
-#[test]
-fn a_part_may_depend_on_the_version(rt: HostRuntime) {
-    let alloc = rt.alloc();
-    let bytes = b"REC1\x01\0\x07\x05\0\x01\0\0\0a";
-    let mut reader = BufferReader::new(alloc, LittleEndian {}, bytes);
-    let header: Header = reader.read_value().expect(&rt, "a header");
-    let (number, name, mail) = read_person(&mut reader, header.version).expect(&rt, "a person");
-    assert!(rt; number == 5 && name.as_str() == "a" && mail.is_none());
-    let bytes = b"\x05\0\x01\0\0\0a\x01\x01\0\0\0b";
-    let mut reader = BufferReader::new(alloc, LittleEndian {}, bytes);
-    let (_, _, mail) = read_person(&mut reader, 2).expect(&rt, "a person");
-    assert!(rt; mail.expect(&rt, "an address").as_str() == "b");
-}
-
-/// The message that the bytes are, with nothing behind it.
-fn parse_whole<'a>(alloc: Global, bytes: &'a [u8]) -> Result<(u16, &'a str), Error> {
-    let (outcome, length) = bytes.read_with_length::<(u16, &'a str)>(alloc, LittleEndian {});
-    let message = outcome?;
-    if length < bytes.len() {
-        return Err(Error::custom(alloc, "bytes are left over"));
-    }
-    Ok(message)
-}
-
-#[test]
-fn bytes_behind_a_message_may_be_refused(rt: HostRuntime) {
-    let alloc = rt.alloc();
-    let bytes = [2, 1, 2, 0, 0, 0, b'H', b'i', 9];
-    let message = parse_whole(alloc, &bytes[..8]).expect(&rt, "a message");
-    assert!(rt; message == (258, "Hi"));
-    let kind = "Custom(\"bytes are left over\")";
-    assert_refused(&rt, alloc, parse_whole(alloc, &bytes), kind);
-}
-
-/// The bytes behind the next header, if they are no more than the limit.
-fn read_body<S: Source>(alloc: Global, source: &mut S, limit: usize) -> Result<Vec<u8>, Error> {
-    let mut reader = StreamReader::new(alloc, LittleEndian {}, source, false)?;
-    let header: Header = reader.read_value()?;
-    if header.length > limit {
-        return Err(error_out_of_range_length());
-    }
-    reader.read_vec(header.length)
-}
-
-#[test]
-fn a_body_past_the_limit_is_refused(rt: HostRuntime) {
-    let alloc = rt.alloc();
-    let mut source: &[u8] = b"REC1\x01\0\x02Hi!";
-    let body = read_body(alloc, &mut source, 2).expect(&rt, "a body");
-    assert!(rt; body.as_slice() == b"Hi".as_slice() && source == b"!".as_slice());
-    let mut source: &[u8] = b"REC1\x01\0\xff\xff\xff\xff\xff\xff\xff\xff\xff";
-    let outcome = read_body(alloc, &mut source, 1_000);
-    assert_refused(&rt, alloc, outcome, "OutOfRangeLength");
 }

@@ -1,5 +1,6 @@
 //! Types of one's own: bytes that come from outside.
-use crate::own_maps::{Directory, Place};
+use crate::own_key::Place;
+use crate::own_maps::Directory;
 use crate::own_numbers::{Colour, Packet};
 use crate::own_struct::Contact;
 use crate::tests::assert_refused;
