@@ -9,7 +9,7 @@ Of several files the least figures count. A bar begins at 1, where both take the
 this crate takes longer than the original, one to the left that it takes less. The scale is logarithmic, and the same in
 all panels. A figure of 0 or less says nothing (the read that is taken off a write took longer than it), and neither
 does one of the original below 4 ns, for which the compiler left only a constant (an empty round takes 2): such a row is
-drawn as a dash.
+drawn as a dash, and left out where that is so in both orders.
 """
 import json
 import math
@@ -31,8 +31,9 @@ INK, SOFT, GRID, PAPER = "#1f2328", "#57606a", "#d8dee4", "#ffffff"
 LABELS, BARS, END = 190, 290, 30  # the widths of a panel's labels, its bars, and the room for a number at either end
 ROW, BAR = 24, 9  # the heights of a case's row and of each of its two bars
 STRIP = 34  # the height of a way's line in the overview
-MARGIN, HEAD, TITLE, AXIS = 20, 86, 26, 30
+MARGIN, HEAD, TITLE, AXIS = 20, 86, 26, 40
 COLUMNS = 2
+LEAST = -3  # the power of two that the scale begins at, if not above
 CONSTANT = 4.0  # the nanoseconds below which the original's loop has nothing left to do
 
 
@@ -65,15 +66,21 @@ def shown(ratio):
 
 
 class Scale:
-    """The logarithmic scale of all panels, from a power of two at or below all ratios to one at or above them."""
+    """The logarithmic scale of all panels, from a power of two at or below all ratios to one at or above them.
+
+    It begins at LEAST if there are smaller ones, which would leave no room to the others: they are drawn at its edge.
+    """
 
     def __init__(self, ratios, width=BARS):
         self.width = width
-        self.low = min(-1, math.floor(math.log2(min(ratios))))
+        self.low = max(LEAST, min(-1, math.floor(math.log2(min(ratios)))))
         self.high = max(1, math.ceil(math.log2(max(ratios))))
 
+    def has(self, ratio):
+        return math.log2(ratio) >= self.low
+
     def at(self, ratio):
-        return self.width * (math.log2(ratio) - self.low) / (self.high - self.low)
+        return self.width * max(math.log2(ratio) - self.low, 0) / (self.high - self.low)
 
     def ticks(self):
         step = 1 if self.high - self.low <= 8 else 2
@@ -96,6 +103,8 @@ def grid(scale, left, top, bottom):
         at = left + scale.at(tick)
         yield stroke(at, top, bottom, INK if tick == 1 else GRID)
         yield text(at, bottom + 14, f"{tick:g}" if tick >= 1 else f"1/{1 / tick:g}", 10, SOFT, "middle")
+    yield text(left, bottom + 26, "← faster", 10, SOFT)
+    yield text(left + scale.width, bottom + 26, "slower →", 10, SOFT, "end")
 
 
 def panel(x, y, name, rows, scale):
@@ -135,6 +144,7 @@ def legend(words):
         x = MARGIN + 150 * place
         yield f'<rect x="{x}" y="60" width="11" height="11" fill="{ink}"/>'
         yield text(x + 17, 70, order, 11)
+    yield text(MARGIN + 150 * len(ORDERS), 70, f"at the left edge (◂): below 1/{2**-LEAST}", 11)
 
 
 def picture(width, height, drawn):
@@ -155,6 +165,7 @@ def draw(ratios):
     for op, name in PANELS:
         cases = dict.fromkeys(case for of, case, _ in ratios if of == op)
         rows = [(case, [ratios.get((op, case, order)) for order, _, _ in ORDERS]) for case in cases]
+        rows = [row for row in rows if any(row[1])]
         if rows:
             panels.append((name, rows))
     wide, drawn, y = LABELS + BARS + END + MARGIN, [], HEAD
@@ -174,6 +185,9 @@ def strip(y, name, rows, scale):
         ink = next(ink for key, _, ink in ORDERS if key == order)
         # The two orders lie a little apart, so that neither hides the other.
         at = middle + (-4 if order == ORDERS[0][0] else 4)
+        if not scale.has(ratio):
+            yield text(left - 8, at + 3, "◂", 9, ink)
+            continue
         yield f'<circle cx="{left + scale.at(ratio):.1f}" cy="{at:.1f}" r="3.2" fill="{ink}" fill-opacity="0.55"/>'
     ratios = [ratio for _, _, ratio in rows]
     mean, (case, _, worst) = mean_of(ratios), max(rows, key=lambda row: row[2])

@@ -5,7 +5,7 @@ use crate::left_over::parse_whole;
 use crate::limits::read_body;
 use crate::own_numbers::Colour;
 use crate::signing::{Order, are_same, bytes_to_sign, read_signed};
-use crate::sockets::{receive_all, send};
+use crate::sockets::{send, serve};
 use crate::tests::assert_refused;
 use crate::versions::read_person;
 use crate::waiting::{next_whole, wants_more};
@@ -42,23 +42,21 @@ fn messages_are_taken_once_they_are_whole(rt: HostRuntime) -> Result<(), Error> 
 #[test]
 fn messages_go_over_a_socket(rt: HostRuntime) -> Result<(), Error> {
     let alloc = rt.alloc();
-    let mut socket = VecSink::new(alloc);
-    send(alloc, &mut socket, &(1, String::from_str(alloc, "Hi")?))?;
-    send(alloc, &mut socket, &(2, String::new(alloc)))?;
-    assert!(rt; socket.bytes() == b"\x08\0\x01\0\x02\0\0\0Hi\x06\0\x02\0\0\0\0\0".as_slice());
-    let mut bytes = socket.bytes();
-    let messages = receive_all(alloc, &mut bytes)?;
-    assert!(rt; messages.len() == 2 && messages[0].1.as_str() == "Hi" && messages[1].0 == 2);
-    let mut cut: &[u8] = &socket.bytes()[..17];
-    assert_refused(
-        &rt,
-        alloc,
-        receive_all(alloc, &mut cut),
-        "UnexpectedEndOfInput",
-    );
+    let mut sent = VecSink::new(alloc);
+    send(alloc, &mut sent, &(1, "Hi"))?;
+    assert!(rt; sent.bytes() == b"\x08\0\x01\0\x02\0\0\0Hi".as_slice());
+    // The second of three messages is no UTF-8.
+    let mut input: &[u8] =
+        b"\x08\0\x01\0\x02\0\0\0Hi\x07\0\x02\0\x01\0\0\0\xff\x06\0\x03\0\0\0\0\0";
+    let mut output = VecSink::new(alloc);
+    serve(alloc, &mut input, &mut output)?;
+    assert!(rt; output.bytes() == b"\x08\0\x01\0\x02\0\0\0Hi\x06\0\x03\0\0\0\0\0".as_slice());
+    let mut cut: &[u8] = b"\x08\0\x01";
+    let outcome = serve(alloc, &mut cut, &mut output);
+    assert_refused(&rt, alloc, outcome, "UnexpectedEndOfInput");
     let mut long: &[u8] = b"\x01\x04";
     let kind = "Custom(\"a message past the limit\")";
-    assert_refused(&rt, alloc, receive_all(alloc, &mut long), kind);
+    assert_refused(&rt, alloc, serve(alloc, &mut long, &mut output), kind);
     Ok(())
 }
 
