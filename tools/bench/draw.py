@@ -3,7 +3,8 @@
 
 usage: tools/bench/draw.py [--overview] JSON.. > FILE
 
-With --overview each way is one line, with a dot a case and order, its mean and its worst case.
+With --overview each way is one line, with a dot a case and order, its mean and its worst case; and so are the documents
+beside each other crate, of which there is a dot for what is read and one for what is written.
 
 Of several files the least figures count. A bar begins at 1, where both take the same time: one to the right says that
 this crate takes longer than the original, one to the left that it takes less. The scale is logarithmic, and the same in
@@ -25,6 +26,8 @@ PANELS = [
     ("write_to_stream", "write_to_stream"),
     ("bytes_needed", "bytes_needed"),
 ]
+# What only the overview has: the figures of `bench documents`.
+PEERS = [(f"documents beside {name}", f"documents / {name}") for name in ("bincode", "MessagePack")]
 ORDERS = [("le", "little byte order", "#2b6cb0"), ("be", "big byte order", "#dd8a1e")]
 INK, SOFT, GRID, PAPER = "#1f2328", "#57606a", "#d8dee4", "#ffffff"
 
@@ -199,18 +202,21 @@ def strip(y, name, rows, scale):
 
 def draw_overview(ratios):
     """Returns the lines of the overview: a way a line, with a dot a case and order."""
-    scale = Scale([ratio for ratio in ratios.values() if ratio], 420)
+    drawn = [op for op, _ in PANELS + PEERS]
+    scale = Scale([ratio for (op, _, _), ratio in ratios.items() if ratio and op in drawn], 420)
     left, top, ways = MARGIN + 190, HEAD, []
-    for op, name in PANELS:
+    for op, name in PANELS + PEERS:
         rows = [(case, order, ratio) for (of, case, order), ratio in ratios.items() if of == op and ratio]
         if rows:
             ways.append((name, rows))
     bottom = top + STRIP * len(ways)
-    width, height = left + scale.width + 16 + 250 + MARGIN, bottom + AXIS
+    width, height = left + scale.width + 16 + 290 + MARGIN, bottom + AXIS
     lines = [*grid(scale, left, top, bottom)]
     for place, (name, rows) in enumerate(ways):
         lines.extend(strip(top + STRIP * place, name, rows, scale))
     words = "Each dot is a case; one to the left of 1 is faster than the original. The stroke is the geometric mean."
+    if any(name.startswith("documents") for name, _ in ways):
+        words += " The documents are beside other crates."
     return picture(width, height, [*legend(words), *lines])
 
 

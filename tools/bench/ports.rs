@@ -12,6 +12,11 @@ pub type Record = (u64, String, Vec<u8>, Vec<i64>, u8);
 /// writes them.
 macro_rules! structs {
     ($($name:ident, $least:literal { $($field:ident: $type:ty,)* })*) => { $(
+        #[cfg_attr(
+            peers,
+            derive(peer_crates::serde::Serialize, peer_crates::serde::Deserialize),
+            serde(crate = "peer_crates::serde")
+        )]
         pub struct $name {
             $(pub $field: $type,)*
         }

@@ -7,11 +7,14 @@ use std::hint::black_box as bb;
 use std::time::Instant;
 
 /// One side of a row: what runs so many rounds in a call, how many a stretch has, and the least
-/// nanoseconds, of a stretch until `Row::finish`, and then of a round.
+/// nanoseconds, of a stretch until `finish`, and then of a round.
 pub struct Side {
     run: Box<dyn FnMut(usize) -> usize>,
     count: usize,
     pub best: f64,
+    /// Where a call reads a value first, the least nanoseconds of a call without rounds, which are
+    /// then taken off.
+    zero: Option<f64>,
 }
 
 impl Side {
@@ -20,6 +23,15 @@ impl Side {
             run: Box::new(run),
             count: 1,
             best: f64::MAX,
+            zero: None,
+        }
+    }
+
+    /// A side whose calls read a value first, as those of the port do that write.
+    pub fn reading_first(run: impl FnMut(usize) -> usize + 'static) -> Side {
+        Side {
+            zero: Some(f64::MAX),
+            ..Side::new(run)
         }
     }
 
@@ -32,12 +44,12 @@ impl Side {
 
     /// Finds how many rounds take a millisecond, and where the call reads a value first as long as
     /// that besides.
-    fn find_count(&mut self, reads_first: bool) {
+    fn find_count(&mut self) {
         self.time(1);
         loop {
             let zero = self.time(0);
             let nanoseconds = self.time(self.count) - zero;
-            let wanted = 1_000_000.0 + if reads_first { zero } else { 0.0 };
+            let wanted = 1_000_000.0 + self.zero.map_or(0.0, |_| zero);
             if nanoseconds > wanted || self.count > 1 << 20 {
                 break;
             }
@@ -47,7 +59,31 @@ impl Side {
     }
 
     fn run(&mut self) {
+        if let Some(least) = self.zero {
+            let zero = (0..3).map(|_| self.time(0)).fold(least, f64::min);
+            self.zero = Some(zero);
+        }
         self.best = self.best.min(self.time(self.count));
+    }
+
+    fn finish(&mut self) {
+        self.best = (self.best - self.zero.unwrap_or(0.0)) / self.count as f64;
+    }
+}
+
+/// Times sides that are compared, in turns: none is always first.
+pub fn measure_together(sides: &mut [&mut Side], reps: usize) {
+    for side in sides.iter_mut() {
+        side.find_count();
+    }
+    for rep in 0..reps {
+        let first = rep % sides.len();
+        for at in 0..sides.len() {
+            sides[(first + at) % sides.len()].run();
+        }
+    }
+    for side in sides {
+        side.finish();
     }
 }
 
@@ -57,24 +93,15 @@ pub struct Row {
     pub op: &'static str,
     pub original: Side,
     pub port: Side,
-    /// Whether a call of the port reads the value first, as those do that write. The least
-    /// nanoseconds of a call without rounds, `zero`, are then taken off.
-    reads_first: bool,
-    zero: f64,
 }
 
 impl Row {
     fn find_counts(&mut self) {
-        self.original.find_count(false);
-        self.port.find_count(self.reads_first);
+        self.original.find_count();
+        self.port.find_count();
     }
 
     fn run(&mut self, port_first: bool) {
-        if self.reads_first {
-            for _ in 0..3 {
-                self.zero = self.zero.min(self.port.time(0));
-            }
-        }
         if port_first {
             self.port.run();
             self.original.run();
@@ -85,9 +112,8 @@ impl Row {
     }
 
     fn finish(&mut self) {
-        let zero = if self.reads_first { self.zero } else { 0.0 };
-        self.original.best /= self.original.count as f64;
-        self.port.best = (self.port.best - zero) / self.port.count as f64;
+        self.original.finish();
+        self.port.finish();
     }
 
     pub fn ratio(&self) -> f64 {
@@ -164,14 +190,12 @@ impl Input {
         }
     }
 
-    fn row(self, op: &'static str, reads_first: bool, original: Side, port: Side) -> Row {
+    fn row(self, op: &'static str, original: Side, port: Side) -> Row {
         Row {
             input: self,
             op,
             original,
             port,
-            reads_first,
-            zero: f64::MAX,
         }
     }
 
@@ -179,7 +203,7 @@ impl Input {
         let Input { bytes, big, .. } = self;
         let original = Side::new(move |k| read_rounds::<T>(bb(bytes), bb(big), k));
         let port = Side::new(move |k| unsafe { read(bb(bytes).as_ptr(), bytes.len(), bb(big), k) });
-        self.row(op, false, original, port)
+        self.row(op, original, port)
     }
 
     pub fn stream<T: Readable<'static, Endianness>>(self, how: u8, stream: StreamFn) -> Row {
@@ -187,7 +211,7 @@ impl Input {
         let original = Side::new(move |k| stream_rounds::<T>(bb(bytes), bb(big), how, k));
         let port =
             Side::new(move |k| unsafe { stream(bb(bytes).as_ptr(), bytes.len(), bb(big), how, k) });
-        self.row(STREAM_OPS[how as usize], false, original, port)
+        self.row(STREAM_OPS[how as usize], original, port)
     }
 
     pub fn write<T: Ported>(
@@ -201,11 +225,11 @@ impl Input {
         let original = Side::new(move |k| {
             write_rounds(bb(value), unsafe { buffer.as_slice() }, bb(big), how, k)
         });
-        let port = Side::new(move |k| unsafe {
+        let port = Side::reading_first(move |k| unsafe {
             let at = bb(bytes).as_ptr();
             (T::PORT.write)(at, bytes.len(), buffer.at, buffer.length, bb(big), how, k)
         });
-        self.row(op, true, original, port)
+        self.row(op, original, port)
     }
 
     /// Looks whether the port reads this encoding and writes the same, but for the order of keys of
