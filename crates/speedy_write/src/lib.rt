@@ -2,8 +2,8 @@
 //!
 //! Which way the modules lean: a writer writes any type, and a type writes to any writer, so `writer` and `writable`
 //! name each other, and so do the bodies of a writer's methods (`each`, `fixed`). The writers lean on these
-//! (`collectors`, `buffering`, `counting`), and the functions of `writable` make them. `prefixed` and `collections` lean
-//! on all of these, and a family of types on these two; only cows write as lists and texts do.
+//! (`collectors`, `buffering`, `counting`), and the functions of `writable` make them. `prefixed` and `collections`
+//! lean on all of these, and a family of types on these two; only cows write as lists and texts do.
 #![tactic(auto)]
 
 pub mod addresses;
