@@ -45,7 +45,7 @@ pub use Rattle.speedy_layout.specs.Sequences
 pub use Rattle.speedy_layout.specs.Sets
 pub use Rattle.speedy_layout.specs.Texts
 pub use Rattle.speedy_layout.specs.Tuples
-pub use Rattle.speedy_layout.specs.Utf8
+pub use Rattle.speedy_layout.specs.Utf8Lemmas
 pub use Rattle.speedy_layout.specs.Varint
 pub use Rattle.speedy_layout.specs.ViewIters
 pub use Rattle.speedy_layout.specs.Views

@@ -25,7 +25,7 @@ pub mod StdSets
 pub mod IndexMaps
 pub mod Adding
 pub mod Texts
-pub mod Utf8
+pub mod Utf8Lemmas
 pub mod Leaves
 pub mod Addresses
 pub mod Equality

@@ -1,4 +1,4 @@
--- What std's maps and `IndexMap` say of themselves, as what lists gather to and how it is written.
+-- What std's maps say of themselves, as what lists gather to and how it is written.
 use Rattle.std.specs.Prelude.{◌≡◌, List, [], ◌∷◌, ◌++◌, map, Bool, true, false, cond, Option, Some, None, option_map}
 use Rattle.std.specs.Prelude.{◌↔◌, refl}
 use Rattle.std.proofs.lemmas.List.{map-append}

@@ -1,4 +1,4 @@
--- What a `VarInt64` stands for.
+-- What a `VarInt64` stands for, by zigzag where the integer is signed.
 use Rattle.std.specs.Prelude.{ℕ, ◌+◌, ◌*◌, ℤ, pos, negsuc}
 use Rattle.speedy_layout.specs.declared.varint.VarInt64.{VarInt64}
 

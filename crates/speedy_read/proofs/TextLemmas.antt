@@ -13,7 +13,7 @@ use Rattle.speedy_layout.specs.Lists.{repeat, vector}
 use Rattle.speedy_layout.specs.Owned.{owned_content}
 use Rattle.speedy_layout.specs.Codes.{coding, subset, Accepts-exact_means}
 use Rattle.speedy_layout.specs.Texts.{raw_bytes, raw_bytes_laws, text_of_length, each_byte, each_byte_is}
-use Rattle.speedy_layout.specs.Utf8.{AreBytes-utf8}
+use Rattle.speedy_layout.specs.Utf8Lemmas.{AreBytes-utf8}
 use Rattle.speedy_layout.specs.Sequences.{asks_same}
 use Rattle.speedy_read.specs.Reading.{ReaderState, Reads}
 use Rattle.speedy_read.specs.Codes.{Covers, got_covered, exact_code_read, code_means_nothing}

@@ -7,7 +7,7 @@ ghost use Rattle.speedy_layout.specs.Lists.{vector};
 ghost use Rattle.speedy_read.specs.Lending.{many_items};
 ghost use Rattle.speedy_read.specs.Reading.{ReadsValue};
 
-use crate::chunks::Numbers;
+use crate::bulk::Numbers;
 use crate::many::{FromLent, Many, Places, Strategy, Takes, read_each};
 use crate::readable::{ReadFrom, ReadMany};
 use crate::reader::{EndOfInput, LendingReader};

@@ -1,7 +1,7 @@
 //! How flags, and values that a flag chooses, are read.
 ghost use Rattle.std.specs.Prelude.{◌+◌};
 
-use crate::chunks::Flags;
+use crate::bulk::Flags;
 use crate::many::ItemByItem;
 use crate::readable::ReadFrom;
 use crate::reader::LendingReader;

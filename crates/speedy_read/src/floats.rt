@@ -1,5 +1,5 @@
 //! How floats are read: as their bits.
-use crate::chunks::Numbers;
+use crate::bulk::Numbers;
 use crate::readable::ReadFrom;
 use crate::reader::LendingReader;
 use speedy_base::context::Context;

@@ -3,7 +3,7 @@
 //! Which way the modules lean: a reader reads any type, and a type reads from any reader, so `reader` and `readable`
 //! name each other; the modules with the bodies of a reader's methods name both (`digits`, `lent`, `many`,
 //! `collections`, `until_end`, `room`, `private`). The five readers lean on `reader`, and the functions of `readable`
-//! make them. Reading in bulk (`chunks`, and `arrays` beside it) and `prefixed` lean on all of these. A family of types
+//! make them. Reading in bulk (`bulk`, and `arrays` beside it) and `prefixed` lean on all of these. A family of types
 //! leans on these two and on no other family.
 #![tactic(auto)]
 
@@ -11,8 +11,8 @@ pub mod addresses;
 mod arrays;
 pub mod buffer;
 pub mod buffer_reader;
+mod bulk;
 pub mod cases;
-mod chunks;
 pub mod collections;
 pub mod copying_reader;
 pub mod cows;

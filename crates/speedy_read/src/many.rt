@@ -1,4 +1,4 @@
-//! Values that are read one after another, and what is made of them.
+//! How many values are read: the strategies, and the one that reads item by item. Those of numbers are in `bulk`.
 ghost use Rattle.std.specs.Prelude.{◌≡◌, ◌*◌, ℕ, ⊤, List, Some, IsSome, length as count_of, map};
 ghost use Rattle.std.specs.Cow.{cow_slice_items};
 ghost use Rattle.std.specs.Option.{MatchOption};

@@ -1,5 +1,5 @@
 //! How numbers are read.
-use crate::chunks::{Bytes, Numbers};
+use crate::bulk::{Bytes, Numbers};
 use crate::many::ItemByItem;
 use crate::readable::ReadFrom;
 use crate::reader::LendingReader;

@@ -1,4 +1,5 @@
-//! The writer that `bytes_needed` counts by.
+//! The writer that `bytes_needed` counts by: it stays at `usize::MAX`, where the public
+//! `SizeCalculatorCollector` of `collectors` refuses.
 ghost use Rattle.std.specs.Prelude.{◌≡◌, ◌∷◌, [], ◌^◌, ◌-◌, ◌≤◌, None, IsSome, refl};
 ghost use Rattle.speedy_write.specs.Counting.{counting_state, CountAppends, count_nothing, count_additive};
 ghost use Rattle.speedy_write.specs.Writing.{CountsBytes};

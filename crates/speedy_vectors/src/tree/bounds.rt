@@ -1,4 +1,4 @@
-//! How many levels a tree has, as callers may cite it.
+//! The law that a tree has at most `LEVELS` levels, which callers may cite.
 ghost use Rattle.std.specs.Prelude.{◌≡◌, ◌<◌, ◌≤◌, ℕ, List, IsErrAnd};
 ghost use Rattle.speedy.specs.declared.error.ErrorKind.{ErrorKind};
 ghost use Rattle.speedy.specs.declared.error.ErrorKind.TheVariants.{OutOfRangeLength};

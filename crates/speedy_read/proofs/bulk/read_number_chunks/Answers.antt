@@ -4,7 +4,7 @@ use Rattle.speedy_read.specs.ReadingLemmas.{Kept-same, Kept-after}
 use Rattle.speedy_read.proofs.ByteLemmas.{from_ok}
 use Rattle.speedy_read.proofs.ListLemmas.{got_items, refused_room}
 use Rattle.speedy_read.proofs.ChunkLemmas.{more_numbers, numbers_refused, count_of_digits, chunk_fits}
-use Rattle.speedy_read.proofs.chunks.read_number_chunks.Goals as goal
+use Rattle.speedy_read.proofs.bulk.read_number_chunks.Goals as goal
 
 pub returns-in_err-numbers : goal.returns-in_err-numbers
 returns-in_err-numbers g c = refused_room _ _ _ Kept-same refl c.from_residual.ensures.1 c.in_err-numbers.ensures.empty

@@ -1,4 +1,4 @@
--- The UTF-8 of characters is made of bytes.
+-- The UTF-8 of characters is made of bytes. What UTF-8 is, std says (`IsUtf8` of `Rattle.std.specs.Str`).
 use Rattle.std.specs.Prelude.{◌≡◌, ℕ, ◌<◌, List, [], ◌∷◌, Bool, true, false, cond, ◌&&◌, refl}
 use Rattle.std.proofs.Common.{sym, ◌∙◌, subst, arith, ltb, leb, ltb-true}
 use Rattle.std.specs.Str.{IsUtf8}

@@ -1,7 +1,7 @@
 use Rattle.std.proofs.Common.{◌≡◌, ◌-◌, ◌≤◌, length, map}
 use Rattle.speedy_layout.specs.Format.{Each}
 use Rattle.speedy_read.specs.ReadingLemmas.{ReadSoFar}
-use Rattle.speedy_read.proofs.chunks.read_number_chunks.Given as goal
+use Rattle.speedy_read.proofs.bulk.read_number_chunks.Given as goal
 
 abbrev pub invariant-loop-left : goal.invariant-loop-left
 invariant-loop-left g l =

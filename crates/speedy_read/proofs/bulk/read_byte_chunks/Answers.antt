@@ -3,7 +3,7 @@ use Rattle.std.proofs.lemmas.List.{length-append, length-replicate}
 use Rattle.speedy_read.specs.ReadingLemmas.{Kept-same, none_so_far}
 use Rattle.speedy_read.proofs.ByteLemmas.{behind, filled_behind, more_bytes, all_bytes, bytes_refused}
 use Rattle.speedy_read.proofs.ListLemmas.{refused_room}
-use Rattle.speedy_read.proofs.chunks.read_byte_chunks.Goals as goal
+use Rattle.speedy_read.proofs.bulk.read_byte_chunks.Goals as goal
 
 pub loop-left-init : goal.loop-left-init
 loop-left-init g c =

@@ -2,7 +2,7 @@ use Rattle.std.proofs.Common.{[], arith, refl}
 use Rattle.std.proofs.lemmas.List.{map-id}
 use Rattle.speedy_read.specs.ReadingLemmas.{got_as, none_so_far}
 use Rattle.speedy_read.proofs.ByteLemmas.{all_bytes, bytes_refused, more_bytes}
-use Rattle.speedy_read.proofs.chunks.BytesFillsU8.fill.Goals as goal
+use Rattle.speedy_read.proofs.bulk.BytesFillsU8.fill.Goals as goal
 
 pub returns : goal.returns
 returns g c =

@@ -4,7 +4,7 @@ use borrow.Rule.Slice.PartMut.{same_len_mid, mid_len}
 use Rattle.speedy_read.specs.ReadingLemmas.{none_so_far}
 use Rattle.speedy_read.proofs.ListLemmas.{got_items}
 use Rattle.speedy_read.proofs.ChunkLemmas.{more_numbers, numbers_refused, put_behind, chunk_fits}
-use Rattle.speedy_read.proofs.chunks.fill_chunks.Goals as goal
+use Rattle.speedy_read.proofs.bulk.fill_chunks.Goals as goal
 
 pub loop-at-init : goal.loop-at-init
 loop-at-init g c = (omega arith, refl, none_so_far refl)

@@ -1,7 +1,7 @@
 use Rattle.std.proofs.Common.{◌≡◌, ◌-◌, ◌≤◌, length, map, take}
 use Rattle.speedy_layout.specs.Format.{Each}
 use Rattle.speedy_read.specs.ReadingLemmas.{ReadSoFar}
-use Rattle.speedy_read.proofs.chunks.fill_chunks.Given as goal
+use Rattle.speedy_read.proofs.bulk.fill_chunks.Given as goal
 
 -- the first places are filled
 abbrev pub invariant-loop-at : goal.invariant-loop-at

@@ -1,6 +1,6 @@
 use Rattle.std.proofs.Common.{◌≡◌, ◌-◌, ◌≤◌, length}
 use Rattle.speedy_read.proofs.ByteLemmas.{BytesSoFar}
-use Rattle.speedy_read.proofs.chunks.read_byte_chunks.Given as goal
+use Rattle.speedy_read.proofs.bulk.read_byte_chunks.Given as goal
 
 abbrev pub invariant-loop-left : goal.invariant-loop-left
 invariant-loop-left g l =

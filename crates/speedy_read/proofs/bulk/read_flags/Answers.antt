@@ -4,7 +4,7 @@ use Rattle.speedy_read.specs.ReadingLemmas.{input_ended, none_so_far}
 use Rattle.speedy_read.proofs.ByteLemmas.{all_bytes, bytes_refused, more_bytes}
 use Rattle.speedy_read.proofs.FlagLemmas.{flags_answered, flags_refused}
 use Rattle.speedy_read.proofs.ChunkLemmas.{lent_is, lent_length, lent_read, lent_refused, none_lent}
-use Rattle.speedy_read.proofs.chunks.read_flags.Goals as goal
+use Rattle.speedy_read.proofs.bulk.read_flags.Goals as goal
 
 pub returns-in-Some-Ok : goal.returns-in-Some-Ok
 returns-in-Some-Ok g c =

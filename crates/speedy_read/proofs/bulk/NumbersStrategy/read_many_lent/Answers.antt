@@ -1,4 +1,4 @@
-use Rattle.speedy_read.proofs.chunks.NumbersStrategy.read_many_lent.Goals as goal
+use Rattle.speedy_read.proofs.bulk.NumbersStrategy.read_many_lent.Goals as goal
 
 pub returns : goal.returns
 returns g c = c.read_numbers.ensures g.W.FromLent.shown

@@ -4,7 +4,7 @@ use Rattle.speedy_read.specs.ReadingLemmas.{input_ended, none_so_far}
 use Rattle.speedy_read.proofs.ListLemmas.{got_items, refused_early}
 use Rattle.speedy_read.proofs.ChunkLemmas.{all_digits, past_usize, more_numbers, numbers_refused, lent_is, lent_length}
 use Rattle.speedy_read.proofs.ChunkLemmas.{lent_read, lent_refused}
-use Rattle.speedy_read.proofs.chunks.fill_numbers.Goals as goal
+use Rattle.speedy_read.proofs.bulk.fill_numbers.Goals as goal
 
 pub returns-in_default : goal.returns-in_default
 returns-in_default g c =
