@@ -67,7 +67,7 @@ pub enum OwnTag {
 }
 
 #[derive(Debug, Readable, Writable)]
-pub enum Cases {
+pub enum Mixed {
     A,
     B(u8, u16, u32),
     C {

@@ -61,7 +61,6 @@ BROKEN = [
     ("a tag that is not told", HEAD + DERIVES + "enum A { B = OTHER }", 3, "no number that this file tells"),
     ("a tag that is called", HEAD + DERIVES + "enum A { B = f(1) }", 3, "a call is not taken"),
     ("an enum without variants", HEAD + DERIVES + "enum A {}", 3, "has no variant"),
-    ("an enum that is generic in a type", HEAD + DERIVES + "enum A<T> { B(T) }", 3, "room in memory"),
     ("a tag at a field", struct("    #[speedy(tag = 1)]\n    a: u8"), 4, "no setting `tag`"),
     ("a length of a number", struct("    #[speedy(length_type = u8)]\n    a: u32"), 5, "`length_type` is taken of"),
     # Types.

@@ -118,7 +118,8 @@ def heads(node):
 
 def room(node):
     """How far the brackets of a node may stand behind what it stands in."""
-    return WIDTH - 2 if node.pad else WIDTH
+    of_tuples = node.head == "&(" and any(isinstance(it, Node) and it.head == "(" for it in node.items)
+    return WIDTH - 2 if node.pad or of_tuples else WIDTH
 
 
 def is_short(item):

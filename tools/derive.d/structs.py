@@ -8,9 +8,9 @@ from layout import WIDTH, Node, binding, braces, call, flat, generic, lines, mat
 from refusal import Refusal
 from scope import asks, names_in, text
 
-# The types of numbers, and the first number past each, by the names that the original has for them.
-NUMBERS = {"u7": ("U7", 1 << 7), "u8": ("u8", 1 << 8), "u16": ("u16", 1 << 16), "u32": ("u32", 1 << 32),
-           "u64": ("u64", 1 << 64), "u64_varint": ("VarInt64", 1 << 64)}
+# The types of numbers, the first number past each, and its least size, by the names that the original has for them.
+NUMBERS = {"u7": ("U7", 1 << 7, 1), "u8": ("u8", 1 << 8, 1), "u16": ("u16", 1 << 16, 2), "u32": ("u32", 1 << 32, 4),
+           "u64": ("u64", 1 << 64, 8), "u64_varint": ("VarInt64", 1 << 64, 1)}
 # What may stand behind a length of another width.
 COUNTED = ("String", "Vec", "BoxedStr", "BoxedSlice", "SmallVec", "BTreeMap", "HashMap", "IndexMap", "BTreeSet",
            "HashSet", "IndexSet")
@@ -31,8 +31,6 @@ class Part:
     written: str
     # What is seen of it by itself, where it is of another type than the field.
     seen_alone: str = ""
-    # The type that it is written as, where it is none of its own, as a lifetime makes it.
-    written_type: object = None
     # A statement before it is written, and the name that this binds.
     before: object = None
     # Whether it is an option of what stands behind a length.
@@ -166,7 +164,7 @@ def part_of(scope, field, access, kind):
         return varint_part(scope, field, access, kind)
     if options.length_type:
         return prefixed_part(scope, field, access, kind)
-    return Part(kind, access.bound, access.seen, f"Part({access.reference})", written_type=kind)
+    return Part(kind, access.bound, access.seen, f"Part({access.reference})")
 
 
 def varint_part(scope, field, access, kind):
@@ -345,12 +343,7 @@ def read_head(shape):
     generics, scope, line = shape.generics, shape.scope, shape.item.line
     for name in ("Context", "ItemByItem", "LendingReader", "ReadFrom"):
         scope.need("speedy", name, line)
-    context = f"{generics.context}: Context"
-    if generics.lifetimes:
-        lent, front = f"&{generics.lifetimes[0]} [u8]", [context]
-    else:
-        scope.need("std::convert", "AsSlice", line)
-        lent, front = generics.lent, [f"{generics.lent}: AsSlice<u8> + Drop", context]
+    lent, front = lent_of(shape)
     trait = f"ReadFrom<{lent}, {generics.context}>"
     head = impl_lines(generics.of_impl(shape.asked, generics.reading(), front), trait, shape.self_type,
                       generics.where_lines())
@@ -359,6 +352,16 @@ def read_head(shape):
     found += function_lines(f"fn read_from<{generics.reader}: {reader}>", f"reader: &mut {generics.reader}",
                             f"Result<{shape.self_type}, {generics.context}::Error>")
     return found, trait
+
+
+def lent_of(shape):
+    """What the reader lends, and the parameters before those of the type."""
+    generics = shape.generics
+    context = f"{generics.context}: Context"
+    if generics.lifetimes:
+        return f"&{generics.lifetimes[0]} [u8]", [context]
+    shape.scope.need("std::convert", "AsSlice", shape.item.line)
+    return generics.lent, [f"{generics.lent}: AsSlice<u8> + Drop", context]
 
 
 def function_lines(head, parameter, result):
@@ -397,36 +400,18 @@ def read_body(shape, value):
     return [f"        match {read} {{", *arm, "            Err(error) => Err(error),", "        }"]
 
 
-def as_passed(kind, name):
-    """A parameter by value in an `ensures`, which has another name where its type names a lifetime."""
-    return f"{name}.entry" if "'" in kind else name
-
-
-def without_skips(asked):
-    """What is asked of parameters but where a value is skipped."""
-    return {name: tuple(role for role in roles if role != "skip") for name, roles in asked.items()}
-
-
-def seen_clause(shape, left, right):
-    """The clause that the same is seen of both."""
-    shape.scope.ghosts.add("◌≡◌")
-    own = f"⟦<{shape.self_type} as Layout>⟧"
-    return [f"        ensures {{ ◌≡◌ {{A = {own}.Seen}}", f"            ({left(own)})",
-            f"            ({right(own)}) }}"]
-
-
 def is_nested(tree):
     """Whether a tuple holds tuples."""
     return isinstance(tree, list) and any(isinstance(it, list) for it in tree)
 
 
-def taken_apart(head, tree, value):
+def taken_apart(head, tree, value, indent=12):
     """An arm of a `match` whose tuple is taken apart in it, tuple by tuple.
 
     No pattern moves out of tuples in a tuple.
     """
     names = set(fold(tree, lambda part: {part.bound}, lambda its: set().union(*its)))
-    found, waiting, count = lines(head, 12, "", " => {"), [("parts", tree)], 0
+    found, waiting, count = lines(head, indent, "", " => {"), [("parts", tree)], 0
     while waiting:
         name, it = waiting.pop(0)
         bound, inner = [], []
@@ -438,17 +423,17 @@ def taken_apart(head, tree, value):
                 bound.append(group)
             else:
                 bound.append(part.bound)
-        found += binding(pattern("(", bound), name, 16)
+        found += binding(pattern("(", bound), name, indent + 4)
         waiting = inner + waiting
-    return found + lines(value, 16) + ["            }"]
+    return found + lines(value, indent + 4) + [" " * indent + "}"]
 
 
-def arm_lines(bound, value):
+def arm_lines(bound, value, indent=12):
     """An arm of a `match`: the value behind the pattern, or on lines of its own."""
-    head = lines(bound, 12, "", " =>")
-    first = lines(value, 12, head[-1].strip() + " ", ",")
+    head = lines(bound, indent, "", " =>")
+    first = lines(value, indent, head[-1].strip() + " ", ",")
     if len(first[0]) > WIDTH:
-        return head + lines(value, 16, "", ",")
+        return head + lines(value, indent + 4, "", ",")
     return head[:-1] + first
 
 
@@ -461,7 +446,7 @@ def write_lines(shape):
             found += lines(prefixed(part), 8, f"let {name}: {kind} = ", ";")
             part.written = name
             shape.scope.need("speedy", "Part", shape.item.line)
-    return found + lines(call("writer.write_value(", [written(shape)]), 8) + ["    }", "}"]
+    return found + lines(call("writer.write_value(", [written(shape, shape.tree, shape.parts)]), 8) + ["    }", "}"]
 
 
 def write_head(shape):
@@ -476,15 +461,16 @@ def write_head(shape):
                                  f"&self, writer: &mut {generics.writer}", f"Result<(), {generics.context}::Error>")
 
 
-def written(shape):
-    """What is written of a struct."""
-    if not shape.parts:
+def written(shape, tree, parts):
+    """What is written of a struct or of a variant."""
+    if not parts:
         return "&()"
-    if not isinstance(shape.tree, list):
-        single = shape.tree.written
-        return "&" + single[len("Part(&"):-1] if single.startswith("Part(&") else "&" + single
-    need_part(shape)
-    return fold_head(shape.tree)
+    if not isinstance(tree, list):
+        # A part alone is written where it lies.
+        single = tree.written
+        return single[len("Part("):-1] if single.startswith("Part(") else "&" + single
+    need_part(shape, parts)
+    return fold_head(tree)
 
 
 def prefixed(part):
@@ -497,9 +483,9 @@ def prefixed(part):
     return matched(f"match {option}", [some, "None => None"])
 
 
-def need_part(shape):
+def need_part(shape, parts):
     """Imports `Part`, where a part is written as one."""
-    if any(part.written.startswith("Part(") for part in shape.parts):
+    if any(part.written.startswith("Part(") for part in parts):
         shape.scope.need("speedy", "Part", shape.item.line)
 
 

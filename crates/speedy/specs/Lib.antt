@@ -60,7 +60,7 @@ pub use Rattle.speedy_read.specs.FrameModel
 pub use Rattle.speedy_read.specs.Frames as ReadFrames
 pub use Rattle.speedy_read.specs.Lending
 pub use Rattle.speedy_read.specs.OwnedModel
-pub use Rattle.speedy_read.specs.Prefixed as ReadPrefixed
+pub use Rattle.speedy_read.specs.Cases as ReadCases
 pub use Rattle.speedy_read.specs.Reading
 pub use Rattle.speedy_read.specs.ReadingLemmas
 pub use Rattle.speedy_read.specs.RoundTrip
@@ -80,7 +80,7 @@ pub use Rattle.speedy_write.specs.Counted as WriteCounted
 pub use Rattle.speedy_write.specs.Counting
 pub use Rattle.speedy_write.specs.FixedBytes
 pub use Rattle.speedy_write.specs.Lengths
-pub use Rattle.speedy_write.specs.Prefixed as WritePrefixed
+pub use Rattle.speedy_write.specs.Cases as WriteCases
 pub use Rattle.speedy_write.specs.Pushing
 pub use Rattle.speedy_write.specs.Sequences as WriteSequences
 pub use Rattle.speedy_write.specs.WaysOfWriting

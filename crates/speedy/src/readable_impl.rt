@@ -3,7 +3,6 @@ pub use crate::ext::{IndexMap, IndexSet, SmallVec, Uuid};
 pub use crate::readable_unsized_impl::{
     ArrayView, FixedSize, SliceView, ViewItem, ViewIter, ZeroCopyable,
 };
-pub use speedy_layout::cases::{Case, Either};
 pub use speedy_layout::magic::Magic;
 pub use speedy_layout::prefixed::Prefixed;
 pub use speedy_layout::varint::VarInt64;

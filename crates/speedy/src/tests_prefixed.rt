@@ -1,8 +1,7 @@
-//! Lengths and tags of each width, cases and constants: bytes that come from outside.
+//! Lengths and tags of each width, and constants: bytes that come from outside.
 ghost use Rattle.std.specs.Prelude.{codes};
 
 use crate::asserting::{assert_bytes, assert_refused, assert_same, make_text};
-use crate::cases::{Case, Either};
 use crate::context::LittleEndian;
 use crate::endianness::Endianness;
 use crate::magic::{Constant, Magic};
@@ -81,28 +80,6 @@ fn a_text_behind_one_byte_borrows(rt: HostRuntime) {
     let mut reader = CopyingBufferReader::new(alloc, &mut context, &bytes);
     let outcome = reader.read_value::<Prefixed<u8, &str>>();
     assert_refused(&rt, alloc, outcome, "Unsized");
-}
-
-/// Two cases of one tag.
-type Twice = Prefixed<u8, Either<Case<1, ()>, Case<1, u8>>>;
-
-#[test]
-fn of_two_cases_with_one_tag_the_first_counts(rt: HostRuntime) {
-    let alloc = rt.alloc();
-    let mut reader = BufferReader::new(alloc, LittleEndian {}, &[1, 7]);
-    let first: Twice = reader.read_value().expect(&rt, "the first case");
-    assert!(rt; first.value == Either::Left(Case(())));
-    let second: Twice = Prefixed::new(Either::Right(Case(7)));
-    let outcome = second.write_to_vec_with_ctx(alloc, LittleEndian {});
-    assert_refused(&rt, alloc, outcome, "OutOfRangeLength");
-}
-
-#[test]
-fn a_tag_of_no_case_is_refused(rt: HostRuntime) {
-    let alloc = rt.alloc();
-    let mut reader = BufferReader::new(alloc, LittleEndian {}, &[2, 7]);
-    let outcome = reader.read_value::<Twice>();
-    assert_refused(&rt, alloc, outcome, "InvalidEnumVariant");
 }
 
 /// What a file begins with.

@@ -19,7 +19,7 @@ use crate::representations::{
 use crate::structs::{
     Empty, Holder, Newtype, Numbers, Optional, Outcome, Skipping, Triple, Unit, Variable,
 };
-use crate::tags::{Cases, OwnTag, Plain, TagU7, TagU8, TagU16, TagU32, TagU64, TagVarint};
+use crate::tags::{Mixed, OwnTag, Plain, TagU7, TagU8, TagU16, TagU32, TagU64, TagVarint};
 use speedy::Endianness;
 use std::alloc::{AllocError, Global};
 use std::borrow::CowSlice;
@@ -186,7 +186,7 @@ fn answer_tags(
         "TagU64" => answer::<TagU64>(alloc, order, bytes)?,
         "TagVarint" => answer::<TagVarint>(alloc, order, bytes)?,
         "OwnTag" => answer::<OwnTag>(alloc, order, bytes)?,
-        "Cases" => answer::<Cases>(alloc, order, bytes)?,
+        "Mixed" => answer::<Mixed>(alloc, order, bytes)?,
         _ => return Ok(None),
     };
     Ok(Some(text))

@@ -4,9 +4,11 @@
 ghost use Rattle.std.specs.Prelude.{◌≡◌};
 ghost use Rattle.std.proofs.Common.{inl, inr};
 
-use speedy::cases::Either::{Left, Right};
-use speedy::cases::{Case, Either};
-use speedy::prefixed::{Prefixed, Told, WriteTold};
+use speedy::cases::{
+    CaseTree, Cases, Either, ReadCases, UnitCase, WriteCases, read_tagged, write_tagged,
+};
+use speedy::prefixed::Prefixed;
+use speedy::private::error_invalid_enum_variant;
 use speedy::{
     Context, F32, F64, ItemByItem, Layout, LendingReader, Part, ReadFrom, Writable, Writer,
 };
@@ -21,12 +23,12 @@ pub enum Place {
 }
 
 /// The cases of [`Place`], each with its tag.
-type PlaceCases = Either<Case<0, ()>, Either<Case<1, ()>, Case<2, ()>>>;
+type PlaceCases = Either<UnitCase<0>, Either<UnitCase<1>, UnitCase<2>>>;
 
-impl Layout for Place {
+impl Cases for Place {
     ghost use Rattle.speedy_derived.specs.declared.floats.Place.{Place};
 
-    ghost Seen = { ⟦<Prefixed<u32, PlaceCases> as Layout>⟧.Seen };
+    ghost Seen = { ⟦<PlaceCases as CaseTree>⟧.Seen };
 
     ghost seen = { λ it. elim it [
       | Place.First ↦ inl tt
@@ -34,31 +36,24 @@ impl Layout for Place {
       | Place.Third ↦ inr (inr tt)
     ] };
 
-    ghost layout = { ⟦<Prefixed<u32, PlaceCases> as Layout>⟧.layout };
+    ghost choices = { ⟦<PlaceCases as CaseTree>⟧.choices };
 }
 
-impl Place {
-    fn from_cases(cases: PlaceCases) -> Place
-        ensures { ◌≡◌ {A = ⟦<Place as Layout>⟧.Seen}
-            (⟦<Place as Layout>⟧.seen result)
-            (⟦<PlaceCases as Told>⟧.seen cases) }
-    {
-        match cases {
-            Left(Case(())) => Place::First,
-            Right(Left(Case(()))) => Place::Second,
-            Right(Right(Case(()))) => Place::Third,
-        }
-    }
+impl Layout for Place {
+    ghost Seen = { ⟦<Prefixed<u32, Place> as Layout>⟧.Seen };
 
-    fn parts(&self) -> PlaceCases
-        ensures { ◌≡◌ {A = ⟦<Place as Layout>⟧.Seen}
-            (⟦<PlaceCases as Told>⟧.seen result)
-            (⟦<Place as Layout>⟧.seen self.now) }
-    {
-        match self {
-            Place::First => Left(Case(())),
-            Place::Second => Right(Left(Case(()))),
-            Place::Third => Right(Right(Case(()))),
+    ghost seen = { ⟦<Place as Cases>⟧.seen };
+
+    ghost layout = { ⟦<Prefixed<u32, Place> as Layout>⟧.layout };
+}
+
+impl<L: AsSlice<u8> + Drop, C: Context> ReadCases<L, C> for Place {
+    fn read_case<R: LendingReader<L, C>>(tag: usize, reader: &mut R) -> Result<Place, C::Error> {
+        match tag {
+            0 => Ok(Place::First),
+            1 => Ok(Place::Second),
+            2 => Ok(Place::Third),
+            _ => Err(error_invalid_enum_variant()),
         }
     }
 }
@@ -67,20 +62,35 @@ impl<L: AsSlice<u8> + Drop, C: Context> ReadFrom<L, C> for Place {
     type Strategy = ItemByItem<C>;
 
     fn read_from<R: LendingReader<L, C>>(reader: &mut R) -> Result<Place, C::Error> {
-        match reader.read_value::<Prefixed<u32, PlaceCases>>() {
-            Ok(cases) => Ok(Place::from_cases(cases.value)),
-            Err(error) => Err(error),
-        }
+        read_tagged::<u32, Self, L, C, R>(reader)
     }
 
     fn minimum_bytes_needed() -> usize {
-        <Prefixed<u32, PlaceCases> as ReadFrom<L, C>>::minimum_bytes_needed()
+        4
+    }
+}
+
+impl<C: Context> WriteCases<C> for Place {
+    fn tag(&self) -> usize {
+        match self {
+            Place::First => 0,
+            Place::Second => 1,
+            Place::Third => 2,
+        }
+    }
+
+    fn write_case<W: Writer<C>>(&self, writer: &mut W) -> Result<(), C::Error> {
+        match self {
+            Place::First => Ok(()),
+            Place::Second => Ok(()),
+            Place::Third => Ok(()),
+        }
     }
 }
 
 impl<C: Context> Writable<C> for Place {
     fn write_to<W: Writer<C>>(&self, writer: &mut W) -> Result<(), C::Error> {
-        self.parts().write_behind::<u32, W>(writer)
+        write_tagged::<u32, Self, C, W>(self, writer)
     }
 }
 

@@ -1,12 +1,13 @@
 //! Made from `lengths.rs` by `tools/derive`: change that, and make this again.
 //!
 //! Texts, lists, maps and sets behind lengths of each width, and options of these.
-ghost use Rattle.std.specs.Prelude.{◌≡◌};
 ghost use Rattle.std.proofs.Common.{inl, inr};
 
-use speedy::cases::Either::{Left, Right};
-use speedy::cases::{Case, Either};
-use speedy::prefixed::{Prefixed, Told, U7, WriteTold};
+use speedy::cases::{
+    Case, CaseTree, Cases, Either, ReadCases, UnitCase, WriteCases, read_tagged, write_tagged,
+};
+use speedy::prefixed::{Prefixed, U7};
+use speedy::private::error_invalid_enum_variant;
 use speedy::varint::VarInt64;
 use speedy::{Context, ItemByItem, Layout, LendingReader, Part, ReadFrom, Writable, Writer};
 use std::collections::{BTreeMap, HashSet};
@@ -352,28 +353,22 @@ pub enum LengthsInCases {
     C { held: Option<BTreeMap<u8, u16>> },
 }
 
+/// The parts of [`LengthsInCases::B`].
+type LengthsInCasesBParts = (Option<Prefixed<u16, String>>, u8);
+
+/// The parts of [`LengthsInCases::C`].
+type LengthsInCasesCParts = Option<Prefixed<U7, BTreeMap<u8, u16>>>;
+
 /// The cases of [`LengthsInCases`], each with its tag.
 type LengthsInCasesCases = Either<
-    Case<0, ()>,
-    Either<
-        Case<1, (Option<Prefixed<u16, String>>, u8)>,
-        Case<2, Option<Prefixed<U7, BTreeMap<u8, u16>>>>,
-    >,
+    UnitCase<0>,
+    Either<Case<1, LengthsInCasesBParts>, Case<2, LengthsInCasesCParts>>,
 >;
 
-/// What [`LengthsInCases`] is written as: its parts where they lie.
-type LengthsInCasesParts<'t> = Either<
-    Case<0, ()>,
-    Either<
-        Case<1, (Option<Prefixed<u16, Part<'t, String>>>, Part<'t, u8>)>,
-        Case<2, Option<Prefixed<U7, Part<'t, BTreeMap<u8, u16>>>>>,
-    >,
->;
-
-impl Layout for LengthsInCases {
+impl Cases for LengthsInCases {
     ghost use Rattle.speedy_derived.specs.declared.lengths.LengthsInCases.{LengthsInCases};
 
-    ghost Seen = { ⟦<Prefixed<u32, LengthsInCasesCases> as Layout>⟧.Seen };
+    ghost Seen = { ⟦<LengthsInCasesCases as CaseTree>⟧.Seen };
 
     ghost seen = { λ it. elim it [
       | LengthsInCases.A ↦ inl tt
@@ -381,57 +376,44 @@ impl Layout for LengthsInCases {
       | LengthsInCases.C t0 ↦ inr (inr (⟦<Option<BTreeMap<u8, u16>> as Layout>⟧.seen t0))
     ] };
 
-    ghost layout = { ⟦<Prefixed<u32, LengthsInCasesCases> as Layout>⟧.layout };
+    ghost choices = { ⟦<LengthsInCasesCases as CaseTree>⟧.choices };
 }
 
-impl LengthsInCases {
-    fn from_cases(cases: LengthsInCasesCases) -> LengthsInCases
-        ensures { ◌≡◌ {A = ⟦<LengthsInCases as Layout>⟧.Seen}
-            (⟦<LengthsInCases as Layout>⟧.seen result)
-            (⟦<LengthsInCasesCases as Told>⟧.seen cases) }
-    {
-        match cases {
-            Left(Case(())) => LengthsInCases::A,
-            Right(Left(Case((t0, t1)))) => LengthsInCases::B(
-                match t0 {
-                    Some(t0) => Some(t0.value),
-                    None => None,
-                },
-                t1,
-            ),
-            Right(Right(Case(held))) => LengthsInCases::C {
-                held: match held {
-                    Some(held) => Some(held.value),
-                    None => None,
-                },
-            },
-        }
-    }
+impl Layout for LengthsInCases {
+    ghost Seen = { ⟦<Prefixed<u32, LengthsInCases> as Layout>⟧.Seen };
 
-    fn parts<'t>(&'t self) -> LengthsInCasesParts<'t>
-        ensures { ◌≡◌ {A = ⟦<LengthsInCases as Layout>⟧.Seen}
-            (⟦<LengthsInCasesParts<'t> as Told>⟧.seen result)
-            (⟦<LengthsInCases as Layout>⟧.seen self.now) }
-    {
-        match self {
-            LengthsInCases::A => Left(Case(())),
-            LengthsInCases::B(t0, t1) => Right(Left(Case((
-                match t0 {
-                    Some(t0) => Some(Prefixed {
-                        value: Part(t0),
-                        number: PhantomData,
-                    }),
-                    None => None,
-                },
-                Part(t1),
-            )))),
-            LengthsInCases::C { held } => Right(Right(Case(match held {
-                Some(held) => Some(Prefixed {
-                    value: Part(held),
-                    number: PhantomData,
+    ghost seen = { ⟦<LengthsInCases as Cases>⟧.seen };
+
+    ghost layout = { ⟦<Prefixed<u32, LengthsInCases> as Layout>⟧.layout };
+}
+
+impl<L: AsSlice<u8> + Drop, C: Context> ReadCases<L, C> for LengthsInCases {
+    fn read_case<R: LendingReader<L, C>>(
+        tag: usize,
+        reader: &mut R,
+    ) -> Result<LengthsInCases, C::Error> {
+        match tag {
+            0 => Ok(LengthsInCases::A),
+            1 => match reader.read_value::<LengthsInCasesBParts>() {
+                Ok((t0, t1)) => Ok(LengthsInCases::B(
+                    match t0 {
+                        Some(t0) => Some(t0.value),
+                        None => None,
+                    },
+                    t1,
+                )),
+                Err(error) => Err(error),
+            },
+            2 => match reader.read_value::<LengthsInCasesCParts>() {
+                Ok(held) => Ok(LengthsInCases::C {
+                    held: match held {
+                        Some(held) => Some(held.value),
+                        None => None,
+                    },
                 }),
-                None => None,
-            }))),
+                Err(error) => Err(error),
+            },
+            _ => Err(error_invalid_enum_variant()),
         }
     }
 }
@@ -440,19 +422,52 @@ impl<L: AsSlice<u8> + Drop, C: Context> ReadFrom<L, C> for LengthsInCases {
     type Strategy = ItemByItem<C>;
 
     fn read_from<R: LendingReader<L, C>>(reader: &mut R) -> Result<LengthsInCases, C::Error> {
-        match reader.read_value::<Prefixed<u32, LengthsInCasesCases>>() {
-            Ok(cases) => Ok(LengthsInCases::from_cases(cases.value)),
-            Err(error) => Err(error),
-        }
+        read_tagged::<u32, Self, L, C, R>(reader)
     }
 
     fn minimum_bytes_needed() -> usize {
-        <Prefixed<u32, LengthsInCasesCases> as ReadFrom<L, C>>::minimum_bytes_needed()
+        4
+    }
+}
+
+impl<C: Context> WriteCases<C> for LengthsInCases {
+    fn tag(&self) -> usize {
+        match self {
+            LengthsInCases::A => 0,
+            LengthsInCases::B(..) => 1,
+            LengthsInCases::C { .. } => 2,
+        }
+    }
+
+    fn write_case<W: Writer<C>>(&self, writer: &mut W) -> Result<(), C::Error> {
+        match self {
+            LengthsInCases::A => Ok(()),
+            LengthsInCases::B(t0, t1) => {
+                let t0: Option<Prefixed<u16, _>> = match t0 {
+                    Some(t0) => Some(Prefixed {
+                        value: Part(t0),
+                        number: PhantomData,
+                    }),
+                    None => None,
+                };
+                writer.write_value(&(t0, Part(t1)))
+            }
+            LengthsInCases::C { held } => {
+                let held: Option<Prefixed<U7, _>> = match held {
+                    Some(held) => Some(Prefixed {
+                        value: Part(held),
+                        number: PhantomData,
+                    }),
+                    None => None,
+                };
+                writer.write_value(&held)
+            }
+        }
     }
 }
 
 impl<C: Context> Writable<C> for LengthsInCases {
     fn write_to<W: Writer<C>>(&self, writer: &mut W) -> Result<(), C::Error> {
-        self.parts().write_behind::<u32, W>(writer)
+        write_tagged::<u32, Self, C, W>(self, writer)
     }
 }

@@ -1,12 +1,13 @@
 //! Made from `tags.rs` by `tools/derive`: change that, and make this again.
 //!
 //! Enums with tags of each width, without parts and with them.
-ghost use Rattle.std.specs.Prelude.{◌≡◌};
 ghost use Rattle.std.proofs.Common.{inl, inr};
 
-use speedy::cases::Either::{Left, Right};
-use speedy::cases::{Case, Either};
-use speedy::prefixed::{Prefixed, Told, U7, WriteTold};
+use speedy::cases::{
+    Case, CaseTree, Cases, Either, ReadCases, UnitCase, WriteCases, read_tagged, write_tagged,
+};
+use speedy::prefixed::{Prefixed, U7};
+use speedy::private::error_invalid_enum_variant;
 use speedy::varint::VarInt64;
 use speedy::{Context, ItemByItem, Layout, LendingReader, Part, ReadFrom, Writable, Writer};
 use std::convert::AsSlice;
@@ -20,12 +21,12 @@ pub enum Plain {
 }
 
 /// The cases of [`Plain`], each with its tag.
-type PlainCases = Either<Case<0, ()>, Either<Case<10, ()>, Case<11, ()>>>;
+type PlainCases = Either<UnitCase<0>, Either<UnitCase<10>, UnitCase<11>>>;
 
-impl Layout for Plain {
+impl Cases for Plain {
     ghost use Rattle.speedy_derived.specs.declared.tags.Plain.{Plain};
 
-    ghost Seen = { ⟦<Prefixed<u32, PlainCases> as Layout>⟧.Seen };
+    ghost Seen = { ⟦<PlainCases as CaseTree>⟧.Seen };
 
     ghost seen = { λ it. elim it [
       | Plain.A ↦ inl tt
@@ -33,31 +34,24 @@ impl Layout for Plain {
       | Plain.C ↦ inr (inr tt)
     ] };
 
-    ghost layout = { ⟦<Prefixed<u32, PlainCases> as Layout>⟧.layout };
+    ghost choices = { ⟦<PlainCases as CaseTree>⟧.choices };
 }
 
-impl Plain {
-    fn from_cases(cases: PlainCases) -> Plain
-        ensures { ◌≡◌ {A = ⟦<Plain as Layout>⟧.Seen}
-            (⟦<Plain as Layout>⟧.seen result)
-            (⟦<PlainCases as Told>⟧.seen cases) }
-    {
-        match cases {
-            Left(Case(())) => Plain::A,
-            Right(Left(Case(()))) => Plain::B,
-            Right(Right(Case(()))) => Plain::C,
-        }
-    }
+impl Layout for Plain {
+    ghost Seen = { ⟦<Prefixed<u32, Plain> as Layout>⟧.Seen };
 
-    fn parts(&self) -> PlainCases
-        ensures { ◌≡◌ {A = ⟦<Plain as Layout>⟧.Seen}
-            (⟦<PlainCases as Told>⟧.seen result)
-            (⟦<Plain as Layout>⟧.seen self.now) }
-    {
-        match self {
-            Plain::A => Left(Case(())),
-            Plain::B => Right(Left(Case(()))),
-            Plain::C => Right(Right(Case(()))),
+    ghost seen = { ⟦<Plain as Cases>⟧.seen };
+
+    ghost layout = { ⟦<Prefixed<u32, Plain> as Layout>⟧.layout };
+}
+
+impl<L: AsSlice<u8> + Drop, C: Context> ReadCases<L, C> for Plain {
+    fn read_case<R: LendingReader<L, C>>(tag: usize, reader: &mut R) -> Result<Plain, C::Error> {
+        match tag {
+            0 => Ok(Plain::A),
+            10 => Ok(Plain::B),
+            11 => Ok(Plain::C),
+            _ => Err(error_invalid_enum_variant()),
         }
     }
 }
@@ -66,20 +60,35 @@ impl<L: AsSlice<u8> + Drop, C: Context> ReadFrom<L, C> for Plain {
     type Strategy = ItemByItem<C>;
 
     fn read_from<R: LendingReader<L, C>>(reader: &mut R) -> Result<Plain, C::Error> {
-        match reader.read_value::<Prefixed<u32, PlainCases>>() {
-            Ok(cases) => Ok(Plain::from_cases(cases.value)),
-            Err(error) => Err(error),
-        }
+        read_tagged::<u32, Self, L, C, R>(reader)
     }
 
     fn minimum_bytes_needed() -> usize {
-        <Prefixed<u32, PlainCases> as ReadFrom<L, C>>::minimum_bytes_needed()
+        4
+    }
+}
+
+impl<C: Context> WriteCases<C> for Plain {
+    fn tag(&self) -> usize {
+        match self {
+            Plain::A => 0,
+            Plain::B => 10,
+            Plain::C => 11,
+        }
+    }
+
+    fn write_case<W: Writer<C>>(&self, writer: &mut W) -> Result<(), C::Error> {
+        match self {
+            Plain::A => Ok(()),
+            Plain::B => Ok(()),
+            Plain::C => Ok(()),
+        }
     }
 }
 
 impl<C: Context> Writable<C> for Plain {
     fn write_to<W: Writer<C>>(&self, writer: &mut W) -> Result<(), C::Error> {
-        self.parts().write_behind::<u32, W>(writer)
+        write_tagged::<u32, Self, C, W>(self, writer)
     }
 }
 
@@ -91,12 +100,12 @@ pub enum TagU7 {
 }
 
 /// The cases of [`TagU7`], each with its tag.
-type TagU7Cases = Either<Case<0, ()>, Either<Case<1, ()>, Case<127, ()>>>;
+type TagU7Cases = Either<UnitCase<0>, Either<UnitCase<1>, UnitCase<127>>>;
 
-impl Layout for TagU7 {
+impl Cases for TagU7 {
     ghost use Rattle.speedy_derived.specs.declared.tags.TagU7.{TagU7};
 
-    ghost Seen = { ⟦<Prefixed<U7, TagU7Cases> as Layout>⟧.Seen };
+    ghost Seen = { ⟦<TagU7Cases as CaseTree>⟧.Seen };
 
     ghost seen = { λ it. elim it [
       | TagU7.A ↦ inl tt
@@ -104,31 +113,24 @@ impl Layout for TagU7 {
       | TagU7.C ↦ inr (inr tt)
     ] };
 
-    ghost layout = { ⟦<Prefixed<U7, TagU7Cases> as Layout>⟧.layout };
+    ghost choices = { ⟦<TagU7Cases as CaseTree>⟧.choices };
 }
 
-impl TagU7 {
-    fn from_cases(cases: TagU7Cases) -> TagU7
-        ensures { ◌≡◌ {A = ⟦<TagU7 as Layout>⟧.Seen}
-            (⟦<TagU7 as Layout>⟧.seen result)
-            (⟦<TagU7Cases as Told>⟧.seen cases) }
-    {
-        match cases {
-            Left(Case(())) => TagU7::A,
-            Right(Left(Case(()))) => TagU7::B,
-            Right(Right(Case(()))) => TagU7::C,
-        }
-    }
+impl Layout for TagU7 {
+    ghost Seen = { ⟦<Prefixed<U7, TagU7> as Layout>⟧.Seen };
 
-    fn parts(&self) -> TagU7Cases
-        ensures { ◌≡◌ {A = ⟦<TagU7 as Layout>⟧.Seen}
-            (⟦<TagU7Cases as Told>⟧.seen result)
-            (⟦<TagU7 as Layout>⟧.seen self.now) }
-    {
-        match self {
-            TagU7::A => Left(Case(())),
-            TagU7::B => Right(Left(Case(()))),
-            TagU7::C => Right(Right(Case(()))),
+    ghost seen = { ⟦<TagU7 as Cases>⟧.seen };
+
+    ghost layout = { ⟦<Prefixed<U7, TagU7> as Layout>⟧.layout };
+}
+
+impl<L: AsSlice<u8> + Drop, C: Context> ReadCases<L, C> for TagU7 {
+    fn read_case<R: LendingReader<L, C>>(tag: usize, reader: &mut R) -> Result<TagU7, C::Error> {
+        match tag {
+            0 => Ok(TagU7::A),
+            1 => Ok(TagU7::B),
+            127 => Ok(TagU7::C),
+            _ => Err(error_invalid_enum_variant()),
         }
     }
 }
@@ -137,20 +139,35 @@ impl<L: AsSlice<u8> + Drop, C: Context> ReadFrom<L, C> for TagU7 {
     type Strategy = ItemByItem<C>;
 
     fn read_from<R: LendingReader<L, C>>(reader: &mut R) -> Result<TagU7, C::Error> {
-        match reader.read_value::<Prefixed<U7, TagU7Cases>>() {
-            Ok(cases) => Ok(TagU7::from_cases(cases.value)),
-            Err(error) => Err(error),
-        }
+        read_tagged::<U7, Self, L, C, R>(reader)
     }
 
     fn minimum_bytes_needed() -> usize {
-        <Prefixed<U7, TagU7Cases> as ReadFrom<L, C>>::minimum_bytes_needed()
+        1
+    }
+}
+
+impl<C: Context> WriteCases<C> for TagU7 {
+    fn tag(&self) -> usize {
+        match self {
+            TagU7::A => 0,
+            TagU7::B => 1,
+            TagU7::C => 127,
+        }
+    }
+
+    fn write_case<W: Writer<C>>(&self, writer: &mut W) -> Result<(), C::Error> {
+        match self {
+            TagU7::A => Ok(()),
+            TagU7::B => Ok(()),
+            TagU7::C => Ok(()),
+        }
     }
 }
 
 impl<C: Context> Writable<C> for TagU7 {
     fn write_to<W: Writer<C>>(&self, writer: &mut W) -> Result<(), C::Error> {
-        self.parts().write_behind::<U7, W>(writer)
+        write_tagged::<U7, Self, C, W>(self, writer)
     }
 }
 
@@ -162,12 +179,12 @@ pub enum TagU8 {
 }
 
 /// The cases of [`TagU8`], each with its tag.
-type TagU8Cases = Either<Case<0, ()>, Either<Case<171, ()>, Case<172, ()>>>;
+type TagU8Cases = Either<UnitCase<0>, Either<UnitCase<171>, UnitCase<172>>>;
 
-impl Layout for TagU8 {
+impl Cases for TagU8 {
     ghost use Rattle.speedy_derived.specs.declared.tags.TagU8.{TagU8};
 
-    ghost Seen = { ⟦<Prefixed<u8, TagU8Cases> as Layout>⟧.Seen };
+    ghost Seen = { ⟦<TagU8Cases as CaseTree>⟧.Seen };
 
     ghost seen = { λ it. elim it [
       | TagU8.A ↦ inl tt
@@ -175,31 +192,24 @@ impl Layout for TagU8 {
       | TagU8.C ↦ inr (inr tt)
     ] };
 
-    ghost layout = { ⟦<Prefixed<u8, TagU8Cases> as Layout>⟧.layout };
+    ghost choices = { ⟦<TagU8Cases as CaseTree>⟧.choices };
 }
 
-impl TagU8 {
-    fn from_cases(cases: TagU8Cases) -> TagU8
-        ensures { ◌≡◌ {A = ⟦<TagU8 as Layout>⟧.Seen}
-            (⟦<TagU8 as Layout>⟧.seen result)
-            (⟦<TagU8Cases as Told>⟧.seen cases) }
-    {
-        match cases {
-            Left(Case(())) => TagU8::A,
-            Right(Left(Case(()))) => TagU8::B,
-            Right(Right(Case(()))) => TagU8::C,
-        }
-    }
+impl Layout for TagU8 {
+    ghost Seen = { ⟦<Prefixed<u8, TagU8> as Layout>⟧.Seen };
 
-    fn parts(&self) -> TagU8Cases
-        ensures { ◌≡◌ {A = ⟦<TagU8 as Layout>⟧.Seen}
-            (⟦<TagU8Cases as Told>⟧.seen result)
-            (⟦<TagU8 as Layout>⟧.seen self.now) }
-    {
-        match self {
-            TagU8::A => Left(Case(())),
-            TagU8::B => Right(Left(Case(()))),
-            TagU8::C => Right(Right(Case(()))),
+    ghost seen = { ⟦<TagU8 as Cases>⟧.seen };
+
+    ghost layout = { ⟦<Prefixed<u8, TagU8> as Layout>⟧.layout };
+}
+
+impl<L: AsSlice<u8> + Drop, C: Context> ReadCases<L, C> for TagU8 {
+    fn read_case<R: LendingReader<L, C>>(tag: usize, reader: &mut R) -> Result<TagU8, C::Error> {
+        match tag {
+            0 => Ok(TagU8::A),
+            171 => Ok(TagU8::B),
+            172 => Ok(TagU8::C),
+            _ => Err(error_invalid_enum_variant()),
         }
     }
 }
@@ -208,20 +218,35 @@ impl<L: AsSlice<u8> + Drop, C: Context> ReadFrom<L, C> for TagU8 {
     type Strategy = ItemByItem<C>;
 
     fn read_from<R: LendingReader<L, C>>(reader: &mut R) -> Result<TagU8, C::Error> {
-        match reader.read_value::<Prefixed<u8, TagU8Cases>>() {
-            Ok(cases) => Ok(TagU8::from_cases(cases.value)),
-            Err(error) => Err(error),
-        }
+        read_tagged::<u8, Self, L, C, R>(reader)
     }
 
     fn minimum_bytes_needed() -> usize {
-        <Prefixed<u8, TagU8Cases> as ReadFrom<L, C>>::minimum_bytes_needed()
+        1
+    }
+}
+
+impl<C: Context> WriteCases<C> for TagU8 {
+    fn tag(&self) -> usize {
+        match self {
+            TagU8::A => 0,
+            TagU8::B => 171,
+            TagU8::C => 172,
+        }
+    }
+
+    fn write_case<W: Writer<C>>(&self, writer: &mut W) -> Result<(), C::Error> {
+        match self {
+            TagU8::A => Ok(()),
+            TagU8::B => Ok(()),
+            TagU8::C => Ok(()),
+        }
     }
 }
 
 impl<C: Context> Writable<C> for TagU8 {
     fn write_to<W: Writer<C>>(&self, writer: &mut W) -> Result<(), C::Error> {
-        self.parts().write_behind::<u8, W>(writer)
+        write_tagged::<u8, Self, C, W>(self, writer)
     }
 }
 
@@ -233,12 +258,12 @@ pub enum TagU16 {
 }
 
 /// The cases of [`TagU16`], each with its tag.
-type TagU16Cases = Either<Case<0, ()>, Either<Case<43981, ()>, Case<43982, ()>>>;
+type TagU16Cases = Either<UnitCase<0>, Either<UnitCase<43981>, UnitCase<43982>>>;
 
-impl Layout for TagU16 {
+impl Cases for TagU16 {
     ghost use Rattle.speedy_derived.specs.declared.tags.TagU16.{TagU16};
 
-    ghost Seen = { ⟦<Prefixed<u16, TagU16Cases> as Layout>⟧.Seen };
+    ghost Seen = { ⟦<TagU16Cases as CaseTree>⟧.Seen };
 
     ghost seen = { λ it. elim it [
       | TagU16.A ↦ inl tt
@@ -246,31 +271,24 @@ impl Layout for TagU16 {
       | TagU16.C ↦ inr (inr tt)
     ] };
 
-    ghost layout = { ⟦<Prefixed<u16, TagU16Cases> as Layout>⟧.layout };
+    ghost choices = { ⟦<TagU16Cases as CaseTree>⟧.choices };
 }
 
-impl TagU16 {
-    fn from_cases(cases: TagU16Cases) -> TagU16
-        ensures { ◌≡◌ {A = ⟦<TagU16 as Layout>⟧.Seen}
-            (⟦<TagU16 as Layout>⟧.seen result)
-            (⟦<TagU16Cases as Told>⟧.seen cases) }
-    {
-        match cases {
-            Left(Case(())) => TagU16::A,
-            Right(Left(Case(()))) => TagU16::B,
-            Right(Right(Case(()))) => TagU16::C,
-        }
-    }
+impl Layout for TagU16 {
+    ghost Seen = { ⟦<Prefixed<u16, TagU16> as Layout>⟧.Seen };
 
-    fn parts(&self) -> TagU16Cases
-        ensures { ◌≡◌ {A = ⟦<TagU16 as Layout>⟧.Seen}
-            (⟦<TagU16Cases as Told>⟧.seen result)
-            (⟦<TagU16 as Layout>⟧.seen self.now) }
-    {
-        match self {
-            TagU16::A => Left(Case(())),
-            TagU16::B => Right(Left(Case(()))),
-            TagU16::C => Right(Right(Case(()))),
+    ghost seen = { ⟦<TagU16 as Cases>⟧.seen };
+
+    ghost layout = { ⟦<Prefixed<u16, TagU16> as Layout>⟧.layout };
+}
+
+impl<L: AsSlice<u8> + Drop, C: Context> ReadCases<L, C> for TagU16 {
+    fn read_case<R: LendingReader<L, C>>(tag: usize, reader: &mut R) -> Result<TagU16, C::Error> {
+        match tag {
+            0 => Ok(TagU16::A),
+            43981 => Ok(TagU16::B),
+            43982 => Ok(TagU16::C),
+            _ => Err(error_invalid_enum_variant()),
         }
     }
 }
@@ -279,20 +297,35 @@ impl<L: AsSlice<u8> + Drop, C: Context> ReadFrom<L, C> for TagU16 {
     type Strategy = ItemByItem<C>;
 
     fn read_from<R: LendingReader<L, C>>(reader: &mut R) -> Result<TagU16, C::Error> {
-        match reader.read_value::<Prefixed<u16, TagU16Cases>>() {
-            Ok(cases) => Ok(TagU16::from_cases(cases.value)),
-            Err(error) => Err(error),
-        }
+        read_tagged::<u16, Self, L, C, R>(reader)
     }
 
     fn minimum_bytes_needed() -> usize {
-        <Prefixed<u16, TagU16Cases> as ReadFrom<L, C>>::minimum_bytes_needed()
+        2
+    }
+}
+
+impl<C: Context> WriteCases<C> for TagU16 {
+    fn tag(&self) -> usize {
+        match self {
+            TagU16::A => 0,
+            TagU16::B => 43981,
+            TagU16::C => 43982,
+        }
+    }
+
+    fn write_case<W: Writer<C>>(&self, writer: &mut W) -> Result<(), C::Error> {
+        match self {
+            TagU16::A => Ok(()),
+            TagU16::B => Ok(()),
+            TagU16::C => Ok(()),
+        }
     }
 }
 
 impl<C: Context> Writable<C> for TagU16 {
     fn write_to<W: Writer<C>>(&self, writer: &mut W) -> Result<(), C::Error> {
-        self.parts().write_behind::<u16, W>(writer)
+        write_tagged::<u16, Self, C, W>(self, writer)
     }
 }
 
@@ -304,12 +337,12 @@ pub enum TagU32 {
 }
 
 /// The cases of [`TagU32`], each with its tag.
-type TagU32Cases = Either<Case<0, ()>, Either<Case<2882400001, ()>, Case<2882400002, ()>>>;
+type TagU32Cases = Either<UnitCase<0>, Either<UnitCase<2882400001>, UnitCase<2882400002>>>;
 
-impl Layout for TagU32 {
+impl Cases for TagU32 {
     ghost use Rattle.speedy_derived.specs.declared.tags.TagU32.{TagU32};
 
-    ghost Seen = { ⟦<Prefixed<u32, TagU32Cases> as Layout>⟧.Seen };
+    ghost Seen = { ⟦<TagU32Cases as CaseTree>⟧.Seen };
 
     ghost seen = { λ it. elim it [
       | TagU32.A ↦ inl tt
@@ -317,31 +350,24 @@ impl Layout for TagU32 {
       | TagU32.C ↦ inr (inr tt)
     ] };
 
-    ghost layout = { ⟦<Prefixed<u32, TagU32Cases> as Layout>⟧.layout };
+    ghost choices = { ⟦<TagU32Cases as CaseTree>⟧.choices };
 }
 
-impl TagU32 {
-    fn from_cases(cases: TagU32Cases) -> TagU32
-        ensures { ◌≡◌ {A = ⟦<TagU32 as Layout>⟧.Seen}
-            (⟦<TagU32 as Layout>⟧.seen result)
-            (⟦<TagU32Cases as Told>⟧.seen cases) }
-    {
-        match cases {
-            Left(Case(())) => TagU32::A,
-            Right(Left(Case(()))) => TagU32::B,
-            Right(Right(Case(()))) => TagU32::C,
-        }
-    }
+impl Layout for TagU32 {
+    ghost Seen = { ⟦<Prefixed<u32, TagU32> as Layout>⟧.Seen };
 
-    fn parts(&self) -> TagU32Cases
-        ensures { ◌≡◌ {A = ⟦<TagU32 as Layout>⟧.Seen}
-            (⟦<TagU32Cases as Told>⟧.seen result)
-            (⟦<TagU32 as Layout>⟧.seen self.now) }
-    {
-        match self {
-            TagU32::A => Left(Case(())),
-            TagU32::B => Right(Left(Case(()))),
-            TagU32::C => Right(Right(Case(()))),
+    ghost seen = { ⟦<TagU32 as Cases>⟧.seen };
+
+    ghost layout = { ⟦<Prefixed<u32, TagU32> as Layout>⟧.layout };
+}
+
+impl<L: AsSlice<u8> + Drop, C: Context> ReadCases<L, C> for TagU32 {
+    fn read_case<R: LendingReader<L, C>>(tag: usize, reader: &mut R) -> Result<TagU32, C::Error> {
+        match tag {
+            0 => Ok(TagU32::A),
+            2882400001 => Ok(TagU32::B),
+            2882400002 => Ok(TagU32::C),
+            _ => Err(error_invalid_enum_variant()),
         }
     }
 }
@@ -350,20 +376,35 @@ impl<L: AsSlice<u8> + Drop, C: Context> ReadFrom<L, C> for TagU32 {
     type Strategy = ItemByItem<C>;
 
     fn read_from<R: LendingReader<L, C>>(reader: &mut R) -> Result<TagU32, C::Error> {
-        match reader.read_value::<Prefixed<u32, TagU32Cases>>() {
-            Ok(cases) => Ok(TagU32::from_cases(cases.value)),
-            Err(error) => Err(error),
-        }
+        read_tagged::<u32, Self, L, C, R>(reader)
     }
 
     fn minimum_bytes_needed() -> usize {
-        <Prefixed<u32, TagU32Cases> as ReadFrom<L, C>>::minimum_bytes_needed()
+        4
+    }
+}
+
+impl<C: Context> WriteCases<C> for TagU32 {
+    fn tag(&self) -> usize {
+        match self {
+            TagU32::A => 0,
+            TagU32::B => 2882400001,
+            TagU32::C => 2882400002,
+        }
+    }
+
+    fn write_case<W: Writer<C>>(&self, writer: &mut W) -> Result<(), C::Error> {
+        match self {
+            TagU32::A => Ok(()),
+            TagU32::B => Ok(()),
+            TagU32::C => Ok(()),
+        }
     }
 }
 
 impl<C: Context> Writable<C> for TagU32 {
     fn write_to<W: Writer<C>>(&self, writer: &mut W) -> Result<(), C::Error> {
-        self.parts().write_behind::<u32, W>(writer)
+        write_tagged::<u32, Self, C, W>(self, writer)
     }
 }
 
@@ -376,14 +417,14 @@ pub enum TagU64 {
 
 /// The cases of [`TagU64`], each with its tag.
 type TagU64Cases = Either<
-    Case<0, ()>,
-    Either<Case<12379813738877118345, ()>, Case<12379813738877118346, ()>>,
+    UnitCase<0>,
+    Either<UnitCase<12379813738877118345>, UnitCase<12379813738877118346>>,
 >;
 
-impl Layout for TagU64 {
+impl Cases for TagU64 {
     ghost use Rattle.speedy_derived.specs.declared.tags.TagU64.{TagU64};
 
-    ghost Seen = { ⟦<Prefixed<u64, TagU64Cases> as Layout>⟧.Seen };
+    ghost Seen = { ⟦<TagU64Cases as CaseTree>⟧.Seen };
 
     ghost seen = { λ it. elim it [
       | TagU64.A ↦ inl tt
@@ -391,31 +432,24 @@ impl Layout for TagU64 {
       | TagU64.C ↦ inr (inr tt)
     ] };
 
-    ghost layout = { ⟦<Prefixed<u64, TagU64Cases> as Layout>⟧.layout };
+    ghost choices = { ⟦<TagU64Cases as CaseTree>⟧.choices };
 }
 
-impl TagU64 {
-    fn from_cases(cases: TagU64Cases) -> TagU64
-        ensures { ◌≡◌ {A = ⟦<TagU64 as Layout>⟧.Seen}
-            (⟦<TagU64 as Layout>⟧.seen result)
-            (⟦<TagU64Cases as Told>⟧.seen cases) }
-    {
-        match cases {
-            Left(Case(())) => TagU64::A,
-            Right(Left(Case(()))) => TagU64::B,
-            Right(Right(Case(()))) => TagU64::C,
-        }
-    }
+impl Layout for TagU64 {
+    ghost Seen = { ⟦<Prefixed<u64, TagU64> as Layout>⟧.Seen };
 
-    fn parts(&self) -> TagU64Cases
-        ensures { ◌≡◌ {A = ⟦<TagU64 as Layout>⟧.Seen}
-            (⟦<TagU64Cases as Told>⟧.seen result)
-            (⟦<TagU64 as Layout>⟧.seen self.now) }
-    {
-        match self {
-            TagU64::A => Left(Case(())),
-            TagU64::B => Right(Left(Case(()))),
-            TagU64::C => Right(Right(Case(()))),
+    ghost seen = { ⟦<TagU64 as Cases>⟧.seen };
+
+    ghost layout = { ⟦<Prefixed<u64, TagU64> as Layout>⟧.layout };
+}
+
+impl<L: AsSlice<u8> + Drop, C: Context> ReadCases<L, C> for TagU64 {
+    fn read_case<R: LendingReader<L, C>>(tag: usize, reader: &mut R) -> Result<TagU64, C::Error> {
+        match tag {
+            0 => Ok(TagU64::A),
+            12379813738877118345 => Ok(TagU64::B),
+            12379813738877118346 => Ok(TagU64::C),
+            _ => Err(error_invalid_enum_variant()),
         }
     }
 }
@@ -424,20 +458,35 @@ impl<L: AsSlice<u8> + Drop, C: Context> ReadFrom<L, C> for TagU64 {
     type Strategy = ItemByItem<C>;
 
     fn read_from<R: LendingReader<L, C>>(reader: &mut R) -> Result<TagU64, C::Error> {
-        match reader.read_value::<Prefixed<u64, TagU64Cases>>() {
-            Ok(cases) => Ok(TagU64::from_cases(cases.value)),
-            Err(error) => Err(error),
-        }
+        read_tagged::<u64, Self, L, C, R>(reader)
     }
 
     fn minimum_bytes_needed() -> usize {
-        <Prefixed<u64, TagU64Cases> as ReadFrom<L, C>>::minimum_bytes_needed()
+        8
+    }
+}
+
+impl<C: Context> WriteCases<C> for TagU64 {
+    fn tag(&self) -> usize {
+        match self {
+            TagU64::A => 0,
+            TagU64::B => 12379813738877118345,
+            TagU64::C => 12379813738877118346,
+        }
+    }
+
+    fn write_case<W: Writer<C>>(&self, writer: &mut W) -> Result<(), C::Error> {
+        match self {
+            TagU64::A => Ok(()),
+            TagU64::B => Ok(()),
+            TagU64::C => Ok(()),
+        }
     }
 }
 
 impl<C: Context> Writable<C> for TagU64 {
     fn write_to<W: Writer<C>>(&self, writer: &mut W) -> Result<(), C::Error> {
-        self.parts().write_behind::<u64, W>(writer)
+        write_tagged::<u64, Self, C, W>(self, writer)
     }
 }
 
@@ -448,41 +497,38 @@ pub enum TagVarint {
 }
 
 /// The cases of [`TagVarint`], each with its tag.
-type TagVarintCases = Either<Case<0, ()>, Case<4660, ()>>;
+type TagVarintCases = Either<UnitCase<0>, UnitCase<4660>>;
 
-impl Layout for TagVarint {
+impl Cases for TagVarint {
     ghost use Rattle.speedy_derived.specs.declared.tags.TagVarint.{TagVarint};
 
-    ghost Seen = { ⟦<Prefixed<VarInt64, TagVarintCases> as Layout>⟧.Seen };
+    ghost Seen = { ⟦<TagVarintCases as CaseTree>⟧.Seen };
 
     ghost seen = { λ it. elim it [
       | TagVarint.A ↦ inl tt
       | TagVarint.B ↦ inr tt
     ] };
 
-    ghost layout = { ⟦<Prefixed<VarInt64, TagVarintCases> as Layout>⟧.layout };
+    ghost choices = { ⟦<TagVarintCases as CaseTree>⟧.choices };
 }
 
-impl TagVarint {
-    fn from_cases(cases: TagVarintCases) -> TagVarint
-        ensures { ◌≡◌ {A = ⟦<TagVarint as Layout>⟧.Seen}
-            (⟦<TagVarint as Layout>⟧.seen result)
-            (⟦<TagVarintCases as Told>⟧.seen cases) }
-    {
-        match cases {
-            Left(Case(())) => TagVarint::A,
-            Right(Case(())) => TagVarint::B,
-        }
-    }
+impl Layout for TagVarint {
+    ghost Seen = { ⟦<Prefixed<VarInt64, TagVarint> as Layout>⟧.Seen };
 
-    fn parts(&self) -> TagVarintCases
-        ensures { ◌≡◌ {A = ⟦<TagVarint as Layout>⟧.Seen}
-            (⟦<TagVarintCases as Told>⟧.seen result)
-            (⟦<TagVarint as Layout>⟧.seen self.now) }
-    {
-        match self {
-            TagVarint::A => Left(Case(())),
-            TagVarint::B => Right(Case(())),
+    ghost seen = { ⟦<TagVarint as Cases>⟧.seen };
+
+    ghost layout = { ⟦<Prefixed<VarInt64, TagVarint> as Layout>⟧.layout };
+}
+
+impl<L: AsSlice<u8> + Drop, C: Context> ReadCases<L, C> for TagVarint {
+    fn read_case<R: LendingReader<L, C>>(
+        tag: usize,
+        reader: &mut R,
+    ) -> Result<TagVarint, C::Error> {
+        match tag {
+            0 => Ok(TagVarint::A),
+            4660 => Ok(TagVarint::B),
+            _ => Err(error_invalid_enum_variant()),
         }
     }
 }
@@ -491,20 +537,33 @@ impl<L: AsSlice<u8> + Drop, C: Context> ReadFrom<L, C> for TagVarint {
     type Strategy = ItemByItem<C>;
 
     fn read_from<R: LendingReader<L, C>>(reader: &mut R) -> Result<TagVarint, C::Error> {
-        match reader.read_value::<Prefixed<VarInt64, TagVarintCases>>() {
-            Ok(cases) => Ok(TagVarint::from_cases(cases.value)),
-            Err(error) => Err(error),
-        }
+        read_tagged::<VarInt64, Self, L, C, R>(reader)
     }
 
     fn minimum_bytes_needed() -> usize {
-        <Prefixed<VarInt64, TagVarintCases> as ReadFrom<L, C>>::minimum_bytes_needed()
+        1
+    }
+}
+
+impl<C: Context> WriteCases<C> for TagVarint {
+    fn tag(&self) -> usize {
+        match self {
+            TagVarint::A => 0,
+            TagVarint::B => 4660,
+        }
+    }
+
+    fn write_case<W: Writer<C>>(&self, writer: &mut W) -> Result<(), C::Error> {
+        match self {
+            TagVarint::A => Ok(()),
+            TagVarint::B => Ok(()),
+        }
     }
 }
 
 impl<C: Context> Writable<C> for TagVarint {
     fn write_to<W: Writer<C>>(&self, writer: &mut W) -> Result<(), C::Error> {
-        self.parts().write_behind::<VarInt64, W>(writer)
+        write_tagged::<VarInt64, Self, C, W>(self, writer)
     }
 }
 
@@ -516,41 +575,35 @@ pub enum OwnTag {
 }
 
 /// The cases of [`OwnTag`], each with its tag.
-type OwnTagCases = Either<Case<20, ()>, Case<21, ()>>;
+type OwnTagCases = Either<UnitCase<20>, UnitCase<21>>;
 
-impl Layout for OwnTag {
+impl Cases for OwnTag {
     ghost use Rattle.speedy_derived.specs.declared.tags.OwnTag.{OwnTag};
 
-    ghost Seen = { ⟦<Prefixed<u8, OwnTagCases> as Layout>⟧.Seen };
+    ghost Seen = { ⟦<OwnTagCases as CaseTree>⟧.Seen };
 
     ghost seen = { λ it. elim it [
       | OwnTag.A ↦ inl tt
       | OwnTag.B ↦ inr tt
     ] };
 
-    ghost layout = { ⟦<Prefixed<u8, OwnTagCases> as Layout>⟧.layout };
+    ghost choices = { ⟦<OwnTagCases as CaseTree>⟧.choices };
 }
 
-impl OwnTag {
-    fn from_cases(cases: OwnTagCases) -> OwnTag
-        ensures { ◌≡◌ {A = ⟦<OwnTag as Layout>⟧.Seen}
-            (⟦<OwnTag as Layout>⟧.seen result)
-            (⟦<OwnTagCases as Told>⟧.seen cases) }
-    {
-        match cases {
-            Left(Case(())) => OwnTag::A,
-            Right(Case(())) => OwnTag::B,
-        }
-    }
+impl Layout for OwnTag {
+    ghost Seen = { ⟦<Prefixed<u8, OwnTag> as Layout>⟧.Seen };
 
-    fn parts(&self) -> OwnTagCases
-        ensures { ◌≡◌ {A = ⟦<OwnTag as Layout>⟧.Seen}
-            (⟦<OwnTagCases as Told>⟧.seen result)
-            (⟦<OwnTag as Layout>⟧.seen self.now) }
-    {
-        match self {
-            OwnTag::A => Left(Case(())),
-            OwnTag::B => Right(Case(())),
+    ghost seen = { ⟦<OwnTag as Cases>⟧.seen };
+
+    ghost layout = { ⟦<Prefixed<u8, OwnTag> as Layout>⟧.layout };
+}
+
+impl<L: AsSlice<u8> + Drop, C: Context> ReadCases<L, C> for OwnTag {
+    fn read_case<R: LendingReader<L, C>>(tag: usize, reader: &mut R) -> Result<OwnTag, C::Error> {
+        match tag {
+            20 => Ok(OwnTag::A),
+            21 => Ok(OwnTag::B),
+            _ => Err(error_invalid_enum_variant()),
         }
     }
 }
@@ -559,25 +612,38 @@ impl<L: AsSlice<u8> + Drop, C: Context> ReadFrom<L, C> for OwnTag {
     type Strategy = ItemByItem<C>;
 
     fn read_from<R: LendingReader<L, C>>(reader: &mut R) -> Result<OwnTag, C::Error> {
-        match reader.read_value::<Prefixed<u8, OwnTagCases>>() {
-            Ok(cases) => Ok(OwnTag::from_cases(cases.value)),
-            Err(error) => Err(error),
-        }
+        read_tagged::<u8, Self, L, C, R>(reader)
     }
 
     fn minimum_bytes_needed() -> usize {
-        <Prefixed<u8, OwnTagCases> as ReadFrom<L, C>>::minimum_bytes_needed()
+        1
+    }
+}
+
+impl<C: Context> WriteCases<C> for OwnTag {
+    fn tag(&self) -> usize {
+        match self {
+            OwnTag::A => 20,
+            OwnTag::B => 21,
+        }
+    }
+
+    fn write_case<W: Writer<C>>(&self, writer: &mut W) -> Result<(), C::Error> {
+        match self {
+            OwnTag::A => Ok(()),
+            OwnTag::B => Ok(()),
+        }
     }
 }
 
 impl<C: Context> Writable<C> for OwnTag {
     fn write_to<W: Writer<C>>(&self, writer: &mut W) -> Result<(), C::Error> {
-        self.parts().write_behind::<u8, W>(writer)
+        write_tagged::<u8, Self, C, W>(self, writer)
     }
 }
 
 #[derive(Debug, Drop)]
-pub enum Cases {
+pub enum Mixed {
     A,
     B(u8, u16, u32),
     C {
@@ -588,75 +654,80 @@ pub enum Cases {
     },
 }
 
-/// The cases of [`Cases`], each with its tag.
-type CasesCases = Either<Case<0, ()>, Either<Case<1, (u8, u16, u32)>, Case<2, (u8, u16, u32)>>>;
+/// The cases of [`Mixed`], each with its tag.
+type MixedCases = Either<UnitCase<0>, Either<Case<1, (u8, u16, u32)>, Case<2, (u8, u16, u32)>>>;
 
-/// What [`Cases`] is written as: its parts where they lie.
-type CasesParts<'t> = Either<
-    Case<0, ()>,
-    Either<
-        Case<1, (Part<'t, u8>, Part<'t, u16>, Part<'t, u32>)>,
-        Case<2, (Part<'t, u8>, Part<'t, u16>, Part<'t, u32>)>,
-    >,
->;
+impl Cases for Mixed {
+    ghost use Rattle.speedy_derived.specs.declared.tags.Mixed.{Mixed};
 
-impl Layout for Cases {
-    ghost use Rattle.speedy_derived.specs.declared.tags.Cases.{Cases};
-
-    ghost Seen = { ⟦<Prefixed<u32, CasesCases> as Layout>⟧.Seen };
+    ghost Seen = { ⟦<MixedCases as CaseTree>⟧.Seen };
 
     ghost seen = { λ it. elim it [
-      | Cases.A ↦ inl tt
-      | Cases.B t0 t1 t2 ↦ inr (inl (⟦<(u8, u16, u32) as Layout>⟧.seen (t0, t1, t2)))
-      | Cases.C t0 t1 t2 ↦ inr (inr (⟦<(u8, u16, u32) as Layout>⟧.seen (t0, t1, t2)))
+      | Mixed.A ↦ inl tt
+      | Mixed.B t0 t1 t2 ↦ inr (inl (⟦<(u8, u16, u32) as Layout>⟧.seen (t0, t1, t2)))
+      | Mixed.C t0 t1 t2 ↦ inr (inr (⟦<(u8, u16, u32) as Layout>⟧.seen (t0, t1, t2)))
     ] };
 
-    ghost layout = { ⟦<Prefixed<u32, CasesCases> as Layout>⟧.layout };
+    ghost choices = { ⟦<MixedCases as CaseTree>⟧.choices };
 }
 
-impl Cases {
-    fn from_cases(cases: CasesCases) -> Cases
-        ensures { ◌≡◌ {A = ⟦<Cases as Layout>⟧.Seen}
-            (⟦<Cases as Layout>⟧.seen result)
-            (⟦<CasesCases as Told>⟧.seen cases) }
-    {
-        match cases {
-            Left(Case(())) => Cases::A,
-            Right(Left(Case((t0, t1, t2)))) => Cases::B(t0, t1, t2),
-            Right(Right(Case((a, b, c)))) => Cases::C { a, b, c },
-        }
-    }
+impl Layout for Mixed {
+    ghost Seen = { ⟦<Prefixed<u32, Mixed> as Layout>⟧.Seen };
 
-    fn parts<'t>(&'t self) -> CasesParts<'t>
-        ensures { ◌≡◌ {A = ⟦<Cases as Layout>⟧.Seen}
-            (⟦<CasesParts<'t> as Told>⟧.seen result)
-            (⟦<Cases as Layout>⟧.seen self.now) }
-    {
-        match self {
-            Cases::A => Left(Case(())),
-            Cases::B(t0, t1, t2) => Right(Left(Case((Part(t0), Part(t1), Part(t2))))),
-            Cases::C { a, b, c } => Right(Right(Case((Part(a), Part(b), Part(c))))),
+    ghost seen = { ⟦<Mixed as Cases>⟧.seen };
+
+    ghost layout = { ⟦<Prefixed<u32, Mixed> as Layout>⟧.layout };
+}
+
+impl<L: AsSlice<u8> + Drop, C: Context> ReadCases<L, C> for Mixed {
+    fn read_case<R: LendingReader<L, C>>(tag: usize, reader: &mut R) -> Result<Mixed, C::Error> {
+        match tag {
+            0 => Ok(Mixed::A),
+            1 => match reader.read_value() {
+                Ok((t0, t1, t2)) => Ok(Mixed::B(t0, t1, t2)),
+                Err(error) => Err(error),
+            },
+            2 => match reader.read_value() {
+                Ok((a, b, c)) => Ok(Mixed::C { a, b, c }),
+                Err(error) => Err(error),
+            },
+            _ => Err(error_invalid_enum_variant()),
         }
     }
 }
 
-impl<L: AsSlice<u8> + Drop, C: Context> ReadFrom<L, C> for Cases {
+impl<L: AsSlice<u8> + Drop, C: Context> ReadFrom<L, C> for Mixed {
     type Strategy = ItemByItem<C>;
 
-    fn read_from<R: LendingReader<L, C>>(reader: &mut R) -> Result<Cases, C::Error> {
-        match reader.read_value::<Prefixed<u32, CasesCases>>() {
-            Ok(cases) => Ok(Cases::from_cases(cases.value)),
-            Err(error) => Err(error),
-        }
+    fn read_from<R: LendingReader<L, C>>(reader: &mut R) -> Result<Mixed, C::Error> {
+        read_tagged::<u32, Self, L, C, R>(reader)
     }
 
     fn minimum_bytes_needed() -> usize {
-        <Prefixed<u32, CasesCases> as ReadFrom<L, C>>::minimum_bytes_needed()
+        4
     }
 }
 
-impl<C: Context> Writable<C> for Cases {
+impl<C: Context> WriteCases<C> for Mixed {
+    fn tag(&self) -> usize {
+        match self {
+            Mixed::A => 0,
+            Mixed::B(..) => 1,
+            Mixed::C { .. } => 2,
+        }
+    }
+
+    fn write_case<W: Writer<C>>(&self, writer: &mut W) -> Result<(), C::Error> {
+        match self {
+            Mixed::A => Ok(()),
+            Mixed::B(t0, t1, t2) => writer.write_value(&(Part(t0), Part(t1), Part(t2))),
+            Mixed::C { a, b, c } => writer.write_value(&(Part(a), Part(b), Part(c))),
+        }
+    }
+}
+
+impl<C: Context> Writable<C> for Mixed {
     fn write_to<W: Writer<C>>(&self, writer: &mut W) -> Result<(), C::Error> {
-        self.parts().write_behind::<u32, W>(writer)
+        write_tagged::<u32, Self, C, W>(self, writer)
     }
 }

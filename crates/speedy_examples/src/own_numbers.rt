@@ -1,10 +1,12 @@
-//! Enums whose tags are numbers of their own, in one byte: one without parts, and one with. Both are proved with no
-//! answer.
+//! Enums whose tags are numbers of their own, in one byte: one without parts, one with, and one that gives a tag twice.
+//! They are proved with no answer.
 ghost use Rattle.std.proofs.Common.{inl, inr};
 
-use speedy::cases::Either::{Left, Right};
-use speedy::cases::{Case, Either};
-use speedy::prefixed::{Prefixed, WriteTold};
+use speedy::cases::{
+    Case, CaseTree, Cases, Either, ReadCases, UnitCase, WriteCases, read_tagged, write_tagged,
+};
+use speedy::prefixed::Prefixed;
+use speedy::private::{error_invalid_enum_variant, error_out_of_range_length};
 use speedy::{Context, ItemByItem, Layout, LendingReader, Part, ReadFrom, Writable, Writer};
 use std::convert::AsSlice;
 
@@ -16,28 +18,42 @@ pub enum Colour {
     Blue,
 }
 
-type Colours = Either<Case<1, ()>, Either<Case<5, ()>, Case<9, ()>>>;
+type Colours = Either<UnitCase<1>, Either<UnitCase<5>, UnitCase<9>>>;
 
-impl Layout for Colour {
+impl Cases for Colour {
     ghost use Rattle.speedy_examples.specs.declared.own_numbers.Colour.{Colour};
 
-    ghost Seen = { ⟦<Prefixed<u8, Colours> as Layout>⟧.Seen };
+    ghost Seen = { ⟦<Colours as CaseTree>⟧.Seen };
 
     ghost seen = { λ e. elim e [ Colour.Red ↦ inl tt | Colour.Green ↦ inr (inl tt) | Colour.Blue ↦ inr (inr tt) ] };
 
-    ghost layout = { ⟦<Prefixed<u8, Colours> as Layout>⟧.layout };
+    ghost choices = { ⟦<Colours as CaseTree>⟧.choices };
+}
+
+impl Layout for Colour {
+    ghost Seen = { ⟦<Colour as Cases>⟧.Seen };
+
+    ghost seen = { ⟦<Colour as Cases>⟧.seen };
+
+    ghost layout = { ⟦<Prefixed<u8, Colour> as Layout>⟧.layout };
+}
+
+impl<L: AsSlice<u8> + Drop, C: Context> ReadCases<L, C> for Colour {
+    fn read_case<R: LendingReader<L, C>>(tag: usize, _: &mut R) -> Result<Colour, C::Error> {
+        match tag {
+            1 => Ok(Colour::Red),
+            5 => Ok(Colour::Green),
+            9 => Ok(Colour::Blue),
+            _ => Err(error_invalid_enum_variant()),
+        }
+    }
 }
 
 impl<L: AsSlice<u8> + Drop, C: Context> ReadFrom<L, C> for Colour {
     type Strategy = ItemByItem<C>;
 
     fn read_from<R: LendingReader<L, C>>(reader: &mut R) -> Result<Colour, C::Error> {
-        let colour: Prefixed<u8, Colours> = reader.read_value()?;
-        match colour.value {
-            Left(Case(())) => Ok(Colour::Red),
-            Right(Left(Case(()))) => Ok(Colour::Green),
-            Right(Right(Case(()))) => Ok(Colour::Blue),
-        }
+        read_tagged::<u8, Colour, L, C, R>(reader)
     }
 
     fn minimum_bytes_needed() -> usize {
@@ -45,13 +61,27 @@ impl<L: AsSlice<u8> + Drop, C: Context> ReadFrom<L, C> for Colour {
     }
 }
 
+impl<C: Context> WriteCases<C> for Colour {
+    fn tag(&self) -> usize {
+        match self {
+            Colour::Red => 1,
+            Colour::Green => 5,
+            Colour::Blue => 9,
+        }
+    }
+
+    fn write_case<W: Writer<C>>(&self, _: &mut W) -> Result<(), C::Error> {
+        match self {
+            Colour::Red => Ok(()),
+            Colour::Green => Ok(()),
+            Colour::Blue => Ok(()),
+        }
+    }
+}
+
 impl<C: Context> Writable<C> for Colour {
     fn write_to<W: Writer<C>>(&self, writer: &mut W) -> Result<(), C::Error> {
-        match self {
-            Colour::Red => Colours::Left(Case(())).write_behind::<u8, W>(writer),
-            Colour::Green => Colours::Right(Left(Case(()))).write_behind::<u8, W>(writer),
-            Colour::Blue => Colours::Right(Right(Case(()))).write_behind::<u8, W>(writer),
-        }
+        write_tagged::<u8, Colour, C, W>(self, writer)
     }
 }
 
@@ -63,12 +93,12 @@ pub enum Packet {
     Named(String, u32),
 }
 
-type Packets = Either<Case<1, ()>, Either<Case<5, Vec<u8>>, Case<9, (String, u32)>>>;
+type Packets = Either<UnitCase<1>, Either<Case<5, Vec<u8>>, Case<9, (String, u32)>>>;
 
-impl Layout for Packet {
+impl Cases for Packet {
     ghost use Rattle.speedy_examples.specs.declared.own_numbers.Packet.{Packet};
 
-    ghost Seen = { ⟦<Prefixed<u8, Packets> as Layout>⟧.Seen };
+    ghost Seen = { ⟦<Packets as CaseTree>⟧.Seen };
 
     ghost seen = { λ p. elim p [
       | Packet.Ping ↦ inl tt
@@ -76,19 +106,36 @@ impl Layout for Packet {
       | Packet.Named name count ↦ inr (inr (⟦<(String, u32) as Layout>⟧.seen (name, count)))
     ] };
 
-    ghost layout = { ⟦<Prefixed<u8, Packets> as Layout>⟧.layout };
+    ghost choices = { ⟦<Packets as CaseTree>⟧.choices };
+}
+
+impl Layout for Packet {
+    ghost Seen = { ⟦<Packet as Cases>⟧.Seen };
+
+    ghost seen = { ⟦<Packet as Cases>⟧.seen };
+
+    ghost layout = { ⟦<Prefixed<u8, Packet> as Layout>⟧.layout };
+}
+
+impl<L: AsSlice<u8> + Drop, C: Context> ReadCases<L, C> for Packet {
+    fn read_case<R: LendingReader<L, C>>(tag: usize, reader: &mut R) -> Result<Packet, C::Error> {
+        match tag {
+            1 => Ok(Packet::Ping),
+            5 => Ok(Packet::Data(reader.read_value()?)),
+            9 => {
+                let (name, count) = reader.read_value()?;
+                Ok(Packet::Named(name, count))
+            }
+            _ => Err(error_invalid_enum_variant()),
+        }
+    }
 }
 
 impl<L: AsSlice<u8> + Drop, C: Context> ReadFrom<L, C> for Packet {
     type Strategy = ItemByItem<C>;
 
     fn read_from<R: LendingReader<L, C>>(reader: &mut R) -> Result<Packet, C::Error> {
-        let packet: Prefixed<u8, Packets> = reader.read_value()?;
-        match packet.value {
-            Left(Case(())) => Ok(Packet::Ping),
-            Right(Left(Case(bytes))) => Ok(Packet::Data(bytes)),
-            Right(Right(Case((name, count)))) => Ok(Packet::Named(name, count)),
-        }
+        read_tagged::<u8, Packet, L, C, R>(reader)
     }
 
     fn minimum_bytes_needed() -> usize {
@@ -96,23 +143,96 @@ impl<L: AsSlice<u8> + Drop, C: Context> ReadFrom<L, C> for Packet {
     }
 }
 
-/// A packet as it is written, its parts where they lie.
-type Parts<'t> = Either<
-    Case<1, ()>,
-    Either<Case<5, Part<'t, Vec<u8>>>, Case<9, (Part<'t, String>, u32)>>,
->;
+impl<C: Context> WriteCases<C> for Packet {
+    fn tag(&self) -> usize {
+        match self {
+            Packet::Ping => 1,
+            Packet::Data(_) => 5,
+            Packet::Named(_, _) => 9,
+        }
+    }
+
+    fn write_case<W: Writer<C>>(&self, writer: &mut W) -> Result<(), C::Error> {
+        match self {
+            Packet::Ping => Ok(()),
+            Packet::Data(bytes) => writer.write_value(bytes),
+            Packet::Named(name, count) => writer.write_value(&(Part(name), *count)),
+        }
+    }
+}
 
 impl<C: Context> Writable<C> for Packet {
     fn write_to<W: Writer<C>>(&self, writer: &mut W) -> Result<(), C::Error> {
-        match self {
-            Packet::Ping => Parts::Left(Case(())).write_behind::<u8, W>(writer),
-            Packet::Data(bytes) => Parts::Right(Left(Case(Part(bytes)))).write_behind::<u8, W>(
-                writer,
-            ),
-            Packet::Named(name, count) => Parts::Right(Right(Case((
-                Part(name),
-                *count,
-            )))).write_behind::<u8, W>(writer),
+        write_tagged::<u8, Packet, C, W>(self, writer)
+    }
+}
+
+/// Two variants with one tag, of which the first counts: the second is never read, and has no encoding.
+#[derive(Debug, PartialEq, Drop)]
+pub enum Twice {
+    First,
+    Second(u8),
+}
+
+type Twins = Either<UnitCase<1>, Case<1, u8>>;
+
+impl Cases for Twice {
+    ghost use Rattle.speedy_examples.specs.declared.own_numbers.Twice.{Twice};
+
+    ghost Seen = { ⟦<Twins as CaseTree>⟧.Seen };
+
+    ghost seen = { λ it. elim it [ Twice.First ↦ inl tt | Twice.Second number ↦ inr number ] };
+
+    ghost choices = { ⟦<Twins as CaseTree>⟧.choices };
+}
+
+impl Layout for Twice {
+    ghost Seen = { ⟦<Twice as Cases>⟧.Seen };
+
+    ghost seen = { ⟦<Twice as Cases>⟧.seen };
+
+    ghost layout = { ⟦<Prefixed<u8, Twice> as Layout>⟧.layout };
+}
+
+impl<L: AsSlice<u8> + Drop, C: Context> ReadCases<L, C> for Twice {
+    fn read_case<R: LendingReader<L, C>>(tag: usize, _: &mut R) -> Result<Twice, C::Error> {
+        match tag {
+            1 => Ok(Twice::First),
+            _ => Err(error_invalid_enum_variant()),
         }
+    }
+}
+
+impl<L: AsSlice<u8> + Drop, C: Context> ReadFrom<L, C> for Twice {
+    type Strategy = ItemByItem<C>;
+
+    fn read_from<R: LendingReader<L, C>>(reader: &mut R) -> Result<Twice, C::Error> {
+        read_tagged::<u8, Twice, L, C, R>(reader)
+    }
+
+    fn minimum_bytes_needed() -> usize {
+        1
+    }
+}
+
+impl<C: Context> WriteCases<C> for Twice {
+    fn tag(&self) -> usize {
+        match self {
+            Twice::First => 1,
+            Twice::Second(_) => 1,
+        }
+    }
+
+    fn write_case<W: Writer<C>>(&self, _: &mut W) -> Result<(), C::Error> {
+        match self {
+            Twice::First => Ok(()),
+            Twice::Second(_) => Err(error_out_of_range_length()),
+        }
+    }
+}
+
+impl<C: Context> Writable<C> for Twice {
+    fn write_to<W: Writer<C>>(&self, writer: &mut W) -> Result<(), C::Error> {
+        write_tagged::<u8, Twice, C, W>(self, writer)
     }
 }

@@ -1,7 +1,7 @@
 //! Types of one's own: bytes that come from outside.
 use crate::own_key::Place;
 use crate::own_maps::Directory;
-use crate::own_numbers::{Colour, Packet};
+use crate::own_numbers::{Colour, Packet, Twice};
 use crate::own_struct::Contact;
 use crate::tests::assert_refused;
 use speedy::readable::BufferReader;
@@ -76,4 +76,15 @@ fn parts_may_stand_behind_tags_of_ones_own(rt: HostRuntime) {
     assert!(rt; packet == Packet::Named(String::from_str(alloc, "Hi").expect(&rt, "a text"), 7));
     let again = Writable::<LittleEndian>::write_to_vec(&packet, alloc).expect(&rt, "bytes");
     assert!(rt; again.as_slice() == bytes.as_slice());
+}
+
+#[test]
+fn of_two_variants_with_one_tag_the_first_counts(rt: HostRuntime) {
+    let alloc = rt.alloc();
+    let first: Twice = make_reader(alloc, &[1, 7])
+        .read_value()
+        .expect(&rt, "the first one");
+    assert!(rt; first == Twice::First);
+    let outcome = Writable::<LittleEndian>::write_to_vec(&Twice::Second(7), alloc);
+    assert_refused(&rt, alloc, outcome, "OutOfRangeLength");
 }

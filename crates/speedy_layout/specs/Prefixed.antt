@@ -1,16 +1,15 @@
 -- A number, and behind it what the number tells of: a text behind its length, a list behind its count, one of several
 -- cases behind its tag.
-use Rattle.std.specs.Prelude.{◌≡◌, ℕ, ◌+◌, List, Bool, refl}
-use Rattle.std.proofs.Common.{ap, arith}
+use Rattle.std.specs.Prelude.{◌≡◌, ℕ, List, refl}
 use Rattle.speedy_base.specs.Mode.{Mode}
 use Rattle.speedy_layout.specs.Codes.{coding}
 use Rattle.speedy_layout.specs.Format.{Asks, asks_nothing, Format}
-use Rattle.speedy_layout.specs.Laws.{Laws, Codec, Laws-less}
+use Rattle.speedy_layout.specs.Laws.{Laws, Codec}
 use Rattle.speedy_layout.specs.Lists.{prefixed_list_codec}
 use Rattle.speedy_layout.specs.Numbers.{unsigned_number, unsigned_codec, length_number, length_codec}
 use Rattle.speedy_layout.specs.Numbers.{WritesSmaller, unsigned_smaller, length_smaller}
 use Rattle.speedy_layout.specs.Owned.{borrowed_codec}
-use Rattle.speedy_layout.specs.Sequences.{AsksAtMost, sequence, sequence_laws}
+use Rattle.speedy_layout.specs.Sequences.{sequence}
 use Rattle.speedy_layout.specs.Texts.{prefixed_text_codec}
 use Rattle.speedy_layout.specs.Varint.{varint, varint_codec, varint_smaller}
 
@@ -79,41 +78,3 @@ list_behind item numbers =
 abbrev pub borrowed_behind : {V : Type 0} {numbers : Numbers} → Behind numbers V → Behind numbers V
 borrowed_behind content =
     let borrowed = borrowed_codec (prefixed_codec content) in record { format = borrowed.format; laws = borrowed.laws }
-
--- ---- cases
-
--- Values of several cases, each behind the tag of its case.
-pub record Choices (V : Type 0) : Type 1 where
-  -- the tag of the case that a value is of
-  pub tag : V → ℕ
-  -- whether a case has the tag
-  pub has : ℕ → Bool
-  -- what any of the cases asks
-  pub asks : Mode → Asks
-  -- what stands behind a tag
-  pub behind : Mode → ℕ → Format V
-  pub laws : (f : Mode) (n : ℕ) → Laws f.strict 0 (behind f n)
-  pub within : (f : Mode) (n : ℕ) → AsksAtMost (behind f n).asks (asks f)
-  -- a value stands behind the tag of its own case alone
-  pub is_tag : (f : Mode) (n : ℕ) (v : V) (s : List ℕ) → (behind f n).encodes v s → tag v ≡ n
-
--- a value's tag, and the value
-abbrev pub tagged_parts : {V : Type 0} → (V → ℕ) → V → ℕ × V
-tagged_parts tag v = (tag v, v)
-
--- a tag, which is encoded as a format of numbers says, and then a value of its case
-abbrev pub tagged : {V : Type 0} → (Mode → Format ℕ) → Choices V → Mode → Format V
-tagged number choices f = sequence (tagged_parts choices.tag) (number f) (choices.asks f) (choices.behind f)
-
-pub tagged_laws : {V : Type 0} (number : Codec ℕ) (choices : Choices V) (f : Mode)
-    → Laws f.strict number.least (tagged number.format choices f)
-tagged_laws {V = V} number choices f =
-    Laws-less {n = number.least + 0} (omega arith)
-    (sequence_laws {n = number.least} {m = 0} (number.laws f) (choices.laws f) (choices.within f)
-    (λ v w e. ap (λ (p : ℕ × V). p.1) e))
-
-abbrev pub choices_behind : {V : Type 0} → Choices V → (numbers : Numbers) → Behind numbers V
-choices_behind choices numbers = record {
-  format = tagged numbers.codec.format choices;
-  laws = tagged_laws numbers.codec choices;
-}

@@ -1,13 +1,54 @@
 //! The cases of an enum, each behind a tag of its own.
-ghost use Rattle.std.specs.Prelude.{◌≡◌, ◌⊎◌};
-ghost use Rattle.std.proofs.Common.{inl, inr};
-ghost use Rattle.speedy_layout.specs.Choices.{one_case, either_case};
-ghost use Rattle.speedy_layout.specs.Prefixed.{Choices, choices_behind};
+ghost use Rattle.std.specs.Prelude.{◌⊎◌};
+ghost use Rattle.speedy_layout.specs.Choices.{Choices, unit_case, one_case, either_case};
+ghost use Rattle.speedy_layout.specs.Choices.{choices_behind};
 
 use crate::layout::Layout;
 use crate::prefixed::Told;
+use std::marker::PhantomData;
 
-/// Cases that are told apart by their tags.
+/// Which cases there are, each with its tag: one, or a tree of them. It says so as a type, and has no values.
+pub trait CaseTree {
+    /// What is seen of a value of one of the cases.
+    ghost Seen: { Type 0 };
+
+    ghost choices: { Choices Seen };
+}
+
+/// A case with the tag `TAG`, and no parts.
+pub struct UnitCase<const TAG: usize> {
+    value: PhantomData<()>,
+}
+
+/// A case with the tag `TAG`, whose parts are encoded as a `T`.
+pub struct Case<const TAG: usize, T> {
+    part: PhantomData<T>,
+}
+
+/// The cases `A`, and the cases `B`. Of two cases with one tag the first counts: a value of the second has no encoding.
+pub struct Either<A, B> {
+    parts: PhantomData<(A, B)>,
+}
+
+impl<const TAG: usize> CaseTree for UnitCase<TAG> {
+    ghost Seen = { Unit {0} };
+
+    ghost choices = { unit_case TAG };
+}
+
+impl<const TAG: usize, T: Layout> CaseTree for Case<TAG, T> {
+    ghost Seen = { T.Seen };
+
+    ghost choices = { one_case TAG T.layout };
+}
+
+impl<A: CaseTree, B: CaseTree> CaseTree for Either<A, B> {
+    ghost Seen = { A.Seen ⊎ B.Seen };
+
+    ghost choices = { either_case A.choices B.choices };
+}
+
+/// A type whose values are of several cases, each told by its tag: an enum.
 pub trait Cases {
     /// What is seen of a value.
     ghost Seen: { Type 0 };
@@ -15,66 +56,12 @@ pub trait Cases {
     ghost seen: { Self → Seen };
 
     ghost choices: { Choices Seen };
-
-    /// Whether one of them has the tag.
-    fn has(tag: usize) -> bool
-        ensures { result ≡ choices.has tag };
 }
 
-/// The case with the tag `TAG`, and its value.
-#[derive(Debug, PartialEq, Drop)]
-pub struct Case<const TAG: usize, T>(pub T);
-
-/// A value of one of the cases `A`, or of one of the cases `B`.
-///
-/// An enum of your own has the layout of cases in such a tree, behind a tag: `Prefixed<u32, Either<A, B>>`. Of two
-/// cases with one tag the first counts: a value of the second has no encoding.
-#[derive(Debug, PartialEq, Drop)]
-pub enum Either<A, B> {
-    Left(A),
-    Right(B),
-}
-
-impl<const TAG: usize, T: Layout> Cases for Case<TAG, T> {
+impl<T: Cases> Told for T {
     ghost Seen = { T.Seen };
 
-    ghost seen = { λ c. T.seen c.0 };
+    ghost seen = { T.seen };
 
-    ghost choices = { one_case TAG T.layout };
-
-    #[inline]
-    fn has(tag: usize) -> bool {
-        tag == TAG
-    }
-}
-
-impl<const TAG: usize, T: Layout> Told for Case<TAG, T> {
-    ghost Seen = { T.Seen };
-
-    ghost seen = { λ c. T.seen c.0 };
-
-    ghost behind = { choices_behind (one_case TAG T.layout) };
-}
-
-impl<A: Cases, B: Cases> Cases for Either<A, B> {
-    ghost use Rattle.speedy_layout.specs.declared.cases.Either.{Either};
-
-    ghost Seen = { A.Seen ⊎ B.Seen };
-
-    ghost seen = { λ c. elim c [ Either.Left v ↦ inl (A.seen v) | Either.Right v ↦ inr (B.seen v) ] };
-
-    ghost choices = { either_case A.choices B.choices };
-
-    #[inline]
-    fn has(tag: usize) -> bool {
-        A::has(tag) || B::has(tag)
-    }
-}
-
-impl<A: Cases, B: Cases> Told for Either<A, B> {
-    ghost Seen = { ⟦<Either<A, B> as Cases>⟧.Seen };
-
-    ghost seen = { ⟦<Either<A, B> as Cases>⟧.seen };
-
-    ghost behind = { choices_behind (either_case A.choices B.choices) };
+    ghost behind = { choices_behind T.choices };
 }

@@ -10,9 +10,10 @@ use Rattle.speedy.specs.declared.endianness.Endianness.TheVariants.{LittleEndian
 use Rattle.speedy.specs.declared.error.Error.{Error}
 use Rattle.speedy.specs.declared.error.ErrorKind.{ErrorKind}
 use Rattle.speedy.specs.declared.error.ErrorKind.TheVariants as kinds
-use Rattle.speedy.specs.Choices.{either, either_case, one_case, only_if}
+use Rattle.speedy.specs.Choices.{AtTag, no_case, a_unit, a_case, case_format, Choices, choices_behind, either_case}
+use Rattle.speedy.specs.Choices.{first_of, one_case, only_if, unit_case, whole_case, whole_unit}
 use Rattle.speedy.specs.Codecs.{Codec, borrowed_codec, list_codec, option_codec, pair_codec, signed_codec}
-use Rattle.speedy.specs.Codecs.{text_codec, unit_codec, unsigned_codec}
+use Rattle.speedy.specs.Codecs.{text_codec, unsigned_codec}
 use Rattle.speedy.specs.Codes.{coding}
 use Rattle.speedy.specs.Mode.{plain_mode, Mode}
 use Rattle.speedy.specs.Error.{error_of, is_eof_error, IsNamed}
@@ -23,7 +24,7 @@ use Rattle.speedy.specs.Frames.{frame}
 use Rattle.speedy.specs.Lists.{list, repeat, vector}
 use Rattle.speedy.specs.Numbers.{unsigned_number, signed_number}
 use Rattle.speedy.specs.Owned.{owned_content, borrowed_content}
-use Rattle.speedy.specs.Prefixed.{Choices, choices_behind, prefixed_codec, unsigned_numbers}
+use Rattle.speedy.specs.Prefixed.{prefixed_codec, unsigned_numbers}
 use Rattle.speedy.specs.Reading.{IsEnd, Undecodable}
 use Rattle.speedy.specs.Sequences.{sequence}
 use Rattle.speedy.specs.Texts.{raw_bytes, text_of_length, text}
@@ -89,24 +90,31 @@ option_wrong F wrong kind (inr (false, none)) = absurd none
 
 -- what stands behind a tag
 abbrev CasesWrong : {V : Type 0} → Choices V → Type 0
-CasesWrong cases = (n : ℕ) → NamesWrong (cases.behind little n)
+CasesWrong cases = (n : ℕ) → NamesWrong (case_format (cases.case_of n) little)
 
-only_if_wrong : {V : Type 0} (F : Format V) (b : Bool) → NamesWrong F → NamesWrong (only_if b F)
-only_if_wrong F true wrong kind h = wrong kind h
-only_if_wrong F false wrong kind is = inr (inl is)
+only_if_wrong : {V : Type 0} (at_tag : AtTag V) (b : Bool) → NamesWrong (case_format at_tag little)
+    → NamesWrong (case_format (only_if b at_tag) little)
+only_if_wrong at_tag true wrong kind h = wrong kind h
+only_if_wrong at_tag false wrong kind is = inr (inl is)
 
-either_wrong : {V W : Type 0} (F : Format V) (G : Format W) (b : Bool) → NamesWrong F → NamesWrong G
-    → NamesWrong (either b F G)
-either_wrong F G true first second kind h = first kind h
-either_wrong F G false first second kind h = second kind h
+first_wrong : {V W : Type 0} (v : AtTag V) (w : AtTag W) → NamesWrong (case_format v little)
+    → NamesWrong (case_format w little) → NamesWrong (case_format (first_of v w) little)
+first_wrong no_case no_case one other kind h = other kind h
+first_wrong no_case (a_unit _ _) one other kind h = other kind h
+first_wrong no_case (a_case _) one other kind h = other kind h
+first_wrong (a_unit _ _) w one other kind h = one kind h
+first_wrong (a_case _) w one other kind h = one kind h
+
+without_wrong : (tag : ℕ) → CasesWrong (unit_case tag)
+without_wrong tag n = only_if_wrong whole_unit (nat_eq n tag) unit_wrong
 
 case_wrong : {V : Type 0} (tag : ℕ) (value : Codec V) → NamesWrong (value.format little)
     → CasesWrong (one_case tag value)
-case_wrong tag value wrong n = only_if_wrong _ (nat_eq n tag) wrong
+case_wrong tag value wrong n = only_if_wrong (whole_case value) (nat_eq n tag) wrong
 
 cases_wrong : {V W : Type 0} (first : Choices V) (second : Choices W) → CasesWrong first → CasesWrong second
     → CasesWrong (either_case first second)
-cases_wrong first second one other n = either_wrong _ _ (first.has n) (one n) (other n)
+cases_wrong first second one other n = first_wrong (first.case_of n) (second.case_of n) (one n) (other n)
 
 tagged_wrong : {V : Type 0} (cases : Choices V) → CasesWrong cases
     → NamesWrong ((prefixed_codec (choices_behind cases (unsigned_numbers 1))).format little)
@@ -138,9 +146,6 @@ blob = one_case 4 (borrowed_codec (list_codec (unsigned_codec 1)))
 abbrev failure : Choices (ℕ × List ℕ)
 failure = one_case 5 (pair_codec (unsigned_codec 4) lent_text)
 
-abbrev without_parts : ℕ → Choices (Unit {0})
-without_parts tag = one_case tag unit_codec
-
 abbrev FirstCases : Type 0
 FirstCases = Unit {0} ⊎ ((List ℕ × Option (List ℕ)) ⊎ (ℕ × List (ℕ × ℤ)))
 
@@ -148,38 +153,38 @@ abbrev LastCases : Type 0
 LastCases = List ℕ ⊎ ((ℕ × List ℕ) ⊎ Unit {0})
 
 abbrev first_cases : Choices FirstCases
-first_cases = either_case (without_parts 1) (either_case hello readings)
+first_cases = either_case (unit_case 1) (either_case hello readings)
 
 abbrev last_cases : Choices LastCases
-last_cases = either_case blob (either_case failure (without_parts 255))
+last_cases = either_case blob (either_case failure (unit_case 255))
 
 abbrev message_codec : Codec (FirstCases ⊎ LastCases)
 message_codec = prefixed_codec (choices_behind (either_case first_cases last_cases) (unsigned_numbers 1))
 
-first_wrong : CasesWrong first_cases
-first_wrong =
-    cases_wrong (without_parts 1) (either_case hello readings)
-    (case_wrong 1 unit_codec unit_wrong)
+first_cases_wrong : CasesWrong first_cases
+first_cases_wrong =
+    cases_wrong (unit_case 1) (either_case hello readings)
+    (without_wrong 1)
     (cases_wrong hello readings
     (case_wrong 2 (pair_codec lent_text (option_codec lent_text))
     (pair_wrong _ _ text_wrong (option_wrong _ text_wrong)))
     (case_wrong 3 (pair_codec (unsigned_codec 2) (list_codec (pair_codec (unsigned_codec 4) (signed_codec w32))))
     (pair_wrong _ _ (number_wrong 2) readings_wrong)))
 
-last_wrong : CasesWrong last_cases
-last_wrong =
-    cases_wrong blob (either_case failure (without_parts 255))
+last_cases_wrong : CasesWrong last_cases
+last_cases_wrong =
+    cases_wrong blob (either_case failure (unit_case 255))
     (case_wrong 4 (borrowed_codec (list_codec (unsigned_codec 1))) bytes_wrong)
-    (cases_wrong failure (without_parts 255)
+    (cases_wrong failure (unit_case 255)
     (case_wrong 5 (pair_codec (unsigned_codec 4) lent_text) (pair_wrong _ _ (number_wrong 4) text_wrong))
-    (case_wrong 255 unit_codec unit_wrong))
+    (without_wrong 255))
 
 abbrev pub framed : Format (FirstCases ⊎ LastCases)
 framed = frame little (unsigned_number 2 little) (message_codec.format little)
 
 pub framed_wrong : NamesWrong framed
 framed_wrong =
-    let wrong = cases_wrong first_cases last_cases first_wrong last_wrong in
+    let wrong = cases_wrong first_cases last_cases first_cases_wrong last_cases_wrong in
     frame_wrong _ (tagged_wrong (either_case first_cases last_cases) wrong)
 
 -- ---- what decoding answers

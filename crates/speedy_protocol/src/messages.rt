@@ -4,10 +4,12 @@
 ghost use Rattle.std.specs.Prelude.{[], ◌∷◌, ◌≡◌};
 ghost use Rattle.std.proofs.Common.{inl, inr};
 
-use speedy::cases::Either::{Left, Right};
-use speedy::cases::{Case, Either};
+use speedy::cases::{
+    Case, CaseTree, Cases, Either, ReadCases, UnitCase, WriteCases, read_tagged, write_tagged,
+};
 use speedy::magic::{Constant, Magic};
-use speedy::prefixed::{Prefixed, Told, WriteTold};
+use speedy::prefixed::Prefixed;
+use speedy::private::error_invalid_enum_variant;
 use speedy::{Context, ItemByItem, Layout, LendingReader, Part, ReadFrom, Writable, Writer};
 use std::convert::AsSlice;
 use std::marker::PhantomData;
@@ -212,29 +214,14 @@ pub enum Message<'a> {
 
 /// The cases of [`Message`], each with its tag.
 type MessageCases<'a> = Either<
-    Either<Case<1, ()>, Either<Case<2, (&'a str, Option<&'a str>)>, Case<3, (u16, Vec<Reading>)>>>,
-    Either<Case<4, &'a [u8]>, Either<Case<5, (u32, &'a str)>, Case<255, ()>>>,
+    Either<UnitCase<1>, Either<Case<2, (&'a str, Option<&'a str>)>, Case<3, (u16, Vec<Reading>)>>>,
+    Either<Case<4, &'a [u8]>, Either<Case<5, (u32, &'a str)>, UnitCase<255>>>,
 >;
 
-/// What [`Message`] is written as: its parts where they lie.
-type MessageParts<'a, 't> = Either<
-    Either<
-        Case<1, ()>,
-        Either<
-            Case<2, (Part<'t, &'a str>, Part<'t, Option<&'a str>>)>,
-            Case<3, (Part<'t, u16>, Part<'t, Vec<Reading>>)>,
-        >,
-    >,
-    Either<
-        Case<4, Part<'t, &'a [u8]>>,
-        Either<Case<5, (Part<'t, u32>, Part<'t, &'a str>)>, Case<255, ()>>,
-    >,
->;
-
-impl<'a> Layout for Message<'a> {
+impl<'a> Cases for Message<'a> {
     ghost use Rattle.speedy_protocol.specs.declared.messages.Message.{Message};
 
-    ghost Seen = { ⟦<Prefixed<u8, MessageCases<'a>> as Layout>⟧.Seen };
+    ghost Seen = { ⟦<MessageCases<'a> as CaseTree>⟧.Seen };
 
     ghost seen = { λ it. elim it [
       | Message.Ping ↦ inl (inl tt)
@@ -245,40 +232,42 @@ impl<'a> Layout for Message<'a> {
       | Message.Bye ↦ inr (inr (inr tt))
     ] };
 
-    ghost layout = { ⟦<Prefixed<u8, MessageCases<'a>> as Layout>⟧.layout };
+    ghost choices = { ⟦<MessageCases<'a> as CaseTree>⟧.choices };
 }
 
-impl<'a> Message<'a> {
-    fn from_cases(cases: MessageCases<'a>) -> Message<'a>
-        ensures { ◌≡◌ {A = ⟦<Message<'a> as Layout>⟧.Seen}
-            (⟦<Message<'a> as Layout>⟧.seen result)
-            (⟦<MessageCases<'a> as Told>⟧.seen cases.entry) }
-    {
-        match cases {
-            Left(Left(Case(()))) => Message::Ping,
-            Left(Right(Left(Case((name, mail))))) => Message::Hello { name, mail },
-            Left(Right(Right(Case((sensor, list))))) => Message::Readings { sensor, list },
-            Right(Left(Case(t0))) => Message::Blob(t0),
-            Right(Right(Left(Case((code, text))))) => Message::Failure { code, text },
-            Right(Right(Right(Case(())))) => Message::Bye,
-        }
-    }
+impl<'a> Layout for Message<'a> {
+    ghost Seen = { ⟦<Prefixed<u8, Message<'a>> as Layout>⟧.Seen };
 
-    fn parts<'t>(&'t self) -> MessageParts<'a, 't>
-        ensures { ◌≡◌ {A = ⟦<Message<'a> as Layout>⟧.Seen}
-            (⟦<MessageParts<'a, 't> as Told>⟧.seen result)
-            (⟦<Message<'a> as Layout>⟧.seen self.now) }
-    {
-        match self {
-            Message::Ping => Left(Left(Case(()))),
-            Message::Hello { name, mail } => Left(Right(Left(Case((Part(name), Part(mail)))))),
-            Message::Readings { sensor, list } => Left(Right(Right(Case((
-                Part(sensor),
-                Part(list),
-            ))))),
-            Message::Blob(t0) => Right(Left(Case(Part(t0)))),
-            Message::Failure { code, text } => Right(Right(Left(Case((Part(code), Part(text)))))),
-            Message::Bye => Right(Right(Right(Case(())))),
+    ghost seen = { ⟦<Message<'a> as Cases>⟧.seen };
+
+    ghost layout = { ⟦<Prefixed<u8, Message<'a>> as Layout>⟧.layout };
+}
+
+impl<'a, C: Context> ReadCases<&'a [u8], C> for Message<'a> {
+    fn read_case<R: LendingReader<&'a [u8], C>>(
+        tag: usize,
+        reader: &mut R,
+    ) -> Result<Message<'a>, C::Error> {
+        match tag {
+            1 => Ok(Message::Ping),
+            2 => match reader.read_value() {
+                Ok((name, mail)) => Ok(Message::Hello { name, mail }),
+                Err(error) => Err(error),
+            },
+            3 => match reader.read_value() {
+                Ok((sensor, list)) => Ok(Message::Readings { sensor, list }),
+                Err(error) => Err(error),
+            },
+            4 => match reader.read_value() {
+                Ok(t0) => Ok(Message::Blob(t0)),
+                Err(error) => Err(error),
+            },
+            5 => match reader.read_value() {
+                Ok((code, text)) => Ok(Message::Failure { code, text }),
+                Err(error) => Err(error),
+            },
+            255 => Ok(Message::Bye),
+            _ => Err(error_invalid_enum_variant()),
         }
     }
 }
@@ -287,21 +276,42 @@ impl<'a, C: Context> ReadFrom<&'a [u8], C> for Message<'a> {
     type Strategy = ItemByItem<C>;
 
     fn read_from<R: LendingReader<&'a [u8], C>>(reader: &mut R) -> Result<Message<'a>, C::Error> {
-        match reader.read_value::<Prefixed<u8, MessageCases<'a>>>() {
-            Ok(cases) => Ok(Message::from_cases(cases.value)),
-            Err(error) => Err(error),
-        }
+        read_tagged::<u8, Self, &'a [u8], C, R>(reader)
     }
 
     fn minimum_bytes_needed() -> usize
-        ensures { result ≡ ⟦<Prefixed<u8, MessageCases<'a>> as Layout>⟧.layout.least }
+        ensures { result ≡ ⟦<Prefixed<u8, Message<'a>> as Layout>⟧.layout.least }
     {
-        <Prefixed<u8, MessageCases<'a>> as ReadFrom<&'a [u8], C>>::minimum_bytes_needed()
+        1
+    }
+}
+
+impl<'a, C: Context> WriteCases<C> for Message<'a> {
+    fn tag(&self) -> usize {
+        match self {
+            Message::Ping => 1,
+            Message::Hello { .. } => 2,
+            Message::Readings { .. } => 3,
+            Message::Blob(..) => 4,
+            Message::Failure { .. } => 5,
+            Message::Bye => 255,
+        }
+    }
+
+    fn write_case<W: Writer<C>>(&self, writer: &mut W) -> Result<(), C::Error> {
+        match self {
+            Message::Ping => Ok(()),
+            Message::Hello { name, mail } => writer.write_value(&(Part(name), Part(mail))),
+            Message::Readings { sensor, list } => writer.write_value(&(Part(sensor), Part(list))),
+            Message::Blob(t0) => writer.write_value(t0),
+            Message::Failure { code, text } => writer.write_value(&(Part(code), Part(text))),
+            Message::Bye => Ok(()),
+        }
     }
 }
 
 impl<'a, C: Context> Writable<C> for Message<'a> {
     fn write_to<W: Writer<C>>(&self, writer: &mut W) -> Result<(), C::Error> {
-        self.parts().write_behind::<u8, W>(writer)
+        write_tagged::<u8, Self, C, W>(self, writer)
     }
 }

@@ -21,3 +21,4 @@ pub mod StreamLemmas
 pub mod UntilEndLemmas
 pub mod UntilEndLaws
 pub mod ConstantLemmas
+pub mod CaseLemmas

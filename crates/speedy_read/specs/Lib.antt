@@ -4,7 +4,7 @@ pub mod Sequences
 pub mod Counted
 pub mod Codes
 pub mod Flags
-pub mod Prefixed
+pub mod Cases
 pub mod Frames
 pub mod FrameModel
 pub mod Buffers

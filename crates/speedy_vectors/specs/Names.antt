@@ -4,12 +4,11 @@ use Rattle.std.specs.Ordering.{nat_cmp}
 use Rattle.std.specs.String.{string_bytes, string_cmp}
 use Rattle.std.specs.declared.alloc.Global.{Global}
 use Rattle.std.specs.Int.{w8, w16, w32, w64, w128}
-use Rattle.speedy.specs.Choices.{one_case, either_case}
+use Rattle.speedy.specs.Choices.{Choices, unit_case, one_case, either_case, tagged}
 use Rattle.speedy.specs.Codecs.{unit_codec, pair_codec, unsigned_codec}
 use Rattle.speedy.specs.Mode.{Mode}
 use Rattle.speedy.specs.Format.{Format}
 use Rattle.speedy.specs.Numbers.{unsigned_number, signed_number, usize_number}
-use Rattle.speedy.specs.Prefixed.{Choices, tagged}
 use Rattle.speedy.specs.NonZero.{non_zero_number, signed_non_zero_number}
 use Rattle.speedy.specs.Leaves.{character, byte_order, duration}
 use Rattle.speedy.specs.Addresses.{address, ip_address}
@@ -161,13 +160,13 @@ named_lent lent_names.ArrayViewI8x4 =
 
 -- nothing behind the tag 0, 1 or 2
 abbrev three_cases : Choices (Unit {0} ⊎ (Unit {0} ⊎ Unit {0}))
-three_cases = either_case (one_case 0 unit_codec) (either_case (one_case 1 unit_codec) (one_case 2 unit_codec))
+three_cases = either_case (unit_case 0) (either_case (unit_case 1) (unit_case 2))
 
 -- nothing behind the tag 0, and three numbers behind the tags 1 and 2
 abbrev cases_of_numbers : Choices (Unit {0} ⊎ (ℕ × (ℕ × ℕ) ⊎ ℕ × (ℕ × ℕ)))
 cases_of_numbers =
     let numbers = pair_codec (unsigned_codec 1) (pair_codec (unsigned_codec 2) (unsigned_codec 4)) in
-    either_case (one_case 0 unit_codec) (either_case (one_case 1 numbers) (one_case 2 numbers))
+    either_case (unit_case 0) (either_case (one_case 1 numbers) (one_case 2 numbers))
 
 abbrev pub named_own : OwnName → Named
 named_own own_names.Frame = by (codes "frame") refl 4 (λ mode. pair (constant_bytes mode (codes "SP"))

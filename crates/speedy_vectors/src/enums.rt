@@ -1,9 +1,11 @@
 //! Enums of your own, with and without parts: their cases, each behind its tag. Both are proved with no answer.
 ghost use Rattle.std.proofs.Common.{inl, inr};
 
-use speedy::cases::Either::{Left, Right};
-use speedy::cases::{Case, Either};
-use speedy::prefixed::{Prefixed, WriteTold};
+use speedy::cases::{
+    Case, CaseTree, Cases, Either, ReadCases, UnitCase, WriteCases, read_tagged, write_tagged,
+};
+use speedy::prefixed::Prefixed;
+use speedy::private::error_invalid_enum_variant;
 use speedy::{Context, ItemByItem, Layout, LendingReader, ReadFrom, Writable, Writer};
 use std::convert::AsSlice;
 
@@ -15,28 +17,42 @@ pub enum Enum {
     C,
 }
 
-type Tags = Either<Case<0, ()>, Either<Case<1, ()>, Case<2, ()>>>;
+type EnumCases = Either<UnitCase<0>, Either<UnitCase<1>, UnitCase<2>>>;
 
-impl Layout for Enum {
+impl Cases for Enum {
     ghost use Rattle.speedy_vectors.specs.declared.enums.Enum.{Enum};
 
-    ghost Seen = { ⟦<Prefixed<u32, Tags> as Layout>⟧.Seen };
+    ghost Seen = { ⟦<EnumCases as CaseTree>⟧.Seen };
 
     ghost seen = { λ e. elim e [ Enum.A ↦ inl tt | Enum.B ↦ inr (inl tt) | Enum.C ↦ inr (inr tt) ] };
 
-    ghost layout = { ⟦<Prefixed<u32, Tags> as Layout>⟧.layout };
+    ghost choices = { ⟦<EnumCases as CaseTree>⟧.choices };
+}
+
+impl Layout for Enum {
+    ghost Seen = { ⟦<Enum as Cases>⟧.Seen };
+
+    ghost seen = { ⟦<Enum as Cases>⟧.seen };
+
+    ghost layout = { ⟦<Prefixed<u32, Enum> as Layout>⟧.layout };
+}
+
+impl<L: AsSlice<u8> + Drop, C: Context> ReadCases<L, C> for Enum {
+    fn read_case<R: LendingReader<L, C>>(tag: usize, _: &mut R) -> Result<Enum, C::Error> {
+        match tag {
+            0 => Ok(Enum::A),
+            1 => Ok(Enum::B),
+            2 => Ok(Enum::C),
+            _ => Err(error_invalid_enum_variant()),
+        }
+    }
 }
 
 impl<L: AsSlice<u8> + Drop, C: Context> ReadFrom<L, C> for Enum {
     type Strategy = ItemByItem<C>;
 
     fn read_from<R: LendingReader<L, C>>(reader: &mut R) -> Result<Enum, C::Error> {
-        let tag: Prefixed<u32, Tags> = reader.read_value()?;
-        match tag.value {
-            Left(Case(())) => Ok(Enum::A),
-            Right(Left(Case(()))) => Ok(Enum::B),
-            Right(Right(Case(()))) => Ok(Enum::C),
-        }
+        read_tagged::<u32, Enum, L, C, R>(reader)
     }
 
     fn minimum_bytes_needed() -> usize {
@@ -44,13 +60,27 @@ impl<L: AsSlice<u8> + Drop, C: Context> ReadFrom<L, C> for Enum {
     }
 }
 
+impl<C: Context> WriteCases<C> for Enum {
+    fn tag(&self) -> usize {
+        match self {
+            Enum::A => 0,
+            Enum::B => 1,
+            Enum::C => 2,
+        }
+    }
+
+    fn write_case<W: Writer<C>>(&self, _: &mut W) -> Result<(), C::Error> {
+        match self {
+            Enum::A => Ok(()),
+            Enum::B => Ok(()),
+            Enum::C => Ok(()),
+        }
+    }
+}
+
 impl<C: Context> Writable<C> for Enum {
     fn write_to<W: Writer<C>>(&self, writer: &mut W) -> Result<(), C::Error> {
-        match self {
-            Enum::A => Tags::Left(Case(())).write_behind::<u32, W>(writer),
-            Enum::B => Tags::Right(Left(Case(()))).write_behind::<u32, W>(writer),
-            Enum::C => Tags::Right(Right(Case(()))).write_behind::<u32, W>(writer),
-        }
+        write_tagged::<u32, Enum, C, W>(self, writer)
     }
 }
 
@@ -64,12 +94,12 @@ pub enum DerivedEnum {
 
 type Numbers = (u8, u16, u32);
 
-type Cases = Either<Case<0, ()>, Either<Case<1, Numbers>, Case<2, Numbers>>>;
+type DerivedCases = Either<UnitCase<0>, Either<Case<1, Numbers>, Case<2, Numbers>>>;
 
-impl Layout for DerivedEnum {
+impl Cases for DerivedEnum {
     ghost use Rattle.speedy_vectors.specs.declared.enums.DerivedEnum.{DerivedEnum};
 
-    ghost Seen = { ⟦<Prefixed<u32, Cases> as Layout>⟧.Seen };
+    ghost Seen = { ⟦<DerivedCases as CaseTree>⟧.Seen };
 
     ghost seen = { λ e. elim e [
       | DerivedEnum.A ↦ inl tt
@@ -77,19 +107,42 @@ impl Layout for DerivedEnum {
       | DerivedEnum.C a b c ↦ inr (inr (a, (b, c)))
     ] };
 
-    ghost layout = { ⟦<Prefixed<u32, Cases> as Layout>⟧.layout };
+    ghost choices = { ⟦<DerivedCases as CaseTree>⟧.choices };
+}
+
+impl Layout for DerivedEnum {
+    ghost Seen = { ⟦<DerivedEnum as Cases>⟧.Seen };
+
+    ghost seen = { ⟦<DerivedEnum as Cases>⟧.seen };
+
+    ghost layout = { ⟦<Prefixed<u32, DerivedEnum> as Layout>⟧.layout };
+}
+
+impl<L: AsSlice<u8> + Drop, C: Context> ReadCases<L, C> for DerivedEnum {
+    fn read_case<R: LendingReader<L, C>>(
+        tag: usize,
+        reader: &mut R,
+    ) -> Result<DerivedEnum, C::Error> {
+        match tag {
+            0 => Ok(DerivedEnum::A),
+            1 => {
+                let (a, b, c) = reader.read_value()?;
+                Ok(DerivedEnum::B(a, b, c))
+            }
+            2 => {
+                let (a, b, c) = reader.read_value()?;
+                Ok(DerivedEnum::C { a, b, c })
+            }
+            _ => Err(error_invalid_enum_variant()),
+        }
+    }
 }
 
 impl<L: AsSlice<u8> + Drop, C: Context> ReadFrom<L, C> for DerivedEnum {
     type Strategy = ItemByItem<C>;
 
     fn read_from<R: LendingReader<L, C>>(reader: &mut R) -> Result<DerivedEnum, C::Error> {
-        let cases: Prefixed<u32, Cases> = reader.read_value()?;
-        match cases.value {
-            Left(Case(())) => Ok(DerivedEnum::A),
-            Right(Left(Case((a, b, c)))) => Ok(DerivedEnum::B(a, b, c)),
-            Right(Right(Case((a, b, c)))) => Ok(DerivedEnum::C { a, b, c }),
-        }
+        read_tagged::<u32, DerivedEnum, L, C, R>(reader)
     }
 
     fn minimum_bytes_needed() -> usize {
@@ -97,16 +150,26 @@ impl<L: AsSlice<u8> + Drop, C: Context> ReadFrom<L, C> for DerivedEnum {
     }
 }
 
+impl<C: Context> WriteCases<C> for DerivedEnum {
+    fn tag(&self) -> usize {
+        match self {
+            DerivedEnum::A => 0,
+            DerivedEnum::B(..) => 1,
+            DerivedEnum::C { .. } => 2,
+        }
+    }
+
+    fn write_case<W: Writer<C>>(&self, writer: &mut W) -> Result<(), C::Error> {
+        match self {
+            DerivedEnum::A => Ok(()),
+            DerivedEnum::B(a, b, c) => writer.write_value(&(*a, *b, *c)),
+            DerivedEnum::C { a, b, c } => writer.write_value(&(*a, *b, *c)),
+        }
+    }
+}
+
 impl<C: Context> Writable<C> for DerivedEnum {
     fn write_to<W: Writer<C>>(&self, writer: &mut W) -> Result<(), C::Error> {
-        match self {
-            DerivedEnum::A => Cases::Left(Case(())).write_behind::<u32, W>(writer),
-            DerivedEnum::B(a, b, c) => {
-                Cases::Right(Left(Case((*a, *b, *c)))).write_behind::<u32, W>(writer)
-            }
-            DerivedEnum::C { a, b, c } => {
-                Cases::Right(Right(Case((*a, *b, *c)))).write_behind::<u32, W>(writer)
-            }
-        }
+        write_tagged::<u32, DerivedEnum, C, W>(self, writer)
     }
 }

@@ -12,3 +12,4 @@ pub mod OptionLemmas
 pub mod OwnedLemmas
 pub mod PushLemmas
 pub mod StreamLemmas
+pub mod CaseLemmas

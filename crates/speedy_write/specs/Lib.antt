@@ -8,7 +8,7 @@ pub mod FixedBytes
 pub mod Buffering
 pub mod Sequences
 pub mod Codes
-pub mod Prefixed
+pub mod Cases
 pub mod Collections
 pub mod Pushing
 pub mod Lengths

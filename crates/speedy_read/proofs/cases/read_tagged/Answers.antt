@@ -1,5 +1,5 @@
 use Rattle.std.proofs.Common.{refl}
-use Rattle.speedy_read.specs.Prefixed.{tagged_composes}
+use Rattle.speedy_read.proofs.CaseLemmas.{tagged_composes, behind_read}
 use Rattle.speedy_read.specs.Sequences.{refused_first, second_decides}
 use Rattle.speedy_read.proofs.cases.read_tagged.Goals as goal
 
@@ -13,4 +13,4 @@ returns g c =
     let number = c.in_ok-tag.ensures in
     second_decides (tagged_composes g.N.Prefix.numbers.codec.format g.T.Cases.choices _)
     (g.N.Prefix.numbers.codec.laws _) number
-    (rw number.kept.mode at c.read_case.ensures) (λ _. refl)
+    (behind_read _ _ number.kept.mode c.read_case.ensures) (λ _. refl)
