@@ -31,6 +31,7 @@ pub use Rattle.speedy_layout.specs.Gathering
 pub use Rattle.speedy_layout.specs.Equality
 pub use Rattle.speedy_layout.specs.Laws
 pub use Rattle.speedy_layout.specs.Leaves
+pub use Rattle.speedy_layout.specs.Lengths as LayoutLengths
 pub use Rattle.speedy_layout.specs.Lists
 pub use Rattle.speedy_layout.specs.Maps
 pub use Rattle.speedy_layout.specs.Members

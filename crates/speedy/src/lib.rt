@@ -12,6 +12,7 @@ pub mod cases;
 pub mod ext;
 pub mod laws;
 pub mod layout;
+pub mod lengths;
 pub mod prefixed;
 pub mod private;
 pub mod readable_impl;
@@ -33,6 +34,8 @@ mod tests_floats;
 mod tests_frames;
 #[cfg(test)]
 mod tests_laws;
+#[cfg(test)]
+mod tests_lengths;
 #[cfg(test)]
 mod tests_lent;
 #[cfg(test)]

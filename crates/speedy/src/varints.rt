@@ -4,6 +4,7 @@ ghost use Rattle.speedy_layout.specs.Codecs.{varint_codec};
 
 use crate::context::Context;
 use crate::layout::Layout;
+use crate::lengths::{Holds, ReadHolds, WriteHolds};
 use crate::many::ItemByItem;
 use crate::readable::ReadFrom;
 use crate::reader::LendingReader;
@@ -42,5 +43,41 @@ impl<C: Context> Writable<C> for Varint {
     #[inline]
     fn write_to<W: Writer<C>>(&self, writer: &mut W) -> Result<(), C::Error> {
         writer.write_u64_varint(self.0)
+    }
+}
+
+impl Holds for Varint {
+    type Numbers = u64;
+
+    ghost Seen = { ℕ };
+
+    ghost seen = { λ it. it.0 };
+
+    ghost layout = { varint_codec };
+
+    ghost numbers = { λ n. n };
+
+    #[inline]
+    fn numbers(&self) -> u64 {
+        self.0
+    }
+}
+
+impl<L: AsSlice<u8> + Drop, C: Context> ReadHolds<L, C> for Varint {
+    #[inline]
+    fn read_parts<R: LendingReader<L, C>>(reader: &mut R) -> Result<Varint, C::Error> {
+        reader.read_value()
+    }
+
+    #[inline]
+    fn least_size() -> usize {
+        1
+    }
+}
+
+impl<C: Context> WriteHolds<C> for Varint {
+    #[inline]
+    fn write_parts<W: Writer<C>>(&self, writer: &mut W) -> Result<(), C::Error> {
+        writer.write_value(self)
     }
 }

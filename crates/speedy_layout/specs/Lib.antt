@@ -35,5 +35,6 @@ pub mod Codecs
 pub mod Prefixed
 pub mod Choices
 pub mod Frames
+pub mod Lengths
 pub mod Views
 pub mod ViewIters

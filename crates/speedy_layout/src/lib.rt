@@ -11,6 +11,7 @@ pub mod frames;
 pub mod laws;
 pub mod layout;
 pub mod leaves;
+pub mod lengths;
 pub mod lists;
 pub mod magic;
 pub mod maps;

@@ -12,6 +12,7 @@ pub mod AddressLemmas
 pub mod BufferLemmas
 pub mod RoundTripLemmas
 pub mod CollectionLemmas
+pub mod LengthLemmas
 pub mod LentLemmas
 pub mod FrameLemmas
 pub mod ViewLemmas

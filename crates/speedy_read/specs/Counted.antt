@@ -1,26 +1,17 @@
 -- Lists and texts behind a count of any format: a count is read, and then the items or bytes.
-use Rattle.std.specs.Prelude.{◌≡◌, ℕ, List, length}
-use Rattle.std.proofs.Common.{sym, ◌∙◌, ap}
+use Rattle.std.specs.Prelude.{ℕ, List}
 use Rattle.speedy_base.specs.Mode.{Mode}
-use Rattle.speedy_layout.specs.Codes.{coding, Accepts-exact_means}
 use Rattle.speedy_layout.specs.Format.{Format}
+use Rattle.speedy_layout.specs.Lengths.{text_length}
 use Rattle.speedy_layout.specs.Lists.{vector, vector_length, vector_asks, prefixed_list}
-use Rattle.speedy_layout.specs.Owned.{owned_content}
 use Rattle.speedy_layout.specs.Sequences.{counted_parts, so_many}
-use Rattle.speedy_layout.specs.Texts.{raw_bytes, text_of_length, text_asks, prefixed_text}
+use Rattle.speedy_layout.specs.Texts.{text_of_length, text_asks, prefixed_text}
 use Rattle.speedy_read.specs.Sequences.{Composes, sequence_composes}
 
 pub prefixed_list_composes : {V : Type 0} (count : Format ℕ) (F : Format V)
     → Composes count (λ n. vector n F) (prefixed_list count F) (λ n vs. vs)
 prefixed_list_composes count F =
     sequence_composes counted_parts (vector_asks F) (λ n vs s h. so_many n vs (vector_length n F vs s h))
-
--- a text of n bytes has n
-text_length : (mode : Mode) (n : ℕ) (t s : List ℕ) → (text_of_length mode n).encodes t s → length t ≡ n
-unfolding text_of_length owned_content coding raw_bytes
-text_length mode n t s h =
-    let is = Accepts-exact_means mode.strict _ _ _ _ h.stands in
-    ap length (sym is.0 ∙ h.code_is.0) ∙ h.code_is.1
 
 pub prefixed_text_composes : (mode : Mode) (count : Format ℕ)
     → Composes count (text_of_length mode) (prefixed_text mode count) (λ n t. t)

@@ -23,6 +23,7 @@ mod frame_reader;
 pub mod frames;
 pub mod laws;
 pub mod leaves;
+pub mod lengths;
 pub mod lent;
 pub mod lists;
 pub mod magic;

@@ -4,6 +4,7 @@ pub mod CountLemmas
 pub mod FillLemmas
 pub mod FixedLemmas
 pub mod BufferingLemmas
+pub mod LengthLemmas
 pub mod ListLemmas
 pub mod FrameLemmas
 pub mod NonZeroLemmas

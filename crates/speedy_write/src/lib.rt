@@ -19,6 +19,7 @@ pub mod flags;
 pub mod floats;
 pub mod frames;
 pub mod leaves;
+pub mod lengths;
 pub mod lists;
 pub mod magic;
 pub mod maps;

@@ -1,0 +1,134 @@
+-- Parts that tell the length of what stands behind them: of a text its number of bytes, of a list that of its items.
+use Rattle.std.specs.Prelude.{◌≡◌, ℕ, ◌+◌, List, Bool, ◌⊎◌, length, true, false}
+use Rattle.std.proofs.Common.{ap, arith, inl, inr, sym, ◌∙◌}
+use Rattle.speedy_base.specs.Mode.{Mode}
+use Rattle.speedy_base.specs.declared.error.ErrorKind.{ErrorKind}
+use Rattle.speedy_base.specs.declared.error.ErrorKind.TheVariants as kinds
+use Rattle.speedy_layout.specs.Codecs.{Codec, borrowed_codec, subset_codec, vector_codec}
+use Rattle.speedy_layout.specs.Codes.{coding, Accepts-exact_means}
+use Rattle.speedy_layout.specs.Format.{Asks, asks_nothing, Format, IsOwnKind}
+use Rattle.speedy_layout.specs.Laws.{Laws, Laws-less}
+use Rattle.speedy_layout.specs.Lists.{vector_asks, vector_length}
+use Rattle.speedy_layout.specs.Owned.{borrowed_content, owned_content}
+use Rattle.speedy_layout.specs.Sequences.{AsksAtMost, sequence, sequence_laws}
+use Rattle.speedy_layout.specs.Texts.{raw_bytes, text_of_length, text_of_length_laws, text_asks}
+
+-- Texts or lists of a length that their encoding does not say.
+pub record Counting (V : Type 0) : Type 1 where
+  -- how long a value is
+  pub count : V → ℕ
+  -- the values of a length
+  pub of_length : ℕ → Codec V
+  -- what any of them asks
+  pub asks : Mode → Asks
+  pub within : (f : Mode) (n : ℕ) → AsksAtMost ((of_length n).format f).asks (asks f)
+  -- values of another length are not among them
+  pub is_count : (f : Mode) (n : ℕ) (v : V) (s : List ℕ) → ((of_length n).format f).encodes v s → count v ≡ n
+
+-- the refusal of another length than is told, which names the field
+abbrev pub IsOtherLength : List ℕ → ErrorKind → Type 0
+IsOtherLength field (kinds.LengthIsNotTheSameAsLengthAttribute name) = name.now ≡ field
+IsOtherLength field _ = ⊥
+
+-- the same values, where writing refuses others as those of another length
+abbrev pub told_length : {V : Type 0} → List ℕ → Format V → Format V
+told_length field F = record F { refuses_writing = λ kind. IsOtherLength field kind ⊎ F.refuses_writing kind }
+
+other_length_own : (field : List ℕ) (kind : ErrorKind) → IsOtherLength field kind → IsOwnKind kind
+other_length_own field (kinds.LengthIsNotTheSameAsLengthAttribute name) h = tt
+other_length_own field _ h = absurd h
+
+pub told_length_laws : {V : Type 0} {strict : Bool} {least : ℕ} {F : Format V} (field : List ℕ)
+    → Laws strict least F → Laws strict least (told_length field F)
+told_length_laws field laws = record {
+  decodes = laws.decodes;
+  tells = laws.tells;
+  written_encodes = laws.written_encodes;
+  written_alone = laws.written_alone;
+  shortest = laws.shortest;
+  least_size = laws.least_size;
+  has_written = laws.has_written;
+  one_written = laws.one_written;
+  malformed_undecodable = laws.malformed_undecodable;
+  names_own = laws.names_own;
+  refuses_own = λ kind h. elim h [ inl x ↦ other_length_own field kind x | inr x ↦ laws.refuses_own kind x ];
+}
+
+-- Parts, and behind them a value of the length that is told of them. Where none is told, the parts are refused as a
+-- length that is out of range.
+abbrev pub told_codec : {B : Type 0} → (B → Type 0) → Codec B → Codec B
+told_codec is_told before = subset_codec is_told kinds.OutOfRangeLength tt before
+
+abbrev pub with_length_codec : {B V : Type 0} → (B → Type 0) → (B → ℕ) → List ℕ → Codec B → Counting V → Codec (B × V)
+with_length_codec {B = B} {V = V} is_told told field before counting = record {
+  least = before.least;
+  format = λ f. sequence (λ (p : B × V). p) ((told_codec is_told before).format f) (counting.asks f)
+      (λ b. told_length field ((counting.of_length (told b)).format f));
+  laws = λ f. Laws-less {n = before.least + 0} (omega arith)
+      (sequence_laws {n = before.least} {m = 0} ((told_codec is_told before).laws f)
+      (λ b. Laws-less (omega arith) (told_length_laws field ((counting.of_length (told b)).laws f)))
+      (λ b. counting.within f (told b)) (λ v w e. e));
+}
+
+-- lists of n items
+abbrev pub list_counting : {V : Type 0} → Codec V → Counting (List V)
+list_counting item = record {
+  count = length;
+  of_length = λ n. vector_codec n item;
+  asks = λ f. record (item.format f).asks { memory = true };
+  within = λ f n. vector_asks (item.format f) n;
+  is_count = λ f n v s h. vector_length n (item.format f) v s h;
+}
+
+pub borrowed_asks : {V : Type 0} (F : Format V) {asks : Asks} → AsksAtMost F.asks asks
+    → AsksAtMost (borrowed_content F).asks (record asks { lending = true; memory = false })
+unfolding borrowed_content
+borrowed_asks F h = record { lending = λ t. t; hashed = h.hashed; memory = λ t. t }
+
+pub borrowed_count : {V : Type 0} (F : Format V) {count : V → ℕ} {n : ℕ}
+    → ((v : V) (s : List ℕ) → F.encodes v s → count v ≡ n)
+    → (v : V) (s : List ℕ) → (borrowed_content F).encodes v s → count v ≡ n
+unfolding borrowed_content
+borrowed_count F h = h
+
+-- a text of n bytes has n
+pub text_length : (mode : Mode) (n : ℕ) (t s : List ℕ) → (text_of_length mode n).encodes t s → length t ≡ n
+unfolding text_of_length owned_content coding raw_bytes
+text_length mode n t s h =
+    let is = Accepts-exact_means mode.strict _ _ _ _ h.stands in
+    ap length (sym is.0 ∙ h.code_is.0) ∙ h.code_is.1
+
+-- texts of n bytes
+abbrev pub text_counting : Counting (List ℕ)
+text_counting = record {
+  count = length;
+  of_length = λ n. record { least = n; format = λ f. text_of_length f n; laws = λ f. text_of_length_laws f n };
+  asks = λ _. record asks_nothing { memory = true };
+  within = text_asks;
+  is_count = text_length;
+}
+
+-- those that borrow their content
+abbrev pub borrowed_counting : {V : Type 0} → Counting V → Counting V
+borrowed_counting counting = record {
+  count = counting.count;
+  of_length = λ n. borrowed_codec (counting.of_length n);
+  asks = λ f. record (counting.asks f) { lending = true; memory = false };
+  within = λ f n. borrowed_asks ((counting.of_length n).format f) (counting.within f n);
+  is_count = λ f n. borrowed_count ((counting.of_length n).format f) (λ v s. counting.is_count f n v s);
+}
+
+-- ---- what neither is told a length nor has the one that is told is no such value
+
+module _ {B V : Type 0} (is_told : B → Type 0) (told : B → ℕ) (field : List ℕ) (before : Codec B)
+    (counting : Counting V)
+    (f : Mode) (b : B) (v : V) where
+  pub untold_undecodable : (is_told b → ⊥) → (s : List ℕ)
+      → ((with_length_codec is_told told field before counting).format f).encodes (b, v) s → ⊥
+  unfolding sequence coding
+  untold_undecodable untold s h = untold (Accepts-exact_means f.strict _ _ _ _ h.first_is.stands).1
+
+  pub other_length_undecodable : (counting.count v ≡ told b → ⊥) → (s : List ℕ)
+      → ((with_length_codec is_told told field before counting).format f).encodes (b, v) s → ⊥
+  unfolding sequence
+  other_length_undecodable other s h = other (counting.is_count f (told b) v h.suffix h.second_is)
