@@ -9,6 +9,11 @@ def struct(fields, name="A", head=HEAD):
     return f"{head}{DERIVES}struct {name} {{\n{fields}\n}}\n"
 
 
+def told(length, number, kind="Vec<u8>", before=""):
+    """A struct of a number `n` and, in line 6, of a field that has a length."""
+    return struct(f"    {before}n: {number},\n    #[speedy(length = {length})]\n    a: {kind}")
+
+
 BROKEN = [
     # Syntax.
     ("a text without an end", struct('    #[speedy(constant_prefix = "ab)]\n    a: u8'), 4, "no end"),
@@ -63,6 +68,33 @@ BROKEN = [
     ("an enum without variants", HEAD + DERIVES + "enum A {}", 3, "has no variant"),
     ("a tag at a field", struct("    #[speedy(tag = 1)]\n    a: u8"), 4, "no setting `tag`"),
     ("a length of a number", struct("    #[speedy(length_type = u8)]\n    a: u32"), 5, "`length_type` is taken of"),
+    # Lengths.
+    ("a length of a later field", struct("    #[speedy(length = n)]\n    a: Vec<u8>,\n    n: u8"), 4,
+     "no earlier field"),
+    ("a length of itself", struct("    #[speedy(length = a)]\n    a: Vec<u8>"), 4, "no earlier field"),
+    ("a length of no field", told("m", "u8"), 5, "`m` is neither an earlier field"),
+    ("a length of a skipped field", told("n", "u8", before="#[speedy(skip)] "), 5,
+     "neither an earlier field with bytes"),
+    ("a length of a field of another variant", HEAD + DERIVES + "enum A {\n    B(u8),\n    C(\n"
+     "        #[speedy(length = t0)]\n        Vec<u8>,\n    ),\n}", 6, "no earlier field"),
+    ("a length of a signed number", told("n", "i32"), 5, "`n` tells no length"),
+    ("a length of a text", told("n * 2", "String"), 5, "`n` tells no length"),
+    ("a sum of two types", struct("    m: u16,\n    n: u8,\n    #[speedy(length = n + m)]\n    a: Vec<u8>"), 6,
+     "have no `+` in Rust"),
+    ("a division by zero", told("n / 0", "u8"), 5, "divides by zero"),
+    ("a literal past the type of a field", told("n * 256", "u8"), 5, "256 is no `u8`"),
+    ("a cast that loses bits", told("n as u8", "u32"), 5, "loses bits"),
+    ("a cast to a signed number", told("n as i64", "u32"), 5, "a length is computed in"),
+    ("a sign that lengths have not", told("n << 2", "u8"), 5, "a length is made of"),
+    ("a length below nothing", told("2 - 3", "u8"), 5, "-1 is no `usize`"),
+    ("a length by a method", told("n.into()", "u8"), 5, "a method"),
+    ("a length of a map", "use std::collections::BTreeMap;\n" + told("n", "u8", "BTreeMap<u8, u8>"), 7,
+     "maps and sets"),
+    ("a length of what has none", told("n", "u8", "Option<String>"), 6, "`length` is taken of"),
+    ("a length behind a reference", HEAD + "#[derive(Writable)]\n"
+     "struct A<'a> {\n    n: u8,\n    #[speedy(length = n)]\n    a: &'a String,\n}", 6, "`length` is taken of"),
+    ("a number with a length", told("n", "u8", "u64").replace("length", "varint, length"), 6, "a number has no length"),
+    ("a type named as a length", told("n", "u8") + DERIVES + "struct AALength;", 6, "another name"),
     # Types.
     ("a reference to floats", HEAD + DERIVES + "struct A<'a>(&'a [f64]);", 3, "SliceView<'a, F64>"),
     ("an atomic", "use std::sync::atomic::AtomicU8;\n" + struct("    a: AtomicU8"), 5, "hold the number"),

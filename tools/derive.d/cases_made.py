@@ -155,6 +155,57 @@ struct Index<K, V> {
       "let text: Option<Prefixed<u16, _>> = match text {\n                    Some(text) => Some(Prefixed {",
       "type CParts = Option<Prefixed<u16, Vec<u8>>>;",
       "let text: Option<Prefixed<u16, _>> = match &self.text {\n            Some(text) => Some(Prefixed {"]),
+    ("a length that a field tells", DERIVES + """struct Counted {
+    length: u8,
+    #[speedy(length = length * 2)]
+    data: Vec<bool>,
+    last: u16,
+}
+""", ["use speedy::lengths::{Length, WithLength};", "/// The length of [`Counted::data`].\nstruct CountedDataLength {}",
+      "impl Length<u8> for CountedDataLength {", "ghost is_told = { λ n. n * 2 < 2 ^ 8 };",
+      "ghost told = { λ n. n * 2 };", 'ghost field = { codes "data" };', "Some(length.checked_mul(2)? as usize)",
+      '        "data"\n', "type CountedParts = (WithLength<CountedDataLength, u8, Vec<bool>>, u16);",
+      "(it.length, ⟦<Vec<bool> as Layout>⟧.seen it.data)", "length: data.before,\n                data: data.value,",
+      "let data: WithLength<CountedDataLength, _, _> = WithLength {\n            before: self.length,",
+      "writer.write_value(&(data, Part(&self.last)))"]),
+    ("lengths behind other parts", DERIVES + """struct Header<T> {
+    first: String,
+    name_length: u16,
+    #[speedy(length_type = u8)]
+    note: String,
+    #[speedy(varint)]
+    count: u64,
+    #[speedy(length = name_length)]
+    name: String,
+    #[speedy(constant_prefix = "V", length = count + name_length as u64)]
+    value: Vec<T>,
+}
+""", ["impl Length<((u16, ()), u64)> for HeaderNameLength {", "ghost is_told = { λ _. Unit {0} };",
+      "fn length(((name_length, _), _): ((u16, ()), u64)) -> Option<usize> {",
+      "ghost told = { λ it. it.0.1 + it.0.0.0 };", "Some(count.checked_add(name_length as u64)? as usize)",
+      "            WithLength<HeaderNameLength, ((u16, Other<Prefixed<u8, String>>), Varint), String>,\n"
+      "            Other<Magic<BeforeHeaderValue>>,", "T: ReadMany<L, C>> ReadFrom<L, C> for Header<T> {",
+      "let (before2, _) = before;", "name_length,\n                    note: note.0.value,\n"
+      "                    count: count.0,\n                    name,",
+      "before: ((self.name_length, Other(note)), Varint(self.count)),",
+      "before: (name, Other(Magic::<BeforeHeaderValue>::new())),"]),
+    ("lengths of what borrows, and those that no field tells", "use std::borrow::Cow;\nconst SIZE: usize = 2 + 2;\n"
+     + DERIVES + "struct A<'a>(u8, #[speedy(length = t0)] &'a str, #[speedy(length = SIZE)] Cow<'a, [u8]>);\n",
+     ['codes "1"', "fn length(t0: u8) -> Option<usize> {\n        Some(t0 as usize)", "impl Length<()> for AT2Length {",
+      "{ λ _. 4 }", "fn length(_numbers: ()) -> Option<usize> {\n        Some(SIZE)",
+      "    WithLength<AT2Length, Other<()>, CowSlice<'a, u8>>,", "Ok(A(t1.before, t1.value, t2.value))",
+      "before: Other(()),"]),
+    ("lengths in cases", DERIVES + """enum Choice {
+    A { n: u8, #[speedy(length = n)] items: Vec<u16> },
+    B(u32, u8, String, #[speedy(length = (t0 - t1 as u32) * 4 / 3 + 1000 / t0)] Vec<u8>),
+}
+""", ["struct ChoiceAItemsLength {}", "λ it. (it.0.1 ≤ it.0.0)\n        × ((it.0.0 - it.0.1) * 4 < 2 ^ 32)\n"
+      "        × (it.0.0 ≢ 0)\n", "let step1 = t0.checked_sub(t1 as u32)?;", "let step3 = 1000_u32.checked_div(t0)?;",
+      "let step4 = (step2 / 3).checked_add(step3)?;", "Some(step4 as usize)",
+      "type ChoiceBParts = WithLength<ChoiceBT3Length, ((u32, u8), Other<String>), Vec<u8>>;",
+      "| Choice.A t0 t1 ↦ inl (t0, ⟦<Vec<u16> as Layout>⟧.seen t1)",
+      "let (before2, t2) = before;\n                    let (t0, t1) = before2;\n"
+      "                    Ok(Choice::B(t0, t1, t2.0, t3))", "before: ((*t0, *t1), Other(Part(t2))),"]),
     ("constants of each kind", DERIVES + "struct A(" + ", ".join(
         f"#[speedy(constant_prefix = {it})] ()" for it in ("'é'", "-1_i8", "true", "b'x'", "7u8")) + ");\n",
      ["{ 195 ∷ 169 ∷ [] }", "{ 255 ∷ [] }", "{ 1 ∷ [] }", "{ 120 ∷ [] }", "{ 7 ∷ [] }"]),
@@ -232,9 +283,21 @@ class Random:
         if self.random.random() < 0.4:
             fields = ", ".join(self.random.choice(["pub ", ""]) + kind for kind in kinds)
             return f"{head}({fields}){where};\n"
-        fields = "".join(f"{self.docs('    ')}    {self.random.choice(['pub ', ''])}{self.name()}{it}: {kind},\n"
-                         for it, kind in enumerate(kinds))
-        return f"{head}{where} {{\n{fields}}}\n"
+        return f"{head}{where} {{\n{self.named_fields(kinds)}}}\n"
+
+    def named_fields(self, kinds):
+        """The fields of a struct, of which earlier ones may tell the lengths of later ones."""
+        found, numbers = "", []
+        for it, kind in enumerate(kinds):
+            name = f"{self.name()}{it}"
+            has_length = kind.startswith(("Vec", "String", "Box<[")) and self.random.random() < 0.5
+            if has_length and numbers and len(kinds) < 14:
+                told = self.random.choice(numbers[-3:])
+                found += f"    #[speedy(length = {self.random.choice([told, f'{told} * 2', f'({told} - 1) / 8'])})]\n"
+            if kind in ("u8", "u16", "u32", "u64"):
+                numbers.append(name)
+            found += f"{self.docs('    ')}    {self.random.choice(['pub ', ''])}{name}: {kind},\n"
+        return found
 
 
 def random_source(seed):

@@ -5,9 +5,9 @@ from generics import Generics, impl_lines
 from layout import call, lines, pattern, pattern_braces
 from refusal import Refusal
 from scope import names_in, text
-from structs import (NUMBERS, Access, arm_lines, asked_of, built, clause_lines, fold, function_lines, is_nested,
-                     layout_lines, lent_of, number_of, parts_of, prefixed, read_head, seen_of_parts, split, taken_apart,
-                     type_node, write_head, written)
+from structs import (NUMBERS, Access, arm_lines, asked_of, built, clause_lines, fold, function_lines, layout_lines,
+                     lent_of, number_of, parts_of, read_head, seen_of_parts, split, taken_arm, type_node, write_head,
+                     written)
 
 
 class Case:
@@ -228,15 +228,14 @@ def read_lines(shape):
 def read_arm(shape, case):
     """An arm of it. An error is passed on by a `match`, as of a struct."""
     variant = case.variant
-    value = call("Ok(", [built(f"{shape.item.name}::{variant.name}", variant.shape, variant.fields, case.accesses)])
+
+    def value():
+        return call("Ok(", [built(f"{shape.item.name}::{variant.name}", variant.shape, variant.fields, case.accesses)])
+
     if not case.parts:
-        return arm_lines(str(variant.tag), value)
+        return arm_lines(str(variant.tag), value())
     kind = "" if case.is_told() else f"::<{text(shape.parts_of_case(case))}>"
-    bound = fold(case.tree, lambda it: it.bound, lambda its: pattern("(", its))
-    if is_nested(case.tree):
-        arm = taken_apart("Ok(parts)", case.tree, value, 16)
-    else:
-        arm = arm_lines(pattern("Ok(", [bound]), value, 16)
+    arm = taken_arm(lambda bound: pattern("Ok(", [bound]), case, case.accesses, value, 16)
     return [f"            {variant.tag} => match reader.read_value{kind}() {{", *arm,
             "                Err(error) => Err(error),", "            },"]
 
@@ -282,9 +281,8 @@ def write_arm(shape, case):
         return arm_lines(bound, "Ok(())")
     before = []
     for part in case.parts:
-        if part.before:
-            name, kind = part.before
-            before += lines(prefixed(part), 16, f"let {name}: {kind} = ", ";")
+        for name, kind, value in part.statements():
+            before += lines(value, 16, f"let {name}: {kind} = ", ";")
             part.written = name
             shape.scope.need("speedy", "Part", shape.item.line)
     value = call("writer.write_value(", [written(shape, case.tree, case.parts)])

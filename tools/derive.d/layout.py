@@ -1,6 +1,8 @@
 """Lays out what is written as `rt fmt` does: at most 100 columns, one part a line where it does not fit."""
 
 WIDTH = 100
+# So wide may a clause be.
+GHOST_WIDTH = 118
 # So wide may what stands in the brackets of a call or of a tuple, and in the braces of a struct, be on one line.
 CALL_WIDTH = 60
 BRACES_WIDTH = 18

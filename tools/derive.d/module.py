@@ -27,7 +27,7 @@ class Made:
         # What clauses import from `Prelude` and from `Common`, and the constants before fields.
         self.scope.ghosts = set()
         self.scope.sides = set()
-        self.scope.constants_made = []
+        self.scope.made_beside = []
         self.file = file
         self.sort_attributes()
         self.refuse_cycles()
@@ -101,12 +101,12 @@ class Made:
         if isinstance(item, syntax.Alias):
             kind = self.scope.convert(item.type, (), True)
             return docs(item, "") + lines(structs.type_node(kind), 0, f"{item.visibility}type {item.name} = ", ";")
-        self.scope.constants_made = []
+        self.scope.made_beside = []
         if isinstance(item, syntax.Enum):
             made = enums.enum_lines(item, self.scope, attributes.of_field, attributes.of_variant, self.place)
         else:
             made = structs.struct_lines(item, self.scope, attributes.of_field)
-        return declaration(item, self.scope) + self.scope.constants_made + [""] + made
+        return declaration(item, self.scope) + self.scope.made_beside + [""] + made
 
 
 def docs(item, indent):

@@ -1,10 +1,11 @@
 """The impls of a struct: it has the layout of the tuple of its parts, is read as that and written as it."""
 from dataclasses import dataclass
 
+import lengths
 import syntax
 from generics import Generics, impl_lines
 from known import PART
-from layout import WIDTH, Node, binding, braces, call, flat, generic, lines, matched, pattern, written_call
+from layout import GHOST_WIDTH, WIDTH, Node, binding, braces, call, generic, lines, matched, pattern, written_call
 from refusal import Refusal
 from scope import asks, names_in, text
 
@@ -18,7 +19,6 @@ COUNTED = ("String", "Vec", "BoxedStr", "BoxedSlice", "SmallVec", "BTreeMap", "H
 # step limit.
 MOST_PARTS = 6
 PARTS_OF_MANY = 4
-GHOST_WIDTH = 118
 
 
 @dataclass
@@ -35,6 +35,20 @@ class Part:
     before: object = None
     # Whether it is an option of what stands behind a length.
     of_option: bool = False
+    # The tree that it is where a length is told of it, by what stands in the tree before it.
+    tree: object = None
+
+    def node(self):
+        """What is written of it, where its type is known."""
+        if self.tree is not None:
+            return self.tree.written()
+        return prefixed(self) if self.before else written_call(self.written)
+
+    def statements(self):
+        """The variables that it is written by, which say its type: each a name, a type and a value."""
+        if self.tree is not None:
+            return self.tree.stated()[0]
+        return [(*self.before, prefixed(self))] if self.before else []
 
 
 def split(parts):
@@ -129,6 +143,8 @@ class Access:
     seen: str
     reference: str
     value: str
+    # What was read of it, where that is not what is bound.
+    read: str = ""
 
 
 def accesses_of(fields):
@@ -142,7 +158,7 @@ def accesses_of(fields):
 
 def parts_of(item, scope, fields, accesses, of_field, owner=None):
     """The parts of the fields, and the types of those that are skipped. `owner` is the struct, or a variant's path."""
-    parts, skipped = [], []
+    items, skipped, owner = [], [], owner or item.name
     for field, access in zip(fields, accesses):
         field.options = of_field(field)
         kind = scope.convert(field.type, item.parameters, not item.readable)
@@ -150,29 +166,36 @@ def parts_of(item, scope, fields, accesses, of_field, owner=None):
             skipped.append(kind)
             continue
         if field.options.constant is not None:
-            parts.append(constant_part(scope, field, access, owner or item.name))
-        parts.append(part_of(scope, field, access, kind))
-    return parts, skipped
+            items.append(lengths.Item(constant_part(scope, field, access, owner)))
+        items.append(lengths.Item(part_of(scope, field, access, kind), field, access))
+    return [it if isinstance(it, Part) else told_part(it) for it in lengths.joined(items, scope, owner)], skipped
 
 
 def part_of(scope, field, access, kind):
     """The part of one field."""
     options = field.options
-    if options.length is not None:
-        raise Refusal(field.line, "`length` is not taken yet: write the impls of this type by hand, with `vector`")
     if options.varint:
         return varint_part(scope, field, access, kind)
     if options.length_type:
         return prefixed_part(scope, field, access, kind)
+    if options.length is not None:
+        lengths.check_type(field, kind)
+        scope.need("speedy", "Part", field.line)
     return Part(kind, access.bound, access.seen, f"Part({access.reference})")
+
+
+def told_part(tree):
+    """What has a length that is told, with all that stands between it and what tells it."""
+    bound = tree.item.access.bound
+    return Part(tree.type, bound, "", bound, tree.seen(seen_of), tree=tree)
 
 
 def varint_part(scope, field, access, kind):
     """A number that is written in as few bytes as it needs."""
     if text(kind) != "u64":
         raise Refusal(field.line, "`varint` is for fields of the type `u64`")
-    if field.options.length_type:
-        raise Refusal(field.line, "a number has no length: leave `length_type` out")
+    if field.options.length_type or field.options.length is not None:
+        raise Refusal(field.line, "a number has no length: leave that out")
     scope.need("speedy::varints", "Varint", field.line)
     varint = syntax.Named(field.line, ("Varint",))
     return Part(varint, access.bound, access.seen, f"Varint({access.value})", access.seen)
@@ -225,7 +248,7 @@ def constant_part(scope, field, access, owner):
     data = field.options.constant
     listed = " ∷ ".join([str(byte) for byte in data] + ["[]"])
     label = field.name or access.bound[1:]
-    scope.constants_made += ["", f"/// The bytes before [`{owner}::{label}`].", "#[derive(Drop)]",
+    scope.made_beside += ["", f"/// The bytes before [`{owner}::{label}`].", "#[derive(Drop)]",
                              f"struct {name} {{}}", "", f"impl Constant for {name} {{",
                              f"    ghost bytes = {{ {listed} }};", "",
                              "    fn bytes() -> &'static [u8] {", f"        {byte_string(data)}", "    }", "}"]
@@ -242,18 +265,18 @@ def built(name, shape, fields, accesses):
     """A struct or a variant, of the variables that its parts are bound to."""
     values = []
     for field, access in zip(fields, accesses):
-        value = access.bound
+        value = access.read or access.bound
         if field.options.skip:
             value = "Default::default()"
         elif field.options.varint:
-            value = f"{access.bound}.0"
+            value = f"{value}.0"
         elif field.options.of_option:
             label, some = f"{field.name}: " if field.name else "", f"Some({access.bound})"
             arms = [f"{some} => Some({access.bound}.value)", "None => None"]
-            values.append(matched(f"{label}match {access.bound}", arms))
+            values.append(matched(f"{label}match {value}", arms))
             continue
         elif field.options.length_type:
-            value = f"{access.bound}.value"
+            value = f"{value}.value"
         values.append(value if not field.name or value == field.name else f"{field.name}: {value}")
     if shape == "unit":
         return name
@@ -271,8 +294,9 @@ def struct_lines(item, scope, of_field):
     shape = Shape(item, scope, parts, skipped, f"{item.name}Parts")
     found = shape.alias_lines() + layout_lines(shape, seen_lines(shape))
     if item.readable:
-        value = built(item.name, item.shape, item.fields, accesses)
-        found += [""] + read_lines(shape, read_body(shape, value))
+        arm = taken_arm(lambda bound: pattern("Ok(", [bound]), shape, accesses,
+                        lambda: call("Ok(", [built(item.name, item.shape, item.fields, accesses)]))
+        found += [""] + read_lines(shape, read_body(shape, arm))
     if item.writable:
         found += [""] + write_lines(shape)
     return found
@@ -299,21 +323,13 @@ def seen_lines(shape):
 def seen_of_parts(tree, parts, quoted):
     """What is seen of parts: what stands before a tuple of clauses, and that tuple."""
     if any(part.seen_alone for part in parts):
-        return "", fold(tree, seen_of, paired)
+        return "", fold(tree, seen_of, lengths.paired)
     return f"⟦<{quoted} as Layout>⟧.seen ", fold(tree, lambda part: part.seen, list)
 
 
 def seen_of(part):
     """What is seen of a part by itself."""
     return part.seen_alone or f"⟦<{text(part.type)} as Layout>⟧.seen {part.seen}"
-
-
-def paired(its):
-    """Parts as pairs that nest to the right, as what is seen of a tuple does."""
-    found = its[-1]
-    for it in reversed(its[:-1]):
-        found = [it, found]
-    return found
 
 
 def clause_text(tree):
@@ -385,18 +401,12 @@ def least_lines(shape, trait):
             "    {", *call_of, "    }"]
 
 
-def read_body(shape, value):
+def read_body(shape, arm):
     """The body of `read_from`: the tuple of parts, taken apart. An error is passed on by a `match`, since with `?` the
     search for proofs meets its step limit in a struct that holds others."""
     read = "reader.read_value()"
     if any(part.seen_alone for part in shape.parts):
         read = f"reader.read_value::<{shape.parts_type}>()"
-    bound = "()" if not shape.parts else fold(shape.tree, lambda it: it.bound, lambda its: pattern("(", its))
-    value = call("Ok(", [value])
-    if is_nested(shape.tree):
-        arm = taken_apart("Ok(parts)", shape.tree, value)
-    else:
-        arm = arm_lines(pattern("Ok(", [bound]), value)
     return [f"        match {read} {{", *arm, "            Err(error) => Err(error),", "        }"]
 
 
@@ -405,8 +415,22 @@ def is_nested(tree):
     return isinstance(tree, list) and any(isinstance(it, list) for it in tree)
 
 
-def taken_apart(head, tree, value, indent=12):
-    """An arm of a `match` whose tuple is taken apart in it, tuple by tuple.
+def taken_arm(wrap, parted, accesses, value, indent=12):
+    """An arm of a `match` in which parts are taken apart. `wrap` makes its pattern of theirs, `parted` has the parts
+    and their tree, and `value` makes what is built of them."""
+    names = lengths.Names(access.bound for access in accesses)
+    taken = [line for part in parted.parts if part.tree is not None
+             for line in part.tree.taken(part.bound, names, indent + 4)]
+    if is_nested(parted.tree):
+        return taken_apart(wrap("parts"), parted.tree, taken + lines(value(), indent + 4), indent)
+    bound = "()" if not parted.parts else fold(parted.tree, lambda it: it.bound, lambda its: pattern("(", its))
+    if not taken:
+        return arm_lines(wrap(bound), value(), indent)
+    return lines(wrap(bound), indent, "", " => {") + taken + lines(value(), indent + 4) + [" " * indent + "}"]
+
+
+def taken_apart(head, tree, behind, indent):
+    """An arm of a `match` whose tuple is taken apart in it, tuple by tuple, before the lines `behind`.
 
     No pattern moves out of tuples in a tuple.
     """
@@ -425,7 +449,7 @@ def taken_apart(head, tree, value, indent=12):
                 bound.append(part.bound)
         found += binding(pattern("(", bound), name, indent + 4)
         waiting = inner + waiting
-    return found + lines(value, indent + 4) + [" " * indent + "}"]
+    return found + behind + [" " * indent + "}"]
 
 
 def arm_lines(bound, value, indent=12):
@@ -441,9 +465,8 @@ def write_lines(shape):
     """`impl Writable`."""
     found = write_head(shape)
     for part in shape.parts:
-        if part.before:
-            name, kind = part.before
-            found += lines(prefixed(part), 8, f"let {name}: {kind} = ", ";")
+        for name, kind, value in part.statements():
+            found += lines(value, 8, f"let {name}: {kind} = ", ";")
             part.written = name
             shape.scope.need("speedy", "Part", shape.item.line)
     return found + lines(call("writer.write_value(", [written(shape, shape.tree, shape.parts)]), 8) + ["    }", "}"]

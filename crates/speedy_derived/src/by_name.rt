@@ -20,6 +20,10 @@ use crate::structs::{
     Empty, Holder, Newtype, Numbers, Optional, Outcome, Skipping, Triple, Unit, Variable,
 };
 use crate::tags::{Mixed, OwnTag, Plain, TagU7, TagU8, TagU16, TagU32, TagU64, TagVarint};
+use crate::told_lengths::{
+    ToldBytes, ToldCases, ToldCow, ToldCowText, ToldHeader, ToldLentText, ToldList, ToldText,
+    ToldTuple, ToldWords,
+};
 use speedy::Endianness;
 use std::alloc::{AllocError, Global};
 use std::borrow::CowSlice;
@@ -192,6 +196,29 @@ fn answer_tags(
     Ok(Some(text))
 }
 
+/// The answer to bytes as a type of `told_lengths`, or `None` where it has none of this name.
+fn answer_told_lengths(
+    alloc: Global,
+    order: Endianness,
+    name: &str,
+    bytes: &[u8],
+) -> Result<Option<String>, AllocError> {
+    let text = match name {
+        "ToldList" => answer::<ToldList>(alloc, order, bytes)?,
+        "ToldText" => answer::<ToldText>(alloc, order, bytes)?,
+        "ToldCow" => answer::<ToldCow<'_>>(alloc, order, bytes)?,
+        "ToldCowText" => answer::<ToldCowText<'_>>(alloc, order, bytes)?,
+        "ToldBytes" => answer_of_buffer::<ToldBytes<'_>>(alloc, order, bytes)?,
+        "ToldLentText" => answer_of_buffer::<ToldLentText<'_>>(alloc, order, bytes)?,
+        "ToldTuple" => answer::<ToldTuple>(alloc, order, bytes)?,
+        "ToldWords" => answer::<ToldWords>(alloc, order, bytes)?,
+        "ToldHeader" => answer::<ToldHeader>(alloc, order, bytes)?,
+        "ToldCases" => answer::<ToldCases>(alloc, order, bytes)?,
+        _ => return Ok(None),
+    };
+    Ok(Some(text))
+}
+
 /// The answer to bytes as the type of this name, or `None` where there is none.
 pub fn answer_by_name(
     alloc: Global,
@@ -220,5 +247,8 @@ pub fn answer_by_name(
     if let Some(text) = answer_floats(alloc, order, name, bytes)? {
         return Ok(Some(text));
     }
-    answer_tags(alloc, order, name, bytes)
+    if let Some(text) = answer_tags(alloc, order, name, bytes)? {
+        return Ok(Some(text));
+    }
+    answer_told_lengths(alloc, order, name, bytes)
 }

@@ -12,6 +12,7 @@ pub mod lent;
 pub mod representations;
 pub mod structs;
 pub mod tags;
+pub mod told_lengths;
 
 use by_name::answer_by_name;
 use speedy::device::Counted;
