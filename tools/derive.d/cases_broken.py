@@ -94,6 +94,8 @@ BROKEN = [
     ("a length behind a reference", HEAD + "#[derive(Writable)]\n"
      "struct A<'a> {\n    n: u8,\n    #[speedy(length = n)]\n    a: &'a String,\n}", 6, "`length` is taken of"),
     ("a number with a length", told("n", "u8", "u64").replace("length", "varint, length"), 6, "a number has no length"),
+    ("an option between a number and a length",
+     told("n", "u8,\n    #[speedy(length_type = u8)]\n    b: Option<String>"), 6, "a struct of its own"),
     ("a type named as a length", told("n", "u8") + DERIVES + "struct AALength;", 6, "another name"),
     # Types.
     ("a reference to floats", HEAD + DERIVES + "struct A<'a>(&'a [f64]);", 3, "SliceView<'a, F64>"),

@@ -285,6 +285,7 @@ def write_arm(shape, case):
             before += lines(value, 16, f"let {name}: {kind} = ", ";")
             part.written = name
             shape.scope.need("speedy", "Part", shape.item.line)
+            shape.scope.need("std::marker", "PhantomData", shape.item.line)
     value = call("writer.write_value(", [written(shape, case.tree, case.parts)])
     if not before:
         return arm_lines(bound, value)

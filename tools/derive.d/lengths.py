@@ -104,6 +104,11 @@ class Other:
 
     def stated(self):
         """The variables that they are written by, and what is written of them then."""
+        for item in self.items:
+            if item.part.of_option:
+                raise Refusal(item.field.line, "an option with `length_type` that stands between a number and what has "
+                                               "the length that it tells finds no proof: put this field into a struct "
+                                               "of its own")
         made = [item.part.statements() for item in self.items]
         nodes = [it[-1][0] if it else item.part.node() for it, item in zip(made, self.items)]
         return [statement for it in made for statement in it], self.node(nodes)
@@ -331,9 +336,8 @@ def kind_of(item):
 def tree(items, scope, owner):
     """The tree of some items, of which the last one has a length, with the types that say its lengths."""
     line = items[-1].field.line
-    for module, name in (("speedy::lengths", "Length"), ("speedy::lengths", "WithLength"),
-                         ("std::marker", "PhantomData")):
-        scope.need(module, name, line)
+    for name in ("Length", "WithLength"):
+        scope.need("speedy::lengths", name, line)
     used = set().union(*(numbers_of(items, place, scope) for place, item in enumerate(items) if item.has_length()))
     found, others = None, []
     for place, item in enumerate(items):

@@ -180,7 +180,6 @@ def part_of(scope, field, access, kind):
         return prefixed_part(scope, field, access, kind)
     if options.length is not None:
         lengths.check_type(field, kind)
-        scope.need("speedy", "Part", field.line)
     return Part(kind, access.bound, access.seen, f"Part({access.reference})")
 
 
@@ -469,6 +468,7 @@ def write_lines(shape):
             found += lines(value, 8, f"let {name}: {kind} = ", ";")
             part.written = name
             shape.scope.need("speedy", "Part", shape.item.line)
+            shape.scope.need("std::marker", "PhantomData", shape.item.line)
     return found + lines(call("writer.write_value(", [written(shape, shape.tree, shape.parts)]), 8) + ["    }", "}"]
 
 
