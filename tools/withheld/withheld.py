@@ -28,8 +28,7 @@ LEAST_SIZES = {
     3: "tuple_u16_u8 tuple_3_u8",
     4: """
         u32 i32 nonzero_i32 nonzero_u32 char ipv4 range_u16 range_incl_u16 tuple_u16_u16 array_u8_4
-        array_u16_2 array_view_u16_2 tag_3 bytes_ref_4 array_view_i8_4 frame enum derived_enum one_of_2
-        one_of_3 one_of_4 one_of_5 one_of_6 one_of_7 one_of_8 string boxed_str box_string cow_str str_ref
+        array_u16_2 array_view_u16_2 bytes_ref_4 array_view_i8_4 frame enum derived_enum one_of string boxed_str box_string cow_str str_ref
         bytes_ref view_i8 view_u16 vec_u8 vec_u16 vec_u32 vec_u64 vec_u128 vec_bool vec_char vec_unit
         vec_varint vec_duration vec_array_u16_4 vec_opt_string vec_string vec_vec_u8 vec_vec_u16 vec_record
         vec_str boxed_u8 boxed_u16 boxed_strings small_vec_u16_4 small_strings_2 cow_u8 cow_u16 cow_u32
