@@ -28,14 +28,15 @@ LEAST_SIZES = {
     3: "tuple_u16_u8 tuple_3_u8",
     4: """
         u32 i32 nonzero_i32 nonzero_u32 char ipv4 range_u16 range_incl_u16 tuple_u16_u16 array_u8_4
-        array_u16_2 array_view_u16_2 bytes_ref_4 array_view_i8_4 frame enum derived_enum one_of string boxed_str box_string cow_str str_ref
-        bytes_ref view_i8 view_u16 vec_u8 vec_u16 vec_u32 vec_u64 vec_u128 vec_bool vec_char vec_unit
-        vec_varint vec_duration vec_array_u16_4 vec_opt_string vec_string vec_vec_u8 vec_vec_u16 vec_record
-        vec_str boxed_u8 boxed_u16 boxed_strings small_vec_u16_4 small_strings_2 cow_u8 cow_u16 cow_u32
-        cow_u64 cow_strings set_u16 set_varint set_string hash_set_u16 hash_set_string index_set_u16
-        index_set_string map_u8_u8 map_u16_bool map_u16_u8 map_u8_map map_string_vec_u16 map_str_bytes
-        hash_map_u16_bool hash_map_u16_u8 hash_map_string_vec_u16 index_map_u8_u8 index_map_string_u16
-        cow_set_u16 cow_hash_set_u16 cow_map_u16_u8 cow_hash_map_u16_u8 framed_string framed_str
+        array_u16_2 array_view_u16_2 bytes_ref_4 array_view_i8_4 frame enum derived_enum one_of string
+        boxed_str box_string cow_str str_ref bytes_ref view_i8 view_u16 vec_u8 vec_u16 vec_u32 vec_u64
+        vec_u128 vec_bool vec_char vec_unit vec_varint vec_duration vec_array_u16_4 vec_opt_string vec_string
+        vec_vec_u8 vec_vec_u16 vec_record vec_str boxed_u8 boxed_u16 boxed_strings small_vec_u16_4
+        small_strings_2 cow_u8 cow_u16 cow_u32 cow_u64 cow_strings set_u16 set_varint set_string hash_set_u16
+        hash_set_string index_set_u16 index_set_string map_u8_u8 map_u16_bool map_u16_u8 map_u8_map
+        map_string_vec_u16 map_str_bytes hash_map_u16_bool hash_map_u16_u8 hash_map_string_vec_u16
+        index_map_u8_u8 index_map_string_u16 cow_set_u16 cow_hash_set_u16 cow_map_u16_u8 cow_hash_map_u16_u8
+        framed_string framed_str
     """,
     5: "ip tree",
     7: "tuple_u8_u16_u32",
