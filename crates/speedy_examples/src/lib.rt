@@ -3,6 +3,7 @@
 #![tactic(auto)]
 
 pub mod files;
+pub mod first;
 pub mod generic;
 pub mod growing;
 pub mod headers;
