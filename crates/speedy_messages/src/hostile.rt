@@ -9,21 +9,35 @@ use speedy_protocol::frames::{decode, next_frame, skip};
 use speedy_protocol::messages::Start;
 use std::alloc::Global;
 
+/// What the program does, in a word.
+fn word(advice: Advice) -> &'static str {
+    match advice {
+        Advice::Wait => "wait",
+        Advice::Skip => "skip",
+        Advice::Close => "close",
+    }
+}
+
+/// Prints the message behind a broken one.
+fn show_next(rt: &HostRuntime, bytes: &[u8]) -> Result<(), Failure> {
+    let alloc = rt.alloc();
+    let (next, _) = decode(alloc, skip(alloc, bytes)?)?;
+    print!(rt; "; the next message is {next:?}")?;
+    Ok(())
+}
+
 /// Prints the error of a buffer, and goes on behind the broken message where that may be.
 fn show_broken(rt: &HostRuntime, what: &str, bytes: &[u8]) -> Result<(), Failure> {
-    let alloc = rt.alloc();
-    let Err(error) = decode(alloc, bytes) else {
+    let Err(error) = decode(rt.alloc(), bytes) else {
         return Ok(());
     };
+    let advice = advise(&error);
     let end = error.is_eof();
-    match advise(&error) {
-        Advice::Wait => println!(rt; "  {what:<26}{end:<8}wait   {error}")?,
-        Advice::Skip => {
-            let (next, _) = decode(alloc, skip(alloc, bytes)?)?;
-            println!(rt; "  {what:<26}{end:<8}skip   {error}; the next message is {next:?}")?;
-        }
-        Advice::Close => println!(rt; "  {what:<26}{end:<8}close  {error}")?,
+    print!(rt; "  {what:<26}{end:<8}{:<7}{error}", word(advice))?;
+    if advice == Advice::Skip {
+        show_next(rt, bytes)?;
     }
+    println!(rt)?;
     Ok(())
 }
 

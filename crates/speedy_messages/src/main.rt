@@ -55,18 +55,27 @@ fn digits(alloc: Global, bytes: &[u8]) -> Result<String, AllocError> {
     Ok(text)
 }
 
-/// Writes a header and the messages to a vector and to a sink, and prints the bytes.
-fn show_written(rt: &HostRuntime, messages: &[Message<'static>]) -> Result<Vec<u8>, Failure> {
+/// Writes a header to a sink, and prints its bytes.
+fn show_start(rt: &HostRuntime, sink: &mut VecSink) -> Result<(), Failure> {
     let alloc = rt.alloc();
-    let mut sink = VecSink::new(alloc);
     let header = Header2 {
         version: 2,
         flags: 1,
         session: 99,
     };
-    Writable::<LittleEndian>::write_to_stream(&make_start(alloc, &header)?, alloc, &mut sink)?;
+    let start = make_start(alloc, &header)?;
+    Writable::<LittleEndian>::write_to_stream(&start, alloc, sink)?;
+    let text = digits(alloc, sink.bytes())?;
+    println!(rt; "  {text}")?;
+    Ok(())
+}
+
+/// Writes a header and the messages to a vector and to a sink, and prints the bytes.
+fn show_written(rt: &HostRuntime, messages: &[Message<'static>]) -> Result<Vec<u8>, Failure> {
+    let alloc = rt.alloc();
+    let mut sink = VecSink::new(alloc);
+    show_start(rt, &mut sink)?;
     let mut bytes = sink.bytes().to_vec(alloc)?;
-    println!(rt; "  {}", digits(alloc, &bytes)?)?;
     for message in messages {
         let frame = encode(alloc, message)?;
         println!(rt; "  {}", digits(alloc, &frame)?)?;
