@@ -80,8 +80,8 @@ pub holds_one : {V : Type 0} (o : Option V) (v w : V) → o ≡ Some v → o ≡
 holds_one o v w e d = cc
 
 -- values are the same where what they hold is
-holding_tells : {V S : Type 0} (part : S → Option V) (known : KnownBy part) (s t : S) (v w : V) → part s ≡ Some v
-    → part t ≡ Some w → Decided (v ≡ w) → Decided (s ≡ t)
+holding_tells : {V S : Type 0} (part : S → Option V) (known : KnownBy part) (s t : S) (v w : V)
+    → part s ≡ Some v → part t ≡ Some w → Decided (v ≡ w) → Decided (s ≡ t)
 holding_tells part known s t v w is are decided =
     elim decided [
       | inl e ↦ inl (known s t v is (are ∙ ap Some (sym e)))
@@ -244,7 +244,8 @@ abbrev pub first_of : {V W : Type 0} → AtTag V → AtTag W → AtTag (V ⊎ W)
 first_of no_case second = right_case second
 first_of first _ = left_case first
 
-right_within : (V : Type 0) {W : Type 0} (w : AtTag W) (more : Asks) (f : Mode) → AsksAtMost (case_format w f).asks more
+right_within : (V : Type 0) {W : Type 0} (w : AtTag W) (more : Asks) (f : Mode)
+    → AsksAtMost (case_format w f).asks more
     → (let second : AtTag (V ⊎ W) = right_case w in AsksAtMost (case_format second f).asks more)
 right_within V no_case more f within = within
 right_within V (a_unit _ _) more f within = within
@@ -253,8 +254,8 @@ right_within V (a_case _) more f within = within
 pub first_of_within : {V W : Type 0} (v : AtTag V) (w : AtTag W) (asks more : Asks) (f : Mode)
     → AsksAtMost (case_format v f).asks asks → AsksAtMost (case_format w f).asks more
     → AsksAtMost (case_format (first_of v w) f).asks (either_asks asks more)
-first_of_within {V = V} no_case w asks more f first second = asks_after (right_within V w more f second)
-    (asks_right asks more)
+first_of_within {V = V} no_case w asks more f first second =
+    asks_after (right_within V w more f second) (asks_right asks more)
 first_of_within (a_unit _ _) w asks more f first second = asks_after first (asks_left asks more)
 first_of_within (a_case _) w asks more f first second = asks_after first (asks_left asks more)
 
