@@ -108,21 +108,23 @@ fn make_tally() -> Tally {
 #[test]
 fn a_list_of_numbers_is_pushed_by_stretches(rt: HostRuntime) {
     let alloc = rt.alloc();
-    let numbers = vec![in alloc; 7_u16; 513].expect(&rt, "a vector");
+    let numbers = vec![in alloc; 7_u16; 5_000].expect(&rt, "a vector");
     let mut sink = make_tally();
     let outcome = Writable::<LittleEndian>::write_to_stream(&numbers, alloc, &mut sink);
     assert_ok(&rt, outcome, ());
-    assert_same(&rt, sink.pushes, 3);
+    assert_same(&rt, sink.pushes, 6);
 }
 
 #[test]
 fn short_parts_are_pushed_together(rt: HostRuntime) {
     let alloc = rt.alloc();
-    let pairs = vec![in alloc; (1_u64, 2_u64); 40].expect(&rt, "a vector");
-    let mut sink = make_tally();
-    let outcome = Writable::<LittleEndian>::write_to_stream(&pairs, alloc, &mut sink);
-    assert_ok(&rt, outcome, ());
-    assert_same(&rt, sink.pushes, 3);
+    for (count, pushes) in [(15, 1), (100, 1), (200, 2)] {
+        let pairs = vec![in alloc; (1_u64, 2_u64); count].expect(&rt, "a vector");
+        let mut sink = make_tally();
+        let outcome = Writable::<LittleEndian>::write_to_stream(&pairs, alloc, &mut sink);
+        assert_ok(&rt, outcome, ());
+        assert_same(&rt, sink.pushes, pushes);
+    }
 }
 
 #[test]

@@ -7,6 +7,7 @@ pub mod BufferingLemmas
 pub mod LengthLemmas
 pub mod ListLemmas
 pub mod FrameLemmas
+pub mod FrontLemmas
 pub mod NonZeroLemmas
 pub mod NumberLemmas
 pub mod OptionLemmas

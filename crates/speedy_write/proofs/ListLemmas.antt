@@ -1,7 +1,7 @@
 -- Items are written one after the other.
 use Rattle.std.specs.Prelude.{◌≡◌, ℕ, suc, ◌+◌, ◌<◌, List, [], ◌∷◌, ◌++◌, length, map, take, drop, Result, Ok, Err}
 use Rattle.std.specs.Prelude.{IsErrAnd, refl}
-use Rattle.std.proofs.Common.{sym, ◌∙◌, ap, ap₂, subst, inl, inr}
+use Rattle.std.proofs.Common.{sym, ◌∙◌, ap, ap₂, subst, arith, inl, inr}
 use Rattle.std.proofs.Math.ListN.{get_or}
 use Rattle.std.proofs.Math.Seq.{drop-cons}
 use Rattle.std.proofs.lemmas.List.{append_assoc, append-nil, length-map, map-append, map-id, take_more}
@@ -247,6 +247,28 @@ module _ {E : Type 0} {gives : Error → E → Type 0} {A V : Type 0} {F : Mode 
       (λ b k. (b, turned R b k.1, refl)) (λ b k. (b, turned (F old.mode).encodes b k.1)) (both_refused laws h w) in
       subst (λ (r : Result (Unit {0}) E). WritesEach gives F seen (xs ++ (ys ++ more)) r old new whole)
       (passed_on result e passed) refused
+
+-- ---- items that are put at once, and the next one
+
+-- no item is left behind those before
+pub none_left : {A : Type 0} {items : List A} (xs more : List A) → length more ≡ 0 → items ≡ xs ++ more → items ≡ xs
+none_left xs [] none is = is ∙ append-nil xs
+none_left xs (x ∷ more) none is = absurd (omega (arith, none))
+
+-- those behind the ones that were put
+pub put_off : {A : Type 0} {items more : List A} (rest done : List A) (n : ℕ) → more ≡ drop n rest
+    → items ≡ done ++ rest → items ≡ (done ++ take n rest) ++ more
+put_off rest done n suffix is =
+    is ∙ (ap (λ us. done ++ us) (sym (take-append-drop n rest) ∙ ap (λ us. take n rest ++ us) (sym suffix))
+    ∙ sym (append_assoc done (take n rest) _))
+
+-- a list that is said in other words is written
+pub listed_written : {E A V : Type 0} {gives : Error → E → Type 0} (F : Mode → Format V) (seen : A → V)
+    {items us : List A} {result : Result (Unit {0}) E} {old new : WriterState} {appended : List ℕ → Type 0}
+    → items ≡ us → WritesEach gives F seen us result old new appended
+    → WritesEach gives F seen items result old new appended
+listed_written {gives = gives} F seen {result = result} {old = old} {new = new} {appended = appended} is w =
+    subst (λ vs. WritesEach gives F seen vs result old new appended) (sym is) w
 
 -- ---- values, by chunks of their bytes
 

@@ -26,6 +26,12 @@ buffers_additive {v = v} {x = x} {s = s} {t = t} h k = record {
       ∙ (ap (λ (l : List ℕ). h.taken ++ l) k.all_is ∙ sym (append_assoc h.taken k.taken x))));
 }
 
+-- bytes by which a value is so written wait behind others
+pub record WaitsBehind {V : Type 0} (writes : V → List ℕ → Type 0) (v : V) (waited waits : List ℕ) : Type 0 where
+  pub bytes : List ℕ
+  pub all_is : waits ≡ waited ++ bytes
+  pub is_written : writes v bytes
+
 -- what waited was pushed, or a beginning of it and then a push failed
 pub record PushesWaiting {E : Type 0} (gives : Error → E → Type 0) (result : Result (Unit {0}) E)
     (waited waits : List ℕ) (old new : SinkState) : Type 0 where

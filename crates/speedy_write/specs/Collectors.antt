@@ -44,6 +44,11 @@ pub record BufferAppends (position : ℕ) (buffer bytes : List ℕ) (end : ℕ) 
   pub within : end ≤ length buffer
   pub after_is : after ≡ take position buffer ++ (bytes ++ drop end buffer)
 
+-- bytes by which a value is so written stand at a buffer's front, up to an end
+pub record IsAtFront {V : Type 0} (writes : V → List ℕ → Type 0) (v : V) (buffer : List ℕ) (end : ℕ) : Type 0 where
+  pub within : end ≤ length buffer
+  pub is_written : writes v (take end buffer)
+
 -- the sum grows by the number of bytes
 abbrev pub SizeAppends : ℕ → List ℕ → ℕ → Type 0
 SizeAppends size bytes after = after ≡ size + length bytes

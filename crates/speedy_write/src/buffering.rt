@@ -1,14 +1,17 @@
 //! A writer to a sink that gathers short writes and pushes them together.
 ghost use Rattle.std.specs.Borrow.{GName};
-ghost use Rattle.std.specs.Prelude.{◌≡◌, ◌+◌, ◌-◌, ◌*◌, ◌≤◌, ◌↔◌, [], ◌++◌, length, take, drop, None, Ok, IsTrue};
-ghost use Rattle.std.specs.Prelude.{false, OnOk, refl};
+ghost use Rattle.std.specs.Prelude.{◌≡◌, ◌+◌, ◌-◌, ◌*◌, ◌≤◌, ◌↔◌, [], ◌++◌, length, map, take, drop, None, Ok};
+ghost use Rattle.std.specs.Prelude.{IsTrue, false, OnOk, refl};
 ghost use Rattle.speedy_base.specs.Mode.{Mode};
 ghost use Rattle.speedy_write.specs.Collectors.{sink_state};
 ghost use Rattle.speedy_write.specs.FixedBytes.{PutsBehind};
 ghost use Rattle.speedy_write.specs.Writing.{WritesBytes, RefusesFull, WritesValues, WritesSlice};
-ghost use Rattle.speedy_write.specs.Buffering.{Buffers, PushesWaiting, buffers_nothing, buffers_additive};
+ghost use Rattle.speedy_write.specs.Buffering.{Buffers, PushesWaiting, WaitsBehind, buffers_nothing};
+ghost use Rattle.speedy_write.specs.Buffering.{buffers_additive};
+ghost use Rattle.speedy_layout.specs.Format.{Each};
 
 use crate::collectors::{error_of_failed_call, push_all};
+use crate::filling::FillsFront;
 use crate::fixed::{FixedBytes, put_values_at};
 use crate::writer::Writer;
 use speedy_base::context::Context;
@@ -17,6 +20,9 @@ use speedy_base::endianness::Endianness;
 use speedy_base::error::Error;
 use speedy_layout::Layout;
 use std::alloc::Global;
+
+// The use of a buffer as the room of what waits.
+struct Room {}
 
 /// Bytes that wait to be pushed, in room that is lent.
 #[derive(Drop)]
@@ -71,6 +77,47 @@ impl<'b> Waiting<'b> {
         ensures { PutsBehind T.layout.format T.seen values.now order (waiting self.old) (waiting self.new) }
     {
         self.end = put_values_at::<T, P>(values, order, &mut *self.room, self.end);
+    }
+
+    // Has this item wait too, if it has room, and says whether it has.
+    #[inline(always)]
+    fn add_whole<C: Context, T: Layout, P: FillsFront<T, C>>(
+        &mut self,
+        item: &T,
+        context: &mut C,
+    ) -> bool
+        ensures mode { C.mode context.new ≡ C.mode context.old }
+        ensures adds { let format = T.layout.format (C.mode context.old) in
+            IsTrue result → WaitsBehind format.writes (T.seen item.now) (waiting self.old) (waiting self.new) }
+        ensures unchanged { result ≡ false → waiting self.new ≡ waiting self.old }
+    {
+        let start = self.end;
+        match P::fill_prefix::<Room>(item, context, &mut self.room[start..]) {
+            Some(end) => {
+                self.end = start + end;
+                true
+            }
+            None => false,
+        }
+    }
+
+    // Has the first of these items wait too, as many as have room, and says how many.
+    #[inline(always)]
+    fn add_each<C: Context, T: Layout, P: FillsFront<T, C>>(
+        &mut self,
+        items: &[T],
+        context: &mut C,
+    ) -> usize
+        ensures mode { C.mode context.new ≡ C.mode context.old }
+        ensures some { result ≤ length items.now }
+        ensures adds { let format = T.layout.format (C.mode context.old) in
+            WaitsBehind (Each format.writes) (map T.seen (take result items.now)) (waiting self.old)
+            (waiting self.new) }
+    {
+        let start = self.end;
+        let (count, end) = P::fill_each::<Room>(items, context, &mut self.room[start..]);
+        self.end = start + end;
+        count
     }
 
     // All the room.
@@ -164,8 +211,8 @@ fn push_range<S: Sink, E: From<Error>>(
     (at, Ok(()))
 }
 
-// Pushes what waits in a range of a room. Then it has other bytes wait, or pushes them where they have no room. It says
-// which range waits.
+// Pushes what waits in a range of a room. Then it has other bytes wait, or pushes them where they would take more than
+// half of the room. It says which range waits.
 #[inline(never)]
 fn push_past<S: Sink, E: From<Error>>(
     alloc: Global,
@@ -186,7 +233,7 @@ fn push_past<S: Sink, E: From<Error>>(
     let (rest, outcome) = push_range::<S, E>(alloc, &*room, start, end, &mut *sink);
     match outcome {
         Ok(()) => {
-            if count > room.len() {
+            if count > room.len() / 2 {
                 return (0, 0, push_all(alloc, slice, sink));
             }
             room[..count].copy_from_slice(slice);
@@ -268,6 +315,8 @@ impl<'s, S: Sink, C: Context> BufferingCollector<'s, S, C> {
 }
 
 impl<'s, S: Sink, C: Context> Writer<C> for BufferingCollector<'s, S, C> {
+    const PUTS: bool = true;
+
     ghost use Rattle.speedy_write.specs.CollectorModels.{buffering_model, waiting};
 
     ghost at = { λ w. w.context };
@@ -305,6 +354,18 @@ impl<'s, S: Sink, C: Context> Writer<C> for BufferingCollector<'s, S, C> {
             return Ok(());
         }
         self.write_past(slice)
+    }
+
+    /// Writes the item where others wait, if it has room there.
+    #[inline]
+    fn put_whole<T: Layout, P: FillsFront<T, C>>(&mut self, item: &T) -> bool {
+        self.waiting.add_whole::<C, T, P>(item, &mut self.context)
+    }
+
+    /// Writes the items where others wait, as many as have room there.
+    #[inline]
+    fn put_each<T: Layout, P: FillsFront<T, C>>(&mut self, items: &[T]) -> usize {
+        self.waiting.add_each::<C, T, P>(items, &mut self.context)
     }
 
     /// Puts the values where others wait, if they have room there.

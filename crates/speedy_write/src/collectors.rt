@@ -9,6 +9,7 @@ ghost use Rattle.speedy_write.specs.Collectors.{Takes};
 ghost use Rattle.speedy_write.specs.CollectorLemmas.{buffer_nothing, buffer_additive, vec_nothing, vec_additive};
 ghost use Rattle.speedy_write.specs.CollectorLemmas.{size_nothing, size_additive, sink_nothing, sink_additive};
 
+use crate::filling::FillsFront;
 use crate::fixed::{FixedBytes, put_values_at};
 use crate::writer::Writer;
 use speedy_base::context::Context;
@@ -206,7 +207,12 @@ impl<'a, C> VecCollector<'a, C> {
     }
 }
 
+// The use of a buffer as the zeros behind a vector.
+struct Zeros {}
+
 impl<'a, C: Context> Writer<C> for VecCollector<'a, C> {
+    const PUTS: bool = true;
+
     ghost use Rattle.speedy_write.specs.CollectorModels.{vec_model};
 
     ghost at = { λ w. w.context.now };
@@ -242,6 +248,30 @@ impl<'a, C: Context> Writer<C> for VecCollector<'a, C> {
         }
         self.position += slice.len();
         Ok(())
+    }
+
+    /// Writes the item over the zeros, if it fits there.
+    #[inline]
+    fn put_whole<T: Layout, P: FillsFront<T, C>>(&mut self, item: &T) -> bool {
+        let start = self.position;
+        let zeros = &mut self.bytes.as_mut_slice()[start..];
+        match P::fill_prefix::<Zeros>(item, &mut *self.context, zeros) {
+            Some(end) => {
+                self.position = start + end;
+                true
+            }
+            None => false,
+        }
+    }
+
+    /// Writes the items over the zeros, as many as fit there.
+    #[inline]
+    fn put_each<T: Layout, P: FillsFront<T, C>>(&mut self, items: &[T]) -> usize {
+        let start = self.position;
+        let zeros = &mut self.bytes.as_mut_slice()[start..];
+        let (count, end) = P::fill_each::<Zeros>(items, &mut *self.context, zeros);
+        self.position = start + end;
+        count
     }
 
     /// Puts the values where they are to stand, if they fit and are not too many to lay zeros for first: at most 16
@@ -292,7 +322,7 @@ impl<'a, C: Context> Writer<C> for VecCollector<'a, C> {
 static ZEROS: [u8; 512] = [0; 512];
 
 // How many zeros are laid ahead: more would be lost too often, where what is written next is long.
-const AHEAD: usize = 2_048;
+const AHEAD: usize = 4_096;
 
 // The most zeros that are laid for values to be put there: more would leave the processor's cache before they are.
 const MOST_ZEROS: usize = 16_384;

@@ -3,6 +3,7 @@ ghost use Rattle.std.specs.Prelude.{◌≡◌, map, IfSome};
 ghost use Rattle.speedy_write.specs.Counting.{CountsEach};
 ghost use Rattle.speedy_write.specs.Writing.{WritesValue, WritesValues};
 
+use crate::filling::Whole;
 use crate::writable::Writable;
 use crate::writer::Writer;
 use speedy_base::context::Context;
@@ -25,7 +26,8 @@ pub(crate) fn write_items<C: Context, T: Writable<C>, W: Writer<C>>(
     T::write_many(items, writer)
 }
 
-// Writes an item of a collection. A writer that counts is told of it at once, so that it adds once.
+// Writes an item of a collection. A writer that counts is told of it at once, so that it adds once, and one that puts
+// items whole is asked to.
 #[inline]
 pub(crate) fn write_item<C: Context, T: Writable<C>, W: Writer<C>>(
     item: &T,
@@ -41,6 +43,36 @@ pub(crate) fn write_item<C: Context, T: Writable<C>, W: Writer<C>>(
             }
         }
     }
+    put_or_write(item, writer)
+}
+
+// Writes an item whole, where the writer has room for it, and else by its parts.
+#[inline]
+fn put_or_write<C: Context, T: Writable<C>, W: Writer<C>>(
+    item: &T,
+    writer: &mut W,
+) -> Result<(), C::Error>
+    ensures { WritesValue C.Error.from_gives W.state W.appends T.seen T.layout item.now
+        result writer.old writer.new }
+{
+    if W::PUTS {
+        if writer.put_whole::<T, Whole>(item) {
+            return Ok(());
+        }
+        return write_by_parts(item, writer);
+    }
+    item.write_to(writer)
+}
+
+// Writes an item that had no room. It stands apart, so that the loop over items has little in it.
+#[inline(never)]
+fn write_by_parts<C: Context, T: Writable<C>, W: Writer<C>>(
+    item: &T,
+    writer: &mut W,
+) -> Result<(), C::Error>
+    ensures { WritesValue C.Error.from_gives W.state W.appends T.seen T.layout item.now
+        result writer.old writer.new }
+{
     item.write_to(writer)
 }
 

@@ -14,6 +14,7 @@ pub mod collectors;
 mod counting;
 pub mod cows;
 mod each;
+mod filling;
 mod fixed;
 pub mod flags;
 pub mod floats;

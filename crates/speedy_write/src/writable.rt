@@ -7,9 +7,10 @@ ghost use Rattle.speedy_write.specs.WaysOfWriting.{Needs, IsShortest, Stands, Wr
 ghost use Rattle.speedy_write.specs.WaysOfWriting.{WritesToStream, WritesAndFlushes, WritesToFile};
 
 use crate::buffering::BufferingCollector;
-use crate::collectors::{VecCollector, error_of_failed_call};
+use crate::collectors::{VecCollector, error_of_failed_call, push_all};
 pub use crate::collectors::{BufferCollector, SizeCalculatorCollector, WritingCollector};
 use crate::counting::CountingCollector;
+use crate::filling::{Whole, fill_prefix};
 use crate::writer::Writer;
 use speedy_base::context::{Context, PlainContext};
 use speedy_base::device::{Counted, Sink};
@@ -45,8 +46,14 @@ pub trait Writable<C: Context>: Layout {
         if let Some(written) = Self::write_in_bulk(items, writer) {
             return written;
         }
-        for item in items {
+        let mut rest = items;
+        while !rest.is_empty() {
+            let (_, more) = rest.split_at(writer.put_each::<Self, Whole>(rest));
+            let Some((item, others)) = more.split_first() else {
+                return Ok(());
+            };
             item.write_to(writer)?;
+            rest = others;
         }
         Ok(())
     }
@@ -172,8 +179,8 @@ pub trait Writable<C: Context>: Layout {
 
     /// Encodes the value to a sink, under the context. The sink is not flushed.
     ///
-    /// Short parts of the value are gathered, and pushed 256 bytes at a time; longer ones are pushed as they are.
-    /// Memory is asked for where a push fails, for its error.
+    /// A value of up to 256 bytes is pushed at once. Of a longer one short parts are gathered, and pushed up to 2,048
+    /// bytes at a time; longer parts are pushed as they are. Memory is asked for where a push fails, for its error.
     final fn write_to_stream_with_ctx<S: Sink>(
         &self,
         alloc: Global,
@@ -183,7 +190,12 @@ pub trait Writable<C: Context>: Layout {
         ensures { WritesToStream C.Error.from_gives S.sink Self.seen Self.layout
             (C.mode context) self.now result sink.old sink.new }
     {
-        write_gathered(self, alloc, context, sink, &mut [0; SINK_ROOM])
+        let mut context = context;
+        let mut room = [0; SHORT_ROOM];
+        match fill_prefix::<C, Self, ShortRoom>(self, &mut context, &mut room) {
+            Some(end) => push_all(alloc, &room[..end], sink),
+            None => write_long(self, alloc, context, sink),
+        }
     }
 
     /// Encodes the value to a file, in little endian. The file is made or emptied, and flushed at the end.
@@ -226,10 +238,30 @@ pub trait Writable<C: Context>: Layout {
     }
 }
 
-// How many bytes are gathered for a sink, and for a file, before they are pushed.
-pub(crate) const SINK_ROOM: usize = 256;
+// A value that takes at most so many bytes is pushed to a sink at once.
+const SHORT_ROOM: usize = 256;
+
+// How many bytes of a longer one are gathered for a sink, and for a file, before they are pushed.
+pub(crate) const SINK_ROOM: usize = 2_048;
 
 const FILE_ROOM: usize = 8_192;
+
+// The use of a buffer as the room of a short value.
+struct ShortRoom {}
+
+// Writes a value to a sink. Its short parts are gathered. It stands apart, so that a short value makes no such room.
+#[inline(never)]
+fn write_long<C: Context, T: Writable<C>, S: Sink>(
+    value: &T,
+    alloc: Global,
+    context: C,
+    sink: &mut S,
+) -> Result<(), C::Error>
+    ensures { WritesToStream C.Error.from_gives S.sink T.seen T.layout (C.mode context)
+        value.now result sink.old sink.new }
+{
+    write_gathered(value, alloc, context, sink, &mut [0; SINK_ROOM])
+}
 
 // Writes a value to a sink. Its short parts are gathered in the room.
 fn write_gathered<C: Context, T: Writable<C>, S: Sink>(
@@ -299,7 +331,7 @@ fn fill<C: Context, T: Writable<C>, U>(
 struct VecRoom {}
 
 // Vectors of at most so many bytes are filled as buffers are, over zeros: these are still in the processor's cache.
-const MOST_ZEROED: usize = 131_072;
+const MOST_ZEROED: usize = 8_192;
 
 // Writes a value to a vector that is requested once, with room for the bytes that the value takes.
 fn fill_vec<C: Context, T: Writable<C>>(

@@ -1,5 +1,5 @@
 //! Writers: where values are written, and the writes that each has.
-ghost use Rattle.std.specs.Prelude.{◌≡◌, ℕ, [], ◌++◌, List, Option, Bool, false, IsTrue, Ok};
+ghost use Rattle.std.specs.Prelude.{◌≡◌, ◌≤◌, ℕ, [], ◌++◌, List, Option, Bool, false, IsTrue, Ok, length, take};
 ghost use Rattle.std.specs.Borrow.{sem, Lends};
 ghost use Rattle.std.specs.Iterator.{IsFiniteIterable};
 ghost use Rattle.std.specs.Int.{w8, w16, w32, w64, w128};
@@ -9,6 +9,7 @@ ghost use Rattle.speedy_write.specs.Writing.{WriterState, WritesValue, WritesVal
 ghost use Rattle.speedy_write.specs.Writing.{WritesSigned, RefusesFull, CountsBytes, IsRight};
 
 use crate::each::{write_item, write_items};
+use crate::filling::FillsFront;
 use crate::fixed::{FixedBytes, write_number};
 use crate::writable::Writable;
 use speedy_base::context::Context;
@@ -19,6 +20,9 @@ use speedy_layout::{Layout, VarInt64};
 pub trait Writer<C: Context> {
     /// Whether `count_bytes` counts. It is a hint: nothing rests on it but speed.
     const COUNTS: bool = false;
+
+    /// Whether `put_whole` puts. It is a hint: nothing rests on it but speed.
+    const PUTS: bool = false;
 
     /// The context that the writer holds.
     ghost at: { Self → C };
@@ -60,6 +64,32 @@ pub trait Writer<C: Context> {
         ensures unchanged { result ≡ false → self.new ≡ self.old }
     {
         false
+    }
+
+    /// Writes the item whole, where the writer puts it at once in the room that it has, and says whether it did. This
+    /// body says that it did not, and does nothing.
+    #[inline(always)]
+    fn put_whole<T: Layout, P: FillsFront<T, C>>(&mut self, _item: &T) -> bool
+    where
+        Self: Sized,
+        ensures puts { IsTrue result → WritesValue C.Error.from_gives state appends T.seen T.layout
+            _item.now (Ok tt) self.old self.new }
+        ensures nothing { result ≡ false → (state self.new ≡ state self.old) × appends self.old [] self.new }
+    {
+        return false;
+    }
+
+    /// Writes the first of the items, each of them whole, as many as the writer puts at once in the room that it has,
+    /// and says how many. This body writes none.
+    #[inline(always)]
+    fn put_each<T: Layout, P: FillsFront<T, C>>(&mut self, _items: &[T]) -> usize
+    where
+        Self: Sized,
+        ensures some { result ≤ length _items.now }
+        ensures puts { WritesValues C.Error.from_gives state appends T.seen T.layout
+            (take result _items.now) (Ok tt) self.old self.new }
+    {
+        0
     }
 
     /// Tells the writer how many bytes are written next, for which its sink may make room at once. It writes nothing.

@@ -1,11 +1,15 @@
-use Rattle.std.proofs.Common.{take, Ok}
+use Rattle.std.proofs.Common.{◌≡◌, ◌++◌, List, length, Ok}
 use Rattle.speedy_write.specs.Writing.{WritesEach}
 use Rattle.speedy_write.proofs.writable.Writable.write_many.Given as goal
 
--- the first items are written
-abbrev pub invariant-loop-item : goal.invariant-loop-item
-invariant-loop-item g l =
+-- all but the rest are written
+abbrev pub invariant-loop-rest : goal.invariant-loop-rest
+invariant-loop-rest g l =
     let W = g.W.Writer in
     let before = l.initial.writer in
-    WritesEach g.C.Error.From.from_gives g.Self.Layout.layout.format g.Self.Layout.seen (take l.item-index l.items)
-    (Ok tt) (W.state before) (W.state l.writer) (λ b. W.appends before b l.writer)
+    (done : List g.row.Self.Denot) × (l.items ≡ done ++ l.rest)
+    × WritesEach g.C.Error.From.from_gives g.Self.Layout.layout.format g.Self.Layout.seen done (Ok tt) (W.state before)
+    (W.state l.writer) (λ b. W.appends before b l.writer)
+
+abbrev pub decreases-loop-rest : goal.decreases-loop-rest
+decreases-loop-rest g l = length l.rest

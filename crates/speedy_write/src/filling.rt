@@ -1,0 +1,71 @@
+//! Values that are written to the front of a buffer, as many as fit.
+ghost use Rattle.std.specs.Prelude.{◌≡◌, ◌≤◌, length, map, take, IfSome};
+ghost use Rattle.speedy_layout.specs.Format.{Each};
+ghost use Rattle.speedy_write.specs.Collectors.{IsAtFront};
+
+use crate::collectors::BufferCollector;
+use crate::writable::Writable;
+use speedy_base::context::Context;
+use speedy_layout::Layout;
+
+/// How values of a type are written to a buffer. A writer lends one that cannot name how they are written to it.
+pub trait FillsFront<T: Layout, C: Context> {
+    /// Writes a value to the front of a buffer, and says where it ends, or `None` where it does not fit, or has no
+    /// encoding. `U` says what the buffer is used for.
+    fn fill_prefix<U>(value: &T, context: &mut C, buffer: &mut [u8]) -> Option<usize>
+        ensures mode { C.mode context.new ≡ C.mode context.old }
+        ensures fills { let format = T.layout.format (C.mode context.old) in
+            IfSome result (λ end. IsAtFront format.writes (T.seen value.now) buffer.new end) };
+
+    /// Writes the first of the items to the front of a buffer, as many as fit, and says how many, and where they end.
+    fn fill_each<U>(items: &[T], context: &mut C, buffer: &mut [u8]) -> (usize, usize)
+        ensures mode { C.mode context.new ≡ C.mode context.old }
+        ensures some { result.0 ≤ length items.now }
+        ensures fills { let format = T.layout.format (C.mode context.old) in
+            IsAtFront (Each format.writes) (map T.seen (take result.0 items.now)) buffer.new result.1 };
+}
+
+/// Values are written as they are to any writer.
+pub(crate) struct Whole {}
+
+impl<C: Context, T: Writable<C>> FillsFront<T, C> for Whole {
+    #[inline]
+    fn fill_prefix<U>(value: &T, context: &mut C, buffer: &mut [u8]) -> Option<usize> {
+        fill_prefix::<C, T, U>(value, context, buffer)
+    }
+
+    #[inline]
+    fn fill_each<U>(items: &[T], context: &mut C, buffer: &mut [u8]) -> (usize, usize) {
+        let mut count = 0;
+        let mut end = 0;
+        for item in items {
+            let Some(more) = fill_prefix::<C, T, U>(item, context, &mut buffer[end..]) else {
+                return (count, end);
+            };
+            count += 1;
+            end += more;
+        }
+        (count, end)
+    }
+}
+
+// Writes a value to the front of a buffer, and says where it ends. Where it does not fit, or has no encoding, this is
+// `None`. `U` says what the buffer is used for.
+#[inline]
+pub(crate) fn fill_prefix<C: Context, T: Writable<C>, U>(
+    value: &T,
+    context: &mut C,
+    buffer: &mut [u8],
+) -> Option<usize>
+    ensures mode { C.mode context.new ≡ C.mode context.old }
+    ensures fills { let format = T.layout.format (C.mode context.old) in
+        IfSome result (λ end. IsAtFront format.writes (T.seen value.now) buffer.new end) }
+{
+    let mut collector: BufferCollector<C, U> = BufferCollector::for_use(context, buffer);
+    let outcome = value.write_to(&mut collector);
+    let end = collector.finish();
+    match outcome {
+        Ok(()) => Some(end),
+        Err(_) => None,
+    }
+}
