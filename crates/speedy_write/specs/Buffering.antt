@@ -1,4 +1,4 @@
--- What a writer into a sink does that gathers bytes before it pushes them.
+-- What a writer into a sink does that buffers bytes before it pushes them.
 use Rattle.std.specs.Prelude.{◌≡◌, ℕ, List, [], ◌++◌, Result, OnOk, IfErr, IsTrue}
 use Rattle.std.proofs.Common.{sym, ◌∙◌, ap}
 use Rattle.std.proofs.lemmas.List.{append_assoc, append-nil}

@@ -69,7 +69,7 @@ writing_model w = record { context = w.context; sink = w.sink.now; sink_name = w
 abbrev pub waiting : Waiting → List ℕ
 waiting w = drop w.start (take w.end w.room.now)
 
--- the context that a collector that gathers holds, the sink that it borrows, and the bytes that wait for it
+-- the context that a collector that buffers holds, the sink that it borrows, and the bytes that wait for it
 pub record BufferingModel (S C : Type 0) : Type 0 where
   pub context : C
   pub sink : S

@@ -1,4 +1,4 @@
-//! A writer to a sink that gathers short writes and pushes them together.
+//! A writer to a sink that buffers short writes and pushes them together.
 ghost use Rattle.std.specs.Borrow.{GName};
 ghost use Rattle.std.specs.Prelude.{◌≡◌, ◌+◌, ◌-◌, ◌*◌, ◌≤◌, ◌↔◌, [], ◌++◌, length, map, take, drop, None, Ok};
 ghost use Rattle.std.specs.Prelude.{IsTrue, false, OnOk, refl};
@@ -243,7 +243,7 @@ fn push_past<S: Sink, E: From<Error>>(
     }
 }
 
-/// A writer to a sink, which gathers short writes and pushes them together. What is longer is pushed as it is.
+/// A writer to a sink, which buffers short writes and pushes them together. What is longer is pushed as it is.
 ///
 /// What was written last waits until [`push_waiting`](Self::push_waiting).
 #[derive(Drop)]
@@ -257,7 +257,7 @@ pub struct BufferingCollector<'s, S, C> {
 impl<'s, S, C: Drop> BufferingCollector<'s, S, C> {
     ghost use Rattle.speedy_write.specs.CollectorModels.{buffering_model};
 
-    /// A writer behind what the sink took, which gathers in the room. Memory is asked for where a push fails, for its
+    /// A writer behind what the sink took, which buffers in the room. Memory is asked for where a push fails, for its
     /// error.
     #[inline]
     pub fn new(
