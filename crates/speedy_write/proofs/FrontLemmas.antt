@@ -3,7 +3,7 @@ use Rattle.std.specs.Prelude.{◌≡◌, ℕ, ◌+◌, ◌-◌, ◌<◌, ◌≤�
 use borrow.Rule.Slice.PartMut.{put_mid, post_of}
 use Rattle.std.proofs.Common.{sym, ◌∙◌, ap, subst, arith}
 use Rattle.std.proofs.Math.ListN.{get_or}
-use Rattle.std.proofs.lemmas.List.{append_assoc, append-nil, drop-append-le, length-append, length-map}
+use Rattle.std.proofs.lemmas.List.{append_assoc, drop-append-le, length-append, length-map}
 use Rattle.std.proofs.lemmas.List.{length-take-le, map-append, take-append-drop, take_at}
 use Rattle.std.proofs.lemmas.Slice.{take-put_mid_below}
 use Rattle.std.specs.Borrow.{GName}
@@ -102,29 +102,6 @@ pub nothing_waits : {mode after : Mode} {name : GName} {waited waits : List ℕ}
 nothing_waits {name = name} {waited = waited} {s = s} same is = (
   ap (λ e. sink_state e name s) same,
   subst (λ (w : List ℕ). Buffers s waited [] s w) (sym is) (buffers_nothing s waited),
-)
-
--- an item that stands over zeros behind what a vector holds is written
-pub item_behind : {E V : Type 0} {gives : Error → E → Type 0} {F : Mode → Format V} {least : ℕ} {v : V}
-    {mode after : Mode} {targets : List GName} {at end most : ℕ} {kept put : List ℕ} (k : ℕ) (old : List ℕ)
-    → ((mode : Mode) → Laws mode.strict least (F mode)) → after ≡ mode → at ≤ length old
-    → at + length put ≤ most → kept ≡ put_mid at k old put → IsAtFront (F mode).writes v put end
-    → Writes gives F v (Ok tt) (buffer_state mode targets (most - at))
-    (buffer_state after targets (most - (at + end))) (λ b. take (at + end) kept ≡ take at old ++ b)
-item_behind {gives = gives} {F = F} {v = v} {mode = mode} {targets = targets} {at = at} {end = end}
-    {most = most} {kept = kept} {put = put} k old laws same within room is h =
-    subst (λ (e : Mode). Writes gives F v (Ok tt) (buffer_state mode targets (most - at))
-    (buffer_state e targets (most - (at + end))) (λ b. take (at + end) kept ≡ take at old ++ b)) (sym same)
-    (form_written laws h.is_written (bytes_behind mode targets k old put within room is h.within))
-
--- the state of a writer to a vector that none was written by
-pub nothing_behind : {mode after : Mode} {targets : List GName} {at left : ℕ} {kept : List ℕ} (k : ℕ)
-    (old put : List ℕ) → after ≡ mode → at ≤ length old → kept ≡ put_mid at k old put
-    → (buffer_state after targets left ≡ buffer_state mode targets left)
-    × (take at kept ≡ take at old ++ [])
-nothing_behind {targets = targets} {at = at} {left = left} k old put same within is = (
-  ap (λ e. buffer_state e targets left) same,
-  ap (take at) is ∙ (take-put_mid_below at k old put at (omega arith) within ∙ sym (append-nil (take at old))),
 )
 
 -- what lies behind what waits may change

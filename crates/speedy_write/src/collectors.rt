@@ -211,8 +211,6 @@ impl<'a, C> VecCollector<'a, C> {
 struct Zeros {}
 
 impl<'a, C: Context> Writer<C> for VecCollector<'a, C> {
-    const PUTS: bool = true;
-
     ghost use Rattle.speedy_write.specs.CollectorModels.{vec_model};
 
     ghost at = { λ w. w.context.now };
@@ -248,20 +246,6 @@ impl<'a, C: Context> Writer<C> for VecCollector<'a, C> {
         }
         self.position += slice.len();
         Ok(())
-    }
-
-    /// Writes the item over the zeros, if it fits there.
-    #[inline]
-    fn put_whole<T: Layout, P: FillsFront<T, C>>(&mut self, item: &T) -> bool {
-        let start = self.position;
-        let zeros = &mut self.bytes.as_mut_slice()[start..];
-        match P::fill_prefix::<Zeros>(item, &mut *self.context, zeros) {
-            Some(end) => {
-                self.position = start + end;
-                true
-            }
-            None => false,
-        }
     }
 
     /// Writes the items over the zeros, as many as fit there.
