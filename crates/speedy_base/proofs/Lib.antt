@@ -1,4 +1,4 @@
 pub mod Mapping
 pub mod Stretches
 pub mod Conversions
-pub mod SignedSwaps
+pub mod Reversals

@@ -1,4 +1,6 @@
 //! Numbers of the machine, reversed in place for a byte order.
+#![tactic(auto, using(crate::proofs::Reversals::reversals))]
+
 ghost use Rattle.std.specs.Prelude.{◌≡◌, map, refl};
 ghost use Rattle.std.specs.Int.{w16, w32, w64, w128};
 ghost use Rattle.speedy_base.specs.declared.endianness.Endianness.{Endianness as Order};

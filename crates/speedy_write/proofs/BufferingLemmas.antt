@@ -258,3 +258,6 @@ module _ {E : Type 0} {gives : Error → E → Type 0} {V : Type 0} {F : Mode �
           because = inl (grown fault.0 s.faults u.faults fault.1, λ _. fault);
         };
       }
+
+-- what becomes of bytes that are pushed
+pub ruleset pushes = (all_taken, not_taken, push_refused, waits_in_front)

@@ -20,6 +20,7 @@ use Rattle.speedy_write.specs.Buffering.{Buffers}
 use Rattle.speedy_write.specs.Writing.{WritesEach, WritesBytes}
 use Rattle.speedy_write.proofs.BufferingLemmas.{waits_too}
 use Rattle.speedy_write.proofs.ListLemmas.{values_are_written}
+use Rattle.speedy_layout.proofs.FixedNumberLemmas.{one_more_put, all_put, one_more_times, room_ahead}
 
 module _ {E A V : Type 0} {gives : Error → E → Type 0} {F : Mode → Format V} {least : ℕ} {mode : Mode}
     {order : Endianness} {at end size : ℕ} {buffer after : List ℕ}
@@ -126,3 +127,6 @@ chunk_ends at rest some more size bytes total ends parts taken =
     let both = add-mul some more size in
     let whole : rest * size ≡ (some + more) * size = ap (λ (n : ℕ). n * size) parts in
     omega (arith, ends, both, whole, taken)
+
+-- one value more is put, and all are
+pub ruleset puts = (one_more_put, all_put, one_more_times, room_ahead)

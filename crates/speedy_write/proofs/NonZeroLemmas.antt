@@ -23,3 +23,6 @@ module _ {E : Type 0} {gives : Error → E → Type 0} {result : Result (Unit {0
       → Writes gives (signed_non_zero_number w) v result old new appended
   signed_non_zero_written {v = v} w range same some h =
       subset_written _ _ (same, signed_not_zero v some) (signed_value_written w range h)
+
+-- writes of each width
+pub ruleset non_zero_writes = (non_zero_written, signed_non_zero_written)

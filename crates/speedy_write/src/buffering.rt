@@ -1,4 +1,6 @@
 //! A writer to a sink that buffers short writes and pushes them together.
+#![tactic(auto, using(crate::proofs::BufferingLemmas::pushes))]
+
 ghost use Rattle.std.specs.Borrow.{GName};
 ghost use Rattle.std.specs.Prelude.{◌≡◌, ◌+◌, ◌-◌, ◌*◌, ◌≤◌, ◌↔◌, [], ◌++◌, length, map, take, drop, None, Ok};
 ghost use Rattle.std.specs.Prelude.{IsTrue, false, OnOk, refl};

@@ -122,6 +122,7 @@ pub(crate) fn write_number<T: FixedNumber, C: Context, W: Writer<C>>(
 
 // Puts the bytes of the values, one after another, which fill the output.
 #[inline]
+#[tactic(auto, using(crate::proofs::FixedLemmas::puts))]
 fn put_values<T: Layout, P: FixedBytes<T>>(values: &[T], order: Endianness, output: &mut [u8])
     requires { length output.old ≡ length values.now * P.BYTES }
     ensures { (mode : Mode) → order ≡ mode.order →

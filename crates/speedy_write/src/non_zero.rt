@@ -1,4 +1,6 @@
 //! How numbers that are not 0 are written.
+#![tactic(auto, using(crate::proofs::NonZeroLemmas::non_zero_writes))]
+
 use crate::writable::Writable;
 use crate::writer::Writer;
 use speedy_base::context::Context;

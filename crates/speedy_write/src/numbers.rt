@@ -1,4 +1,6 @@
 //! How numbers are written.
+#![tactic(auto, using(crate::proofs::NumberLemmas::signed_value_written))]
+
 ghost use Rattle.std.specs.Prelude.{◌<◌};
 
 use crate::fixed::{Digits, write_values};

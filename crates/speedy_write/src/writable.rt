@@ -71,6 +71,7 @@ pub trait Writable<C: Context>: Layout {
     }
 
     /// The number of bytes that the value is written in. `usize::MAX` bytes and more are the error `OutOfRangeLength`.
+    #[tactic(auto, using(crate::proofs::CountLemmas::counted))]
     final fn bytes_needed(&self, context: &mut C) -> Result<usize, C::Error>
         ensures mode { C.mode context.new ≡ C.mode context.old }
         ensures needs { Needs C.Error.from_gives Self.seen Self.layout (C.mode context.old)
@@ -219,6 +220,7 @@ pub trait Writable<C: Context>: Layout {
     /// Short parts of the value are gathered, and written 8,192 bytes at a time. A failed call of the file is answered,
     /// that of the flush too, and no call is tried again, an interrupted one neither. After an error the file may hold
     /// a part of the value. Memory is asked for where a call fails, for its error.
+    #[tactic(auto, using(crate::proofs::StreamLemmas::file_written))]
     final fn write_to_file_with_ctx<R: Files, P: AsPath>(
         &self,
         rt: &R,

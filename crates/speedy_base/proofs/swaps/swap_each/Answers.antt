@@ -1,12 +1,9 @@
-use Rattle.std.proofs.Common.{◌≡◌, ◌∙◌, sym, ap, get_or, refl}
+use Rattle.std.proofs.Common.{◌≡◌, ◌∙◌, sym, ap, get_or}
 use Rattle.speedy_base.specs.declared.endianness.Endianness.{Endianness}
 use Rattle.speedy_base.specs.declared.endianness.Endianness.TheVariants.{LittleEndian, BigEndian}
 use Rattle.speedy_base.proofs.Conversions.{little_from_not_big}
-use Rattle.speedy_base.proofs.Mapping.{passed_more, passed_all, map_same}
+use Rattle.speedy_base.proofs.Mapping.{passed_more, map_same}
 use Rattle.speedy_base.proofs.swaps.swap_each.Goals as goal
-
-pub loop-value-init : goal.loop-value-init
-loop-value-init g c = refl
 
 pub loop-value-preserved : goal.loop-value-preserved
 loop-value-preserved g c =
@@ -17,9 +14,6 @@ loop-value-preserved g c =
     (sym is_big) in
     passed_more (swapped_in c.args.order) _ _ _ c.value-item.result _ c.loop-value-test.true
     c.loop-value.invariant turned
-
-pub returns-after-loop-value : goal.returns-after-loop-value
-returns-after-loop-value g c = c.loop-value.invariant ∙ passed_all _ _ _ c.loop-value-test.false
 
 pub returns-else-conversion_necessary : goal.returns-else-conversion_necessary
 returns-else-conversion_necessary g c =

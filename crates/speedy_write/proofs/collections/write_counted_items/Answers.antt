@@ -1,15 +1,10 @@
-use Rattle.std.proofs.Common.{sym, subst}
-use Rattle.std.specs.Iterator.{IsFinite}
+use Rattle.std.proofs.Common.{sym}
 use Rattle.speedy_layout.specs.Lists.{vector}
 use Rattle.speedy_layout.specs.Sequences.{so_many}
 use Rattle.speedy_write.specs.Sequences.{is_sequence, first_refused, second_written}
 use Rattle.speedy_write.proofs.CollectionLemmas.{shown_items_written}
 use Rattle.speedy_write.proofs.OwnedLemmas.{owned_written}
 use Rattle.speedy_write.proofs.collections.write_counted_items.Goals as goal
-
-pub write_collection-requires : goal.write_collection-requires
-write_collection-requires g c = λ it same. subst (λ i. g.I.Iterator.can_next i × IsFinite (g.I.Iterator.remaining i))
-    (sym same) (c.requires.can, c.requires.ends)
 
 pub returns-in_err-write_number : goal.returns-in_err-write_number
 returns-in_err-write_number g c = λ shown same always.

@@ -1,4 +1,4 @@
-use Rattle.std.proofs.Common.{◌≤◌, ◌*◌, ◌∙◌, ◌++◌, ℕ, [], length, refl, sym, ap, arith, length-take-le}
+use Rattle.std.proofs.Common.{◌≤◌, ◌*◌, ◌∙◌, ◌++◌, ℕ, length, sym, ap, arith, length-take-le}
 use Rattle.std.proofs.lemmas.Grind.{common_steps}
 use Rattle.std.proofs.lemmas.Bool.{eqb-true}
 use Rattle.std.proofs.lemmas.List.{append_assoc}
@@ -6,9 +6,6 @@ use borrow.Rule.Slice.PartMut.{same_len_mid}
 use Rattle.speedy_write.proofs.FixedLemmas.{chunk_put, all_chunks_put, chunk_ends}
 use Rattle.speedy_write.proofs.ListLemmas.{cut_off}
 use Rattle.speedy_write.proofs.fixed.put_by_chunks.Goals as goal
-
-pub loop-rest-init : goal.loop-rest-init
-loop-rest-init g c = (omega (arith, c.requires), [], refl, λ e same. refl)
 
 pub loop-rest-preserved : goal.loop-rest-preserved
 loop-rest-preserved g c =

@@ -1,4 +1,4 @@
-use Rattle.std.proofs.Common.{arith, ◌≡◌, ◌≤◌, ◌^◌}
+use Rattle.std.proofs.Common.{arith, ◌≤◌, ◌^◌}
 use Rattle.speedy_write.proofs.NumberLemmas.{too_long_refused}
 use Rattle.speedy_write.proofs.private.write_length.Goals as goal
 
@@ -6,8 +6,3 @@ pub returns-in-Err-clause-writes : goal.returns-in-Err-clause-writes
 returns-in-Err-clause-writes g c =
     let long : 256 ^ 4 ≤ c.args.length = let h = c.in-Err.ensures in omega arith in
     too_long_refused 4 long c.error_out_of_range_length.ensures
-
-pub returns-in-Ok-clause-writes : goal.returns-in-Ok-clause-writes
-returns-in-Ok-clause-writes g c =
-    let same : c.in-Ok.length ≡ c.args.length = let h = c.in-Ok.ensures in omega arith in
-    rw same at c.write_u32.ensures.writes

@@ -1,5 +1,5 @@
 use Rattle.std.specs.Int.{w128}
-use Rattle.speedy_base.proofs.SignedSwaps.{swapped_signed-answered}
+use Rattle.speedy_base.proofs.Reversals.{swapped_signed-answered}
 use Rattle.speedy_base.proofs.swaps.I128Swap.reversed.Goals as goal
 
 pub returns : goal.returns

@@ -23,13 +23,6 @@ returns-in_err-write_number g c =
     (frame_written g.N.Prefix.numbers g.T.Layout.layout needs.written (counted_below needs)
     (first_refused is_sequence refl c.from_residual-in_err-write_number.ensures.1 c.in_err-write_number.ensures))
 
-pub write_counted_value-requires : goal.write_counted_value-requires
-write_counted_value-requires g c =
-    let W = g.met.W.Writer in
-    let suffix = context_back g.W.Writer.at g.C.Context.mode W.mode_at W.state_with W.nothing W.additive
-    W.appends_with c.args.writer.now _ _ _ c.context_mut.ensures.value c.in_ok-length.ensures.mode refl in
-    rw (c.in_ok-write_number.ensures.kept.mode, ← suffix.1) c.in_ok-length.ensures.needs.written
-
 pub returns : goal.returns
 returns g c =
     let W = g.met.W.Writer in

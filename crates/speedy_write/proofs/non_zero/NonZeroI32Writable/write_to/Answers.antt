@@ -1,8 +1,0 @@
-use Rattle.std.proofs.Common.{rules}
-use Rattle.std.specs.Int.{w32}
-use Rattle.speedy_write.proofs.NonZeroLemmas.{signed_non_zero_written}
-use Rattle.speedy_write.proofs.non_zero.NonZeroI32Writable.write_to.Goals as goal
-
-pub returns : goal.returns
-returns g c =
-    signed_non_zero_written w32 (search rules) c.get.ensures.value c.args.self.now.ok c.write_i32.ensures.writes
