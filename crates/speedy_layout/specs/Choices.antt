@@ -136,12 +136,13 @@ pub record Choices (S : Type 0) : Type 1 where
 
 -- ---- one case
 
-abbrev pub only_if : {V : Type 0} → Bool → AtTag V → AtTag V
-only_if true at_tag = at_tag
+-- Of what two cases or tags stand for only one is computed, so each stands behind a `λ`.
+abbrev pub only_if : {V : Type 0} → Bool → (Unit {0} → AtTag V) → AtTag V
+only_if true at_tag = at_tag tt
 only_if false at_tag = no_case
 
-pub only_if_within : {V : Type 0} (b : Bool) (at_tag : AtTag V) (f : Mode) (asks : Asks)
-    → AsksAtMost (case_format at_tag f).asks asks → AsksAtMost (case_format (only_if b at_tag) f).asks asks
+pub only_if_within : {V : Type 0} (b : Bool) (at_tag : Unit {0} → AtTag V) (f : Mode) (asks : Asks)
+    → AsksAtMost (case_format (at_tag tt) f).asks asks → AsksAtMost (case_format (only_if b at_tag) f).asks asks
 only_if_within true at_tag f asks within = within
 only_if_within false at_tag f asks within = asks_nothing_more
 
@@ -149,13 +150,13 @@ only_if_within false at_tag f asks within = asks_nothing_more
 is_tag : (n tag : ℕ) → nat_eq n tag ≡ true → n ≡ tag
 is_tag n tag e = elim (eqb_tells n tag) [ inl h ↦ h.1 | inr h ↦ absurd (let f = h.0 in cc) ]
 
-only_if_tag : {V : Type 0} (b : Bool) (at_tag : AtTag V) (n tag : ℕ) → (b ≡ true → n ≡ tag) → (v : V)
+only_if_tag : {V : Type 0} (b : Bool) (at_tag : Unit {0} → AtTag V) (n tag : ℕ) → (b ≡ true → n ≡ tag) → (v : V)
     → IsOf (only_if b at_tag) v → tag ≡ n
 only_if_tag true at_tag n tag same v h = sym (same refl)
 only_if_tag false at_tag n tag same v h = absurd h
 
-pub only_its_tag : {V : Type 0} (at_tag : AtTag V) (n tag : ℕ) (v : V) → IsOf (only_if (nat_eq n tag) at_tag) v
-    → tag ≡ n
+pub only_its_tag : {V : Type 0} (at_tag : Unit {0} → AtTag V) (n tag : ℕ) (v : V)
+    → IsOf (only_if (nat_eq n tag) at_tag) v → tag ≡ n
 only_its_tag at_tag n tag v h = only_if_tag (nat_eq n tag) at_tag n tag (is_tag n tag) v h
 
 pub unit_within : AsksAtMost (unit.asks) asks_nothing
@@ -165,30 +166,30 @@ unit_within = asks_same
 pub known_whole : {V : Type 0} → KnownBy (λ (v : V). Some v)
 known_whole s t v is are = cc
 
-abbrev pub whole_unit : AtTag (Unit {0})
-whole_unit = a_unit (λ v. Some v) known_whole
+abbrev pub whole_unit : Unit {0} → AtTag (Unit {0})
+whole_unit _ = a_unit (λ v. Some v) known_whole
 
-abbrev pub whole_case : {V : Type 0} → Codec V → AtTag V
-whole_case {V = V} codec = a_case (record { Part = V; part = λ v. Some v; known = known_whole; codec = codec })
+abbrev pub whole_case : {V : Type 0} → Codec V → Unit {0} → AtTag V
+whole_case {V = V} codec _ = a_case (record { Part = V; part = λ v. Some v; known = known_whole; codec = codec })
 
 -- a case with this tag, and no parts
 abbrev pub unit_case : ℕ → Choices (Unit {0})
 unit_case tag = record {
   tag = λ _. tag;
-  case_of = λ n. only_if (nat_eq n tag) whole_unit;
+  case_of = λ n. only_if (nat_eq n tag) (λ u. whole_unit u);
   asks = λ _. asks_nothing;
-  within = λ f n. only_if_within (nat_eq n tag) whole_unit f asks_nothing unit_within;
-  is_tag = λ n. only_its_tag whole_unit n tag;
+  within = λ f n. only_if_within (nat_eq n tag) (λ u. whole_unit u) f asks_nothing unit_within;
+  is_tag = λ n. only_its_tag (λ u. whole_unit u) n tag;
 }
 
 -- a case with this tag
 abbrev pub one_case : {V : Type 0} → ℕ → Codec V → Choices V
 one_case tag codec = record {
   tag = λ _. tag;
-  case_of = λ n. only_if (nat_eq n tag) (whole_case codec);
+  case_of = λ n. only_if (nat_eq n tag) (λ u. whole_case codec u);
   asks = λ f. (codec.format f).asks;
-  within = λ f n. only_if_within (nat_eq n tag) (whole_case codec) f (codec.format f).asks asks_same;
-  is_tag = λ n. only_its_tag (whole_case codec) n tag;
+  within = λ f n. only_if_within (nat_eq n tag) (λ u. whole_case codec u) f (codec.format f).asks asks_same;
+  is_tag = λ n. only_its_tag (λ u. whole_case codec u) n tag;
 }
 
 -- ---- the cases of a first group, and those of a second one
@@ -240,8 +241,8 @@ right_case (a_case choice) = a_case (record {
 })
 
 -- the case of the first group, or else that of the second
-abbrev pub first_of : {V W : Type 0} → AtTag V → AtTag W → AtTag (V ⊎ W)
-first_of no_case second = right_case second
+abbrev pub first_of : {V W : Type 0} → AtTag V → (Unit {0} → AtTag W) → AtTag (V ⊎ W)
+first_of no_case second = right_case (second tt)
 first_of first _ = left_case first
 
 right_within : (V : Type 0) {W : Type 0} (w : AtTag W) (more : Asks) (f : Mode)
@@ -251,11 +252,11 @@ right_within V no_case more f within = within
 right_within V (a_unit _ _) more f within = within
 right_within V (a_case _) more f within = within
 
-pub first_of_within : {V W : Type 0} (v : AtTag V) (w : AtTag W) (asks more : Asks) (f : Mode)
-    → AsksAtMost (case_format v f).asks asks → AsksAtMost (case_format w f).asks more
+pub first_of_within : {V W : Type 0} (v : AtTag V) (w : Unit {0} → AtTag W) (asks more : Asks) (f : Mode)
+    → AsksAtMost (case_format v f).asks asks → AsksAtMost (case_format (w tt) f).asks more
     → AsksAtMost (case_format (first_of v w) f).asks (either_asks asks more)
 first_of_within {V = V} no_case w asks more f first second =
-    asks_after (right_within V w more f second) (asks_right asks more)
+    asks_after (right_within V (w tt) more f second) (asks_right asks more)
 first_of_within (a_unit _ _) w asks more f first second = asks_after first (asks_left asks more)
 first_of_within (a_case _) w asks more f first second = asks_after first (asks_left asks more)
 
@@ -271,23 +272,27 @@ right_is : {V W P : Type 0} (part : W → Option P) (first : V → ℕ) (second 
 right_is part first second n other (inl s) h = absurd (let e = h.1 in cc)
 right_is part first second n other (inr s) h = other s h
 
-pub first_of_tag : {V W : Type 0} (v : AtTag V) (w : AtTag W) (first : V → ℕ) (second : W → ℕ) (n : ℕ)
-    → ((s : V) → IsOf v s → first s ≡ n) → ((s : W) → IsOf w s → second s ≡ n)
+right_of_tag : {V W : Type 0} (w : AtTag W) (first : V → ℕ) (second : W → ℕ) (n : ℕ)
+    → ((s : W) → IsOf w s → second s ≡ n) → (s : V ⊎ W) → IsOf (right_case w) s → either_tag first second s ≡ n
+right_of_tag no_case first second n other s h = absurd h
+right_of_tag (a_unit part _) first second n other s h = right_is part first second n other s h
+right_of_tag (a_case choice) first second n other s h = right_is choice.part first second n other s h
+
+pub first_of_tag : {V W : Type 0} (v : AtTag V) (w : Unit {0} → AtTag W) (first : V → ℕ) (second : W → ℕ) (n : ℕ)
+    → ((s : V) → IsOf v s → first s ≡ n) → ((s : W) → IsOf (w tt) s → second s ≡ n)
     → (s : V ⊎ W) → IsOf (first_of v w) s → either_tag first second s ≡ n
 first_of_tag (a_unit part _) w first second n one other s h = left_is part first second n one s h
 first_of_tag (a_case choice) w first second n one other s h = left_is choice.part first second n one s h
-first_of_tag no_case (a_unit part _) first second n one other s h = right_is part first second n other s h
-first_of_tag no_case (a_case choice) first second n one other s h = right_is choice.part first second n other s h
-first_of_tag no_case no_case first second n one other s h = absurd h
+first_of_tag no_case w first second n one other s h = right_of_tag (w tt) first second n other s h
 
 abbrev pub either_case : {V W : Type 0} → Choices V → Choices W → Choices (V ⊎ W)
 either_case first second = record {
   tag = either_tag first.tag second.tag;
-  case_of = λ n. first_of (first.case_of n) (second.case_of n);
+  case_of = λ n. first_of (first.case_of n) (λ _. second.case_of n);
   asks = λ f. either_asks (first.asks f) (second.asks f);
-  within = λ f n. first_of_within (first.case_of n) (second.case_of n) (first.asks f) (second.asks f) f
+  within = λ f n. first_of_within (first.case_of n) (λ _. second.case_of n) (first.asks f) (second.asks f) f
       (first.within f n) (second.within f n);
-  is_tag = λ n. first_of_tag (first.case_of n) (second.case_of n) first.tag second.tag n (first.is_tag n)
+  is_tag = λ n. first_of_tag (first.case_of n) (λ _. second.case_of n) first.tag second.tag n (first.is_tag n)
       (second.is_tag n);
 }
 

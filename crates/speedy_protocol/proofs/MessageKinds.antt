@@ -11,7 +11,7 @@ use Rattle.speedy.specs.declared.error.Error.{Error}
 use Rattle.speedy.specs.declared.error.ErrorKind.{ErrorKind}
 use Rattle.speedy.specs.declared.error.ErrorKind.TheVariants as kinds
 use Rattle.speedy.specs.Choices.{AtTag, no_case, a_unit, a_case, case_format, Choices, choices_behind, either_case}
-use Rattle.speedy.specs.Choices.{first_of, one_case, only_if, unit_case, whole_case, whole_unit}
+use Rattle.speedy.specs.Choices.{first_of, one_case, only_if, right_case, unit_case, whole_case, whole_unit}
 use Rattle.speedy.specs.Codecs.{Codec, borrowed_codec, list_codec, option_codec, pair_codec, signed_codec}
 use Rattle.speedy.specs.Codecs.{text_codec, unsigned_codec}
 use Rattle.speedy.specs.Codes.{coding}
@@ -92,29 +92,33 @@ option_wrong F wrong kind (inr (false, none)) = absurd none
 abbrev CasesWrong : {V : Type 0} → Choices V → Type 0
 CasesWrong cases = (n : ℕ) → NamesWrong (case_format (cases.case_of n) little)
 
-only_if_wrong : {V : Type 0} (at_tag : AtTag V) (b : Bool) → NamesWrong (case_format at_tag little)
+only_if_wrong : {V : Type 0} (at_tag : Unit {0} → AtTag V) (b : Bool) → NamesWrong (case_format (at_tag tt) little)
     → NamesWrong (case_format (only_if b at_tag) little)
 only_if_wrong at_tag true wrong kind h = wrong kind h
 only_if_wrong at_tag false wrong kind is = inr (inl is)
 
-first_wrong : {V W : Type 0} (v : AtTag V) (w : AtTag W) → NamesWrong (case_format v little)
-    → NamesWrong (case_format w little) → NamesWrong (case_format (first_of v w) little)
-first_wrong no_case no_case one other kind h = other kind h
-first_wrong no_case (a_unit _ _) one other kind h = other kind h
-first_wrong no_case (a_case _) one other kind h = other kind h
+right_wrong : (V : Type 0) {W : Type 0} (w : AtTag W) → NamesWrong (case_format w little)
+    → (let second : AtTag (V ⊎ W) = right_case w in NamesWrong (case_format second little))
+right_wrong V no_case wrong kind h = wrong kind h
+right_wrong V (a_unit _ _) wrong kind h = wrong kind h
+right_wrong V (a_case _) wrong kind h = wrong kind h
+
+first_wrong : {V W : Type 0} (v : AtTag V) (w : Unit {0} → AtTag W) → NamesWrong (case_format v little)
+    → NamesWrong (case_format (w tt) little) → NamesWrong (case_format (first_of v w) little)
+first_wrong {V = V} no_case w one other kind h = right_wrong V (w tt) other kind h
 first_wrong (a_unit _ _) w one other kind h = one kind h
 first_wrong (a_case _) w one other kind h = one kind h
 
 without_wrong : (tag : ℕ) → CasesWrong (unit_case tag)
-without_wrong tag n = only_if_wrong whole_unit (nat_eq n tag) unit_wrong
+without_wrong tag n = only_if_wrong (λ u. whole_unit u) (nat_eq n tag) unit_wrong
 
 case_wrong : {V : Type 0} (tag : ℕ) (value : Codec V) → NamesWrong (value.format little)
     → CasesWrong (one_case tag value)
-case_wrong tag value wrong n = only_if_wrong (whole_case value) (nat_eq n tag) wrong
+case_wrong tag value wrong n = only_if_wrong (λ u. whole_case value u) (nat_eq n tag) wrong
 
 cases_wrong : {V W : Type 0} (first : Choices V) (second : Choices W) → CasesWrong first → CasesWrong second
     → CasesWrong (either_case first second)
-cases_wrong first second one other n = first_wrong (first.case_of n) (second.case_of n) (one n) (other n)
+cases_wrong first second one other n = first_wrong (first.case_of n) (λ _. second.case_of n) (one n) (other n)
 
 tagged_wrong : {V : Type 0} (cases : Choices V) → CasesWrong cases
     → NamesWrong ((prefixed_codec (choices_behind cases (unsigned_numbers 1))).format little)
