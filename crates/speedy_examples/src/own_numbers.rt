@@ -1,11 +1,11 @@
-//! Enums whose tags are numbers of their own, in one byte: one without parts, one with, and one that gives a tag twice.
-//! They are proved with no answer.
+//! Enums whose tags are numbers of their own, in one byte: one without parts, which may also stand behind tags of
+//! another width, one with parts, and one that gives a tag twice. They are proved with no answer.
 ghost use Rattle.std.proofs.Common.{inl, inr};
 
 use speedy::cases::{
     Case, CaseTree, Cases, Either, ReadCases, UnitCase, WriteCases, read_tagged, write_tagged,
 };
-use speedy::prefixed::Prefixed;
+use speedy::prefixed::{Prefixed, ReadPrefix, ReadTold, WritePrefix, WriteTold};
 use speedy::private::{error_invalid_enum_variant, error_out_of_range_length};
 use speedy::{Context, ItemByItem, Layout, LendingReader, Part, ReadFrom, Writable, Writer};
 use std::convert::AsSlice;
@@ -58,6 +58,20 @@ impl<L: AsSlice<u8> + Drop, C: Context> ReadFrom<L, C> for Colour {
 
     fn minimum_bytes_needed() -> usize {
         1
+    }
+}
+
+impl<L: AsSlice<u8> + Drop, C: Context> ReadTold<L, C> for Colour {
+    fn read_behind<N: ReadPrefix, R: LendingReader<L, C>>(
+        reader: &mut R,
+    ) -> Result<Colour, C::Error> {
+        read_tagged::<N, Colour, L, C, R>(reader)
+    }
+}
+
+impl<C: Context> WriteTold<C> for Colour {
+    fn write_behind<N: WritePrefix, W: Writer<C>>(&self, writer: &mut W) -> Result<(), C::Error> {
+        write_tagged::<N, Colour, C, W>(self, writer)
     }
 }
 

@@ -4,6 +4,7 @@ use crate::own_maps::Directory;
 use crate::own_numbers::{Colour, Packet, Twice};
 use crate::own_struct::Contact;
 use crate::tests::assert_refused;
+use speedy::prefixed::Prefixed;
 use speedy::readable::BufferReader;
 use speedy::{LendingReader, LittleEndian, Writable};
 use std::alloc::Global;
@@ -64,6 +65,17 @@ fn tags_may_be_numbers_of_ones_own(rt: HostRuntime) {
     assert!(rt; colour == Colour::Green);
     let outcome = make_reader(alloc, &[2]).read_value::<Colour>();
     assert_refused(&rt, alloc, outcome, "InvalidEnumVariant");
+}
+
+#[test]
+fn an_enum_may_stand_behind_tags_of_another_width(rt: HostRuntime) {
+    let alloc = rt.alloc();
+    let wide: Prefixed<u16, Colour> = make_reader(alloc, &[9, 0])
+        .read_value()
+        .expect(&rt, "a colour");
+    assert!(rt; wide.value == Colour::Blue);
+    let again = Writable::<LittleEndian>::write_to_vec(&wide, alloc).expect(&rt, "bytes");
+    assert!(rt; again.as_slice() == [9, 0].as_slice());
 }
 
 #[test]
