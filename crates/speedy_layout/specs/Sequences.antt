@@ -77,7 +77,7 @@ not_asked false b f h = refl
 abbrev pub counted_parts : {V : Type 0} → List V → ℕ × List V
 counted_parts vs = (length vs, vs)
 
--- which are those of a list that has so many
+-- which are those of a list of n items
 pub so_many : {V : Type 0} (n : ℕ) (vs : List V) → length vs ≡ n → counted_parts vs ≡ (n, vs)
 so_many {V = V} n vs h = ap (λ (m : ℕ). let whole : ℕ × List V = (m, vs) in whole) h
 

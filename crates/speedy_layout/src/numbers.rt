@@ -1,4 +1,4 @@
-//! Numbers: their layout, which is so many digits in the order of the encoding, how they are decoded and encoded, that
+//! Numbers: their layout, which is their digits in the order of the encoding, how they are decoded and encoded, that
 //! views show them and that they are keys. What is said of a width is said here.
 ghost use Rattle.std.specs.Prelude.{ℕ, ℤ, refl};
 ghost use Rattle.std.specs.Cmp.{unsigned_Decides, signed_Decides};

@@ -20,7 +20,7 @@ impl VarInt64 {
         self.0
     }
 
-    /// The canonical encoding: so many bytes from the front of the array.
+    /// The canonical encoding: the first bytes of the array, and how many they are.
     #[inline]
     pub fn encode(self) -> ([u8; 9], usize)
         ensures one_at_least { 1 ≤ result.1 }

@@ -13,7 +13,7 @@ BeginsWith format v bytes rest = (prefix : List ℕ) × format.encodes v prefix 
 abbrev pub BeginsWithNone : {V : Type 0} → Format V → List ℕ → Type 0
 BeginsWithNone {V = V} format bytes = (v : V) (rest : List ℕ) → BeginsWith format v bytes rest → ⊥
 
--- The bytes, which are so many, are too few; or a text is no UTF-8, no message has the tag, or the message does not
+-- There are too few bytes (`size` of them); or a text is no UTF-8, no message has the tag, or the message does not
 -- fill its frame.
 abbrev pub SaysWhy : ℕ → Error → Type 0
 SaysWhy size e =

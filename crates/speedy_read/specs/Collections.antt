@@ -38,7 +38,7 @@ module _ {T F V : Type 0} (g : Gatherer T F V) (L : Format V) (n : ℕ) where
     pub not_written : g.are_written items → ⊥
 
   -- A read of n items and what they gather to. What is answered is gathered of items that a prefix of the
-  -- remaining bytes encodes, and just that prefix is taken. A clean refusal means that no prefix encodes so many
+  -- remaining bytes encodes, and just that prefix is taken. A clean refusal means that no prefix encodes n
   -- items, or none that are written of a collection where that is demanded.
   pub record Collects {E : Type 0} (gives : Error → E → Type 0) (eof : E → Bool) (result : Result F E)
       (old new : ReaderState) : Type 0 where
@@ -47,7 +47,7 @@ module _ {T F V : Type 0} (g : Gatherer T F V) (L : Format V) (n : ℕ) where
         (λ e. Excused gives true e old new
         ⊎ (Refused gives eof (vector n L) e old new ⊎ (gives (error_of kinds.NotWrittenForm) e × NotWritten old new)))
 
--- the word of contracts: a read of so many of a codec's values and what they gather to, from a reader that reads see so
+-- the word of contracts: a read of n of a codec's values and what they gather to, from a reader that reads see so
 abbrev pub CollectsValues : {E S T F V : Type 0} → Errors E → (S → ReaderState) → Gatherer T F V → Codec V → ℕ
     → Result F E → S → S → Type 0
 CollectsValues errors state g codec n result old new =

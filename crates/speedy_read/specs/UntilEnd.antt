@@ -104,7 +104,7 @@ module _ {E : Type 0} (errors : Errors E) where
   -- What a clean read until the end answers is decided by the bytes. It may want memory in place of any other answer.
   pub record UntilEndIsDecided {T F V : Type 0} (seen : T → V) (gathers : List T → F → Type 0)
       (format : Mode → Format V) : Type 0 where
-    -- at most n values and then some first bytes of one, or none: the values
+    -- at most `greatest` values and then some first bytes of one, or none: the values
     pub cut : {mode : Mode} (vs : List V) (v : V) (bytes prefix more : List ℕ) {greatest : ℕ}
         {result : Result F E} {old new : ReaderState}
         → Each (format mode).encodes vs bytes → (format mode).encodes v (prefix ++ more) → more ≢ []
@@ -113,7 +113,7 @@ module _ {E : Type 0} (errors : Errors E) where
         → CleanUntilEnd errors.from_gives errors.eof seen gathers (format mode) greatest result old new
         → MatchResult result (λ whole. (items : List T) × (map seen items ≡ vs) × gathers items whole)
         (errors.from_gives (error_of kinds.OutOfMemory))
-    -- more than n values: a refusal
+    -- more than `greatest` values: a refusal
     pub too_many : {mode : Mode} (vs : List V) (bytes rest : List ℕ) {greatest : ℕ} {result : Result F E}
         {old new : ReaderState}
         → Each (format mode).encodes vs bytes → greatest < length vs
@@ -121,7 +121,7 @@ module _ {E : Type 0} (errors : Errors E) where
         → CleanUntilEnd errors.from_gives errors.eof seen gathers (format mode) greatest result old new
         → MatchResult result (λ _. ⊥)
         (λ e. errors.from_gives (error_of kinds.OutOfRangeLength) e ⊎ errors.from_gives (error_of kinds.OutOfMemory) e)
-    -- at most n values and then what the type refuses: a refusal that it names
+    -- at most `greatest` values and then what the type refuses: a refusal that it names
     pub at_fault : {mode : Mode} (vs : List V) (bytes rest : List ℕ) {greatest : ℕ} {result : Result F E}
         {old new : ReaderState}
         → Each (format mode).encodes vs bytes → (format mode).malformed rest → length vs ≤ greatest

@@ -51,9 +51,10 @@ pub fn written_length_is_read<C: Context>()
     ensures varint { WrittenIsRead C.Error.IsEof (λ (n : ℕ). n) varint }
 {}
 
-/// The bytes decide what `read_vec_until_eof` or `read_collection_until_eof` answers, if no call failed: at most so
-/// many values and then some first bytes of one are these values, more values are `OutOfRangeLength`, and a fault that
-/// the type finds behind at most so many is of a kind that it names. Out of memory may come in place of any answer.
+/// The bytes decide what `read_vec_until_eof` or `read_collection_until_eof` answers, if no call failed: at most
+/// `greatest` values and then some first bytes of one are these values, more values are `OutOfRangeLength`, and a
+/// fault that the type finds behind no more than these is of a kind that it names. Out of memory may come in place of
+/// any answer.
 pub fn until_end_is_decided<F: FromItems<T>, T: Layout, C: Context>()
     ensures { UntilEndIsDecided C.Error.IsEof T.seen F.gathers T.layout.format }
 {}

@@ -261,7 +261,8 @@ impl<'s, 'b, C: Context, S: Source> LendingReader<&'b [u8], C> for StreamReader<
 
     ghost can_read = { λ r n. if nat_le n (length r.ring.bytes) then Some true else None };
 
-    /// Fills the output with the next bytes. Where so many are held, as for an empty output, the source is not called.
+    /// Fills the output with the next bytes. Where the ring holds them all, as for an empty output, the source is not
+    /// called.
     #[inline(always)]
     fn read_bytes(&mut self, output: &mut [u8]) -> Result<(), C::Error>
         ensures reads { let reader = ⟦<StreamReader<'s, S, C> as LendingReader<&'b [u8], C>>⟧ in

@@ -59,7 +59,7 @@ impl<'a, C: Context, T: ZeroCopyable<C>, const N: usize> ReadFrom<&'a [u8], C>
     {
         encoded_as_little::<T, &'a [u8], C, R>(reader);
         let Some(size) = size_of_array::<T, N>() else {
-            // No input has so many bytes.
+            // No input is that long.
             read_lent(reader, usize::MAX)?;
             return Err(error_end_of_input());
         };

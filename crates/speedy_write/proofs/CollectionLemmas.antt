@@ -89,7 +89,7 @@ module _ {E S A V : Type 0} {gives : Error → E → Type 0} {steps : S → Opti
             (sym left.1)
             (first_items_refused F (length w.walked) (map seen w.walked) left.0 (length-map w.walked seen) written)
 
-  -- an iterator that always gives the same items is written as so many
+  -- an iterator that always gives the same items is written as `count` of them
   pub shown_items_written : {count : ℕ} {result : Result (Unit {0}) E} → count ≡ length shown
       → AlwaysYields steps seen items shown
       → WritesItems (λ s r. r ≡ s) steps seen gives F items result old new appended

@@ -5,7 +5,7 @@ use Rattle.speedy_base.specs.Mode.{Mode}
 use Rattle.speedy_layout.specs.Format.{Format, Each}
 use Rattle.speedy_write.specs.Collectors.{BufferAppends}
 
--- their bytes, so many of each, were put into the buffer from the one position to the other
+-- their bytes, `size` of each, were put into the buffer from the one position to the other
 pub record PutsAt {A V : Type 0} (F : Mode → Format V) (seen : A → V) (values : List A) (size : ℕ)
     (order : Endianness) (at : ℕ) (buffer : List ℕ) (end : ℕ) (after : List ℕ) : Type 0 where
   pub bytes : List ℕ

@@ -157,7 +157,7 @@ module _ {E S : Type 0} (gives : Error → E → Type 0) (state : S → WriterSt
     abbrev pub WritesSigned : Width → ℤ → Result (Unit {0}) E → S → S → Type 0
     WritesSigned w = WritesValue (λ z. z) (signed_codec w)
 
-    -- What a writer answers that counts bytes and keeps none: as it would the write of any so many of them. Or it
+    -- What a writer answers that counts bytes and keeps none: as it would the write of any `size` bytes. Or it
     -- answers nothing, and stays as it was.
     abbrev pub CountsBytes : ℕ → Option (Result (Unit {0}) E) → S → S → Type 0
     CountsBytes size counted old new =

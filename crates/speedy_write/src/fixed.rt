@@ -12,7 +12,7 @@ use speedy_layout::Layout;
 use speedy_layout::fixed_numbers::{FixedNumber, MOST_DIGITS};
 use std::time::Duration;
 
-/// How values of a type are put as bytes: always as so many, which the order alone decides.
+/// How values of a type are put as bytes: each as `BYTES` bytes, which the order alone decides.
 pub trait FixedBytes<T: Layout> {
     /// How many bytes each is put as.
     const BYTES: usize;

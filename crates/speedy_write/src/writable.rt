@@ -240,7 +240,7 @@ pub trait Writable<C: Context>: Layout {
     }
 }
 
-// A value that takes at most so many bytes is pushed to a sink at once.
+// The most bytes of a value that is pushed to a sink at once.
 const SHORT_ROOM: usize = 256;
 
 // How many bytes of a longer one are gathered for a sink, and for a file, before they are pushed.
@@ -332,7 +332,7 @@ fn fill<C: Context, T: Writable<C>, U>(
 // The use of a buffer as the room of a vector.
 struct VecRoom {}
 
-// Vectors of at most so many bytes are filled as buffers are, over zeros: these are still in the processor's cache.
+// The most bytes of a vector that is filled as buffers are, over zeros: these are still in the processor's cache.
 const MOST_ZEROED: usize = 8_192;
 
 // Writes a value to a vector that is requested once, with room for the bytes that the value takes.
