@@ -72,7 +72,7 @@ pub record IsCode {U V : Type 0} (c : Code U V) (F : Format U) : Type 0 where
   -- chosen ones
   pub tells : F.asks.hashed ≡ true → ((u w : U) (s t : List ℕ) → F.encodes u s → F.encodes w t → Decided (u ≡ w))
       → (v w : V) (s t : List ℕ) → Coded F.encodes c.means v s → Coded F.encodes c.means w t → Decided (v ≡ w)
-  -- and it means the value
+  -- a code that is chosen for a value means it
   pub chosen_means : (u : U) (v : V) → c.chosen u v → c.means u v
   -- one is chosen where the value has an encoding
   pub has_chosen : (v : V) (bytes : List ℕ) → Coded F.encodes c.means v bytes
@@ -200,7 +200,7 @@ pub Accepts-exact : {U V : Type 0} (strict : Bool) (means : U → V → Type 0) 
 Accepts-exact false means refusals u v h = h
 Accepts-exact true means refusals u v h = h
 
--- and means it
+-- a code that is accepted as a value means it
 pub Accepts-exact_means : {U V : Type 0} (strict : Bool) (means : U → V → Type 0) (refusals : ErrorKind → Type 0)
     (u : U) (v : V)
     → Accepts strict (exact_code means refusals) u v → means u v

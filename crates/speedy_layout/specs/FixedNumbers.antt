@@ -15,7 +15,7 @@ use Rattle.speedy_layout.specs.Numbers.{unsigned_number, signed_number}
 abbrev pub encoded_in : {V : Type 0} → (Mode → Format V) → Endianness → V → List ℕ → Type 0
 encoded_in F order = (F (plain_mode order)).encodes
 
--- values that are encoded by n bytes, which the order alone decides
+-- values that are encoded by `size` bytes, which the order alone decides
 pub record IsFixed {V : Type 0} (size : ℕ) (F : Mode → Format V) : Type 0 where
   pub has_bytes : 0 < size
   pub at_most : size ≤ 16
@@ -32,7 +32,7 @@ abbrev pub Decodes : {A V : Type 0} → ℕ → (Mode → Format V) → (A → V
 Decodes size F seen decoded = (order : Endianness) (bytes : List ℕ) → length bytes ≡ size → AreBytes bytes
     → encoded_in F order (seen (decoded order bytes)) bytes
 
--- n values have n times their bytes
+-- n values have n times as many bytes as one
 pub each_length : {V : Type 0} {size : ℕ} {F : Mode → Format V} → IsFixed size F
     → (order : Endianness) (vs : List V) (bytes : List ℕ) → Each (encoded_in F order) vs bytes
     → length bytes ≡ length vs * size

@@ -27,7 +27,7 @@ either_asks a b = record {
 pub record Format (V : Type 0) : Type 1 where
   -- the bytes encode the value
   pub encodes : V → List ℕ → Type 0
-  -- the encodings that are written
+  -- the canonical encodings: those that are written, and that a strict mode accepts
   pub writes : V → List ℕ → Type 0
   -- the kinds of refusals that the type adds itself in reading, and those of its parts
   pub names : ErrorKind → Type 0

@@ -11,7 +11,7 @@ use Rattle.speedy_layout.specs.Format.{Asks, Format, plain_format, IsOwnKind}
 abbrev pub Decided : Type 0 → Type 0
 Decided P = P ⊎ (P → ⊥)
 
--- The laws of a format whose encodings have at least n bytes, under a demand for the canonical encoding or none.
+-- The laws of a format whose encodings have at least `least` bytes, under a demand for the canonical encoding or none.
 pub record Laws {V : Type 0} (strict : Bool) (least : ℕ) (F : Format V) : Type 0 where
   -- one list of bytes encodes at most one value, and no encoding begins another
   pub decodes : (v w : V) (s t r q : List ℕ) → F.encodes v s → F.encodes w t → s ++ r ≡ t ++ q

@@ -54,11 +54,11 @@ told_length_laws field laws = record {
   refuses_own = λ kind h. elim h [ inl x ↦ other_length_own field kind x | inr x ↦ laws.refuses_own kind x ];
 }
 
--- Parts, and behind them a value of the length that is told of them. Where none is told, the parts are refused as a
--- length that is out of range.
+-- Parts that tell a length. Where they tell none, they are refused as a length that is out of range.
 abbrev pub told_codec : {B : Type 0} → (B → Type 0) → Codec B → Codec B
 told_codec is_told before = subset_codec is_told kinds.OutOfRangeLength tt before
 
+-- Parts that tell a length, and behind them a value of that length.
 abbrev pub with_length_codec : {B V : Type 0} → (B → Type 0) → (B → ℕ) → List ℕ → Codec B → Counting V → Codec (B × V)
 with_length_codec {B = B} {V = V} is_told told field before counting = record {
   least = before.least;
@@ -118,7 +118,7 @@ borrowed_counting counting = record {
   is_count = λ f n. borrowed_count ((counting.of_length n).format f) (λ v s. counting.is_count f n v s);
 }
 
--- ---- what neither is told a length nor has the one that is told is no such value
+-- ---- a value for which no length is told, and one of another length than is told, have no encoding
 
 module _ {B V : Type 0} (is_told : B → Type 0) (told : B → ℕ) (field : List ℕ) (before : Codec B)
     (counting : Counting V)

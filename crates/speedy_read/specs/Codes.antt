@@ -170,7 +170,7 @@ module _ {E : Type 0} {gives : Error → E → Type 0} {eof : E → Bool} {U V :
 pub demanded : {old new : Mode} {asked : Bool} → new ≡ old → asked ≡ new.strict → asked ≡ true → IsTrue old.strict
 demanded kept is asked = sym (ap (λ (e : Mode). e.strict) kept) ∙ (sym is ∙ asked)
 
--- and one that does not did not
+-- a reader that does not demand the canonical encoding did not before
 pub not_demanded : {old new : Mode} {asked : Bool} → new ≡ old → asked ≡ new.strict → asked ≡ false
     → IsTrue old.strict → ⊥
 not_demanded kept is not_asked strict = let asked_before = ap (λ (e : Mode). e.strict) kept in absurd (cc)

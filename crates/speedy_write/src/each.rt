@@ -76,10 +76,10 @@ fn write_by_parts<C: Context, T: Writable<C>, W: Writer<C>>(
     item.write_to(writer)
 }
 
-// The most items that are counted together, and the most bytes of each: so the sum cannot wrap. A processor compares
-// with the second in one instruction.
-const MOST: usize = 4_294_967_295;
+// The most items that are counted together. With `MOST_BYTES` of each the sum cannot wrap.
+const MOST_ITEMS: usize = 4_294_967_295;
 
+// The most bytes of an item that is counted with others. A processor compares with it in one instruction.
 const MOST_BYTES: usize = 2_147_483_647;
 
 // How many bytes the items take, where there are not too many of them and all can be written.
@@ -90,7 +90,7 @@ fn count_each<C: Context, T: Writable<C>>(items: &[T], context: &mut C) -> Optio
     ensures counts { let format = T.layout.format (C.mode context.old) in
         IfSome result (λ size. CountsEach format.writes (map T.seen items.now) size) }
 {
-    if items.len() > MOST {
+    if items.len() > MOST_ITEMS {
         return None;
     }
     let mut sum = 0;

@@ -8,7 +8,10 @@ use crate::writable::Writable;
 use speedy_base::context::Context;
 use speedy_layout::Layout;
 
-/// How values of a type are written to a buffer. A writer lends one that cannot name how they are written to it.
+/// How values of a type are written to a buffer.
+///
+/// `Writer` comes before `Writable`, and cannot name it. So a writer that lends its room takes the way of writing to it as
+/// a type.
 pub trait FillsFront<T: Layout, C: Context> {
     /// Writes a value to the front of a buffer, and says where it ends, or `None` where it does not fit, or has no
     /// encoding. `U` says what the buffer is used for.
@@ -25,7 +28,7 @@ pub trait FillsFront<T: Layout, C: Context> {
             IsAtFront (Each format.writes) (map T.seen (take result.0 items.now)) buffer.new result.1 };
 }
 
-/// Values are written as they are to any writer.
+/// The way of `Writable`: each value is written whole, or not at all.
 pub(crate) struct Whole {}
 
 impl<C: Context, T: Writable<C>> FillsFront<T, C> for Whole {

@@ -1,4 +1,4 @@
-//! Values that are always written as as many bytes: many of them go to the writer by chunks.
+//! Values of a type whose encodings all have the same number of bytes: many of them go to the writer by chunks.
 ghost use Rattle.std.specs.Prelude.{◌≡◌, ◌<◌, ◌≤◌, ◌+◌, ◌*◌, ℕ, length, map};
 ghost use Rattle.speedy_base.specs.Mode.{Mode};
 ghost use Rattle.speedy_layout.specs.Format.{Each};
@@ -19,7 +19,7 @@ pub trait FixedBytes<T: Layout> {
 
     ghost BYTES: { ℕ };
 
-    /// Shows that there is a byte at least, and that there are few. It does nothing else.
+    /// Shows that `BYTES` is 1 to 16. It does nothing else.
     fn has_few_bytes()
         ensures { (0 < Self.BYTES) × (Self.BYTES ≤ 16) };
 
@@ -47,7 +47,7 @@ impl<T: FixedNumber> FixedBytes<T> for Digits {
     }
 }
 
-/// What is a code of numbers is put as their digits.
+/// `bool`, `char` and `Duration` are put as the digits of the numbers that stand for them.
 pub(crate) struct Codes {}
 
 impl FixedBytes<bool> for Codes {
@@ -206,8 +206,8 @@ const SHORT_CHUNK: usize = 64;
 /// The chunk for many, in bytes: longer writes, of which there are fewer, take less time.
 const LONG_CHUNK: usize = 8192;
 
-// Writes the values through a chunk, which is as long as pays for so many of them. It stands apart: a caller that has
-// it within pays at each call for the longest.
+// Writes the values through a chunk, whose length pays for their number. It stands apart: a caller that has it within
+// pays at each call for the longest.
 #[inline(never)]
 fn write_by_chunks<C: Context, T: Layout, P: FixedBytes<T>, W: Writer<C>>(
     values: &[T],

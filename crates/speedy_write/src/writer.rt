@@ -18,10 +18,10 @@ use speedy_layout::{Layout, VarInt64};
 
 /// Writers, with the calls of each.
 pub trait Writer<C: Context> {
-    /// Whether `count_bytes` counts. It is a hint: nothing rests on it but speed.
+    /// Whether `count_bytes` ever answers `Some`. It is a hint: nothing rests on it but speed.
     const COUNTS: bool = false;
 
-    /// Whether `put_whole` puts. It is a hint: nothing rests on it but speed.
+    /// Whether `put_whole` ever answers `true`. It is a hint: nothing rests on it but speed.
     const PUTS: bool = false;
 
     /// The context that the writer holds.
@@ -129,7 +129,7 @@ pub trait Writer<C: Context> {
     ghost additive: { (a b c : Self) (s t : List ℕ) →
         appends a s b → appends b t c → appends a (s ++ t) c };
 
-    /// Another context writes nothing and unwrites nothing.
+    /// Another context changes nothing of what was written.
     ghost appends_with: { (a b : Self) (s : List ℕ) (c : C) →
         appends a s b → appends a s (with_context b c) × appends (with_context a c) s b };
 
