@@ -9,13 +9,16 @@ pub use speedy_base::error::{
 };
 pub use speedy_layout::varint::VarInt64;
 pub use speedy_layout::view_items::ZeroCopyable;
-pub use speedy_read::private::{
-    IntoLength, are_lengths_the_same, cow_bytes_to_cow_str, read_constant, read_length,
-    read_length_u7, read_length_u8, read_length_u16, read_length_u32, read_length_u64,
-    read_length_u64_varint, vec_to_string,
+pub use speedy_read::lengths::{IntoLength, are_lengths_the_same};
+pub use speedy_read::magic::read_constant;
+pub use speedy_read::prefixed::{
+    read_length, read_length_u7, read_length_u8, read_length_u16, read_length_u32, read_length_u64,
+    read_length_u64_varint,
 };
 pub use speedy_read::room::push_in_steps;
-pub use speedy_write::private::{
+pub use speedy_read::utf8::{cow_bytes_to_cow_str, vec_to_string};
+pub use speedy_write::prefixed::{
     write_length, write_length_u7, write_length_u8, write_length_u16, write_length_u32,
-    write_length_u64, write_length_u64_varint, write_to_stream_and_flush_with_ctx,
+    write_length_u64, write_length_u64_varint,
 };
+pub use speedy_write::writable::write_to_stream_and_flush_with_ctx;

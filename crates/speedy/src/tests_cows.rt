@@ -1,4 +1,4 @@
-//! Cows lie as their content, whether they borrow or own it, and own what is read. The bytes come from outside.
+//! Cows are encoded as their content, whether they borrow or own it. The bytes come from outside.
 use crate::asserting::assert_ok_items;
 use crate::endianness::Endianness;
 use crate::readable::BufferReader;

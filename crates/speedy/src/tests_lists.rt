@@ -1,4 +1,4 @@
-//! Lists and arrays.
+//! Lists and arrays. `SmallVec` is tested by lines of `stdin` in `speedy_vectors`.
 use crate::asserting::{
     assert_bytes, assert_encoding, assert_ok, assert_ok_items, make_text, make_vec, row,
 };

@@ -1,5 +1,6 @@
-//! Numbers in each form over a buffer, with a context and without one. Numbers of other widths are lines of the
-//! program's tests.
+//! Numbers in each form over a buffer, with a context and without one.
+//!
+//! Numbers of other widths are lines of `stdin` in `speedy_vectors`.
 use crate::asserting::{assert_encoding, assert_ok_items, assert_same, row};
 use crate::context::{LittleEndian, PlainContext};
 use crate::readable::Readable;

@@ -1,4 +1,4 @@
-//! What borrows its content lies as the content.
+//! References are encoded as their content.
 use crate::asserting::assert_ok_items;
 use crate::endianness::Endianness;
 use crate::writable::Writable;

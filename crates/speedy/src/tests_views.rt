@@ -1,5 +1,6 @@
-//! Views show the items that their bytes encode in little endian, wherever the bytes lie, and are written in
-//! either order.
+//! Views show the items that their bytes encode in little endian, and are written in either order.
+//!
+//! Where the bytes lie makes no difference.
 use crate::asserting::{assert_ok_items, assert_same};
 use crate::context::LittleEndian;
 use crate::endianness::Endianness;

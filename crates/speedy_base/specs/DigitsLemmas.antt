@@ -1,5 +1,5 @@
--- What holds of base 256 digits, at each width and in both orders; and that std's conversions between numbers and bytes
--- are these digits.
+-- What holds of base 256 digits, at each width and in both orders.
+-- Std's conversions between numbers and bytes are these digits.
 use Rattle.std.proofs.Common.{◌≡◌, ℕ, zero, suc, ◌+◌, ◌-◌, ◌*◌, ◌/◌, ◌%◌, ◌^◌, ◌<◌, ◌≤◌, List, [], ◌∷◌, ◌++◌, length}
 use Rattle.std.proofs.Common.{reverse, get_or, slice_index, refl, sym, ap, ap₂, ◌∙◌, subst, subst₂, arith}
 use Rattle.std.proofs.Math.Nat.{pow-suc, div-div-eq-div-mul, div-one}

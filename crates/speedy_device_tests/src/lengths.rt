@@ -1,5 +1,6 @@
-//! Lengths of each width, constants, and peeks of numbers, by each reader. What stands behind a length as a value,
-//! `Prefixed`, is tested in `speedy`.
+//! Lengths of each width, constants, and peeks of numbers, by each reader.
+//!
+//! What stands behind a length as a value, `Prefixed`, is tested in `speedy`.
 use crate::asserting::{assert_bytes, assert_end, assert_ok, assert_refused, assert_same};
 use crate::probes::{Probe, read_by_each};
 use speedy::endianness::Endianness;

@@ -1,5 +1,6 @@
-//! The tests of sources, sinks, files and the ring between them and their readers, and of what each kind of reader
-//! reads. They stand on `speedy` as a user's crate does, and beside its own tests, so that neither waits for the other.
+//! The tests of sources, sinks, files and rings, and of what each kind of reader reads.
+//!
+//! They stand on `speedy` as a user's crate does, and beside its own tests, so that neither waits for the other.
 #![tactic(auto)]
 
 #[cfg(test)]

@@ -1,5 +1,5 @@
--- Words of the callers' contracts: values that have an encoding, bytes that begin with one, and errors that say nothing
--- of either.
+-- Words of the callers' contracts: which values have an encoding, which bytes begin with one, and which errors say
+-- neither.
 use Rattle.std.specs.Prelude.{◌≡◌, ℕ, ◌-◌, ◌^◌, ◌<◌, List, ◌++◌, length, ◌⊎◌}
 use Rattle.std.specs.declared.io.Error.{Error as StdIoError}
 use Rattle.speedy.specs.Error.{error_of, IsNamed}

@@ -1,5 +1,6 @@
-//! The example callers that the pages show, with the contracts and the proofs that a user writes. They stand on
-//! `speedy` alone, as a user's crate does, and beside the program, so that neither waits for the other.
+//! The example callers that the pages show, with the contracts and the proofs that a user writes.
+//!
+//! They stand on `speedy` alone, as a user's crate does, and beside the program, so that neither waits for the other.
 #![tactic(auto)]
 
 pub mod files;

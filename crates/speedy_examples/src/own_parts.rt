@@ -1,5 +1,6 @@
-//! A struct of more than eleven parts: a tuple whose last part is one again. Of so many the search does not answer
-//! where reading fails.
+//! A struct of more than eleven parts: a tuple whose last part is one again.
+//!
+//! Of that many parts the search does not answer where reading fails.
 use speedy::{Context, ItemByItem, Layout, LendingReader, Part, ReadFrom, Writable, Writer};
 use std::convert::AsSlice;
 

@@ -1,5 +1,5 @@
--- The cases of an enum, each behind a tag: which cases there are, what is seen of a value of one, and how it is
--- encoded. Of two cases with one tag the first counts: a value of the second has no encoding.
+-- The cases of an enum, each behind a tag: which there are, what is seen of a value, and how it is encoded.
+-- Of two cases with one tag the first counts: a value of the second has no encoding.
 use Rattle.std.specs.Prelude.{◌≡◌, ℕ, ◌+◌, ◌⊎◌, List, Bool, true, false, nat_eq, Option, Some, None, refl}
 use Rattle.std.proofs.Common.{sym, ◌∙◌, ap, subst, arith, inl, inr}
 use Rattle.std.proofs.lemmas.Bool.Decides.{eqb_tells}

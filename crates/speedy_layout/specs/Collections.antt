@@ -1,5 +1,6 @@
--- Which maps and sets of std and of `indexmap` a list of items gathers to. Here keys and items are the same where they
--- are equal; what a collection holds are the list's own, also where others are equal to them.
+-- Which maps and sets of std and of `indexmap` a list of items gathers to.
+-- Here keys and items are the same where they are equal; what a collection holds are the list's own, also where others
+-- are equal to them.
 use Rattle.std.specs.Prelude.{◌≡◌, List, Bool, false, IsTrue, Option, Some, ◌↔◌}
 use Rattle.std.specs.Map.{keys_of}
 use Rattle.std.specs.Set.{is_member}

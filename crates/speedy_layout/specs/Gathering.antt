@@ -1,5 +1,4 @@
--- What a list of items gathers to, where several lists may stand for one thing, as the lists of pairs that a map is
--- read from.
+-- The codec of what a list of items gathers to, where several lists may stand for one thing: maps and sets.
 use Rattle.std.specs.Prelude.{◌≡◌, ℕ, ◌+◌, ◌≤◌, List, [], ◌∷◌, ◌++◌, length, Bool, true, false, refl}
 use Rattle.std.proofs.Common.{sym, ◌∙◌, ap, subst, inl, inr, arith}
 use Rattle.std.proofs.lemmas.List.{length-append}

@@ -1,5 +1,4 @@
--- A number, and behind it what the number tells of: a text behind its length, a list behind its count, one of several
--- cases behind its tag.
+-- A number, and behind it what the number tells of: texts, lists, maps and sets behind a length, cases behind a tag.
 use Rattle.std.specs.Prelude.{◌≡◌, ℕ, List, refl}
 use Rattle.speedy_base.specs.Mode.{Mode}
 use Rattle.speedy_layout.specs.Codes.{coding}

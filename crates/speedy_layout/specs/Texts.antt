@@ -1,5 +1,5 @@
--- Bytes and texts. A text is seen as the bytes of its characters in UTF-8, which determine the characters, and are
--- determined by them.
+-- Bytes and texts.
+-- A text is seen as the bytes of its characters in UTF-8, which determine the characters, and are determined by them.
 use Rattle.std.specs.Prelude.{◌≡◌, ℕ, ◌+◌, List, [], ◌∷◌, ◌++◌, length, Bool, true, refl}
 use Rattle.std.proofs.Common.{sym, ◌∙◌, ap, arith}
 use Rattle.std.specs.Str.{IsUtf8}

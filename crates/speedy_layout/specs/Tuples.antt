@@ -1,5 +1,5 @@
--- No bytes, and two values one after the other. A tuple of more parts is a pair of its first one and the tuple of the
--- others.
+-- No bytes, and two values one after the other.
+-- A tuple of more parts is a pair of its first one and the tuple of the others.
 use Rattle.std.specs.Prelude.{◌≡◌, ◌+◌, [], ◌++◌, refl, Bool}
 use Rattle.std.proofs.Common.{sym, ◌∙◌, ap, arith}
 use Rattle.speedy_layout.specs.Format.{Format, plain_format}

@@ -1,4 +1,4 @@
-//! The layout of what owns its content or borrows it, and adds no byte to it.
+//! The layout of `Cow`, `CowStr` and `CowSlice`: that of their content.
 ghost use Rattle.std.specs.Prelude.{ℕ, List, map};
 ghost use Rattle.std.specs.Cow.{cow_value, cow_slice_items, cow_str_bytes};
 ghost use Rattle.speedy_layout.specs.Codecs.{list_codec, text_codec};

@@ -1,5 +1,6 @@
-//! Numbers: their layout, which is their digits in the order of the encoding, how they are decoded and encoded, that
-//! views show them and that they are keys. What is said of a width is said here.
+//! Numbers: their layout and how they are decoded and encoded, that views show them and that they are keys.
+//!
+//! Their layout is their digits in the order of the encoding. What is said of a width is said here.
 ghost use Rattle.std.specs.Prelude.{ℕ, ℤ, refl};
 ghost use Rattle.std.specs.Cmp.{unsigned_Decides, signed_Decides};
 ghost use Rattle.std.specs.Int.{w8, w16, w32, w64, w128, cast_signed};

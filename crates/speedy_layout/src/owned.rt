@@ -1,4 +1,4 @@
-//! The layout of what owns or borrows its content, and adds no byte to it.
+//! The layout of `Box` and of references: that of their content.
 ghost use Rattle.speedy_layout.specs.Codecs.{borrowed_codec, owned_codec};
 
 use crate::layout::Layout;

@@ -1,5 +1,4 @@
-//! Values behind a number that tells of them: a text, a list, a map or a set behind its length, one of several cases
-//! behind its tag.
+//! Values behind a number that tells of them: texts, lists, maps and sets behind a length, cases behind a tag.
 ghost use Rattle.std.specs.Prelude.{◌≡◌};
 ghost use Rattle.speedy_layout.specs.Prefixed.{Numbers, unsigned_numbers, varint_numbers, length_numbers};
 ghost use Rattle.speedy_layout.specs.Prefixed.{Behind, prefixed_codec};

@@ -1,5 +1,6 @@
-//! The layout of tuples: the parts in order. What is seen of more than two parts is the first part and the
-//! tuple of the others.
+//! The layout of tuples: the parts in order.
+//!
+//! What is seen of more than two parts is the first part and the tuple of the others.
 ghost use Rattle.speedy_layout.specs.Codecs.{pair_codec, unit_codec};
 
 use crate::layout::Layout;

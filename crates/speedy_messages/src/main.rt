@@ -1,5 +1,6 @@
-//! A program that writes messages to a vector and to a sink, reads them from a buffer and from a stream, and meets
-//! hostile bytes. The protocol is that of `speedy_protocol`.
+//! A program that writes and reads messages of the protocol of `speedy_protocol`, and meets hostile bytes.
+//!
+//! It writes to a vector and to a sink, and reads from a buffer and from a stream.
 #![tactic(auto)]
 
 mod failure;

@@ -1,4 +1,4 @@
-//! Collections that are made of items read one after another.
+//! How maps and sets are made of the items that are read: repeated keys, and whether the order is canonical.
 ghost use Rattle.std.specs.Prelude.{◌≡◌, ◌++◌, ◌∷◌, ◌↔◌, List, [], map, IsTrue, IfOk, OnOk};
 ghost use Rattle.std.proofs.Common.{subst};
 ghost use Rattle.speedy_layout.specs.Members.{AreDistinct, Ascends};

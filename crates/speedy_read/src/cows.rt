@@ -1,11 +1,11 @@
-//! How what owns its content or borrows it is read.
+//! How `Cow`, `CowStr` and `CowSlice` are read.
 ghost use Rattle.std.specs.Prelude.{◌≡◌};
 
 use crate::many::ItemByItem;
 use crate::prefixed::{ReadPrefix, ReadTold};
-use crate::private::cow_bytes_to_cow_str;
 use crate::readable::{ReadFrom, ReadMany};
 use crate::reader::LendingReader;
+use crate::utf8::cow_bytes_to_cow_str;
 use speedy_base::context::Context;
 use std::borrow::{Cow, CowSlice, CowStr};
 use std::convert::AsSlice;

@@ -1,14 +1,14 @@
-//! How parts are read, and behind them a text or a list of the length that they tell.
-ghost use Rattle.std.specs.Prelude.{◌≡◌, IfOk};
+//! How parts are read, and behind them a text or a list of the length that they tell; and how lengths are compared.
+ghost use Rattle.std.specs.Prelude.{◌≡◌, ℕ, ◌↔◌, IsTrue, IfOk};
 ghost use Rattle.speedy_layout.specs.Codecs.{pair_codec};
 ghost use Rattle.speedy_layout.specs.Lengths.{told_codec};
 ghost use Rattle.speedy_read.specs.Reading.{ReadsValue};
 
 use crate::lent::read_lent;
 use crate::many::ItemByItem;
-use crate::private::{bytes_to_str, cow_bytes_to_cow_str};
 use crate::readable::{ReadFrom, ReadMany};
 use crate::reader::LendingReader;
+use crate::utf8::{bytes_to_str, cow_bytes_to_cow_str};
 use speedy_base::context::Context;
 use speedy_base::error::error_out_of_range_length;
 use speedy_layout::lengths::{Holds, Length, OfLength, Other, WithLength};
@@ -286,4 +286,76 @@ fn read_told<
         Some(length) => Ok((before, length)),
         None => Err(error_out_of_range_length()),
     }
+}
+
+/// What a length may be given as: a number that a `usize` holds, or a reference to one.
+pub trait IntoLength {
+    /// The number.
+    ghost number: { Self → ℕ };
+
+    /// The length as a `usize`.
+    fn into_length(self) -> usize
+        ensures { result ≡ number self };
+}
+
+impl IntoLength for usize {
+    ghost number = { λ n. n };
+
+    #[inline]
+    fn into_length(self) -> usize {
+        self
+    }
+}
+
+impl IntoLength for u32 {
+    ghost number = { λ n. n };
+
+    #[inline]
+    fn into_length(self) -> usize {
+        self as usize
+    }
+}
+
+impl IntoLength for u16 {
+    ghost number = { λ n. n };
+
+    #[inline]
+    fn into_length(self) -> usize {
+        usize::from(self)
+    }
+}
+
+impl IntoLength for u8 {
+    ghost number = { λ n. n };
+
+    #[inline]
+    fn into_length(self) -> usize {
+        usize::from(self)
+    }
+}
+
+impl<'a, T: IntoLength + Copy> IntoLength for &'a T {
+    ghost number = { λ r. T.number r.now };
+
+    #[inline]
+    fn into_length(self) -> usize {
+        (*self).into_length()
+    }
+}
+
+impl<'a, T: IntoLength + Copy> IntoLength for &'a mut T {
+    ghost number = { λ r. T.number r.now };
+
+    #[inline]
+    fn into_length(self) -> usize {
+        (*self).into_length()
+    }
+}
+
+/// Whether both lengths are equal.
+#[inline]
+pub fn are_lengths_the_same<T: IntoLength>(lhs: usize, rhs: T) -> bool
+    ensures { IsTrue result ↔ (lhs ≡ T.number rhs) }
+{
+    lhs == rhs.into_length()
 }

@@ -2,9 +2,9 @@
 //!
 //! Which way the modules lean: a reader reads any type, and a type reads from any reader, so `reader` and `readable`
 //! name each other; the modules with the bodies of a reader's methods name both (`digits`, `lent`, `many`,
-//! `collections`, `until_end`, `room`, `private`). The five readers lean on `reader`, and the functions of `readable`
-//! make them. Reading in bulk (`bulk`, and `arrays` beside it) and `prefixed` lean on all of these. A family of types
-//! leans on these two and on no other family.
+//! `collections`, `until_end`, `room`). The five readers lean on `reader`, and the functions of `readable` make them.
+//! Reading in bulk (`bulk`, and `arrays` beside it) and `prefixed` lean on all of these. A family of types leans on
+//! these two and on no other family. `utf8` leans on none.
 #![tactic(auto)]
 
 pub mod addresses;
@@ -34,7 +34,6 @@ pub mod numbers;
 pub mod owned;
 pub mod owned_reader;
 pub mod prefixed;
-pub mod private;
 pub mod ranges;
 pub mod readable;
 pub mod reader;
@@ -44,5 +43,6 @@ pub mod stream_reader;
 pub mod texts;
 pub mod tuples;
 mod until_end;
+pub mod utf8;
 pub mod varint;
 pub mod views;

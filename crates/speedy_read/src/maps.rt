@@ -1,4 +1,4 @@
-//! How maps are read.
+//! How maps are read: what a repeated key does, and which order is canonical, is in `collections`.
 use crate::many::ItemByItem;
 use crate::prefixed::{ReadPrefix, ReadTold};
 use crate::readable::ReadFrom;

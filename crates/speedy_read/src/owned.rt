@@ -1,4 +1,4 @@
-//! How what owns its content is read.
+//! How `Box` is read: as its content.
 use crate::many::ItemByItem;
 use crate::readable::ReadFrom;
 use crate::reader::LendingReader;

@@ -1,16 +1,15 @@
 //! How a number is read, and behind it what it tells of.
 ghost use Rattle.std.specs.Prelude.{◌≡◌};
+ghost use Rattle.speedy_layout.specs.Codecs.{varint_codec};
+ghost use Rattle.speedy_layout.specs.Numbers.{length_number};
 ghost use Rattle.speedy_layout.specs.Prefixed.{prefixed_codec};
-ghost use Rattle.speedy_read.specs.Reading.{ReadsValue};
+ghost use Rattle.speedy_read.specs.Reading.{ReadsUnsigned, ReadsAs, ReadsValue};
 
 use crate::many::ItemByItem;
-use crate::private::{
-    read_length_u7, read_length_u8, read_length_u16, read_length_u32, read_length_u64,
-    read_length_u64_varint,
-};
 use crate::readable::ReadFrom;
 use crate::reader::LendingReader;
 use speedy_base::context::Context;
+use speedy_base::error::error_out_of_range_length;
 use speedy_layout::prefixed::{Prefix, Prefixed, Told, U7};
 use speedy_layout::varint::VarInt64;
 use std::convert::AsSlice;
@@ -139,4 +138,82 @@ impl<L: AsSlice<u8> + Drop, C: Context, N: ReadPrefix + Drop, T: ReadTold<L, C>>
     fn minimum_bytes_needed() -> usize {
         N::least_size()
     }
+}
+
+/// Reads a length that is a `u32`.
+#[inline]
+pub fn read_length<L: AsSlice<u8> + Drop, C: Context, R: LendingReader<L, C>>(
+    reader: &mut R,
+) -> Result<usize, C::Error>
+    ensures { ReadsUnsigned C.Error.IsEof R.state 4 result reader.old reader.new }
+{
+    read_length_u32(reader)
+}
+
+// The greatest length of seven bits.
+const U7_MAX: u8 = 127;
+
+/// Reads a length that is a byte of at most 127. Any other is the error `OutOfRangeLength`.
+#[inline]
+pub fn read_length_u7<L: AsSlice<u8> + Drop, C: Context, R: LendingReader<L, C>>(
+    reader: &mut R,
+) -> Result<usize, C::Error>
+    ensures { ReadsAs C.Error.IsEof R.state (λ n. n) (length_number 1 127)
+        result reader.old reader.new }
+{
+    let length = reader.read_u8()?;
+    if length > U7_MAX {
+        return Err(error_out_of_range_length());
+    }
+    Ok(usize::from(length))
+}
+
+/// Reads a length that is a `u8`.
+#[inline]
+pub fn read_length_u8<L: AsSlice<u8> + Drop, C: Context, R: LendingReader<L, C>>(
+    reader: &mut R,
+) -> Result<usize, C::Error>
+    ensures { ReadsUnsigned C.Error.IsEof R.state 1 result reader.old reader.new }
+{
+    Ok(usize::from(reader.read_u8()?))
+}
+
+/// Reads a length that is a `u16`, in the context's order.
+#[inline]
+pub fn read_length_u16<L: AsSlice<u8> + Drop, C: Context, R: LendingReader<L, C>>(
+    reader: &mut R,
+) -> Result<usize, C::Error>
+    ensures { ReadsUnsigned C.Error.IsEof R.state 2 result reader.old reader.new }
+{
+    Ok(usize::from(reader.read_u16()?))
+}
+
+/// Reads a length that is a `u32`, in the context's order.
+#[inline]
+pub fn read_length_u32<L: AsSlice<u8> + Drop, C: Context, R: LendingReader<L, C>>(
+    reader: &mut R,
+) -> Result<usize, C::Error>
+    ensures { ReadsUnsigned C.Error.IsEof R.state 4 result reader.old reader.new }
+{
+    Ok(reader.read_u32()? as usize)
+}
+
+/// Reads a length that is a `u64`, in the context's order. A `usize` has 64 bits, so none is past it.
+#[inline]
+pub fn read_length_u64<L: AsSlice<u8> + Drop, C: Context, R: LendingReader<L, C>>(
+    reader: &mut R,
+) -> Result<usize, C::Error>
+    ensures { ReadsUnsigned C.Error.IsEof R.state 8 result reader.old reader.new }
+{
+    Ok(reader.read_u64()? as usize)
+}
+
+/// Reads a length that is an integer of variable length. A `usize` has 64 bits, so none is past it.
+#[inline]
+pub fn read_length_u64_varint<L: AsSlice<u8> + Drop, C: Context, R: LendingReader<L, C>>(
+    reader: &mut R,
+) -> Result<usize, C::Error>
+    ensures { ReadsValue C.Error.IsEof R.state (λ n. n) varint_codec result reader.old reader.new }
+{
+    Ok(reader.read_u64_varint()? as usize)
 }

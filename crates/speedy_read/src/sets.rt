@@ -1,4 +1,4 @@
-//! How sets are read.
+//! How sets are read: what a repeated item does, and which order is canonical, is in `collections`.
 use crate::many::ItemByItem;
 use crate::prefixed::{ReadPrefix, ReadTold};
 use crate::readable::{ReadFrom, ReadMany};

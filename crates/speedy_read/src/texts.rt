@@ -1,4 +1,4 @@
-//! How texts are read.
+//! How texts are read: what is UTF-8 is in `utf8`.
 ghost use Rattle.std.specs.Prelude.{◌≡◌};
 ghost use Rattle.speedy_layout.specs.Codecs.{unsigned_codec};
 ghost use Rattle.speedy_layout.specs.Prefixed.{prefixed_codec};
@@ -7,9 +7,9 @@ ghost use Rattle.speedy_read.specs.Reading.{RefusesUnsized, ReadsValue};
 use crate::lent::read_lent;
 use crate::many::ItemByItem;
 use crate::prefixed::{ReadPrefix, ReadTold};
-use crate::private::bytes_to_str;
 use crate::readable::ReadFrom;
 use crate::reader::LendingReader;
+use crate::utf8::bytes_to_str;
 use speedy_base::context::Context;
 use speedy_layout::layout::Layout;
 use speedy_layout::prefixed::Told;

@@ -1,5 +1,6 @@
-//! How tuples are read: part by part. A tuple of more than two parts is read as its first part and the tuple
-//! of the others.
+//! How tuples are read: part by part.
+//!
+//! A tuple of more than two parts is read as its first part and the tuple of the others.
 #![tactic(auto, using(crate::specs::ReadingLemmas::got_as))]
 
 ghost use Rattle.std.specs.Prelude.{◌+◌};

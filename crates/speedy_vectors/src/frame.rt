@@ -1,5 +1,6 @@
-//! A frame: a constant, counted parts and a short note, behind lengths of other widths than the listed types have. It
-//! is proved with no answer.
+//! A frame: a constant, counted parts and a short note, behind lengths of other widths than the listed types have.
+//!
+//! It is proved with no answer.
 ghost use Rattle.std.specs.Prelude.{codes};
 
 use speedy::magic::{Constant, Magic};

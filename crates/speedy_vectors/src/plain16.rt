@@ -1,5 +1,6 @@
-//! A number as a type of one's own, which is read and written item by item: what bulk reads and writes are compared
-//! with.
+//! A number as a type of one's own, which is read and written item by item.
+//!
+//! Reads and writes in bulk are compared with it.
 ghost use Rattle.std.specs.Prelude.{ℕ};
 
 use speedy::{Context, ItemByItem, Layout, LendingReader, ReadFrom, Writable, Writer};

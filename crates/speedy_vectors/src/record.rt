@@ -1,5 +1,6 @@
-//! A record of your own: numbers, a text, a list that may point into what the record is read from, and an enum. It is
-//! proved with no answer.
+//! A record of your own: numbers, a text, a list that may point into what the record is read from, and an enum.
+//!
+//! It is proved with no answer.
 ghost use Rattle.std.specs.Prelude.{◌≡◌};
 
 use crate::enums::Enum;

@@ -1,5 +1,6 @@
-//! Types of the program: bytes that come from outside, and each way of reading them. What is refused, and what enums
-//! are written as, are lines of `stdin`.
+//! Types of the program: bytes that come from outside, and each way of reading them.
+//!
+//! What is refused, and what enums are written as, are lines of `stdin`.
 use crate::answer::named_kind;
 use crate::enums::Enum;
 use crate::frame::Frame;

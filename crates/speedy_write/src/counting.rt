@@ -1,5 +1,6 @@
-//! The writer that `bytes_needed` counts by: it stays at `usize::MAX`, where the public
-//! `SizeCalculatorCollector` of `collectors` refuses.
+//! The writer that `bytes_needed` counts by. Items of a list are counted together in `each`.
+//!
+//! It stays at `usize::MAX`, where the public `SizeCalculatorCollector` of `collectors` refuses.
 ghost use Rattle.std.specs.Prelude.{◌≡◌, ◌∷◌, [], ◌^◌, ◌-◌, ◌≤◌, None, IsSome, refl};
 ghost use Rattle.speedy_write.specs.Counting.{counting_state, CountAppends, count_nothing, count_additive};
 ghost use Rattle.speedy_write.specs.Writing.{CountsBytes};

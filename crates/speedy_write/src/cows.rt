@@ -1,4 +1,4 @@
-//! How what owns its content or borrows it is written: as its content.
+//! How `Cow`, `CowStr` and `CowSlice` are written: as their content.
 use crate::lists::{write_counted, write_items_behind};
 use crate::prefixed::{WritePrefix, WriteTold};
 use crate::texts::{write_text, write_text_behind};

@@ -10,8 +10,8 @@ use speedy_layout::Layout;
 
 /// How values of a type are written to a buffer.
 ///
-/// `Writer` comes before `Writable`, and cannot name it. So a writer that lends its room takes the way of writing to it as
-/// a type.
+/// `Writer` comes before `Writable`, and cannot name it. So a writer that lends its room takes the way of writing to it
+/// as a type.
 pub trait FillsFront<T: Layout, C: Context> {
     /// Writes a value to the front of a buffer, and says where it ends, or `None` where it does not fit, or has no
     /// encoding. `U` says what the buffer is used for.

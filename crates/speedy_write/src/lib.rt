@@ -29,7 +29,6 @@ pub mod numbers;
 pub mod owned;
 pub mod part;
 pub mod prefixed;
-pub mod private;
 pub mod ranges;
 pub mod sets;
 pub mod texts;

@@ -1,4 +1,4 @@
-//! How what owns or borrows its content is written.
+//! How `Box` and references are written: as their content.
 use crate::writable::Writable;
 use crate::writer::Writer;
 use speedy_base::context::Context;

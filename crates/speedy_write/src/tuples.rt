@@ -1,5 +1,6 @@
-//! How tuples are written: part by part. A tuple of more than two parts is written as its first part and the tuple
-//! of the others.
+//! How tuples are written: part by part.
+//!
+//! A tuple of more than two parts is written as its first part and the tuple of the others.
 use crate::part::Part;
 use crate::writable::Writable;
 use crate::writer::Writer;

@@ -244,7 +244,7 @@ pub trait Writable<C: Context>: Layout {
 const SHORT_ROOM: usize = 256;
 
 // How many bytes of a longer one are gathered for a sink, and for a file, before they are pushed.
-pub(crate) const SINK_ROOM: usize = 2_048;
+const SINK_ROOM: usize = 2_048;
 
 const FILE_ROOM: usize = 8_192;
 
@@ -291,7 +291,7 @@ fn write_gathered<C: Context, T: Writable<C>, S: Sink>(
 }
 
 // Writes a value to a sink, and flushes the sink behind it. Short parts of the value are gathered in the room.
-pub(crate) fn write_and_flush<C: Context, T: Writable<C>, S: Sink>(
+fn write_and_flush<C: Context, T: Writable<C>, S: Sink>(
     value: &T,
     alloc: Global,
     context: C,
@@ -306,6 +306,22 @@ pub(crate) fn write_and_flush<C: Context, T: Writable<C>, S: Sink>(
         Ok(()) => Ok(()),
         Err(error) => Err(error_of_failed_call(alloc, error)),
     }
+}
+
+/// Writes a value to a sink, as [`Writable::write_to_stream_with_ctx`] does, and flushes the sink.
+///
+/// Where it succeeds, the sink took the value, all of it was passed on, and no call failed. The error of a failed flush
+/// is answered as that of a failed push is, and no call is tried again. After an earlier error there is no flush.
+pub fn write_to_stream_and_flush_with_ctx<C: Context, T: Writable<C>, S: Sink>(
+    value: &T,
+    alloc: Global,
+    context: C,
+    sink: &mut S,
+) -> Result<(), C::Error>
+    ensures { WritesAndFlushes C.Error.from_gives S.sink T.seen T.layout (C.mode context)
+        value.now result sink.old sink.new }
+{
+    write_and_flush(value, alloc, context, sink, &mut [0; SINK_ROOM])
 }
 
 // Writes a value to the front of a buffer in which it fits. It always succeeds: the result is that of the write. `U`

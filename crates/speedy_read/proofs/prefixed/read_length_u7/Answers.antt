@@ -2,7 +2,7 @@ use Rattle.std.proofs.Common.{◌≤◌, sym, refl, arith}
 use Rattle.speedy_base.specs.declared.error.ErrorKind.TheVariants as kinds
 use Rattle.speedy_layout.specs.Numbers.{unsigned_number_laws}
 use Rattle.speedy_read.specs.Codes.{code_refused, code_means_nothing, exact_code_read}
-use Rattle.speedy_read.proofs.private.read_length_u7.Goals as goal
+use Rattle.speedy_read.proofs.prefixed.read_length_u7.Goals as goal
 
 pub returns-in_err-length : goal.returns-in_err-length
 returns-in_err-length g c = code_refused _ _ c.from_residual.ensures.1 c.in_err-length.ensures

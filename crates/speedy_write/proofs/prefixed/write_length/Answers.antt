@@ -1,6 +1,6 @@
 use Rattle.std.proofs.Common.{arith, ◌≤◌, ◌^◌}
 use Rattle.speedy_write.proofs.NumberLemmas.{too_long_refused}
-use Rattle.speedy_write.proofs.private.write_length.Goals as goal
+use Rattle.speedy_write.proofs.prefixed.write_length.Goals as goal
 
 pub returns-in-Err-clause-writes : goal.returns-in-Err-clause-writes
 returns-in-Err-clause-writes g c =

@@ -1,6 +1,6 @@
 use Rattle.std.proofs.Common.{◌≤◌, ◌<◌, refl, arith}
 use Rattle.speedy_write.proofs.NumberLemmas.{length_written, past_greatest_refused}
-use Rattle.speedy_write.proofs.private.write_length_u7.Goals as goal
+use Rattle.speedy_write.proofs.prefixed.write_length_u7.Goals as goal
 
 pub returns-then-length-gt-U7_MAX : goal.returns-then-length-gt-U7_MAX
 returns-then-length-gt-U7_MAX g c =

@@ -3,7 +3,7 @@ use Rattle.std.proofs.lemmas.List.{length-append, length-drop, length-take-le}
 use Rattle.speedy_read.proofs.ByteLemmas.{prefix_of}
 use Rattle.speedy_read.proofs.ConstantLemmas.{none_compared, chunk_compared, comparison_refused, chunk_fewer, all_there}
 use Rattle.speedy_read.proofs.ConstantLemmas.{constant_read, constant_differs}
-use Rattle.speedy_read.proofs.private.read_constant.Goals as goal
+use Rattle.speedy_read.proofs.magic.read_constant.Goals as goal
 
 pub loop-at-init : goal.loop-at-init
 loop-at-init g c = (omega arith, refl, none_compared c.args.constant.now, λ _. (refl, refl))

@@ -1,7 +1,7 @@
 use Rattle.std.specs.Prelude.{IsTrue}
 use Rattle.std.proofs.Common.{◌≡◌, ◌-◌, ◌≤◌, [], length}
 use Rattle.speedy_read.proofs.ConstantLemmas.{ComparedSoFar}
-use Rattle.speedy_read.proofs.private.read_constant.Given as goal
+use Rattle.speedy_read.proofs.magic.read_constant.Given as goal
 
 abbrev pub invariant-loop-at : goal.invariant-loop-at
 invariant-loop-at g l =

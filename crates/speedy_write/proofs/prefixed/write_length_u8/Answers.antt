@@ -1,6 +1,6 @@
 use Rattle.std.proofs.Common.{◌≤◌, ◌^◌, refl, arith}
 use Rattle.speedy_write.proofs.NumberLemmas.{too_long_refused}
-use Rattle.speedy_write.proofs.private.write_length_u8.Goals as goal
+use Rattle.speedy_write.proofs.prefixed.write_length_u8.Goals as goal
 
 pub returns-then-length-gt-U8_MAX : goal.returns-then-length-gt-U8_MAX
 returns-then-length-gt-U8_MAX g c =
