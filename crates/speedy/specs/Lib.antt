@@ -11,13 +11,13 @@ pub use Rattle.speedy_base.specs.FailedCalls
 pub use Rattle.speedy_base.specs.Ring
 pub use Rattle.speedy_base.specs.Signed
 pub use Rattle.speedy_base.specs.SignedLemmas
-pub use Rattle.speedy_layout.specs.Adding
+pub use Rattle.speedy_layout.specs.OneMoreItem
 pub use Rattle.speedy_layout.specs.Addresses
 pub use Rattle.speedy_layout.specs.Choices
 pub use Rattle.speedy_layout.specs.Codecs
 pub use Rattle.speedy_layout.specs.Codes
-pub use Rattle.speedy_layout.specs.Collecting
-pub use Rattle.speedy_layout.specs.Collections
+pub use Rattle.speedy_layout.specs.GathersToLemmas
+pub use Rattle.speedy_layout.specs.GathersTo
 pub use Rattle.speedy_layout.specs.IndexMaps
 pub use Rattle.speedy_layout.specs.StdMaps
 pub use Rattle.speedy_layout.specs.StdSets

@@ -9,7 +9,7 @@ use Rattle.std.specs.HashMap.{HashMap}
 use Rattle.std.specs.HashSet.{HashSet}
 use Rattle.speedy_layout.specs.Members.{IsIn, AreDistinct, Around, InFirstOrder}
 use Rattle.speedy_layout.specs.Equality.{TellsApart}
-use Rattle.speedy_layout.specs.Collections.{AreFirsts, IsIndexMapOf, IsIndexSetOf}
+use Rattle.speedy_layout.specs.GathersTo.{AreFirsts, IsIndexMapOf, IsIndexSetOf}
 use Rattle.speedy_layout.specs.Maps.{HasDistinctKeys, GathersToIndexMap, own_index_map}
 use Rattle.speedy_layout.specs.Sets.{GathersToIndexSet, own_index_set}
 use Rattle.speedy_layout.specs.StdMaps.{seen_pairs, keys_seen, unique_keys_seen, found_lasts}

@@ -16,14 +16,14 @@ pub mod SeenItems
 pub mod Gathering
 pub mod GatheredLemmas
 pub mod Maps
-pub mod Collections
-pub mod Collecting
+pub mod GathersTo
+pub mod GathersToLemmas
 pub mod Sets
 pub mod EqualityOfMaps
 pub mod StdMaps
 pub mod StdSets
 pub mod IndexMaps
-pub mod Adding
+pub mod OneMoreItem
 pub mod Texts
 pub mod Utf8Lemmas
 pub mod Leaves

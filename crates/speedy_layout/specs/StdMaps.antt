@@ -15,7 +15,7 @@ use Rattle.std.specs.HashMap as hash
 use Rattle.std.specs.BTreeMap.{BTreeMap}
 use Rattle.std.specs.HashMap.{HashMap}
 use Rattle.speedy_layout.specs.Equality.{TellsApart}
-use Rattle.speedy_layout.specs.Collections.{HasLast, HasLastValues, IsTreeMapOf, IsHashMapOf}
+use Rattle.speedy_layout.specs.GathersTo.{HasLast, HasLastValues, IsTreeMapOf, IsHashMapOf}
 use Rattle.speedy_layout.specs.SeenItems.{AreSeen, IsLess, less_is_asymmetric, cmp_tells_apart, item_seen}
 use Rattle.speedy_layout.specs.SeenItems.{items_are_seen, differs, unique_seen, sorted_ascend}
 use Rattle.speedy_layout.specs.Maps.{seen_pair, by_key, HasLasts, Ascends-distinct_keys, HasDistinctKeys, own_lasts}

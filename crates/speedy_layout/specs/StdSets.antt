@@ -11,7 +11,7 @@ use Rattle.std.specs.BTreeSet.{BTreeSet}
 use Rattle.std.specs.HashSet.{HashSet}
 use Rattle.speedy_layout.specs.Members.{IsIn, AreDistinct, Ascends}
 use Rattle.speedy_layout.specs.Equality.{TellsApart}
-use Rattle.speedy_layout.specs.Collections.{IsTreeSetOf, IsHashSetOf}
+use Rattle.speedy_layout.specs.GathersTo.{IsTreeSetOf, IsHashSetOf}
 use Rattle.speedy_layout.specs.SeenItems.{IsLess, cmp_tells_apart, item_seen, items_are_seen, differs, unique_seen}
 use Rattle.speedy_layout.specs.SeenItems.{sorted_ascend}
 use Rattle.speedy_layout.specs.Sets.{HasItems, GathersToTreeSet, GathersToHashSet, own_tree_set}

@@ -5,9 +5,9 @@ ghost use Rattle.speedy_layout.specs.Members.{AreDistinct, Ascends};
 ghost use Rattle.speedy_layout.specs.SeenItems.{IsLess};
 ghost use Rattle.speedy_layout.specs.Maps.{seen_pair, by_key, HasDistinctKeys};
 ghost use Rattle.speedy_layout.specs.StdMaps.{seen_pairs};
-ghost use Rattle.speedy_layout.specs.Collections.{IsTreeMapOf, IsHashMapOf, IsIndexMapOf};
-ghost use Rattle.speedy_layout.specs.Collections.{IsTreeSetOf, IsHashSetOf, IsIndexSetOf};
-ghost use Rattle.speedy_layout.specs.Adding.{ascending_first, distinct_first, distinct_keys_first};
+ghost use Rattle.speedy_layout.specs.GathersTo.{IsTreeMapOf, IsHashMapOf, IsIndexMapOf};
+ghost use Rattle.speedy_layout.specs.GathersTo.{IsTreeSetOf, IsHashSetOf, IsIndexSetOf};
+ghost use Rattle.speedy_layout.specs.OneMoreItem.{ascending_first, distinct_first, distinct_keys_first};
 ghost use Rattle.speedy_read.specs.Collections.{gatherer, CollectsValues};
 
 use crate::readable::{ReadFrom, ReadMany};

@@ -1,7 +1,7 @@
 use Rattle.std.proofs.Common.{◌∙◌, ap, refl}
 use Rattle.std.specs.Ordering.{is_lt}
 use Rattle.speedy_layout.specs.SeenItems.{cmp_tells_apart}
-use Rattle.speedy_layout.specs.Adding.{tree_map_accepts, tree_map_accepts_first}
+use Rattle.speedy_layout.specs.OneMoreItem.{tree_map_accepts, tree_map_accepts_first}
 use Rattle.speedy_read.proofs.collections.BTreeMapFromItemsTuple2.accepts.Goals as goal
 
 pub returns-in-Some : goal.returns-in-Some

@@ -1,4 +1,4 @@
-use Rattle.speedy_layout.specs.Collecting.{tree_map_added}
+use Rattle.speedy_layout.specs.GathersToLemmas.{tree_map_added}
 use Rattle.speedy_read.proofs.collections.BTreeMapFromItemsTuple2.add.Goals as goal
 
 pub returns-in-Ok : goal.returns-in-Ok

@@ -2,7 +2,7 @@ use Rattle.std.proofs.Common.{◌∙◌}
 use Rattle.std.proofs.lemmas.Result.{IfOk-weaker}
 use Rattle.std.proofs.lemmas.Iterator.Adapters.{fact_from_collect, YieldsList-from_vec}
 use Rattle.std.specs.BTreeMap.{IsFromIterResult}
-use Rattle.speedy_layout.specs.Collecting.{tree_map_collected}
+use Rattle.speedy_layout.specs.GathersToLemmas.{tree_map_collected}
 use Rattle.speedy_read.proofs.collections.BTreeMapFromItemsTuple2.gather.Goals as goal
 
 pub returns : goal.returns

@@ -1,7 +1,7 @@
 use Rattle.std.proofs.Common.{◌∙◌, ap, refl}
 use Rattle.std.specs.Ordering.{is_lt}
 use Rattle.speedy_layout.specs.SeenItems.{cmp_tells_apart}
-use Rattle.speedy_layout.specs.Adding.{tree_set_accepts, tree_set_accepts_first}
+use Rattle.speedy_layout.specs.OneMoreItem.{tree_set_accepts, tree_set_accepts_first}
 use Rattle.speedy_read.proofs.collections.BTreeSetFromItems.accepts.Goals as goal
 
 pub returns-in-Some : goal.returns-in-Some

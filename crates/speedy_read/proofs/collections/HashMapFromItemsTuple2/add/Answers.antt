@@ -1,4 +1,4 @@
-use Rattle.speedy_layout.specs.Collecting.{hash_map_added}
+use Rattle.speedy_layout.specs.GathersToLemmas.{hash_map_added}
 use Rattle.speedy_read.proofs.collections.HashMapFromItemsTuple2.add.Goals as goal
 
 pub returns-in-Ok : goal.returns-in-Ok

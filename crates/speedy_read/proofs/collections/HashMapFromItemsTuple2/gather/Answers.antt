@@ -2,7 +2,7 @@ use Rattle.std.proofs.Common.{◌∙◌}
 use Rattle.std.proofs.lemmas.Result.{IfOk-weaker}
 use Rattle.std.proofs.lemmas.Iterator.Adapters.{fact_from_collect, YieldsList-from_vec}
 use Rattle.std.specs.HashMap.{IsFromIterResult}
-use Rattle.speedy_layout.specs.Collecting.{hash_map_collected}
+use Rattle.speedy_layout.specs.GathersToLemmas.{hash_map_collected}
 use Rattle.speedy_read.proofs.collections.HashMapFromItemsTuple2.gather.Goals as goal
 
 pub returns : goal.returns

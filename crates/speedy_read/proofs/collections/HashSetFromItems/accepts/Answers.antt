@@ -1,4 +1,4 @@
-use Rattle.speedy_layout.specs.Adding.{hash_set_accepts}
+use Rattle.speedy_layout.specs.OneMoreItem.{hash_set_accepts}
 use Rattle.speedy_read.proofs.collections.HashSetFromItems.accepts.Goals as goal
 
 pub returns : goal.returns

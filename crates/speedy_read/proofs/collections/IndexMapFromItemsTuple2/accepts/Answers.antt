@@ -1,4 +1,4 @@
-use Rattle.speedy_layout.specs.Adding.{hash_map_accepts}
+use Rattle.speedy_layout.specs.OneMoreItem.{hash_map_accepts}
 use Rattle.speedy_read.proofs.collections.IndexMapFromItemsTuple2.accepts.Goals as goal
 
 pub returns : goal.returns

@@ -1,4 +1,4 @@
-use Rattle.speedy_layout.specs.Collecting.{index_map_added}
+use Rattle.speedy_layout.specs.GathersToLemmas.{index_map_added}
 use Rattle.speedy_read.proofs.collections.IndexMapFromItemsTuple2.add.Goals as goal
 
 pub returns-in-Ok : goal.returns-in-Ok

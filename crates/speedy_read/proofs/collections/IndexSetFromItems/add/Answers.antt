@@ -1,4 +1,4 @@
-use Rattle.speedy_layout.specs.Collecting.{index_set_added}
+use Rattle.speedy_layout.specs.GathersToLemmas.{index_set_added}
 use Rattle.speedy_read.proofs.collections.IndexSetFromItems.add.Goals as goal
 use Rattle.speedy_read.proofs.collections.IndexSetFromItems.add.Goals.{in-Ok, in-Err}
 

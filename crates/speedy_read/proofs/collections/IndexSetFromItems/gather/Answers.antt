@@ -2,7 +2,7 @@ use Rattle.std.proofs.Common.{◌≡◌, ◌∙◌, []}
 use Rattle.std.proofs.lemmas.Result.{IfOk-weaker}
 use Rattle.std.proofs.lemmas.Iterator.Adapters.{fact_from_collect, YieldsList-from_vec}
 use Rattle.indexmap.specs.IndexSet.{insert_all, IsFromIterResult}
-use Rattle.speedy_layout.specs.Collecting.{index_set_collected}
+use Rattle.speedy_layout.specs.GathersToLemmas.{index_set_collected}
 use Rattle.speedy_read.proofs.collections.IndexSetFromItems.gather.Goals as goal
 
 pub returns : goal.returns

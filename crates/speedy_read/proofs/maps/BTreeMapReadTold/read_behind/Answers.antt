@@ -3,7 +3,7 @@ use Rattle.speedy_layout.specs.Tuples.{pair_codec}
 use Rattle.speedy_layout.specs.SeenItems.{IsLess}
 use Rattle.speedy_layout.specs.Maps.{by_key}
 use Rattle.speedy_layout.specs.StdMaps.{tree_map_seen}
-use Rattle.speedy_layout.specs.Adding.{Ascends-first}
+use Rattle.speedy_layout.specs.OneMoreItem.{Ascends-first}
 use Rattle.speedy_read.proofs.CollectionLemmas.{gatherer_code, collection_read, collection_refused}
 use Rattle.speedy_read.proofs.maps.BTreeMapReadTold.read_behind.Goals as goal
 

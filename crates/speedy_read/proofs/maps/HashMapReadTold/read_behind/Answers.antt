@@ -1,7 +1,7 @@
 use Rattle.std.proofs.Common.{true}
 use Rattle.speedy_layout.specs.Tuples.{pair_codec}
 use Rattle.speedy_layout.specs.StdMaps.{hash_map_seen}
-use Rattle.speedy_layout.specs.Adding.{HasDistinctKeys-first}
+use Rattle.speedy_layout.specs.OneMoreItem.{HasDistinctKeys-first}
 use Rattle.speedy_read.proofs.CollectionLemmas.{gatherer_code, collection_read, collection_refused}
 use Rattle.speedy_read.proofs.maps.HashMapReadTold.read_behind.Goals as goal
 

@@ -1,7 +1,7 @@
 use Rattle.std.proofs.Common.{false}
 use Rattle.speedy_layout.specs.Tuples.{pair_codec}
 use Rattle.speedy_layout.specs.IndexMaps.{index_map_seen}
-use Rattle.speedy_layout.specs.Adding.{HasDistinctKeys-first}
+use Rattle.speedy_layout.specs.OneMoreItem.{HasDistinctKeys-first}
 use Rattle.speedy_read.proofs.CollectionLemmas.{gatherer_code, collection_read, collection_refused}
 use Rattle.speedy_read.proofs.maps.IndexMapReadTold.read_behind.Goals as goal
 

@@ -1,7 +1,7 @@
 use Rattle.std.proofs.Common.{false}
 use Rattle.speedy_layout.specs.SeenItems.{IsLess}
 use Rattle.speedy_layout.specs.StdSets.{tree_set_seen}
-use Rattle.speedy_layout.specs.Adding.{Ascends-first}
+use Rattle.speedy_layout.specs.OneMoreItem.{Ascends-first}
 use Rattle.speedy_read.proofs.CollectionLemmas.{gatherer_code, collection_read, collection_refused}
 use Rattle.speedy_read.proofs.sets.BTreeSetReadTold.read_behind.Goals as goal
 

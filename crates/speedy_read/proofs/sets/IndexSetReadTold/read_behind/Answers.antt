@@ -1,6 +1,6 @@
 use Rattle.std.proofs.Common.{false}
 use Rattle.speedy_layout.specs.IndexMaps.{index_set_seen}
-use Rattle.speedy_layout.specs.Adding.{AreDistinct-first}
+use Rattle.speedy_layout.specs.OneMoreItem.{AreDistinct-first}
 use Rattle.speedy_read.proofs.CollectionLemmas.{gatherer_code, collection_read, collection_refused}
 use Rattle.speedy_read.proofs.sets.IndexSetReadTold.read_behind.Goals as goal
 

@@ -21,8 +21,8 @@ use Rattle.indexmap.specs.IndexSet.{insert_key}
 use Rattle.indexmap.specs.IndexSet as index_set
 use Rattle.speedy_layout.specs.Members.{IsIn, Around, ComesFirst, InFirstOrderBy, IsIn-left, IsIn-right, IsIn-either}
 use Rattle.speedy_layout.specs.Members.{IsIn-pair, around_last, Around-more}
-use Rattle.speedy_layout.specs.Collections.{HasLast, HasLastValues, HoldsItems, AreFirsts, IsTreeMapOf, IsHashMapOf}
-use Rattle.speedy_layout.specs.Collections.{IsIndexMapOf, IsIndexSetOf}
+use Rattle.speedy_layout.specs.GathersTo.{HasLast, HasLastValues, HoldsItems, AreFirsts, IsTreeMapOf, IsHashMapOf}
+use Rattle.speedy_layout.specs.GathersTo.{IsIndexMapOf, IsIndexSetOf}
 
 or_true : (b : Bool) → IsTrue (b || true)
 or_true true = refl

@@ -20,8 +20,8 @@ use Rattle.std.specs.BTreeSet.{BTreeSet}
 use Rattle.std.specs.HashSet.{HashSet}
 use Rattle.speedy_layout.specs.Members.{IsIn, AreDistinct, Ascends, IsIn-left, IsIn-right, IsIn-either, IsIn-key}
 use Rattle.speedy_layout.specs.Members.{IsIn-pair}
-use Rattle.speedy_layout.specs.Collections.{HasLastValues, IsTreeMapOf, IsHashMapOf, IsTreeSetOf, IsHashSetOf}
-use Rattle.speedy_layout.specs.Collecting.{has_value, value_key}
+use Rattle.speedy_layout.specs.GathersTo.{HasLastValues, IsTreeMapOf, IsHashMapOf, IsTreeSetOf, IsHashSetOf}
+use Rattle.speedy_layout.specs.GathersToLemmas.{has_value, value_key}
 use Rattle.speedy_layout.specs.Equality.{TellsApart}
 use Rattle.speedy_layout.specs.SeenItems.{IsLess, less_is_seen, lt_is_less, item_seen}
 use Rattle.speedy_layout.specs.Maps.{seen_pair, by_key, HasDistinctKeys}
