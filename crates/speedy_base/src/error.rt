@@ -1,7 +1,7 @@
 //! Errors: their kinds, their texts, and the functions that make them.
 ghost use Rattle.std.specs.Prelude.{◌≡◌, Bool, true};
 ghost use Rattle.std.specs.IoError.{error_kind};
-ghost use Rattle.speedy_base.specs.ErrorKind.{is_eof_kind, text_of, BecomesIo, EndsInput};
+ghost use Rattle.speedy_base.specs.ErrorKind.{text_of, BecomesIo, EndsInput};
 ghost use Rattle.speedy_base.specs.Error.{kind_of, error_of, is_eof_error, IsCustomOf, IsIoErrorOf, IsNamed};
 ghost use Rattle.speedy_base.specs.declared.error.ErrorKind.TheVariants.{OutOfMemory};
 

@@ -2,7 +2,6 @@
 ghost use Rattle.std.specs.Prelude.{Bool, Option, Result};
 ghost use Rattle.std.specs.Option.{option_map};
 ghost use Rattle.std.specs.Result.{result_map_both};
-ghost use Rattle.speedy_layout.specs.Flags.{flag};
 ghost use Rattle.speedy_layout.specs.Codecs.{alternative_codec, flag_codec, option_codec};
 
 use crate::layout::Layout;

@@ -1,6 +1,6 @@
 //! A reader of bytes in memory, which lends them.
 ghost use Rattle.std.specs.Prelude.{IsOk, ◌≡◌, ◌↔◌, [], IsTrue, length, nat_le, Some, OnErr, IfSome, IsSome, refl};
-ghost use Rattle.std.specs.Borrow.{sem, Lends};
+ghost use Rattle.std.specs.Borrow.{sem};
 ghost use Rattle.std.specs.Io.BufRead.{Rests};
 ghost use Rattle.speedy_read.specs.Lending.{readers_lifetime};
 ghost use Rattle.speedy_read.specs.Reading.{LendsBytes, LendsAll, LendsUntilUsed, ReadsInto, PeeksInto, Skips};

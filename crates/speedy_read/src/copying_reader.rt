@@ -1,5 +1,5 @@
 //! A reader of bytes in memory that are not lent.
-ghost use Rattle.std.specs.Prelude.{IsOk, ◌≡◌, [], length, nat_le, Some, None, OnErr, IsSome, refl};
+ghost use Rattle.std.specs.Prelude.{IsOk, ◌≡◌, length, nat_le, Some, None, OnErr, IsSome, refl};
 ghost use Rattle.std.specs.Borrow.{sem, Lends};
 ghost use Rattle.std.specs.Io.BufRead.{Rests};
 ghost use Rattle.speedy_read.specs.Lending.{readers_lifetime};

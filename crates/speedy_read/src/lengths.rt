@@ -1,6 +1,5 @@
 //! How parts are read, and behind them a text or a list of the length that they tell; and how lengths are compared.
 ghost use Rattle.std.specs.Prelude.{◌≡◌, ℕ, ◌↔◌, IsTrue, IfOk};
-ghost use Rattle.speedy_layout.specs.Codecs.{pair_codec};
 ghost use Rattle.speedy_layout.specs.Lengths.{told_codec};
 ghost use Rattle.speedy_read.specs.Reading.{ReadsValue};
 

@@ -1,9 +1,6 @@
 //! Reading of values that borrow nothing, from any reader.
-ghost use Rattle.std.specs.Prelude.{◌≡◌, length, refl};
-ghost use Rattle.std.specs.Borrow.{sem, Lends};
+ghost use Rattle.std.specs.Prelude.{◌≡◌, length};
 ghost use Rattle.std.proofs.Common.{ap};
-ghost use Rattle.speedy_layout.specs.Texts.{raw_bytes, any_bytes};
-ghost use Rattle.speedy_read.specs.Reading.{Reads, Peeks, IsRight};
 ghost use Rattle.speedy_read.specs.Buffers.{held_state};
 
 use crate::lent::NothingLent;

@@ -4,6 +4,7 @@ ghost use Rattle.speedy_base.specs.Mode.{plain_mode};
 ghost use Rattle.speedy_read.specs.Reading.{ReadsValue};
 ghost use Rattle.speedy_read.specs.WaysOfReading.{AnswersBuffer, AnswersCopied, AnswersStream, AnswersFile};
 
+use crate::buffer::Buffer;
 pub use crate::buffer_reader::BufferReader;
 pub use crate::copying_reader::CopyingBufferReader;
 use crate::lent::NothingLent;
@@ -97,13 +98,7 @@ pub trait Readable<'a, C: Context>: ReadMany<&'a [u8], C> {
         ensures { AnswersBuffer C.Error.IsEof Self.seen Self.layout (C.mode context)
             result.0 result.1 buffer.now }
     {
-        let least = Self::minimum_bytes_needed();
-        if buffer.len() < least {
-            return (Err(error_input_buffer_is_too_small(buffer.len(), least)), 0);
-        }
-        let mut reader = BufferReader::new(alloc, context, buffer);
-        let result = Self::read_from(&mut reader);
-        (result, buffer.len() - reader.len())
+        buffer.read_with_length(alloc, context)
     }
 
     /// As [`read_from_buffer`](Self::read_from_buffer), but nothing of the buffer is borrowed: a type

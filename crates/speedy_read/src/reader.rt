@@ -1,5 +1,5 @@
 //! Readers: where values are read from, and the reads that each has.
-ghost use Rattle.std.specs.Prelude.{◌≡◌, ℕ, ◌<◌, ◌≤◌, ◌*◌, ◌-◌, ◌^◌, ◌⊎◌, ◌↔◌, IsTrue, slice_index, List, length};
+ghost use Rattle.std.specs.Prelude.{◌≡◌, ℕ, ◌<◌, ◌≤◌, ◌*◌, ◌-◌, ◌^◌, ◌⊎◌, ◌↔◌, IsTrue, List, length};
 ghost use Rattle.std.specs.Prelude.{length as count, map, Bool, Option, Some, false, IsOk, IsErrAnd};
 ghost use Rattle.std.specs.Borrow.{sem, Lends};
 ghost use Rattle.std.specs.Global.{Vec};

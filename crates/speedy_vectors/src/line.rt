@@ -1,9 +1,8 @@
 //! Lines of the program: an order, the name of a type, and bytes in hexadecimal digits.
-ghost use Rattle.std.specs.Prelude.{◌≡◌, ◌≢◌, ◌∷◌, ◌++◌, ◌⊎◌, MatchOption, MatchResult, List, ℕ};
+ghost use Rattle.std.specs.Prelude.{◌≡◌, ◌≢◌, MatchOption, MatchResult, List, ℕ};
 ghost use Rattle.speedy.specs.Error.{error_of};
 ghost use Rattle.speedy_vectors.specs.declared.line.LineOrder.{LineOrder};
-ghost use Rattle.speedy_vectors.specs.Line.{space, order_text, IsHex, IsLine, IsBad};
-ghost use Rattle.speedy_vectors.specs.Split.{IsFreeOf, SplitsAt};
+ghost use Rattle.speedy_vectors.specs.Line.{order_text, IsHex, IsLine, IsBad};
 
 use crate::names::{TypeName, name_of};
 use crate::split::split_at;

@@ -1,6 +1,6 @@
 //! The program over a whole input.
-ghost use Rattle.std.specs.Prelude.{◌≡◌, [], ◌++◌, ◌∷◌, MatchOption, IsTrue, OnOk, List, ℕ};
-ghost use Rattle.speedy_vectors.specs.Split.{IsFreeOf, SplitsAt};
+ghost use Rattle.std.specs.Prelude.{◌≡◌, [], ◌++◌, ◌∷◌, IsTrue, OnOk, List, ℕ};
+ghost use Rattle.speedy_vectors.specs.Split.{IsFreeOf};
 ghost use Rattle.speedy_vectors.specs.Run.{line_feed, lines_of, Answering, Runs};
 
 use crate::answer::answer_line;

@@ -1,8 +1,6 @@
 //! How constants are written.
 #![tactic(auto, using(crate::specs::Lengths::constant_written))]
 
-ghost use Rattle.std.specs.Prelude.{◌≡◌};
-
 use crate::writable::Writable;
 use crate::writer::Writer;
 use speedy_base::context::Context;
