@@ -2,7 +2,7 @@
 use Rattle.std.specs.Prelude.{◌≡◌, ℕ, List, refl}
 use Rattle.speedy_base.specs.Mode.{Mode}
 use Rattle.speedy_layout.specs.Codes.{coding}
-use Rattle.speedy_layout.specs.Format.{Asks, asks_nothing, Format}
+use Rattle.speedy_layout.specs.Format.{asks_nothing, Format}
 use Rattle.speedy_layout.specs.Laws.{Laws, Codec}
 use Rattle.speedy_layout.specs.Lists.{prefixed_list_codec}
 use Rattle.speedy_layout.specs.Numbers.{unsigned_number, unsigned_codec, length_number, length_codec}

@@ -18,6 +18,7 @@ pub mod maps;
 pub mod non_zero;
 pub mod numbers;
 pub mod owned;
+pub mod part;
 pub mod prefixed;
 pub mod ranges;
 pub mod same_key;

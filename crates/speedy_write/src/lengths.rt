@@ -5,7 +5,6 @@ ghost use Rattle.speedy_layout.specs.Texts.{text_of_length};
 ghost use Rattle.speedy_write.specs.Writing.{WritesAs, WritesValue};
 
 use crate::each::write_items;
-use crate::part::Part;
 use crate::writable::Writable;
 use crate::writer::Writer;
 use speedy_base::context::Context;
@@ -124,26 +123,6 @@ impl<'a, C: Context, T: Writable<C>> WriteOfLength<C> for CowSlice<'a, T> {
     #[inline]
     fn write_of_length<W: Writer<C>>(&self, writer: &mut W) -> Result<(), C::Error> {
         write_items_alone(self.as_ref(), writer)
-    }
-}
-
-impl<'t, T: OfLength> OfLength for Part<'t, T> {
-    ghost Seen = { T.Seen };
-
-    ghost seen = { λ part. T.seen part.0.now };
-
-    ghost counting = { T.counting };
-}
-
-impl<'t, C: Context, T: WriteOfLength<C>> WriteOfLength<C> for Part<'t, T> {
-    #[inline]
-    fn length(&self) -> usize {
-        self.0.length()
-    }
-
-    #[inline]
-    fn write_of_length<W: Writer<C>>(&self, writer: &mut W) -> Result<(), C::Error> {
-        self.0.write_of_length(writer)
     }
 }
 

@@ -1,27 +1,33 @@
-//! Parts that are written where they lie, as those of a tuple or of a struct.
+//! How parts are written: where they lie.
+use crate::lengths::WriteOfLength;
+use crate::prefixed::{WritePrefix, WriteTold};
 use crate::writable::Writable;
 use crate::writer::Writer;
 use speedy_base::context::Context;
-use speedy_layout::Layout;
-
-/// A part of a value, behind a reference: it has the layout of the part itself and is written as it.
-///
-/// A struct of one's own is written as the tuple of its parts, `(Part(&self.number), Part(&self.text))`, without a
-/// copy.
-#[derive(Drop)]
-pub struct Part<'t, T>(pub &'t T);
-
-impl<'t, T: Layout> Layout for Part<'t, T> {
-    ghost Seen = { T.Seen };
-
-    ghost seen = { λ part. T.seen part.0.now };
-
-    ghost layout = { T.layout };
-}
+pub use speedy_layout::part::Part;
 
 impl<'t, C: Context, T: Writable<C>> Writable<C> for Part<'t, T> {
     #[inline]
     fn write_to<W: Writer<C>>(&self, writer: &mut W) -> Result<(), C::Error> {
         writer.write_value(self.0)
+    }
+}
+
+impl<'t, C: Context, T: WriteTold<C>> WriteTold<C> for Part<'t, T> {
+    #[inline]
+    fn write_behind<N: WritePrefix, W: Writer<C>>(&self, writer: &mut W) -> Result<(), C::Error> {
+        self.0.write_behind::<N, W>(writer)
+    }
+}
+
+impl<'t, C: Context, T: WriteOfLength<C>> WriteOfLength<C> for Part<'t, T> {
+    #[inline]
+    fn length(&self) -> usize {
+        self.0.length()
+    }
+
+    #[inline]
+    fn write_of_length<W: Writer<C>>(&self, writer: &mut W) -> Result<(), C::Error> {
+        self.0.write_of_length(writer)
     }
 }

@@ -7,7 +7,6 @@ ghost use Rattle.speedy_layout.specs.Varint.{varint};
 ghost use Rattle.speedy_write.specs.Lengths.{WritesLength};
 ghost use Rattle.speedy_write.specs.Writing.{WritesNumber, WritesValue, RefusesFull};
 
-use crate::part::Part;
 use crate::writable::Writable;
 use crate::writer::Writer;
 use speedy_base::context::Context;
@@ -91,21 +90,6 @@ pub trait WriteTold<C: Context>: Told {
     fn write_behind<N: WritePrefix, W: Writer<C>>(&self, writer: &mut W) -> Result<(), C::Error>
         ensures { WritesValue C.Error.from_gives W.state W.appends Self.seen
             (prefixed_codec (Self.behind N.numbers)) self.now result writer.old writer.new };
-}
-
-impl<'t, T: Told> Told for Part<'t, T> {
-    ghost Seen = { T.Seen };
-
-    ghost seen = { λ part. T.seen part.0.now };
-
-    ghost behind = { T.behind };
-}
-
-impl<'t, C: Context, T: WriteTold<C>> WriteTold<C> for Part<'t, T> {
-    #[inline]
-    fn write_behind<N: WritePrefix, W: Writer<C>>(&self, writer: &mut W) -> Result<(), C::Error> {
-        self.0.write_behind::<N, W>(writer)
-    }
 }
 
 impl<C: Context, N: WritePrefix, T: WriteTold<C>> Writable<C> for Prefixed<N, T> {
