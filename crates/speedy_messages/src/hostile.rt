@@ -63,33 +63,44 @@ fn show_broken_stream(rt: &HostRuntime, what: &str, bytes: &[u8]) -> Result<(), 
     Ok(())
 }
 
+/// Bytes in a buffer that are no message, some with a message behind them.
+const BROKEN: [(&str, &[u8]); 6] = [
+    ("half a length", b"\x0e"),
+    ("a frame cut short", b"\x0e\x00\x05\x94"),
+    ("an unknown tag", b"\x01\x00\x63\x01\x00\x01"),
+    ("bytes left over", b"\x02\x00\x01\x00\x01\x00\x01"),
+    (
+        "a text that is not UTF-8",
+        b"\x0a\x00\x05\x94\x01\x00\x00\x01\x00\x00\x00\xff\x01\x00\x01",
+    ),
+    (
+        "a count of four billion",
+        b"\x07\x00\x03\x07\x00\xff\xff\xff\xff\x01\x00\x01",
+    ),
+];
+
+/// Streams that are broken.
+const BROKEN_STREAMS: [(&str, &[u8]); 3] = [
+    ("a wrong magic number", b"HTTP/1.1 200 OK"),
+    (
+        "a length past the limit",
+        b"MSGS\x04\x01\x00\x00\x00\x01\x04\x03",
+    ),
+    (
+        "an end within a message",
+        b"MSGS\x04\x01\x00\x00\x00\x0e\x00\x05\x94",
+    ),
+];
+
 /// Prints what comes of broken bytes.
 pub fn show_hostile(rt: &HostRuntime) -> Result<(), Failure> {
     println!(rt; "broken in a buffer          is_eof  then   error")?;
-    show_broken(rt, "half a length", b"\x0e")?;
-    show_broken(rt, "a frame cut short", b"\x0e\x00\x05\x94")?;
-    show_broken(rt, "an unknown tag", b"\x01\x00\x63\x01\x00\x01")?;
-    show_broken(rt, "bytes left over", b"\x02\x00\x01\x00\x01\x00\x01")?;
-    show_broken(
-        rt,
-        "a text that is not UTF-8",
-        b"\x0a\x00\x05\x94\x01\x00\x00\x01\x00\x00\x00\xff\x01\x00\x01",
-    )?;
-    show_broken(
-        rt,
-        "a count of four billion",
-        b"\x07\x00\x03\x07\x00\xff\xff\xff\xff\x01\x00\x01",
-    )?;
+    for (what, bytes) in BROKEN {
+        show_broken(rt, what, bytes)?;
+    }
     println!(rt; "broken in a stream")?;
-    show_broken_stream(rt, "a wrong magic number", b"HTTP/1.1 200 OK")?;
-    show_broken_stream(
-        rt,
-        "a length past the limit",
-        b"MSGS\x04\x01\x00\x00\x00\x01\x04\x03",
-    )?;
-    show_broken_stream(
-        rt,
-        "an end within a message",
-        b"MSGS\x04\x01\x00\x00\x00\x0e\x00\x05\x94",
-    )
+    for (what, bytes) in BROKEN_STREAMS {
+        show_broken_stream(rt, what, bytes)?;
+    }
+    Ok(())
 }
