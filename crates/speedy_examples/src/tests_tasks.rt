@@ -3,6 +3,7 @@ use crate::generic::{load, load_owned, save};
 use crate::growing::{known_messages, read_grown};
 use crate::left_over::parse_whole;
 use crate::limits::read_body;
+use crate::nested::read_node;
 use crate::own_numbers::Colour;
 use crate::signing::{Order, are_same, bytes_to_sign, read_signed};
 use crate::sockets::{send, serve};
@@ -10,8 +11,10 @@ use crate::tests::assert_refused;
 use crate::versions::read_person;
 use crate::waiting::{next_whole, wants_more};
 use crate::{readme, records};
+use speedy::LittleEndian;
 use speedy::device::VecSink;
 use speedy::error::Error;
+use speedy::readable::BufferReader;
 use std::fs;
 
 #[test]
@@ -136,5 +139,26 @@ fn values_of_any_type_are_loaded(rt: HostRuntime) -> Result<(), Error> {
     assert!(rt; message == (1, "Hi"));
     let number: u16 = load_owned(alloc, &bytes)?;
     assert!(rt; number == 1);
+    Ok(())
+}
+
+#[test]
+fn what_is_nested_is_read_within_limits(rt: HostRuntime) -> Result<(), Error> {
+    let alloc = rt.alloc();
+    let bytes = b"\x01\0\0\0a\x01\0\0\0\x01\0\0\0b\0\0\0\0";
+    let node = read_node(&mut BufferReader::new(alloc, LittleEndian {}, bytes), 2)?;
+    assert!(rt; node.name.as_str() == "a" && node.children[0].name.as_str() == "b");
+    let outcome = read_node(&mut BufferReader::new(alloc, LittleEndian {}, bytes), 1);
+    assert_refused(&rt, alloc, outcome, "Custom(\"too many levels\")");
+    let mut reader = BufferReader::new(alloc, LittleEndian {}, b"\xff\xff\xff\xff");
+    let outcome = read_node(&mut reader, 2);
+    assert_refused(&rt, alloc, outcome, "Custom(\"a name past the limit\")");
+    let mut reader = BufferReader::new(alloc, LittleEndian {}, b"\0\0\0\0\xff\xff\xff\xff");
+    assert_refused(
+        &rt,
+        alloc,
+        read_node(&mut reader, 2),
+        "Custom(\"too many children\")",
+    );
     Ok(())
 }
