@@ -13,7 +13,7 @@ ghost use Rattle.speedy_read.specs.Reading.{ReadsValue};
 use crate::collections::{FromItems, collect_items};
 use crate::readable::ReadFrom;
 use crate::reader::LendingReader;
-use crate::room::{push_in_steps, vec_for};
+use crate::room::{vec_for, with_a_place};
 use speedy_base::context::Context;
 use speedy_base::endianness::Endianness;
 use speedy_base::error::{ErrorKind, error_out_of_memory};
@@ -302,12 +302,19 @@ pub(crate) fn read_each<
         result reader.old reader.new }
 {
     let mut items = vec_for::<T, L, C, R>(reader, T::minimum_bytes_needed(), length)?;
-    for i in 0..length {
-        let item = T::read_from(reader)?;
-        items = match push_in_steps(items, item, length - i) {
-            Ok(more) => more,
+    let mut left = length;
+    // Room is asked for outside the loop over items, so that this has no other call, and keeps all in registers.
+    while left > 0 {
+        items = match with_a_place(items, left) {
+            Ok(roomy) => roomy,
             Err(_) => return Err(error_out_of_memory()),
         };
+        let some = left.min(items.capacity() - items.len());
+        for _i in 0..some {
+            let item = T::read_from(reader)?;
+            items.push_reserved(item);
+        }
+        left -= some;
     }
     Ok(Many::Owned(items))
 }

@@ -105,13 +105,24 @@ pub fn push_in_steps<T: Drop>(items: Vec<T>, item: T, left: usize) -> Result<Vec
     ensures step { IfOk result (λ v. vec_capacity items ≤ vec_len items
         → vec_len items + min left 1024 ≤ vec_capacity v) }
 {
-    let mut items = if items.len() < items.capacity() {
-        items
-    } else {
-        grown(items, left)?
-    };
+    let mut items = with_a_place(items, left)?;
     items.push_reserved(item);
     Ok(items)
+}
+
+// The items with room for one more at least. Where there is none, room is asked for as `push_in_steps` says.
+#[inline(always)]
+pub(crate) fn with_a_place<T: Drop>(items: Vec<T>, left: usize) -> Result<Vec<T>, AllocError>
+    ensures same { IfOk result (λ v. v.items ≡ items.items) }
+    ensures one { IfOk result (λ v. vec_len v < vec_capacity v) }
+    ensures in_room { vec_len items < vec_capacity items → IsOk result }
+    ensures step { IfOk result (λ v. vec_capacity items ≤ vec_len items
+        → vec_len items + min left 1024 ≤ vec_capacity v) }
+{
+    if items.len() < items.capacity() {
+        return Ok(items);
+    }
+    grown(items, left)
 }
 
 // The same as `with_room`. It stands in line, so that the place of the answer is made only where there is a call.

@@ -14,7 +14,7 @@ use std::convert::AsSlice;
 impl<L: AsSlice<u8> + Drop, C: Context> ReadFrom<L, C> for () {
     type Strategy = ItemByItem<C>;
 
-    #[inline]
+    #[inline(always)]
     fn read_from<R: LendingReader<L, C>>(_reader: &mut R) -> Result<(), C::Error> {
         Ok(())
     }
@@ -28,7 +28,7 @@ impl<L: AsSlice<u8> + Drop, C: Context> ReadFrom<L, C> for () {
 impl<L: AsSlice<u8> + Drop, C: Context, T0: ReadFrom<L, C>> ReadFrom<L, C> for (T0,) {
     type Strategy = ItemByItem<C>;
 
-    #[inline]
+    #[inline(always)]
     fn read_from<R: LendingReader<L, C>>(reader: &mut R) -> Result<(T0,), C::Error> {
         let first = reader.read_value()?;
         Ok((first,))
@@ -44,7 +44,7 @@ impl<L: AsSlice<u8> + Drop, C: Context, T0: ReadFrom<L, C>, T1: ReadFrom<L, C>> 
     for (T0, T1) {
     type Strategy = ItemByItem<C>;
 
-    #[inline]
+    #[inline(always)]
     fn read_from<R: LendingReader<L, C>>(reader: &mut R) -> Result<(T0, T1), C::Error> {
         let first = reader.read_value()?;
         let second = reader.read_value()?;
@@ -66,7 +66,7 @@ impl<
 > ReadFrom<L, C> for (T0, T1, T2) {
     type Strategy = ItemByItem<C>;
 
-    #[inline]
+    #[inline(always)]
     fn read_from<R: LendingReader<L, C>>(reader: &mut R) -> Result<Self, C::Error> {
         let (v0, (v1, v2)) = reader.read_value::<(T0, (T1, T2))>()?;
         Ok((v0, v1, v2))
@@ -88,7 +88,7 @@ impl<
 > ReadFrom<L, C> for (T0, T1, T2, T3) {
     type Strategy = ItemByItem<C>;
 
-    #[inline]
+    #[inline(always)]
     fn read_from<R: LendingReader<L, C>>(reader: &mut R) -> Result<Self, C::Error> {
         let (v0, (v1, v2, v3)) = reader.read_value::<(T0, (T1, T2, T3))>()?;
         Ok((v0, v1, v2, v3))
@@ -111,7 +111,7 @@ impl<
 > ReadFrom<L, C> for (T0, T1, T2, T3, T4) {
     type Strategy = ItemByItem<C>;
 
-    #[inline]
+    #[inline(always)]
     fn read_from<R: LendingReader<L, C>>(reader: &mut R) -> Result<Self, C::Error> {
         let (v0, (v1, v2, v3, v4)) = reader.read_value::<(T0, (T1, T2, T3, T4))>()?;
         Ok((v0, v1, v2, v3, v4))
@@ -135,7 +135,7 @@ impl<
 > ReadFrom<L, C> for (T0, T1, T2, T3, T4, T5) {
     type Strategy = ItemByItem<C>;
 
-    #[inline]
+    #[inline(always)]
     fn read_from<R: LendingReader<L, C>>(reader: &mut R) -> Result<Self, C::Error> {
         let (v0, (v1, v2, v3, v4, v5)) = reader.read_value::<(T0, (T1, T2, T3, T4, T5))>()?;
         Ok((v0, v1, v2, v3, v4, v5))
@@ -160,7 +160,7 @@ impl<
 > ReadFrom<L, C> for (T0, T1, T2, T3, T4, T5, T6) {
     type Strategy = ItemByItem<C>;
 
-    #[inline]
+    #[inline(always)]
     fn read_from<R: LendingReader<L, C>>(reader: &mut R) -> Result<Self, C::Error> {
         let (v0, (v1, v2, v3, v4, v5, v6)) = reader.read_value::<(T0, (T1, T2, T3, T4, T5, T6))>()?;
         Ok((v0, v1, v2, v3, v4, v5, v6))
@@ -186,7 +186,7 @@ impl<
 > ReadFrom<L, C> for (T0, T1, T2, T3, T4, T5, T6, T7) {
     type Strategy = ItemByItem<C>;
 
-    #[inline]
+    #[inline(always)]
     fn read_from<R: LendingReader<L, C>>(reader: &mut R) -> Result<Self, C::Error> {
         let (v0, (v1, v2, v3, v4, v5, v6, v7)) = reader.read_value::<
             (T0, (T1, T2, T3, T4, T5, T6, T7)),
@@ -215,7 +215,7 @@ impl<
 > ReadFrom<L, C> for (T0, T1, T2, T3, T4, T5, T6, T7, T8) {
     type Strategy = ItemByItem<C>;
 
-    #[inline]
+    #[inline(always)]
     fn read_from<R: LendingReader<L, C>>(reader: &mut R) -> Result<Self, C::Error> {
         let (v0, (v1, v2, v3, v4, v5, v6, v7, v8)) = reader.read_value::<
             (T0, (T1, T2, T3, T4, T5, T6, T7, T8)),
@@ -245,7 +245,7 @@ impl<
 > ReadFrom<L, C> for (T0, T1, T2, T3, T4, T5, T6, T7, T8, T9) {
     type Strategy = ItemByItem<C>;
 
-    #[inline]
+    #[inline(always)]
     fn read_from<R: LendingReader<L, C>>(reader: &mut R) -> Result<Self, C::Error> {
         let (v0, (v1, v2, v3, v4, v5, v6, v7, v8, v9)) = reader.read_value::<
             (T0, (T1, T2, T3, T4, T5, T6, T7, T8, T9)),
@@ -276,7 +276,7 @@ impl<
 > ReadFrom<L, C> for (T0, T1, T2, T3, T4, T5, T6, T7, T8, T9, T10) {
     type Strategy = ItemByItem<C>;
 
-    #[inline]
+    #[inline(always)]
     fn read_from<R: LendingReader<L, C>>(reader: &mut R) -> Result<Self, C::Error> {
         let (v0, (v1, v2, v3, v4, v5, v6, v7, v8, v9, v10)) = reader.read_value::<
             (T0, (T1, T2, T3, T4, T5, T6, T7, T8, T9, T10)),
