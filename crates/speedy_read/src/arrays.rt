@@ -60,21 +60,6 @@ impl<L: AsSlice<u8> + Drop, C: Context, A: ReadArrays<L, C>> Strategy<L, C, A> f
     ) -> Result<Many<W, A>, C::Error> {
         A::read_arrays::<W, R>(reader, length)
     }
-
-    #[inline(always)]
-    fn read_places<P: Places<L, C, A>, R: LendingReader<L, C>>(
-        _reader: &mut R,
-    ) -> Option<Result<P, C::Error>> {
-        None
-    }
-
-    #[inline(always)]
-    fn read_many_places<P: Places<L, C, A>, R: LendingReader<L, C>>(
-        _reader: &mut R,
-        _length: usize,
-    ) -> Option<Result<Vec<P>, C::Error>> {
-        None
-    }
 }
 
 impl<T: FixedNumber> Takes<T> for Numbers {
@@ -135,7 +120,7 @@ fn places_of<
     let mut rest = digits;
     for _i in 0..count {
         let (some, more) = rest.split_at(width);
-        let mut places = P::begun::<Numbers>();
+        let mut places = P::begun();
         places.take::<Numbers>(order, some);
         all.push_reserved(places);
         rest = more;

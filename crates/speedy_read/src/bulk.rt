@@ -45,7 +45,7 @@ impl<L: AsSlice<u8> + Drop, C: Context, T: FixedNumber + ReadFrom<L, C>> Strateg
             (vector_codec P.count T.layout) read reader.old reader.new) }
         ensures in_place { IsSome result }
     {
-        let mut places = P::begun::<Numbers>();
+        let mut places = P::begun();
         match places.fill::<Numbers, R>(reader) {
             Ok(()) => Some(Ok(places)),
             Err(error) => Some(Err(error)),
@@ -63,11 +63,6 @@ impl<L: AsSlice<u8> + Drop, C: Context, T: FixedNumber + ReadFrom<L, C>> Strateg
 
 impl<L: AsSlice<u8> + Drop, C: Context, T: FixedNumber + ReadFrom<L, C>> Fills<L, C, T>
     for Numbers {
-    #[inline(always)]
-    fn first() -> T {
-        T::default()
-    }
-
     fn fill<R: LendingReader<L, C>>(reader: &mut R, places: &mut [T]) -> Result<(), C::Error> {
         fill_numbers::<T, L, C, R>(reader, places)
     }
@@ -102,7 +97,7 @@ impl<L: AsSlice<u8> + Drop, C: Context> Strategy<L, C, u8> for Bytes {
             (vector_codec P.count ⟦<u8 as Layout>⟧.layout) read reader.old reader.new) }
         ensures in_place { IsSome result }
     {
-        let mut places = P::begun::<Bytes>();
+        let mut places = P::begun();
         match places.fill::<Bytes, R>(reader) {
             Ok(()) => Some(Ok(places)),
             Err(error) => Some(Err(error)),
@@ -119,11 +114,6 @@ impl<L: AsSlice<u8> + Drop, C: Context> Strategy<L, C, u8> for Bytes {
 }
 
 impl<L: AsSlice<u8> + Drop, C: Context> Fills<L, C, u8> for Bytes {
-    #[inline(always)]
-    fn first() -> u8 {
-        0
-    }
-
     fn fill<R: LendingReader<L, C>>(reader: &mut R, places: &mut [u8]) -> Result<(), C::Error> {
         reader.read_bytes(places)?;
         bytes_in_range(places);
@@ -144,21 +134,6 @@ impl<L: AsSlice<u8> + Drop, C: Context> Strategy<L, C, bool> for Flags {
         } else {
             Ok(Many::Owned(read_flags::<L, C, R>(reader, length)?))
         }
-    }
-
-    #[inline(always)]
-    fn read_places<P: Places<L, C, bool>, R: LendingReader<L, C>>(
-        _reader: &mut R,
-    ) -> Option<Result<P, C::Error>> {
-        None
-    }
-
-    #[inline(always)]
-    fn read_many_places<P: Places<L, C, bool>, R: LendingReader<L, C>>(
-        _reader: &mut R,
-        _length: usize,
-    ) -> Option<Result<Vec<P>, C::Error>> {
-        None
     }
 }
 

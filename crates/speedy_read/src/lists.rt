@@ -142,8 +142,11 @@ impl<L: AsSlice<u8> + Drop, C: Context, T: ReadFrom<L, C>, const N: usize> Place
     }
 
     #[inline]
-    fn begun<F: Fills<L, C, T>>() -> [T; N] {
-        array::from_fn(|_i| F::first())
+    fn begun() -> [T; N]
+    where
+        T: Default,
+    {
+        array::from_fn(|_i| T::default())
     }
 
     #[inline]

@@ -34,23 +34,31 @@ pub trait Strategy<L: AsSlice<u8> + Drop, C: Context, T: ReadFrom<L, C>> {
             (vector_codec length T.layout) result reader.old reader.new };
 
     /// Reads as many values as there are places, into these, without a vector. `None` where that cannot be: then
-    /// nothing is read.
+    /// nothing is read. This body says `None`.
+    #[inline(always)]
     fn read_places<P: Places<L, C, T>, R: LendingReader<L, C>>(
-        reader: &mut R,
+        _reader: &mut R,
     ) -> Option<Result<P, C::Error>>
-        ensures { MatchOption result (R.state reader.new ≡ R.state reader.old) (λ read.
+        ensures { MatchOption result (R.state _reader.new ≡ R.state _reader.old) (λ read.
             ReadsValue C.Error.IsEof R.state (λ p. map T.seen (P.shown p))
-            (vector_codec P.count T.layout) read reader.old reader.new) };
+            (vector_codec P.count T.layout) read _reader.old _reader.new) }
+    {
+        None
+    }
 
     /// Reads as many values as there are places, `length` times, all at once from bytes that the reader lends. `None`
-    /// where that cannot be: then nothing is read.
+    /// where that cannot be: then nothing is read. This body says `None`.
+    #[inline(always)]
     fn read_many_places<P: Places<L, C, T>, R: LendingReader<L, C>>(
-        reader: &mut R,
-        length: usize,
+        _reader: &mut R,
+        _length: usize,
     ) -> Option<Result<Vec<P>, C::Error>>
-        ensures { MatchOption result (R.state reader.new ≡ R.state reader.old) (λ read.
+        ensures { MatchOption result (R.state _reader.new ≡ R.state _reader.old) (λ read.
             ReadsValue C.Error.IsEof R.state (λ v. map (λ p. map T.seen (P.shown p)) v.items)
-            (vector_codec length (vector_codec P.count T.layout)) read reader.old reader.new) };
+            (vector_codec _length (vector_codec P.count T.layout)) read _reader.old _reader.new) }
+    {
+        None
+    }
 }
 
 /// Reads each value by itself, which serves any type.
@@ -68,21 +76,6 @@ impl<L: AsSlice<u8> + Drop, C: Context, T: ReadFrom<L, C>> Strategy<L, C, T> for
     ) -> Result<Many<W, T>, C::Error> {
         read_each::<W, T, L, C, R>(reader, length)
     }
-
-    #[inline(always)]
-    fn read_places<P: Places<L, C, T>, R: LendingReader<L, C>>(
-        _reader: &mut R,
-    ) -> Option<Result<P, C::Error>> {
-        None
-    }
-
-    #[inline(always)]
-    fn read_many_places<P: Places<L, C, T>, R: LendingReader<L, C>>(
-        _reader: &mut R,
-        _length: usize,
-    ) -> Option<Result<Vec<P>, C::Error>> {
-        None
-    }
 }
 
 /// Places for values that are read one after another: an array.
@@ -97,8 +90,10 @@ pub trait Places<L: AsSlice<u8> + Drop, C: Context, T: ReadFrom<L, C>>: Sized + 
     fn count() -> usize
         ensures { result ≡ Self.count };
 
-    /// Places that all have the value that the type begins with.
-    fn begun<F: Fills<L, C, T>>() -> Self
+    /// Places that all have the type's default value.
+    fn begun() -> Self
+    where
+        T: Default,
         ensures { count_of (shown result) ≡ count };
 
     /// Reads a value into each place. After an error nothing is said of them.
@@ -118,9 +113,6 @@ pub trait Places<L: AsSlice<u8> + Drop, C: Context, T: ReadFrom<L, C>>: Sized + 
 
 /// How places are filled with values of a type.
 pub trait Fills<L: AsSlice<u8> + Drop, C: Context, T: ReadFrom<L, C>> {
-    /// The value that places begin with.
-    fn first() -> T;
-
     /// Reads a value into each place. After an error nothing is said of them.
     fn fill<R: LendingReader<L, C>>(reader: &mut R, places: &mut [T]) -> Result<(), C::Error>
         ensures { ReadsValue C.Error.IsEof R.state (λ _. map T.seen places.new)
