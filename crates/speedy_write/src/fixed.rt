@@ -217,6 +217,9 @@ fn write_by_chunks<C: Context, T: Layout, P: FixedBytes<T>, W: Writer<C>>(
         result writer.old writer.new }
 {
     P::has_few_bytes();
+    if writer.can_write_at_least(values.len().saturating_mul(P::BYTES)) == Some(false) {
+        return write_chunks::<C, T, P, W>(values, &mut [0; SHORT_CHUNK], writer);
+    }
     match values.len() {
         0..=4 => write_chunks::<C, T, P, W>(values, &mut [0; SHORT_CHUNK], writer),
         5..=8_191 => write_many_chunks::<C, T, P, W>(values, &mut [0; CHUNK], writer),
