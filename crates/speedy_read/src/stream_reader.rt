@@ -19,6 +19,7 @@ use speedy_base::circular_buffer::CircularBuffer;
 use speedy_base::context::Context;
 use speedy_base::device::Source;
 use speedy_base::error::{Error, error_end_of_input, error_end_of_stream, error_out_of_memory};
+use speedy_layout::fixed_numbers::MOST_DIGITS;
 use std::alloc::{AllocError, Global};
 use std::io;
 
@@ -228,6 +229,35 @@ impl<'s, S: Source, C: Context> StreamReader<'s, S, C> {
         }
     }
 
+    // Reads more than the ring holds.
+    #[inline(always)]
+    fn read_rest(&mut self, output: &mut [u8]) -> Result<(), C::Error>
+        requires { length self.old.ring.bytes < length output.old }
+        ensures { ReadsInto C.Error.IsEof (stream_state S.source C.mode) output.old output.new
+            result self.old self.new }
+    {
+        if !self.is_buffering && self.ring.is_empty() {
+            return self.read_unbuffered(output);
+        }
+        by_parts(self.read_more(output))
+    }
+
+    // The same of a few bytes, by a place of their own: the output is lent to no call, so that a number that is read
+    // stays in registers.
+    #[inline(always)]
+    fn read_few(&mut self, output: &mut [u8]) -> Result<(), C::Error>
+        requires more { length self.old.ring.bytes < length output.old }
+        requires few { length output.old ≤ 16 }
+        ensures { ReadsInto C.Error.IsEof (stream_state S.source C.mode) output.old output.new
+            result self.old self.new }
+    {
+        let mut bytes = [0; MOST_DIGITS];
+        let few = &mut bytes[..output.len()];
+        self.read_rest(few)?;
+        output.copy_from_slice(few);
+        Ok(())
+    }
+
     // Reads some bytes straight from the source, by one call as a rule: nothing is held of it. It stands inline, so
     // what is rare in it is called.
     #[inline(always)]
@@ -274,10 +304,10 @@ impl<'s, 'b, C: Context, S: Source> LendingReader<&'b [u8], C> for StreamReader<
             self.ring.consume_into(output);
             return Ok(());
         }
-        if !self.is_buffering && self.ring.is_empty() {
-            return self.read_unbuffered(output);
+        if output.len() <= MOST_DIGITS {
+            return self.read_few(output);
         }
-        by_parts(self.read_more(output))
+        self.read_rest(output)
     }
 
     /// Fills the output with the next bytes, and takes none. What is not held yet is pulled into the ring, which may
