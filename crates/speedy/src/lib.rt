@@ -66,6 +66,7 @@ pub mod varints;
 pub mod writable_impl;
 
 pub use buffer::Buffer;
+pub use codes::Decode;
 pub use collections::FromItems;
 pub use context::{
     BigEndian, Context, LittleEndian, PlainContext, StrictBigEndian, StrictLittleEndian,
@@ -81,7 +82,7 @@ pub use reader::{LendingReader, Reader};
 pub use same_key::SameKey;
 pub use speedy_base::{circular_buffer, context, device, endianness, error};
 pub use speedy_layout::{floats, magic, same_key, varint, view_items, views};
-pub use speedy_read::{buffer, collections, lent, many, readable};
+pub use speedy_read::{buffer, codes, collections, lent, many, readable};
 pub use speedy_write::{part, writable, writer};
 pub use writable::Writable;
 pub use writer::Writer;

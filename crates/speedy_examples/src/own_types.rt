@@ -1,10 +1,13 @@
 //! Types of your own: a leaf that tests what it reads, and a struct of any part.
 ghost use Rattle.std.specs.Prelude.{◌≡◌, ℕ};
 ghost use Rattle.speedy.specs.Codecs.{subset_codec, unsigned_codec};
+ghost use Rattle.speedy.specs.Decoding.{coded};
 ghost use Rattle.speedy.specs.declared.error.ErrorKind.TheVariants.{InvalidEnumVariant};
 
 use speedy::private::error_invalid_enum_variant;
-use speedy::{Context, ItemByItem, Layout, LendingReader, Part, ReadFrom, Writable, Writer};
+use speedy::{
+    Context, Decode, ItemByItem, Layout, LendingReader, Part, ReadFrom, Writable, Writer,
+};
 use std::convert::AsSlice;
 
 /// A byte that is 0. It has no size in memory.
@@ -19,20 +22,19 @@ impl Layout for Mark {
     ghost layout = { subset_codec (λ n. n ≡ 0) InvalidEnumVariant tt (unsigned_codec 1) };
 }
 
-impl<L: AsSlice<u8> + Drop, C: Context> ReadFrom<L, C> for Mark {
-    type Strategy = ItemByItem<C>;
+impl Decode for Mark {
+    type Code = u8;
 
-    fn read_from<R: LendingReader<L, C>>(reader: &mut R) -> Result<Mark, C::Error> {
-        let number = reader.read_u8()?;
-        match number {
+    type Strategy = ItemByItem<()>;
+
+    fn decode<C: Context>(code: u8, _: bool) -> Result<Mark, C::Error> {
+        match code {
             0 => Ok(Mark {}),
             _ => Err(error_invalid_enum_variant()),
         }
     }
 
-    fn minimum_bytes_needed() -> usize {
-        1
-    }
+    ghost is_coded = { coded _ _ _ };
 }
 
 impl<C: Context> Writable<C> for Mark {

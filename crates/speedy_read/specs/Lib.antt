@@ -2,6 +2,7 @@ pub mod Reading
 pub mod ReadingLemmas
 pub mod Sequences
 pub mod Counted
+pub mod Decoding
 pub mod Codes
 pub mod Flags
 pub mod Cases

@@ -1,4 +1,7 @@
 //! How addresses are read.
+ghost use Rattle.speedy_read.specs.Decoding.{coded};
+
+use crate::codes::Decode;
 use crate::many::ItemByItem;
 use crate::readable::ReadFrom;
 use crate::reader::LendingReader;
@@ -8,34 +11,30 @@ use speedy_base::error::error_invalid_enum_variant;
 use std::convert::AsSlice;
 use std::net::{IpAddr, Ipv4Addr, Ipv6Addr};
 
-impl<L: AsSlice<u8> + Drop, C: Context> ReadFrom<L, C> for Ipv4Addr {
-    type Strategy = ItemByItem<C>;
+impl Decode for Ipv4Addr {
+    type Code = u32;
+
+    type Strategy = ItemByItem<()>;
 
     #[inline]
-    fn read_from<R: LendingReader<L, C>>(reader: &mut R) -> Result<Ipv4Addr, C::Error> {
-        let number = reader.read_u32()?;
-        Ok(Ipv4Addr::from(Endianness::BigEndian.bytes_of_u32(number)))
+    fn decode<C: Context>(code: u32, _: bool) -> Result<Ipv4Addr, C::Error> {
+        Ok(Ipv4Addr::from(Endianness::BigEndian.bytes_of_u32(code)))
     }
 
-    #[inline]
-    fn minimum_bytes_needed() -> usize {
-        4
-    }
+    ghost is_coded = { coded _ _ _ };
 }
 
-impl<L: AsSlice<u8> + Drop, C: Context> ReadFrom<L, C> for Ipv6Addr {
-    type Strategy = ItemByItem<C>;
+impl Decode for Ipv6Addr {
+    type Code = u128;
+
+    type Strategy = ItemByItem<()>;
 
     #[inline]
-    fn read_from<R: LendingReader<L, C>>(reader: &mut R) -> Result<Ipv6Addr, C::Error> {
-        let number = reader.read_u128()?;
-        Ok(Ipv6Addr::from(Endianness::BigEndian.bytes_of_u128(number)))
+    fn decode<C: Context>(code: u128, _: bool) -> Result<Ipv6Addr, C::Error> {
+        Ok(Ipv6Addr::from(Endianness::BigEndian.bytes_of_u128(code)))
     }
 
-    #[inline]
-    fn minimum_bytes_needed() -> usize {
-        16
-    }
+    ghost is_coded = { coded _ _ _ };
 }
 
 impl<L: AsSlice<u8> + Drop, C: Context> ReadFrom<L, C> for IpAddr {

@@ -1,7 +1,9 @@
 //! How flags, and values that a flag chooses, are read.
 ghost use Rattle.std.specs.Prelude.{◌+◌};
+ghost use Rattle.speedy_read.specs.Decoding.{coded};
 
 use crate::bulk::Flags;
+use crate::codes::Decode;
 use crate::many::ItemByItem;
 use crate::readable::ReadFrom;
 use crate::reader::LendingReader;
@@ -9,23 +11,21 @@ use speedy_base::context::Context;
 use speedy_base::error::error_not_written_form;
 use std::convert::AsSlice;
 
-impl<L: AsSlice<u8> + Drop, C: Context> ReadFrom<L, C> for bool {
+impl Decode for bool {
+    type Code = u8;
+
     type Strategy = Flags;
 
     #[inline]
-    fn read_from<R: LendingReader<L, C>>(reader: &mut R) -> Result<bool, C::Error> {
-        let number = reader.read_u8()?;
-        let is_written = number <= 1;
-        if !is_written && reader.demands_written_form() {
+    fn decode<C: Context>(code: u8, demands_written_form: bool) -> Result<bool, C::Error> {
+        let is_written = code <= 1;
+        if !is_written && demands_written_form {
             return Err(error_not_written_form());
         }
-        Ok(number != 0)
+        Ok(code != 0)
     }
 
-    #[inline]
-    fn minimum_bytes_needed() -> usize {
-        1
-    }
+    ghost is_coded = { coded _ _ _ };
 }
 
 impl<L: AsSlice<u8> + Drop, C: Context, T: ReadFrom<L, C>> ReadFrom<L, C> for Option<T> {

@@ -1,7 +1,9 @@
 //! How characters, byte orders, durations and UUIDs are read.
 ghost use Rattle.speedy_layout.specs.Leaves.{seconds_and_nanos};
+ghost use Rattle.speedy_read.specs.Decoding.{coded};
 ghost use Rattle.speedy_read.specs.Reading.{ReadsAs};
 
+use crate::codes::Decode;
 use crate::many::ItemByItem;
 use crate::readable::ReadFrom;
 use crate::reader::LendingReader;
@@ -15,40 +17,37 @@ use std::convert::AsSlice;
 use std::time::Duration;
 use uuid::Uuid;
 
-impl<L: AsSlice<u8> + Drop, C: Context> ReadFrom<L, C> for char {
-    type Strategy = ItemByItem<C>;
+impl Decode for char {
+    type Code = u32;
+
+    type Strategy = ItemByItem<()>;
 
     #[inline]
-    fn read_from<R: LendingReader<L, C>>(reader: &mut R) -> Result<char, C::Error> {
-        let code = reader.read_u32()?;
+    fn decode<C: Context>(code: u32, _: bool) -> Result<char, C::Error> {
         match char::from_u32(code) {
             Some(character) => Ok(character),
             None => Err(error_out_of_range_char()),
         }
     }
 
-    #[inline]
-    fn minimum_bytes_needed() -> usize {
-        4
-    }
+    ghost is_coded = { coded _ _ _ };
 }
 
-impl<L: AsSlice<u8> + Drop, C: Context> ReadFrom<L, C> for Endianness {
-    type Strategy = ItemByItem<C>;
+impl Decode for Endianness {
+    type Code = u8;
+
+    type Strategy = ItemByItem<()>;
 
     #[inline]
-    fn read_from<R: LendingReader<L, C>>(reader: &mut R) -> Result<Endianness, C::Error> {
-        match reader.read_u8()? {
+    fn decode<C: Context>(code: u8, _: bool) -> Result<Endianness, C::Error> {
+        match code {
             0 => Ok(Endianness::LittleEndian),
             1 => Ok(Endianness::BigEndian),
             _ => Err(error_invalid_enum_variant()),
         }
     }
 
-    #[inline]
-    fn minimum_bytes_needed() -> usize {
-        1
-    }
+    ghost is_coded = { coded _ _ _ };
 }
 
 impl<L: AsSlice<u8> + Drop, C: Context> ReadFrom<L, C> for Duration {

@@ -13,6 +13,7 @@ pub mod buffer;
 pub mod buffer_reader;
 mod bulk;
 pub mod cases;
+pub mod codes;
 pub mod collections;
 pub mod copying_reader;
 pub mod cows;

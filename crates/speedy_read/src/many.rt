@@ -63,13 +63,13 @@ pub trait Strategy<L: AsSlice<u8> + Drop, C: Context, T: ReadFrom<L, C>> {
 
 /// Reads each value by itself, which serves any type.
 ///
-/// It names the context, since a type that owns memory gets no proof of an impl whose strategy names no parameter of
-/// it.
-pub struct ItemByItem<C> {
-    _context: PhantomData<C>,
+/// In an impl of `ReadFrom` it names the context, since a type that owns memory gets no proof of an impl whose strategy
+/// names no parameter of it; in one of `Decode`, which has no parameter, it names `()`.
+pub struct ItemByItem<N> {
+    _named: PhantomData<N>,
 }
 
-impl<L: AsSlice<u8> + Drop, C: Context, T: ReadFrom<L, C>> Strategy<L, C, T> for ItemByItem<C> {
+impl<L: AsSlice<u8> + Drop, C: Context, N, T: ReadFrom<L, C>> Strategy<L, C, T> for ItemByItem<N> {
     fn read_many_lent<W: FromLent<L, T>, R: LendingReader<L, C>>(
         reader: &mut R,
         length: usize,

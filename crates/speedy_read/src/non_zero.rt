@@ -1,146 +1,140 @@
 //! How numbers that are not 0 are read.
+#![tactic(auto, using(crate::proofs::NonZeroLemmas::non_zero_decodes))]
+
+ghost use Rattle.speedy_read.specs.Decoding.{coded};
+
+use crate::codes::Decode;
 use crate::many::ItemByItem;
-use crate::readable::ReadFrom;
-use crate::reader::LendingReader;
 use speedy_base::context::Context;
 use speedy_base::error::error_zero_non_zero;
-use std::convert::AsSlice;
 use std::num::{
     NonZeroI8, NonZeroI16, NonZeroI32, NonZeroI64, NonZeroU8, NonZeroU16, NonZeroU32, NonZeroU64,
 };
 
-impl<L: AsSlice<u8> + Drop, C: Context> ReadFrom<L, C> for NonZeroU8 {
-    type Strategy = ItemByItem<C>;
+impl Decode for NonZeroU8 {
+    type Code = u8;
+
+    type Strategy = ItemByItem<()>;
 
     #[inline]
-    fn read_from<R: LendingReader<L, C>>(reader: &mut R) -> Result<NonZeroU8, C::Error> {
-        match NonZeroU8::new(reader.read_u8()?) {
+    fn decode<C: Context>(code: u8, _: bool) -> Result<NonZeroU8, C::Error> {
+        match NonZeroU8::new(code) {
             Some(number) => Ok(number),
             None => Err(error_zero_non_zero()),
         }
     }
 
-    #[inline]
-    fn minimum_bytes_needed() -> usize {
-        1
-    }
+    ghost is_coded = { coded _ _ _ };
 }
 
-impl<L: AsSlice<u8> + Drop, C: Context> ReadFrom<L, C> for NonZeroU16 {
-    type Strategy = ItemByItem<C>;
+impl Decode for NonZeroU16 {
+    type Code = u16;
+
+    type Strategy = ItemByItem<()>;
 
     #[inline]
-    fn read_from<R: LendingReader<L, C>>(reader: &mut R) -> Result<NonZeroU16, C::Error> {
-        match NonZeroU16::new(reader.read_u16()?) {
+    fn decode<C: Context>(code: u16, _: bool) -> Result<NonZeroU16, C::Error> {
+        match NonZeroU16::new(code) {
             Some(number) => Ok(number),
             None => Err(error_zero_non_zero()),
         }
     }
 
-    #[inline]
-    fn minimum_bytes_needed() -> usize {
-        2
-    }
+    ghost is_coded = { coded _ _ _ };
 }
 
-impl<L: AsSlice<u8> + Drop, C: Context> ReadFrom<L, C> for NonZeroU32 {
-    type Strategy = ItemByItem<C>;
+impl Decode for NonZeroU32 {
+    type Code = u32;
+
+    type Strategy = ItemByItem<()>;
 
     #[inline]
-    fn read_from<R: LendingReader<L, C>>(reader: &mut R) -> Result<NonZeroU32, C::Error> {
-        match NonZeroU32::new(reader.read_u32()?) {
+    fn decode<C: Context>(code: u32, _: bool) -> Result<NonZeroU32, C::Error> {
+        match NonZeroU32::new(code) {
             Some(number) => Ok(number),
             None => Err(error_zero_non_zero()),
         }
     }
 
-    #[inline]
-    fn minimum_bytes_needed() -> usize {
-        4
-    }
+    ghost is_coded = { coded _ _ _ };
 }
 
-impl<L: AsSlice<u8> + Drop, C: Context> ReadFrom<L, C> for NonZeroU64 {
-    type Strategy = ItemByItem<C>;
+impl Decode for NonZeroU64 {
+    type Code = u64;
+
+    type Strategy = ItemByItem<()>;
 
     #[inline]
-    fn read_from<R: LendingReader<L, C>>(reader: &mut R) -> Result<NonZeroU64, C::Error> {
-        match NonZeroU64::new(reader.read_u64()?) {
+    fn decode<C: Context>(code: u64, _: bool) -> Result<NonZeroU64, C::Error> {
+        match NonZeroU64::new(code) {
             Some(number) => Ok(number),
             None => Err(error_zero_non_zero()),
         }
     }
 
-    #[inline]
-    fn minimum_bytes_needed() -> usize {
-        8
-    }
+    ghost is_coded = { coded _ _ _ };
 }
 
-impl<L: AsSlice<u8> + Drop, C: Context> ReadFrom<L, C> for NonZeroI8 {
-    type Strategy = ItemByItem<C>;
+impl Decode for NonZeroI8 {
+    type Code = i8;
+
+    type Strategy = ItemByItem<()>;
 
     #[inline]
-    fn read_from<R: LendingReader<L, C>>(reader: &mut R) -> Result<NonZeroI8, C::Error> {
-        match NonZeroI8::new(reader.read_i8()?) {
+    fn decode<C: Context>(code: i8, _: bool) -> Result<NonZeroI8, C::Error> {
+        match NonZeroI8::new(code) {
             Some(number) => Ok(number),
             None => Err(error_zero_non_zero()),
         }
     }
 
-    #[inline]
-    fn minimum_bytes_needed() -> usize {
-        1
-    }
+    ghost is_coded = { coded _ _ _ };
 }
 
-impl<L: AsSlice<u8> + Drop, C: Context> ReadFrom<L, C> for NonZeroI16 {
-    type Strategy = ItemByItem<C>;
+impl Decode for NonZeroI16 {
+    type Code = i16;
+
+    type Strategy = ItemByItem<()>;
 
     #[inline]
-    fn read_from<R: LendingReader<L, C>>(reader: &mut R) -> Result<NonZeroI16, C::Error> {
-        match NonZeroI16::new(reader.read_i16()?) {
+    fn decode<C: Context>(code: i16, _: bool) -> Result<NonZeroI16, C::Error> {
+        match NonZeroI16::new(code) {
             Some(number) => Ok(number),
             None => Err(error_zero_non_zero()),
         }
     }
 
-    #[inline]
-    fn minimum_bytes_needed() -> usize {
-        2
-    }
+    ghost is_coded = { coded _ _ _ };
 }
 
-impl<L: AsSlice<u8> + Drop, C: Context> ReadFrom<L, C> for NonZeroI32 {
-    type Strategy = ItemByItem<C>;
+impl Decode for NonZeroI32 {
+    type Code = i32;
+
+    type Strategy = ItemByItem<()>;
 
     #[inline]
-    fn read_from<R: LendingReader<L, C>>(reader: &mut R) -> Result<NonZeroI32, C::Error> {
-        match NonZeroI32::new(reader.read_i32()?) {
+    fn decode<C: Context>(code: i32, _: bool) -> Result<NonZeroI32, C::Error> {
+        match NonZeroI32::new(code) {
             Some(number) => Ok(number),
             None => Err(error_zero_non_zero()),
         }
     }
 
-    #[inline]
-    fn minimum_bytes_needed() -> usize {
-        4
-    }
+    ghost is_coded = { coded _ _ _ };
 }
 
-impl<L: AsSlice<u8> + Drop, C: Context> ReadFrom<L, C> for NonZeroI64 {
-    type Strategy = ItemByItem<C>;
+impl Decode for NonZeroI64 {
+    type Code = i64;
+
+    type Strategy = ItemByItem<()>;
 
     #[inline]
-    fn read_from<R: LendingReader<L, C>>(reader: &mut R) -> Result<NonZeroI64, C::Error> {
-        match NonZeroI64::new(reader.read_i64()?) {
+    fn decode<C: Context>(code: i64, _: bool) -> Result<NonZeroI64, C::Error> {
+        match NonZeroI64::new(code) {
             Some(number) => Ok(number),
             None => Err(error_zero_non_zero()),
         }
     }
 
-    #[inline]
-    fn minimum_bytes_needed() -> usize {
-        8
-    }
+    ghost is_coded = { coded _ _ _ };
 }

@@ -1,5 +1,8 @@
 //! How numbers are read.
+ghost use Rattle.speedy_read.specs.Decoding.{coded};
+
 use crate::bulk::{Bytes, Numbers};
+use crate::codes::Decode;
 use crate::many::ItemByItem;
 use crate::readable::ReadFrom;
 use crate::reader::LendingReader;
@@ -147,19 +150,18 @@ impl<L: AsSlice<u8> + Drop, C: Context> ReadFrom<L, C> for i128 {
     }
 }
 
-impl<L: AsSlice<u8> + Drop, C: Context> ReadFrom<L, C> for usize {
-    type Strategy = ItemByItem<C>;
+impl Decode for usize {
+    type Code = u64;
+
+    type Strategy = ItemByItem<()>;
 
     #[inline(always)]
-    fn read_from<R: LendingReader<L, C>>(reader: &mut R) -> Result<usize, C::Error> {
-        match usize::try_from(reader.read_u64()?) {
+    fn decode<C: Context>(code: u64, _: bool) -> Result<usize, C::Error> {
+        match usize::try_from(code) {
             Ok(number) => Ok(number),
             Err(_) => Err(error_too_big_usize_for_this_architecture()),
         }
     }
 
-    #[inline]
-    fn minimum_bytes_needed() -> usize {
-        8
-    }
+    ghost is_coded = { coded _ _ _ };
 }
