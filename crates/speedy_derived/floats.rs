@@ -2,7 +2,7 @@
 use speedy::{Readable, Writable};
 use std::borrow::Cow;
 
-#[derive(Debug, Readable, Writable)]
+#[derive(Readable, Writable)]
 pub enum Place {
     First,
     Second,
@@ -10,7 +10,7 @@ pub enum Place {
 }
 
 /// A number, a text, bytes, numbers that may be lent, a float, and an enum.
-#[derive(Debug, Readable, Writable)]
+#[derive(Readable, Writable)]
 pub struct Measured<'a> {
     pub number: u64,
     pub name: String,
@@ -20,7 +20,7 @@ pub struct Measured<'a> {
     pub place: Place,
 }
 
-#[derive(Debug, Readable, Writable)]
+#[derive(Readable, Writable)]
 pub struct Floats {
     pub all: Vec<f32>,
     pub some: (Option<f64>, [f64; 2]),

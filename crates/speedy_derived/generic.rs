@@ -4,17 +4,17 @@ use std::borrow::Cow;
 use std::collections::{BTreeMap, BTreeSet, HashMap, HashSet};
 use std::hash::Hash;
 
-#[derive(Debug, Readable, Writable)]
+#[derive(Readable, Writable)]
 pub struct Generic<T> {
     pub inner: T,
 }
 
-#[derive(Debug, Readable, Writable)]
+#[derive(Readable, Writable)]
 pub struct GenericWithDefault<T = u8> {
     pub inner: T,
 }
 
-#[derive(Debug, Readable, Writable)]
+#[derive(Readable, Writable)]
 pub struct ArrayOf<T> {
     pub data: [T; 4],
 }

@@ -2,43 +2,43 @@
 use speedy::{Readable, Writable};
 use std::collections::{BTreeMap, HashSet};
 
-#[derive(Debug, Readable, Writable)]
+#[derive(Readable, Writable)]
 pub struct LengthU7 {
     #[speedy(length_type = u7)]
     pub data: Vec<u8>,
 }
 
-#[derive(Debug, Readable, Writable)]
+#[derive(Readable, Writable)]
 pub struct LengthU8 {
     #[speedy(length_type = u8)]
     pub data: Vec<u8>,
 }
 
-#[derive(Debug, Readable, Writable)]
+#[derive(Readable, Writable)]
 pub struct LengthU16 {
     #[speedy(length_type = u16)]
     pub data: Vec<u8>,
 }
 
-#[derive(Debug, Readable, Writable)]
+#[derive(Readable, Writable)]
 pub struct LengthU32 {
     #[speedy(length_type = u32)]
     pub data: Vec<u8>,
 }
 
-#[derive(Debug, Readable, Writable)]
+#[derive(Readable, Writable)]
 pub struct LengthU64 {
     #[speedy(length_type = u64)]
     pub data: Vec<u8>,
 }
 
-#[derive(Debug, Readable, Writable)]
+#[derive(Readable, Writable)]
 pub struct LengthVarint {
     #[speedy(length_type = u64_varint)]
     pub data: Vec<u8>,
 }
 
-#[derive(Debug, Readable, Writable)]
+#[derive(Readable, Writable)]
 pub struct LengthsOfMaps {
     #[speedy(length_type = u8)]
     pub tree: BTreeMap<u8, u16>,
@@ -46,13 +46,13 @@ pub struct LengthsOfMaps {
     pub hashed: HashSet<u16>,
 }
 
-#[derive(Debug, Readable, Writable)]
+#[derive(Readable, Writable)]
 pub struct LengthOfOption {
     #[speedy(length_type = u16)]
     pub data: Option<Vec<u8>>,
 }
 
-#[derive(Debug, Readable, Writable)]
+#[derive(Readable, Writable)]
 pub enum LengthsInCases {
     A,
     B(#[speedy(length_type = u16)] Option<String>, u8),

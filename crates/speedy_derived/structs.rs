@@ -2,7 +2,7 @@
 use speedy::{Readable, Writable};
 
 /// Named parts.
-#[derive(Debug, Readable, Writable)]
+#[derive(Readable, Writable)]
 pub struct Numbers {
     /// It has one byte.
     pub a: u8,
@@ -11,15 +11,15 @@ pub struct Numbers {
 }
 
 /// Parts without names.
-#[derive(Debug, Readable, Writable)]
+#[derive(Readable, Writable)]
 pub struct Triple(pub u8, pub u16, pub u32);
 
 /// No part, and no braces.
-#[derive(Debug, Readable, Writable)]
+#[derive(Readable, Writable)]
 pub struct Unit;
 
 /// No part between braces.
-#[derive(Debug, Readable, Writable)]
+#[derive(Readable, Writable)]
 pub struct Empty {}
 
 /// A single part.
@@ -27,22 +27,22 @@ pub struct Empty {}
 pub struct Newtype(pub u16);
 
 /// A list of structs.
-#[derive(Debug, Readable, Writable)]
+#[derive(Readable, Writable)]
 pub struct Holder {
     pub field: Vec<Empty>,
 }
 
-#[derive(Debug, Readable, Writable)]
+#[derive(Readable, Writable)]
 pub struct Optional {
     pub data: Option<u16>,
 }
 
-#[derive(Debug, Readable, Writable)]
+#[derive(Readable, Writable)]
 pub struct Outcome {
     pub data: Result<u16, u16>,
 }
 
-#[derive(Debug, Readable, Writable)]
+#[derive(Readable, Writable)]
 pub struct Skipping {
     pub a: u8,
     #[speedy(skip)]
@@ -50,7 +50,7 @@ pub struct Skipping {
     pub c: u8,
 }
 
-#[derive(Debug, Readable, Writable)]
+#[derive(Readable, Writable)]
 pub struct Variable {
     #[speedy(varint)]
     pub value: u64,

@@ -1,7 +1,7 @@
 //! Enums with tags of each width, without parts and with them.
 use speedy::{Readable, Writable};
 
-#[derive(Debug, Readable, Writable)]
+#[derive(Readable, Writable)]
 pub enum Plain {
     /// The first tag is 0.
     A,
@@ -9,7 +9,7 @@ pub enum Plain {
     C,
 }
 
-#[derive(Debug, Readable, Writable)]
+#[derive(Readable, Writable)]
 #[speedy(tag_type = u7)]
 pub enum TagU7 {
     A,
@@ -17,7 +17,7 @@ pub enum TagU7 {
     C = 0x7f,
 }
 
-#[derive(Debug, Readable, Writable)]
+#[derive(Readable, Writable)]
 #[speedy(tag_type = u8)]
 pub enum TagU8 {
     A,
@@ -25,7 +25,7 @@ pub enum TagU8 {
     C,
 }
 
-#[derive(Debug, Readable, Writable)]
+#[derive(Readable, Writable)]
 #[speedy(tag_type = u16)]
 pub enum TagU16 {
     A,
@@ -33,7 +33,7 @@ pub enum TagU16 {
     C,
 }
 
-#[derive(Debug, Readable, Writable)]
+#[derive(Readable, Writable)]
 #[speedy(tag_type = u32)]
 pub enum TagU32 {
     A,
@@ -41,7 +41,7 @@ pub enum TagU32 {
     C,
 }
 
-#[derive(Debug, Readable, Writable)]
+#[derive(Readable, Writable)]
 #[speedy(tag_type = u64)]
 #[repr(u64)]
 pub enum TagU64 {
@@ -50,7 +50,7 @@ pub enum TagU64 {
     C,
 }
 
-#[derive(Debug, Readable, Writable)]
+#[derive(Readable, Writable)]
 #[speedy(tag_type = u64_varint)]
 pub enum TagVarint {
     A,
@@ -58,7 +58,7 @@ pub enum TagVarint {
 }
 
 /// Tags that are set apart from the numbers of `as`.
-#[derive(Debug, Readable, Writable)]
+#[derive(Readable, Writable)]
 #[speedy(tag_type = u8)]
 pub enum OwnTag {
     #[speedy(tag = 20)]
@@ -66,7 +66,7 @@ pub enum OwnTag {
     B,
 }
 
-#[derive(Debug, Readable, Writable)]
+#[derive(Readable, Writable)]
 pub enum Mixed {
     A,
     B(u8, u16, u32),

@@ -7,7 +7,7 @@ use speedy::magic::{Constant, Magic};
 use speedy::{Context, ItemByItem, Layout, LendingReader, Part, ReadFrom, Writable, Writer};
 use std::convert::AsSlice;
 
-#[derive(Debug, Drop)]
+#[derive(Drop)]
 pub struct BehindText {
     pub value: (),
 }
@@ -56,7 +56,7 @@ impl<C: Context> Writable<C> for BehindText {
     }
 }
 
-#[derive(Debug, Drop)]
+#[derive(Drop)]
 pub struct BehindBytes {
     pub value: (),
 }
@@ -105,7 +105,7 @@ impl<C: Context> Writable<C> for BehindBytes {
     }
 }
 
-#[derive(Debug, Drop)]
+#[derive(Drop)]
 pub struct BehindCharacter {
     pub value: (),
 }
@@ -157,7 +157,7 @@ impl<C: Context> Writable<C> for BehindCharacter {
     }
 }
 
-#[derive(Debug, Drop)]
+#[derive(Drop)]
 pub struct BehindByte {
     pub value: (),
 }
@@ -206,7 +206,7 @@ impl<C: Context> Writable<C> for BehindByte {
     }
 }
 
-#[derive(Debug, Drop)]
+#[derive(Drop)]
 pub struct BehindTrue {
     pub value: (),
 }
@@ -255,7 +255,7 @@ impl<C: Context> Writable<C> for BehindTrue {
     }
 }
 
-#[derive(Debug, Drop)]
+#[derive(Drop)]
 pub struct BehindFalse {
     pub value: (),
 }
@@ -304,7 +304,7 @@ impl<C: Context> Writable<C> for BehindFalse {
     }
 }
 
-#[derive(Debug, Drop)]
+#[derive(Drop)]
 pub struct BehindU8 {
     pub value: (),
 }
@@ -353,7 +353,7 @@ impl<C: Context> Writable<C> for BehindU8 {
     }
 }
 
-#[derive(Debug, Drop)]
+#[derive(Drop)]
 pub struct BehindI8 {
     pub value: (),
 }

@@ -15,7 +15,7 @@ use speedy::{
 use std::borrow::CowSlice;
 use std::convert::AsSlice;
 
-#[derive(Debug, Drop)]
+#[derive(Drop)]
 pub enum Place {
     First,
     Second,
@@ -95,7 +95,7 @@ impl<C: Context> Writable<C> for Place {
 }
 
 /// A number, a text, bytes, numbers that may be lent, a float, and an enum.
-#[derive(Debug, Drop)]
+#[derive(Drop)]
 pub struct Measured<'a> {
     pub number: u64,
     pub name: String,
@@ -160,7 +160,7 @@ impl<'a, C: Context> Writable<C> for Measured<'a> {
     }
 }
 
-#[derive(Debug, Drop)]
+#[derive(Drop)]
 pub struct Floats {
     pub all: Vec<F32>,
     pub some: (Option<F64>, [F64; 2]),

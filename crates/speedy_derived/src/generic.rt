@@ -11,7 +11,7 @@ use std::collections::{BTreeMap, BTreeSet, HashMap, HashSet};
 use std::convert::AsSlice;
 use std::hash::Hash;
 
-#[derive(Debug, Drop)]
+#[derive(Drop)]
 pub struct Generic<T> {
     pub inner: T,
 }
@@ -45,7 +45,7 @@ impl<C: Context, T: Writable<C>> Writable<C> for Generic<T> {
     }
 }
 
-#[derive(Debug, Drop)]
+#[derive(Drop)]
 pub struct GenericWithDefault<T = u8> {
     pub inner: T,
 }
@@ -82,7 +82,7 @@ impl<C: Context, T: Writable<C>> Writable<C> for GenericWithDefault<T> {
     }
 }
 
-#[derive(Debug, Drop)]
+#[derive(Drop)]
 pub struct ArrayOf<T> {
     pub data: [T; 4],
 }

@@ -14,7 +14,7 @@ use std::collections::{BTreeMap, HashSet};
 use std::convert::AsSlice;
 use std::marker::PhantomData;
 
-#[derive(Debug, Drop)]
+#[derive(Drop)]
 pub struct LengthU7 {
     pub data: Vec<u8>,
 }
@@ -52,7 +52,7 @@ impl<C: Context> Writable<C> for LengthU7 {
     }
 }
 
-#[derive(Debug, Drop)]
+#[derive(Drop)]
 pub struct LengthU8 {
     pub data: Vec<u8>,
 }
@@ -90,7 +90,7 @@ impl<C: Context> Writable<C> for LengthU8 {
     }
 }
 
-#[derive(Debug, Drop)]
+#[derive(Drop)]
 pub struct LengthU16 {
     pub data: Vec<u8>,
 }
@@ -128,7 +128,7 @@ impl<C: Context> Writable<C> for LengthU16 {
     }
 }
 
-#[derive(Debug, Drop)]
+#[derive(Drop)]
 pub struct LengthU32 {
     pub data: Vec<u8>,
 }
@@ -166,7 +166,7 @@ impl<C: Context> Writable<C> for LengthU32 {
     }
 }
 
-#[derive(Debug, Drop)]
+#[derive(Drop)]
 pub struct LengthU64 {
     pub data: Vec<u8>,
 }
@@ -204,7 +204,7 @@ impl<C: Context> Writable<C> for LengthU64 {
     }
 }
 
-#[derive(Debug, Drop)]
+#[derive(Drop)]
 pub struct LengthVarint {
     pub data: Vec<u8>,
 }
@@ -245,7 +245,7 @@ impl<C: Context> Writable<C> for LengthVarint {
     }
 }
 
-#[derive(Debug, Drop)]
+#[derive(Drop)]
 pub struct LengthsOfMaps {
     pub tree: BTreeMap<u8, u16>,
     pub hashed: HashSet<u16>,
@@ -297,7 +297,7 @@ impl<C: Context> Writable<C> for LengthsOfMaps {
     }
 }
 
-#[derive(Debug, Drop)]
+#[derive(Drop)]
 pub struct LengthOfOption {
     pub data: Option<Vec<u8>>,
 }
@@ -346,7 +346,7 @@ impl<C: Context> Writable<C> for LengthOfOption {
     }
 }
 
-#[derive(Debug, Drop)]
+#[derive(Drop)]
 pub enum LengthsInCases {
     A,
     B(Option<String>, u8),

@@ -7,7 +7,7 @@ use speedy::{Context, ItemByItem, Layout, LendingReader, Part, ReadFrom, Writabl
 use std::borrow::{Cow, CowSlice, CowStr};
 use std::collections::BTreeMap;
 
-#[derive(Debug, Drop)]
+#[derive(Drop)]
 pub struct CowOfBytes<'a> {
     pub bytes: CowSlice<'a, u8>,
 }
@@ -45,7 +45,7 @@ impl<'a, C: Context> Writable<C> for CowOfBytes<'a> {
     }
 }
 
-#[derive(Debug, Drop)]
+#[derive(Drop)]
 pub struct CowOfText<'a> {
     pub inner: CowStr<'a>,
 }
@@ -82,7 +82,7 @@ impl<'a, C: Context> Writable<C> for CowOfText<'a> {
 }
 
 /// Two cows of different types.
-#[derive(Debug, Drop)]
+#[derive(Drop)]
 pub struct TwoCows<'a> {
     pub a: Cow<'a, BTreeMap<u8, u8>>,
     pub b: CowSlice<'a, u8>,
@@ -122,7 +122,7 @@ impl<'a, C: Context> Writable<C> for TwoCows<'a> {
     }
 }
 
-#[derive(Debug, Drop)]
+#[derive(Drop)]
 pub struct LentText<'a>(pub &'a str);
 
 impl<'a> Layout for LentText<'a> {
@@ -156,7 +156,7 @@ impl<'a, C: Context> Writable<C> for LentText<'a> {
     }
 }
 
-#[derive(Debug, Drop)]
+#[derive(Drop)]
 pub struct LentBytes<'a>(pub &'a [u8]);
 
 impl<'a> Layout for LentBytes<'a> {

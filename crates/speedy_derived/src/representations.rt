@@ -6,7 +6,7 @@ use speedy::{
 };
 use std::convert::AsSlice;
 
-#[derive(Debug, Drop)]
+#[derive(Drop)]
 #[repr(transparent)]
 pub struct TransparentU8(pub u8);
 
@@ -39,7 +39,7 @@ impl<C: Context> Writable<C> for TransparentU8 {
     }
 }
 
-#[derive(Clone, Copy, Debug)]
+#[derive(Clone, Copy)]
 #[repr(transparent)]
 pub struct TransparentU16(pub u16);
 
@@ -72,7 +72,7 @@ impl<C: Context> Writable<C> for TransparentU16 {
     }
 }
 
-#[derive(Debug, Drop)]
+#[derive(Drop)]
 #[repr(transparent)]
 pub struct TransparentU32(pub u32);
 
@@ -105,7 +105,7 @@ impl<C: Context> Writable<C> for TransparentU32 {
     }
 }
 
-#[derive(Debug, Drop)]
+#[derive(Drop)]
 #[repr(transparent)]
 pub struct TransparentU128(pub u128);
 
@@ -138,7 +138,7 @@ impl<C: Context> Writable<C> for TransparentU128 {
     }
 }
 
-#[derive(Debug, Drop)]
+#[derive(Drop)]
 #[repr(transparent)]
 pub struct TransparentList<T>(pub Vec<T>);
 
@@ -171,7 +171,7 @@ impl<C: Context, T: Writable<C>> Writable<C> for TransparentList<T> {
     }
 }
 
-#[derive(Debug, Drop)]
+#[derive(Drop)]
 #[repr(transparent)]
 pub struct TransparentArray(pub [u8; 16]);
 
@@ -204,7 +204,7 @@ impl<C: Context> Writable<C> for TransparentArray {
     }
 }
 
-#[derive(Debug, Drop)]
+#[derive(Drop)]
 #[repr(transparent)]
 pub struct TransparentUnit;
 
@@ -237,7 +237,7 @@ impl<C: Context> Writable<C> for TransparentUnit {
     }
 }
 
-#[derive(Debug, Drop)]
+#[derive(Drop)]
 #[repr(C)]
 pub struct CByte(pub u8);
 
@@ -270,7 +270,7 @@ impl<C: Context> Writable<C> for CByte {
     }
 }
 
-#[derive(Debug, Drop)]
+#[derive(Drop)]
 #[repr(C)]
 pub struct CNumber(pub u16);
 
@@ -303,7 +303,7 @@ impl<C: Context> Writable<C> for CNumber {
     }
 }
 
-#[derive(Debug, Drop)]
+#[derive(Drop)]
 #[repr(C)]
 pub struct CPair(pub u16, pub u16);
 
@@ -339,7 +339,7 @@ impl<C: Context> Writable<C> for CPair {
     }
 }
 
-#[derive(Debug, Drop)]
+#[derive(Drop)]
 #[repr(C)]
 pub struct CUneven(pub u16, pub u8);
 
@@ -375,7 +375,7 @@ impl<C: Context> Writable<C> for CUneven {
     }
 }
 
-#[derive(Debug, Drop)]
+#[derive(Drop)]
 #[repr(C)]
 pub struct CNested(pub CNumber);
 
@@ -408,7 +408,7 @@ impl<C: Context> Writable<C> for CNested {
     }
 }
 
-#[derive(Debug, Drop)]
+#[derive(Drop)]
 #[repr(C)]
 pub struct CUnit;
 
@@ -441,7 +441,7 @@ impl<C: Context> Writable<C> for CUnit {
     }
 }
 
-#[derive(Clone, Copy, Debug)]
+#[derive(Clone, Copy)]
 pub struct PackedNumber(pub u16);
 
 impl Layout for PackedNumber {
@@ -473,7 +473,7 @@ impl<C: Context> Writable<C> for PackedNumber {
     }
 }
 
-#[derive(Clone, Copy, Debug)]
+#[derive(Clone, Copy)]
 pub struct PackedPair(pub u16, pub u16);
 
 /// What [`PackedPair`] is read and written as.
@@ -508,7 +508,7 @@ impl<C: Context> Writable<C> for PackedPair {
     }
 }
 
-#[derive(Clone, Copy, Debug)]
+#[derive(Clone, Copy)]
 pub struct PackedPairs(pub PackedPair, pub PackedPair);
 
 /// What [`PackedPairs`] is read and written as.
@@ -543,7 +543,7 @@ impl<C: Context> Writable<C> for PackedPairs {
     }
 }
 
-#[derive(Debug, Drop)]
+#[derive(Drop)]
 pub struct PackedUnit;
 
 impl Layout for PackedUnit {

@@ -6,7 +6,7 @@ use speedy::{Context, ItemByItem, Layout, LendingReader, Part, ReadFrom, Writabl
 use std::convert::AsSlice;
 
 /// Named parts.
-#[derive(Debug, Drop)]
+#[derive(Drop)]
 pub struct Numbers {
     /// It has one byte.
     pub a: u8,
@@ -47,7 +47,7 @@ impl<C: Context> Writable<C> for Numbers {
 }
 
 /// Parts without names.
-#[derive(Debug, Drop)]
+#[derive(Drop)]
 pub struct Triple(pub u8, pub u16, pub u32);
 
 /// What [`Triple`] is read and written as.
@@ -83,7 +83,7 @@ impl<C: Context> Writable<C> for Triple {
 }
 
 /// No part, and no braces.
-#[derive(Debug, Drop)]
+#[derive(Drop)]
 pub struct Unit;
 
 impl Layout for Unit {
@@ -116,7 +116,7 @@ impl<C: Context> Writable<C> for Unit {
 }
 
 /// No part between braces.
-#[derive(Debug, Drop)]
+#[derive(Drop)]
 pub struct Empty {}
 
 impl Layout for Empty {
@@ -182,7 +182,7 @@ impl<C: Context> Writable<C> for Newtype {
 }
 
 /// A list of structs.
-#[derive(Debug, Drop)]
+#[derive(Drop)]
 pub struct Holder {
     pub field: Vec<Empty>,
 }
@@ -216,7 +216,7 @@ impl<C: Context> Writable<C> for Holder {
     }
 }
 
-#[derive(Debug, Drop)]
+#[derive(Drop)]
 pub struct Optional {
     pub data: Option<u16>,
 }
@@ -250,7 +250,7 @@ impl<C: Context> Writable<C> for Optional {
     }
 }
 
-#[derive(Debug, Drop)]
+#[derive(Drop)]
 pub struct Outcome {
     pub data: Result<u16, u16>,
 }
@@ -284,7 +284,7 @@ impl<C: Context> Writable<C> for Outcome {
     }
 }
 
-#[derive(Debug, Drop)]
+#[derive(Drop)]
 pub struct Skipping {
     pub a: u8,
     pub cache: u8,
@@ -327,7 +327,7 @@ impl<C: Context> Writable<C> for Skipping {
     }
 }
 
-#[derive(Debug, Drop)]
+#[derive(Drop)]
 pub struct Variable {
     pub value: u64,
 }

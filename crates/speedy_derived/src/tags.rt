@@ -12,7 +12,7 @@ use speedy::varint::VarInt64;
 use speedy::{Context, ItemByItem, Layout, LendingReader, Part, ReadFrom, Writable, Writer};
 use std::convert::AsSlice;
 
-#[derive(Debug, Drop)]
+#[derive(Drop)]
 pub enum Plain {
     /// The first tag is 0.
     A,
@@ -92,7 +92,7 @@ impl<C: Context> Writable<C> for Plain {
     }
 }
 
-#[derive(Debug, Drop)]
+#[derive(Drop)]
 pub enum TagU7 {
     A,
     B,
@@ -171,7 +171,7 @@ impl<C: Context> Writable<C> for TagU7 {
     }
 }
 
-#[derive(Debug, Drop)]
+#[derive(Drop)]
 pub enum TagU8 {
     A,
     B = 0xab,
@@ -250,7 +250,7 @@ impl<C: Context> Writable<C> for TagU8 {
     }
 }
 
-#[derive(Debug, Drop)]
+#[derive(Drop)]
 pub enum TagU16 {
     A,
     B = 0xabcd,
@@ -329,7 +329,7 @@ impl<C: Context> Writable<C> for TagU16 {
     }
 }
 
-#[derive(Debug, Drop)]
+#[derive(Drop)]
 pub enum TagU32 {
     A,
     B = 0xabcd_ef01,
@@ -408,7 +408,7 @@ impl<C: Context> Writable<C> for TagU32 {
     }
 }
 
-#[derive(Debug, Drop)]
+#[derive(Drop)]
 pub enum TagU64 {
     A,
     B,
@@ -490,7 +490,7 @@ impl<C: Context> Writable<C> for TagU64 {
     }
 }
 
-#[derive(Debug, Drop)]
+#[derive(Drop)]
 pub enum TagVarint {
     A,
     B = 0x1234,
@@ -568,7 +568,7 @@ impl<C: Context> Writable<C> for TagVarint {
 }
 
 /// Tags that are set apart from the numbers of `as`.
-#[derive(Debug, Drop)]
+#[derive(Drop)]
 pub enum OwnTag {
     A = 10,
     B,
@@ -642,7 +642,7 @@ impl<C: Context> Writable<C> for OwnTag {
     }
 }
 
-#[derive(Debug, Drop)]
+#[derive(Drop)]
 pub enum Mixed {
     A,
     B(u8, u16, u32),

@@ -1,0 +1,14 @@
+//! Types of each kind that `tools/derive` takes, each module made from the Rust file of its name in the crate's folder.
+//! `tools/check-derived` runs rows of them, by the program in `rows`.
+#![tactic(auto)]
+
+pub mod constants;
+pub mod floats;
+pub mod generic;
+pub mod header_lengths;
+pub mod lengths;
+pub mod lent;
+pub mod representations;
+pub mod structs;
+pub mod tags;
+pub mod told_lengths;
