@@ -5,6 +5,7 @@
 pub mod constants;
 pub mod floats;
 pub mod generic;
+pub mod generic_enums;
 pub mod header_lengths;
 pub mod lengths;
 pub mod lent;
