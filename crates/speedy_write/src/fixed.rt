@@ -194,7 +194,11 @@ pub(crate) fn write_values<C: Context, T: Layout, P: FixedBytes<T>, W: Writer<C>
     if writer.put_fixed::<T, P>(values) {
         return Ok(());
     }
-    write_by_chunks::<C, T, P, W>(values, writer)
+    // Its answer is passed on by its parts: so this one copies no error where the values were put.
+    match write_by_chunks::<C, T, P, W>(values, writer) {
+        Ok(()) => Ok(()),
+        Err(error) => Err(error),
+    }
 }
 
 /// The chunk that values are written through, in bytes.
@@ -217,6 +221,7 @@ fn write_by_chunks<C: Context, T: Layout, P: FixedBytes<T>, W: Writer<C>>(
         result writer.old writer.new }
 {
     P::has_few_bytes();
+    // Where they have no room, a short chunk shows it soon.
     if writer.can_write_at_least(values.len().saturating_mul(P::BYTES)) == Some(false) {
         return write_chunks::<C, T, P, W>(values, &mut [0; SHORT_CHUNK], writer);
     }

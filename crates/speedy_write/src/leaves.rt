@@ -14,6 +14,7 @@ impl<C: Context> Writable<C> for char {
     }
 
     /// Writes the characters by chunks of their bytes.
+    #[inline(always)]
     fn write_in_bulk<W: Writer<C>>(items: &[char], writer: &mut W) -> Option<Result<(), C::Error>> {
         Some(write_values::<C, char, Codes, W>(items, writer))
     }
@@ -37,6 +38,7 @@ impl<C: Context> Writable<C> for Duration {
     }
 
     /// Writes the durations by chunks of their bytes.
+    #[inline(always)]
     fn write_in_bulk<W: Writer<C>>(
         items: &[Duration],
         writer: &mut W,

@@ -49,7 +49,7 @@ impl<C: Context, T: Writable<C>, const N: usize> Writable<C> for [T; N] {
     }
 
     /// Writes the items of all the arrays together, where that is faster than one by one.
-    #[inline]
+    #[inline(always)]
     fn write_in_bulk<W: Writer<C>>(
         items: &[[T; N]],
         writer: &mut W,

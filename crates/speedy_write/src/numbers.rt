@@ -15,7 +15,7 @@ impl<C: Context> Writable<C> for u8 {
     }
 
     /// Writes all the bytes at once.
-    #[inline]
+    #[inline(always)]
     fn write_in_bulk<W: Writer<C>>(items: &[u8], writer: &mut W) -> Option<Result<(), C::Error>> {
         Some(writer.write_bytes(items))
     }
@@ -28,6 +28,7 @@ impl<C: Context> Writable<C> for u16 {
     }
 
     /// Writes the numbers by chunks of their digits.
+    #[inline(always)]
     fn write_in_bulk<W: Writer<C>>(items: &[u16], writer: &mut W) -> Option<Result<(), C::Error>> {
         Some(write_values::<C, u16, Digits, W>(items, writer))
     }
@@ -40,6 +41,7 @@ impl<C: Context> Writable<C> for u32 {
     }
 
     /// Writes the numbers by chunks of their digits.
+    #[inline(always)]
     fn write_in_bulk<W: Writer<C>>(items: &[u32], writer: &mut W) -> Option<Result<(), C::Error>> {
         Some(write_values::<C, u32, Digits, W>(items, writer))
     }
@@ -52,6 +54,7 @@ impl<C: Context> Writable<C> for u64 {
     }
 
     /// Writes the numbers by chunks of their digits.
+    #[inline(always)]
     fn write_in_bulk<W: Writer<C>>(items: &[u64], writer: &mut W) -> Option<Result<(), C::Error>> {
         Some(write_values::<C, u64, Digits, W>(items, writer))
     }
@@ -64,6 +67,7 @@ impl<C: Context> Writable<C> for u128 {
     }
 
     /// Writes the numbers by chunks of their digits.
+    #[inline(always)]
     fn write_in_bulk<W: Writer<C>>(items: &[u128], writer: &mut W) -> Option<Result<(), C::Error>> {
         Some(write_values::<C, u128, Digits, W>(items, writer))
     }
@@ -76,6 +80,7 @@ impl<C: Context> Writable<C> for i8 {
     }
 
     /// Writes the numbers by chunks of their digits.
+    #[inline(always)]
     fn write_in_bulk<W: Writer<C>>(items: &[i8], writer: &mut W) -> Option<Result<(), C::Error>> {
         Some(write_values::<C, i8, Digits, W>(items, writer))
     }
@@ -88,6 +93,7 @@ impl<C: Context> Writable<C> for i16 {
     }
 
     /// Writes the numbers by chunks of their digits.
+    #[inline(always)]
     fn write_in_bulk<W: Writer<C>>(items: &[i16], writer: &mut W) -> Option<Result<(), C::Error>> {
         Some(write_values::<C, i16, Digits, W>(items, writer))
     }
@@ -100,6 +106,7 @@ impl<C: Context> Writable<C> for i32 {
     }
 
     /// Writes the numbers by chunks of their digits.
+    #[inline(always)]
     fn write_in_bulk<W: Writer<C>>(items: &[i32], writer: &mut W) -> Option<Result<(), C::Error>> {
         Some(write_values::<C, i32, Digits, W>(items, writer))
     }
@@ -112,6 +119,7 @@ impl<C: Context> Writable<C> for i64 {
     }
 
     /// Writes the numbers by chunks of their digits.
+    #[inline(always)]
     fn write_in_bulk<W: Writer<C>>(items: &[i64], writer: &mut W) -> Option<Result<(), C::Error>> {
         Some(write_values::<C, i64, Digits, W>(items, writer))
     }
@@ -124,6 +132,7 @@ impl<C: Context> Writable<C> for i128 {
     }
 
     /// Writes the numbers by chunks of their digits.
+    #[inline(always)]
     fn write_in_bulk<W: Writer<C>>(items: &[i128], writer: &mut W) -> Option<Result<(), C::Error>> {
         Some(write_values::<C, i128, Digits, W>(items, writer))
     }
