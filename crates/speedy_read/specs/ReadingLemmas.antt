@@ -6,7 +6,7 @@ use Rattle.std.proofs.lemmas.List.{append_assoc, length-append}
 use Rattle.speedy_base.specs.declared.error.ErrorKind.{ErrorKind}
 use Rattle.speedy_base.specs.declared.error.ErrorKind.TheVariants as kinds
 use Rattle.speedy_base.specs.declared.error.Error.{Error}
-use Rattle.speedy_base.specs.Error.{error_of, IsNamed-more, passed_on}
+use Rattle.speedy_base.specs.Error.{error_of, is_eof_error, IsNamed-more, passed_on}
 use Rattle.speedy_base.specs.Digits.{AreBytes}
 use Rattle.speedy_base.specs.DigitsLemmas.{AreBytes-append_parts}
 use Rattle.speedy_base.specs.DeviceLemmas.{fault_after}
@@ -105,6 +105,16 @@ module _ {E : Type 0} {gives : Error → E → Type 0} {eof : E → Bool} {A V :
 pub input_ended : {E : Type 0} (gives : Error → E → Type 0) (eof : E → Bool) (by_device : Bool) (e : E)
     → gives (error_of kinds.UnexpectedEndOfInput) e → IsTrue (eof e) → IsEnd gives eof by_device e
 input_ended gives eof by_device e g h = ((kinds.UnexpectedEndOfInput, tt, g), h)
+
+-- an end of input stays one when it is converted, and nothing else becomes one, in each context
+abbrev pub KeepsEof : {E : Type 0} → (Error → E → Type 0) → (E → Bool) → Type 0
+KeepsEof {E = E} gives eof = (error : Error) (x : E) → gives error x → eof x ≡ is_eof_error error
+
+-- so the error of an end says so
+pub ends_input : {E : Type 0} {gives : Error → E → Type 0} {eof : E → Bool} {by_device : Bool} {e : E}
+    → KeepsEof gives eof → gives (error_of kinds.UnexpectedEndOfInput) e → IsEnd gives eof by_device e
+ends_input {gives = gives} {eof = eof} {by_device = by_device} {e = e} keeps given =
+    input_ended gives eof by_device e given (keeps _ e given)
 
 -- what excuses a part that is read from `mid` on, before which no call failed, excuses the whole
 pub excused_after : {E : Type 0} (gives : Error → E → Type 0) (takes more : Bool) (e : E) (old mid new : ReaderState)

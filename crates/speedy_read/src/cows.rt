@@ -1,4 +1,6 @@
 //! How `Cow`, `CowStr` and `CowSlice` are read.
+#![tactic(auto, unfolding(speedy_layout::specs::Lists::list, speedy_layout::specs::Texts::text))]
+
 ghost use Rattle.std.specs.Prelude.{◌≡◌};
 
 use crate::many::ItemByItem;

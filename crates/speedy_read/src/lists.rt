@@ -1,4 +1,6 @@
 //! How lists are read.
+#![tactic(auto, unfolding(speedy_layout::specs::Lists::list))]
+
 ghost use Rattle.std.specs.Prelude.{◌≡◌, false, IsErrAnd};
 ghost use Rattle.speedy_base.specs.Error.{error_of};
 ghost use Rattle.speedy_layout.specs.Codecs.{unsigned_codec};

@@ -1,4 +1,6 @@
 //! How texts are read: what is UTF-8 is in `utf8`.
+#![tactic(auto, unfolding(speedy_layout::specs::Texts::text))]
+
 ghost use Rattle.std.specs.Prelude.{◌≡◌};
 ghost use Rattle.speedy_layout.specs.Codecs.{unsigned_codec};
 ghost use Rattle.speedy_layout.specs.Prefixed.{prefixed_codec};

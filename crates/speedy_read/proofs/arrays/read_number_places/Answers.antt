@@ -1,7 +1,7 @@
 use Rattle.std.proofs.Common.{◌∙◌, ◌*◌, Ok, Err, ap₂, refl}
 use Rattle.std.proofs.lemmas.List.{length-map}
 use Rattle.speedy_read.specs.Codes.{refused_covered}
-use Rattle.speedy_read.specs.ReadingLemmas.{input_ended}
+use Rattle.speedy_read.specs.ReadingLemmas.{ends_input}
 use Rattle.speedy_read.proofs.ArrayLemmas.{arrays_read, arrays_cover}
 use Rattle.speedy_read.proofs.ChunkLemmas.{lent_is, lent_length, lent_read, lent_refused}
 use Rattle.speedy_read.proofs.ListLemmas.{refused_room}
@@ -32,7 +32,7 @@ returns-in-Some-Err g c =
     let lent = lent_is _ (Err c.in-Some-Err.field-0-0) c.in-Some-Err.is c.in-Some-Err.field-0-is
     c.read_bytes_borrowed_from_reader.follows.holds-at-none in
     let e = c.error_end_of_input.ensures in
-    let ended = input_ended g.C.Error.From.from_gives g.C.Error.IsEof.eof _ _ e (g.met.C.Context.keeps_eof _ _ e) in
+    let ended = ends_input g.met.C.Context.keeps_eof e in
     refused_covered (arrays_cover g.T.Layout.layout.laws g.met.T.FixedNumber.is_fixed _
     (c.in_ok-width.ensures.1 ∙ ap₂ ◌*◌ c.count.ensures c.SIZE.ensures) c.args.length c.in_ok-size.ensures.1 _)
     refl (lent_refused _ ended lent)

@@ -1,6 +1,6 @@
 use Rattle.std.proofs.Common.{◌∙◌, ◌*◌, [], Ok, Err, ap, arith, length, refl, sym}
 use Rattle.std.proofs.lemmas.List.{length-map}
-use Rattle.speedy_read.specs.ReadingLemmas.{input_ended, none_so_far}
+use Rattle.speedy_read.specs.ReadingLemmas.{ends_input, none_so_far}
 use Rattle.speedy_read.proofs.ListLemmas.{got_items, refused_early}
 use Rattle.speedy_read.proofs.ChunkLemmas.{all_digits, past_usize, more_numbers, numbers_refused, lent_is, lent_length}
 use Rattle.speedy_read.proofs.ChunkLemmas.{lent_read, lent_refused}
@@ -8,9 +8,7 @@ use Rattle.speedy_read.proofs.bulk.fill_numbers.Goals as goal
 
 pub returns-in_default : goal.returns-in_default
 returns-in_default g c =
-    refused_early (g.T.Layout.layout.laws _) _
-    (input_ended g.C.Error.From.from_gives g.C.Error.IsEof.eof _ _ c.error_end_of_input.ensures
-    (g.met.C.Context.keeps_eof _ _ c.error_end_of_input.ensures))
+    refused_early (g.T.Layout.layout.laws _) _ (ends_input g.met.C.Context.keeps_eof c.error_end_of_input.ensures)
     (λ told fit. past_usize (length c.args.places.now * c.SIZE.result) _ _ c.in_default.ensures
     (ap (λ n. length c.args.places.now * n) (c.SIZE.ensures ∙ sym g.met.T.FixedNumber.least_is)) fit)
 
@@ -42,4 +40,4 @@ returns-in-Some-Err g c =
     numbers_refused g.T.Layout.layout.laws g.met.T.FixedNumber.is_fixed _ g.T.Layout.seen _ [] _ (omega arith)
     (all_digits _ c.SIZE.result c.in-Some.ensures.1 c.SIZE.ensures) (none_so_far refl) refl
     (lent_refused _
-    (input_ended g.C.Error.From.from_gives g.C.Error.IsEof.eof _ _ e (g.met.C.Context.keeps_eof _ _ e)) lent)
+    (ends_input g.met.C.Context.keeps_eof e) lent)

@@ -1,6 +1,6 @@
 use Rattle.std.proofs.Common.{[], List, ℕ, Ok, Err, arith, refl}
 use denote.Ref.{Bor}
-use Rattle.speedy_read.specs.ReadingLemmas.{input_ended, none_so_far}
+use Rattle.speedy_read.specs.ReadingLemmas.{ends_input, none_so_far}
 use Rattle.speedy_read.proofs.ByteLemmas.{all_bytes, bytes_refused, more_bytes}
 use Rattle.speedy_read.proofs.FlagLemmas.{flags_answered, flags_refused}
 use Rattle.speedy_read.proofs.ChunkLemmas.{lent_is, lent_length, lent_read, lent_refused, none_lent}
@@ -26,7 +26,7 @@ returns-in-Some-Err g c =
     flags_refused _ {seen = λ (_ : Unit {0}). []} _ refl
     (bytes_refused _ _ 0 [] refl (omega arith) (none_so_far refl) refl
     (lent_refused _
-    (input_ended g.C.Error.From.from_gives g.C.Error.IsEof.eof _ _ e (g.met.C.Context.keeps_eof _ _ e)) lent))
+    (ends_input g.met.C.Context.keeps_eof e) lent))
 
 pub returns-in_err-bytes-in-None : goal.returns-in_err-bytes-in-None
 returns-in_err-bytes-in-None g c = flags_refused _ _ c.from_residual.ensures.1

@@ -1,6 +1,6 @@
 use Rattle.std.proofs.Common.{◌∙◌, ◌*◌, [], Ok, Err, ap, arith, refl, sym}
 use Rattle.std.proofs.lemmas.List.{length-map}
-use Rattle.speedy_read.specs.ReadingLemmas.{input_ended, none_so_far}
+use Rattle.speedy_read.specs.ReadingLemmas.{ends_input, none_so_far}
 use Rattle.speedy_read.proofs.ListLemmas.{got_items, refused_early, refused_room}
 use Rattle.speedy_read.proofs.ChunkLemmas.{all_digits, past_usize, more_numbers, numbers_refused, count_of_digits}
 use Rattle.speedy_read.proofs.ChunkLemmas.{lent_is, lent_length, lent_read, lent_refused}
@@ -9,8 +9,7 @@ use Rattle.speedy_read.proofs.bulk.read_numbers.Goals as goal
 pub returns-in_default : goal.returns-in_default
 returns-in_default g c shown =
     refused_early (g.T.Layout.layout.laws _) c.args.count
-    (input_ended g.C.Error.From.from_gives g.C.Error.IsEof.eof _ _ c.error_end_of_input.ensures
-    (g.met.C.Context.keeps_eof _ _ c.error_end_of_input.ensures))
+    (ends_input g.met.C.Context.keeps_eof c.error_end_of_input.ensures)
     (λ told fit. past_usize (c.args.count * c.SIZE.result) _ _ c.in_default.ensures
     (ap (λ n. c.args.count * n) (c.SIZE.ensures ∙ sym g.met.T.FixedNumber.least_is)) fit)
 
@@ -50,4 +49,4 @@ returns-in-Some-Err g c shown =
     numbers_refused g.T.Layout.layout.laws g.met.T.FixedNumber.is_fixed _ g.T.Layout.seen c.args.count [] c.args.count
     (omega arith) (all_digits c.args.count c.SIZE.result c.in-Some.ensures.1 c.SIZE.ensures) (none_so_far refl) refl
     (lent_refused _
-    (input_ended g.C.Error.From.from_gives g.C.Error.IsEof.eof _ _ e (g.met.C.Context.keeps_eof _ _ e)) lent)
+    (ends_input g.met.C.Context.keeps_eof e) lent)

@@ -3,7 +3,7 @@ use Rattle.speedy_base.specs.declared.error.ErrorKind.TheVariants as kinds
 use Rattle.speedy_layout.specs.Numbers.{unsigned_number_laws}
 use Rattle.speedy_layout.specs.Addresses.{address_tag_number, address_tag_code, address_tag}
 use Rattle.speedy_read.specs.Sequences.{refused_first, refused_second, got_both}
-use Rattle.speedy_read.specs.Codes.{code_refused, code_read, code_means_nothing}
+use Rattle.speedy_read.specs.Codes.{code_refused, exact_code_read, code_means_nothing}
 use Rattle.speedy_read.proofs.AddressLemmas.{ip_address_composes}
 use Rattle.speedy_read.proofs.addresses.IpAddrReadFrom.read_from.Goals as goal
 
@@ -25,26 +25,22 @@ returns-in_default g c =
 
 pub returns-in_err-short-in-0 : goal.returns-in_err-short-in-0
 returns-in_err-short-in-0 g c =
-    let tag =
-    code_read _ address_tag_code {seen' = λ (b : Bool). b} {y = false} c.in-0.is (λ _. c.in-0.is) c.in_ok-tag.ensures in
+    let tag = exact_code_read _ _ _ {seen' = λ (b : Bool). b} {y = false} c.in-0.is c.in_ok-tag.ensures in
     refused_second (ip_address_composes _) (address_tag.laws _) tag c.from_residual-in_err-short-in-0.ensures.1
     (rw tag.kept.mode at c.in_err-short-in-0.ensures)
 
 pub returns-in_ok-short-in-0 : goal.returns-in_ok-short-in-0
 returns-in_ok-short-in-0 g c =
-    let tag =
-    code_read _ address_tag_code {seen' = λ (b : Bool). b} {y = false} c.in-0.is (λ _. c.in-0.is) c.in_ok-tag.ensures in
+    let tag = exact_code_read _ _ _ {seen' = λ (b : Bool). b} {y = false} c.in-0.is c.in_ok-tag.ensures in
     got_both (ip_address_composes _) tag (rw tag.kept.mode at c.in_ok-short-in-0.ensures) refl
 
 pub returns-in_err-long-in-1 : goal.returns-in_err-long-in-1
 returns-in_err-long-in-1 g c =
-    let tag =
-    code_read _ address_tag_code {seen' = λ (b : Bool). b} {y = true} c.in-1.is (λ _. c.in-1.is) c.in_ok-tag.ensures in
+    let tag = exact_code_read _ _ _ {seen' = λ (b : Bool). b} {y = true} c.in-1.is c.in_ok-tag.ensures in
     refused_second (ip_address_composes _) (address_tag.laws _) tag c.from_residual-in_err-long-in-1.ensures.1
     (rw tag.kept.mode at c.in_err-long-in-1.ensures)
 
 pub returns-in_ok-long-in-1 : goal.returns-in_ok-long-in-1
 returns-in_ok-long-in-1 g c =
-    let tag =
-    code_read _ address_tag_code {seen' = λ (b : Bool). b} {y = true} c.in-1.is (λ _. c.in-1.is) c.in_ok-tag.ensures in
+    let tag = exact_code_read _ _ _ {seen' = λ (b : Bool). b} {y = true} c.in-1.is c.in_ok-tag.ensures in
     got_both (ip_address_composes _) tag (rw tag.kept.mode at c.in_ok-long-in-1.ensures) refl

@@ -1,13 +1,11 @@
-use Rattle.std.proofs.Common.{◌∙◌, false}
-use Rattle.speedy_read.specs.ReadingLemmas.{input_ended}
+use Rattle.std.proofs.Common.{◌∙◌}
+use Rattle.speedy_read.specs.ReadingLemmas.{ends_input}
 use Rattle.speedy_read.proofs.BufferLemmas.{bytes_missed, bytes_read}
 use Rattle.speedy_read.proofs.buffer_reader.BufferReaderLendingReaderRefSliceU8.read_bytes.Goals as goal
 
 pub returns-then-self-length-clause-reads : goal.returns-then-self-length-clause-reads
 returns-then-self-length-clause-reads g c =
-    bytes_missed c.if-self-length.true
-    (input_ended g.C.Error.From.from_gives g.C.Error.IsEof.eof false _ c.error_end_of_input.ensures
-    (g.met.C.Context.keeps_eof _ _ c.error_end_of_input.ensures))
+    bytes_missed c.if-self-length.true (ends_input g.met.C.Context.keeps_eof c.error_end_of_input.ensures)
 
 pub returns-clause-reads : goal.returns-clause-reads
 returns-clause-reads g c = rw c.split_at.ensures.back

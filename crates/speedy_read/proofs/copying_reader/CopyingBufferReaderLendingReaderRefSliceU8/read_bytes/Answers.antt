@@ -1,5 +1,4 @@
-use Rattle.std.proofs.Common.{false}
-use Rattle.speedy_read.specs.ReadingLemmas.{input_ended}
+use Rattle.speedy_read.specs.ReadingLemmas.{ends_input}
 use Rattle.speedy_read.proofs.BufferLemmas.{bytes_missed, cut_read}
 use Rattle.speedy_read.proofs.copying_reader.CopyingBufferReaderLendingReaderRefSliceU8.read_bytes.Goals as goal
 
@@ -8,6 +7,4 @@ returns-in-Some-clause-reads g c = cut_read c.in-Some.ensures.cases c.copy_from_
 
 pub returns-in-None-clause-reads : goal.returns-in-None-clause-reads
 returns-in-None-clause-reads g c =
-    bytes_missed c.in-None.ensures.cases
-    (input_ended g.C.Error.From.from_gives g.C.Error.IsEof.eof false _ c.error_end_of_input.ensures
-    (g.met.C.Context.keeps_eof _ _ c.error_end_of_input.ensures))
+    bytes_missed c.in-None.ensures.cases (ends_input g.met.C.Context.keeps_eof c.error_end_of_input.ensures)

@@ -1,5 +1,4 @@
-use Rattle.std.proofs.Common.{false}
-use Rattle.speedy_read.specs.ReadingLemmas.{input_ended}
+use Rattle.speedy_read.specs.ReadingLemmas.{ends_input}
 use Rattle.speedy_read.proofs.BufferLemmas.{bytes_not_peeked, cut_peeked}
 use Rattle.speedy_read.proofs.frame_reader.FrameReaderLendingReaderRefSliceU8.peek_bytes.Goals as goal
 
@@ -8,6 +7,4 @@ returns-in-Some g c = cut_peeked c.in-Some.ensures.cases c.copy_from_slice.ensur
 
 pub returns-in-None : goal.returns-in-None
 returns-in-None g c =
-    bytes_not_peeked c.in-None.ensures.cases
-    (input_ended g.C.Error.From.from_gives g.C.Error.IsEof.eof false _ c.error_end_of_input.ensures
-    (g.met.C.Context.keeps_eof _ _ c.error_end_of_input.ensures))
+    bytes_not_peeked c.in-None.ensures.cases (ends_input g.met.C.Context.keeps_eof c.error_end_of_input.ensures)

@@ -1,7 +1,7 @@
 use Rattle.std.proofs.Common.{◌∙◌, sym}
 use Rattle.std.proofs.lemmas.List.{length-map}
 use Rattle.speedy_layout.specs.Lists.{vector_length}
-use Rattle.speedy_read.specs.ReadingLemmas.{input_ended}
+use Rattle.speedy_read.specs.ReadingLemmas.{ends_input}
 use Rattle.speedy_read.proofs.ListLemmas.{refused_early}
 use Rattle.speedy_read.proofs.lists.ArrayReadFrom.read_from.Goals as goal
 
@@ -14,6 +14,5 @@ unreachable-requires g c =
 pub returns-then-ends_before : goal.returns-then-ends_before
 returns-then-ends_before g c =
     let e = c.error_end_of_input.ensures in
-    refused_early (g.T.Layout.layout.laws _) _
-    (input_ended g.C.Error.From.from_gives g.C.Error.IsEof.eof _ _ e (g.met.C.Context.keeps_eof _ _ e))
+    refused_early (g.T.Layout.layout.laws _) _ (ends_input g.met.C.Context.keeps_eof e)
     (λ told fit. rw (sym c.minimum_bytes_needed.ensures) (c.ends_before.ensures.fewer c.if-ends_before.true told fit))

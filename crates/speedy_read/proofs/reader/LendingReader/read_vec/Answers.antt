@@ -1,5 +1,5 @@
 use Rattle.std.proofs.Common.{ℕ, ◌*◌, ◌<◌, length, subst}
-use Rattle.speedy_read.specs.ReadingLemmas.{input_ended}
+use Rattle.speedy_read.specs.ReadingLemmas.{ends_input}
 use Rattle.speedy_read.proofs.ListLemmas.{refused_early}
 use Rattle.speedy_read.proofs.reader.LendingReader.read_vec.Goals as goal
 
@@ -7,7 +7,6 @@ pub returns-then-ends_before-clause-reads : goal.returns-then-ends_before-clause
 returns-then-ends_before-clause-reads g c =
     let old = g.Self.LendingReader.state c.args.self.now in
     refused_early (g.T.Layout.layout.laws old.mode) _
-    (input_ended g.C.Error.From.from_gives g.C.Error.IsEof.eof old.fixed.ends_by_device _ c.error_end_of_input.ensures
-    (g.met.C.Context.keeps_eof _ _ c.error_end_of_input.ensures))
+    (ends_input g.met.C.Context.keeps_eof c.error_end_of_input.ensures)
     (λ told fit. subst (λ (least : ℕ). length old.remaining < c.args.length * least) c.minimum_bytes_needed.ensures
     (c.ends_before.ensures.fewer c.if-ends_before.true told fit))

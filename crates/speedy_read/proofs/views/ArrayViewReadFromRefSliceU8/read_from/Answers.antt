@@ -1,16 +1,14 @@
 use Rattle.std.proofs.Common.{map, ap, ◌∙◌, lit<}
 use Rattle.speedy_layout.specs.Views.{shown_items}
-use Rattle.speedy_read.specs.ReadingLemmas.{input_ended}
+use Rattle.speedy_read.specs.ReadingLemmas.{ends_input}
 use Rattle.speedy_read.proofs.LentLemmas.{lent_length}
 use Rattle.speedy_read.proofs.ViewLemmas.{view_lent, view_not_lent, more_than_all, all_refused}
 use Rattle.speedy_read.proofs.views.ArrayViewReadFromRefSliceU8.read_from.Goals as goal
 
 pub returns-in_default-clause-reads : goal.returns-in_default-clause-reads
 returns-in_default-clause-reads g c =
-    let old = g.R.LendingReader.state c.args.reader.now in
     more_than_all g.T.FixedSize.SIZE _ (g.met.T.ViewItem.one_size _) g.row.N c.in_default.ensures _
-    (input_ended g.C.Error.From.from_gives g.C.Error.IsEof.eof old.fixed.ends_by_device _ c.error_end_of_input.ensures
-    (g.met.C.Context.keeps_eof _ _ c.error_end_of_input.ensures))
+    (ends_input g.met.C.Context.keeps_eof c.error_end_of_input.ensures)
     c.in_ok-read_lent.ensures.reads
 
 pub returns-in_err-read_lent-clause-reads : goal.returns-in_err-read_lent-clause-reads
