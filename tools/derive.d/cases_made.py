@@ -18,7 +18,7 @@ pub struct Contact {
       "impl Layout for Contact {", "seen (it.name, it.mail, it.groups) };",
       "impl<L: AsSlice<u8> + Drop, C: Context> ReadFrom<L, C> for Contact {",
       "match reader.read_value() {\n            Ok((name, mail, groups)) => Ok(Contact { name, mail, groups }),",
-      "impl<C: Context> Writable<C> for Contact {",
+      "    fn minimum_bytes_needed() -> usize {\n        12\n    }", "impl<C: Context> Writable<C> for Contact {",
       "writer.write_value(&(Part(&self.name), Part(&self.mail), Part(&self.groups)))"]),
     ("a generic one", DERIVES + "pub struct Labelled<T = u8> { pub label: u32, pub value: Vec<T> }\n",
      ["pub struct Labelled<T = u8> {", "type LabelledParts<T> = (u32, Vec<T>);",
@@ -39,7 +39,8 @@ pub struct Contact {
      ["type AParts = ((u8, u8, u8, u8), (u8, u8, u8, u8), (u8, u8, u8, u8));",
       "let (parts1, parts2, parts3) = parts;", "let (t0, t1, t2, t3) = parts1;"]),
     ("one that another holds, declared behind it", DERIVES + "struct A<T>(B<T>);\n" + DERIVES
-     + "struct B<T>(Vec<T>);\n", ["T: ReadMany<L, C>> ReadFrom<L, C> for A<T> {"]),
+     + "struct B<T>(Vec<T>);\n", ["T: ReadMany<L, C>> ReadFrom<L, C> for A<T> {",
+                                "    fn minimum_bytes_needed() -> usize {\n        4\n    }"]),
     ("the types that Rattle names otherwise", "use std::borrow::Cow;\nuse std::collections::hash_map::HashMap;\n"
      + DERIVES + "struct A<'a> { a: Cow<'a, str>, b: Box<str>, c: Box<[u8]>, d: HashMap<u8, Cow<'a, [u16]>>, "
      "e: Cow<'a, HashMap<u8, u8>> }\n", ["    a: CowStr<'a>,", "    b: BoxedStr,", "    c: BoxedSlice<u8>,",
@@ -52,14 +53,15 @@ pub struct Contact {
      + "struct A { #[speedy(varint)] n: u64, #[speedy(skip)] cache: Vec<u8>, last: bool }\n",
      ["type AParts = (Varint, bool);", "ghost seen = { λ it. (it.n, ⟦<bool as Layout>⟧.seen it.last) };",
       "match reader.read_value::<AParts>() {", "n: n.0,", "cache: Default::default(),",
-      "writer.write_value(&(Varint(self.n), Part(&self.last)))"]),
+      "writer.write_value(&(Varint(self.n), self.last))"]),
     ("constants and aliases", "pub const SIZE: usize = 4 * (1 + 1);\ntype Name = [u8; SIZE];\n" + DERIVES
      + "struct A { name: Name, id: uuid::Uuid }\n",
      ["use speedy::ext::Uuid;", "pub const SIZE: usize = 4 * (1 + 1);", "type Name = [u8; SIZE];",
       "    name: [u8; SIZE],"]),
     ("types of other modules", "use crate::other::{Point, Line as Stroke};\n" + DERIVES
      + "struct A(Point, Stroke, super::Third);\n",
-     ["use super::Third;\nuse crate::other::{Line as Stroke, Point};", "struct A(Point, Stroke, Third);"]),
+     ["use super::Third;\nuse crate::other::{Line as Stroke, Point};", "struct A(Point, Stroke, Third);",
+      "        <AParts as ReadFrom<L, C>>::minimum_bytes_needed()\n"]),
     ("what is written alone", "#[derive(Writable)]\nstruct A<'a, T>(&'a [T], &'a T, &'static str);\n",
      ["impl<'a, T: Layout> Layout for A<'a, T> {", "impl<'a, C: Context, T: Writable<C>> Writable<C> for A<'a, T> {"]),
     ("parameters named as those of the impls", DERIVES + "struct A<L, C>(L, C);\n",
@@ -91,7 +93,7 @@ pub enum Message {
       "read_tagged::<u32, Self, L, C, R>(reader)", "impl<C: Context> WriteCases<C> for Message {",
       "            Message::Named(..) => 1,\n            Message::Point { .. } => 2,",
       "            Message::Ping => Ok(()),\n"
-      "            Message::Named(t0, t1) => writer.write_value(&(Part(t0), Part(t1))),",
+      "            Message::Named(t0, t1) => writer.write_value(&(Part(t0), *t1)),",
       "            Message::Text(t0) => writer.write_value(t0),", "write_tagged::<u32, Self, C, W>(self, writer)"]),
     ("an enum of many variants", DERIVES + "enum A<'a> { " + ", ".join(
         f"V{it}" + ("(&'a str)" if it < 5 else "(u8)" if it < 10 else "") for it in range(40)) + " }\n",
@@ -167,7 +169,7 @@ struct Index<K, V> {
       '        "data"\n', "type CountedParts = (WithLength<CountedDataLength, u8, Vec<bool>>, u16);",
       "(it.length, ⟦<Vec<bool> as Layout>⟧.seen it.data)", "length: data.before,\n                data: data.value,",
       "let data: WithLength<CountedDataLength, _, _> = WithLength {\n            before: self.length,",
-      "writer.write_value(&(data, Part(&self.last)))"]),
+      "writer.write_value(&(data, self.last))"]),
     ("lengths behind other parts", DERIVES + """struct Header<T> {
     first: String,
     name_length: u16,
@@ -218,7 +220,7 @@ NOTED = [
      + "struct A<T> {\n    one: f32,\n    all: Vec<f64>,\n    some: (Option<[Real; 2]>, BTreeMap<u8, f32>),\n"
      "    more: T,\n}\n#[derive(Writable)]\nenum B<'a> { C(&'a [f32]), D { x: A<f64> } }\n", 7, "`F32`",
      ["F32,", "F64,", "const HALF: f64 = 0.5;", "type Real = F64;", "    one: F32,", "    all: Vec<F64>,",
-      "    some: (Option<[F64; 2]>, BTreeMap<u8, F32>),", "Part(&self.one)", "    C(&'a [F32]),",
+      "    some: (Option<[F64; 2]>, BTreeMap<u8, F32>),", "self.one", "    C(&'a [F32]),",
       "    D { x: A<F64> },"]),
 ]
 

@@ -6,8 +6,8 @@ from layout import call, lines, pattern, pattern_braces
 from refusal import Refusal
 from scope import names_in, text
 from structs import (NUMBERS, Access, arm_lines, asked_of, built, clause_lines, fold, function_lines, layout_lines,
-                     lent_of, number_of, parts_of, read_head, seen_of_parts, split, taken_arm, type_node, write_head,
-                     written)
+                     least_function, lent_of, number_of, parts_of, read_head, seen_of_parts, split, taken_arm,
+                     type_node, write_head, written)
 
 
 class Case:
@@ -139,6 +139,7 @@ def enum_lines(item, scope, of_field, of_variant, place):
         raise Refusal(item.line, f"`{item.name}` has no variant, and so no value that is read or written")
     tags_of(item, scope.constants, of_variant)
     shape = Shape(item, scope, of_field)
+    scope.least[item.name] = NUMBERS[item.tag_type][2]
     found = []
     for case in shape.cases:
         if not case.is_told():
@@ -242,12 +243,7 @@ def read_arm(shape, case):
 
 def least_lines(shape):
     """The least size: that of the tag."""
-    body = [f"        {NUMBERS[shape.item.tag_type][2]}", "    }"]
-    if not shape.generics.lifetimes:
-        return ["    fn minimum_bytes_needed() -> usize {", *body]
-    shape.scope.ghosts.add("◌≡◌")
-    return ["    fn minimum_bytes_needed() -> usize",
-            f"        ensures {{ result ≡ ⟦<{shape.parts_type} as Layout>⟧.layout.least }}", "    {", *body]
+    return least_function(shape, [f"        {shape.scope.least[shape.item.name]}"])
 
 
 # The impls of writing.

@@ -25,6 +25,8 @@ class Scope:
         self.imports = {}
         # What is not as the source has it, each with its line.
         self.notes = []
+        # The least sizes of the types of this file that are made, and of the bytes before fields, by their names.
+        self.least = {}
         # What asks of the parameters of each type of this file, by its name.
         self.asked = {}
         for item in file.items:

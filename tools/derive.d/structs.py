@@ -8,6 +8,7 @@ from known import PART
 from layout import GHOST_WIDTH, WIDTH, Node, binding, braces, call, generic, lines, matched, pattern, written_call
 from refusal import Refusal
 from scope import asks, names_in, text
+from sizes import is_copied, least
 
 # The types of numbers, the first number past each, and its least size, by the names that the original has for them.
 NUMBERS = {"u7": ("U7", 1 << 7, 1), "u8": ("u8", 1 << 8, 1), "u16": ("u16", 1 << 16, 2), "u32": ("u32", 1 << 32, 4),
@@ -180,7 +181,8 @@ def part_of(scope, field, access, kind):
         return prefixed_part(scope, field, access, kind)
     if options.length is not None:
         lengths.check_type(field, kind)
-    return Part(kind, access.bound, access.seen, f"Part({access.reference})")
+    written_as = access.value if is_copied(kind, scope) else f"Part({access.reference})"
+    return Part(kind, access.bound, access.seen, written_as)
 
 
 def told_part(tree):
@@ -241,6 +243,7 @@ def constant_part(scope, field, access, owner):
     name = f"Before{owner.replace('::', '')}" + "".join(it.capitalize() for it in access.bound.split("_"))
     if name in scope.items or name in scope.uses:
         raise Refusal(line, f"the made module names the bytes before this field `{name}`: give that item another name")
+    scope.least[name] = len(field.options.constant)
     scope.need("speedy::magic", "Constant", line)
     scope.need("speedy::magic", "Magic", line)
     scope.ghosts |= {"[]"} | ({"◌∷◌"} if field.options.constant else set())
@@ -291,6 +294,7 @@ def struct_lines(item, scope, of_field):
     accesses = accesses_of(item.fields)
     parts, skipped = parts_of(item, scope, item.fields, accesses, of_field)
     shape = Shape(item, scope, parts, skipped, f"{item.name}Parts")
+    scope.least[item.name] = least(shape.tuple, scope)
     found = shape.alias_lines() + layout_lines(shape, seen_lines(shape))
     if item.readable:
         arm = taken_arm(lambda bound: pattern("Ok(", [bound]), shape, accesses,
@@ -388,16 +392,23 @@ def function_lines(head, parameter, result):
 
 
 def least_lines(shape, trait):
-    """The least size."""
+    """The least size: as a number where it is known here, since a call at the type of the parts takes longer to
+    prove, or else that of the parts."""
+    known = shape.scope.least[shape.item.name]
+    if known is not None:
+        return least_function(shape, [f"        {known}"])
     lent, context = trait[len("ReadFrom<"):-1].rsplit(", ", 1)
     head = f"<{shape.parts_type} as ReadFrom<"
-    call_of = lines(Node(head, [lent, context], ">>::minimum_bytes_needed()", last=False), 8)
+    return least_function(shape, lines(Node(head, [lent, context], ">>::minimum_bytes_needed()", last=False), 8))
+
+
+def least_function(shape, body):
+    """The function that answers it. With a lifetime it needs its clause, which a trait does not give there."""
     if not shape.generics.lifetimes:
-        return ["    fn minimum_bytes_needed() -> usize {", *call_of, "    }"]
+        return ["    fn minimum_bytes_needed() -> usize {", *body, "    }"]
     shape.scope.ghosts.add("◌≡◌")
     return ["    fn minimum_bytes_needed() -> usize",
-            f"        ensures {{ result ≡ ⟦<{shape.parts_type} as Layout>⟧.layout.least }}",
-            "    {", *call_of, "    }"]
+            f"        ensures {{ result ≡ ⟦<{shape.parts_type} as Layout>⟧.layout.least }}", "    {", *body, "    }"]
 
 
 def read_body(shape, arm):
@@ -491,7 +502,9 @@ def written(shape, tree, parts):
     if not isinstance(tree, list):
         # A part alone is written where it lies.
         single = tree.written
-        return single[len("Part("):-1] if single.startswith("Part(") else "&" + single
+        if single.startswith("Part("):
+            return single[len("Part("):-1]
+        return single[1:] if single.startswith("*") else "&" + single
     need_part(shape, parts)
     return fold_head(tree)
 

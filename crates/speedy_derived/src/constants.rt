@@ -46,7 +46,7 @@ impl<L: AsSlice<u8> + Drop, C: Context> ReadFrom<L, C> for BehindText {
     }
 
     fn minimum_bytes_needed() -> usize {
-        <BehindTextParts as ReadFrom<L, C>>::minimum_bytes_needed()
+        3
     }
 }
 
@@ -95,7 +95,7 @@ impl<L: AsSlice<u8> + Drop, C: Context> ReadFrom<L, C> for BehindBytes {
     }
 
     fn minimum_bytes_needed() -> usize {
-        <BehindBytesParts as ReadFrom<L, C>>::minimum_bytes_needed()
+        3
     }
 }
 
@@ -144,7 +144,7 @@ impl<L: AsSlice<u8> + Drop, C: Context> ReadFrom<L, C> for BehindCharacter {
     }
 
     fn minimum_bytes_needed() -> usize {
-        <BehindCharacterParts as ReadFrom<L, C>>::minimum_bytes_needed()
+        3
     }
 }
 
@@ -196,7 +196,7 @@ impl<L: AsSlice<u8> + Drop, C: Context> ReadFrom<L, C> for BehindByte {
     }
 
     fn minimum_bytes_needed() -> usize {
-        <BehindByteParts as ReadFrom<L, C>>::minimum_bytes_needed()
+        1
     }
 }
 
@@ -245,7 +245,7 @@ impl<L: AsSlice<u8> + Drop, C: Context> ReadFrom<L, C> for BehindTrue {
     }
 
     fn minimum_bytes_needed() -> usize {
-        <BehindTrueParts as ReadFrom<L, C>>::minimum_bytes_needed()
+        1
     }
 }
 
@@ -294,7 +294,7 @@ impl<L: AsSlice<u8> + Drop, C: Context> ReadFrom<L, C> for BehindFalse {
     }
 
     fn minimum_bytes_needed() -> usize {
-        <BehindFalseParts as ReadFrom<L, C>>::minimum_bytes_needed()
+        1
     }
 }
 
@@ -343,7 +343,7 @@ impl<L: AsSlice<u8> + Drop, C: Context> ReadFrom<L, C> for BehindU8 {
     }
 
     fn minimum_bytes_needed() -> usize {
-        <BehindU8Parts as ReadFrom<L, C>>::minimum_bytes_needed()
+        1
     }
 }
 
@@ -392,7 +392,7 @@ impl<L: AsSlice<u8> + Drop, C: Context> ReadFrom<L, C> for BehindI8 {
     }
 
     fn minimum_bytes_needed() -> usize {
-        <BehindI8Parts as ReadFrom<L, C>>::minimum_bytes_needed()
+        1
     }
 }
 

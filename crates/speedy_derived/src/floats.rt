@@ -143,18 +143,18 @@ impl<'a, C: Context> ReadFrom<&'a [u8], C> for Measured<'a> {
     fn minimum_bytes_needed() -> usize
         ensures { result ≡ ⟦<MeasuredParts<'a> as Layout>⟧.layout.least }
     {
-        <MeasuredParts<'a> as ReadFrom<&'a [u8], C>>::minimum_bytes_needed()
+        28
     }
 }
 
 impl<'a, C: Context> Writable<C> for Measured<'a> {
     fn write_to<W: Writer<C>>(&self, writer: &mut W) -> Result<(), C::Error> {
         writer.write_value(&(
-            Part(&self.number),
+            self.number,
             Part(&self.name),
             Part(&self.bytes),
             Part(&self.numbers),
-            Part(&self.ratio),
+            self.ratio,
             Part(&self.place),
         ))
     }
@@ -188,7 +188,7 @@ impl<L: AsSlice<u8> + Drop, C: Context> ReadFrom<L, C> for Floats {
     }
 
     fn minimum_bytes_needed() -> usize {
-        <FloatsParts as ReadFrom<L, C>>::minimum_bytes_needed()
+        21
     }
 }
 

@@ -138,7 +138,7 @@ impl<L: AsSlice<u8> + Drop, C: Context, T: ReadMany<L, C>> ReadFrom<L, C> for Li
     }
 
     fn minimum_bytes_needed() -> usize {
-        <Vec<T> as ReadFrom<L, C>>::minimum_bytes_needed()
+        4
     }
 }
 
@@ -183,7 +183,7 @@ where
     }
 
     fn minimum_bytes_needed() -> usize {
-        <HashMap<K, V> as ReadFrom<L, C>>::minimum_bytes_needed()
+        4
     }
 }
 
@@ -227,7 +227,7 @@ where
     }
 
     fn minimum_bytes_needed() -> usize {
-        <HashSet<T> as ReadFrom<L, C>>::minimum_bytes_needed()
+        4
     }
 }
 
@@ -275,7 +275,7 @@ where
     }
 
     fn minimum_bytes_needed() -> usize {
-        <BTreeMap<K, V> as ReadFrom<L, C>>::minimum_bytes_needed()
+        4
     }
 }
 
@@ -319,7 +319,7 @@ where
     }
 
     fn minimum_bytes_needed() -> usize {
-        <BTreeSet<T> as ReadFrom<L, C>>::minimum_bytes_needed()
+        4
     }
 }
 
@@ -372,7 +372,7 @@ where
     fn minimum_bytes_needed() -> usize
         ensures { result ≡ ⟦<Cow<'a, HashMap<K, V>> as Layout>⟧.layout.least }
     {
-        <Cow<'a, HashMap<K, V>> as ReadFrom<&'a [u8], C>>::minimum_bytes_needed()
+        4
     }
 }
 
@@ -422,7 +422,7 @@ where
     fn minimum_bytes_needed() -> usize
         ensures { result ≡ ⟦<Cow<'a, HashSet<T>> as Layout>⟧.layout.least }
     {
-        <Cow<'a, HashSet<T>> as ReadFrom<&'a [u8], C>>::minimum_bytes_needed()
+        4
     }
 }
 
@@ -475,7 +475,7 @@ where
     fn minimum_bytes_needed() -> usize
         ensures { result ≡ ⟦<Cow<'a, BTreeMap<K, V>> as Layout>⟧.layout.least }
     {
-        <Cow<'a, BTreeMap<K, V>> as ReadFrom<&'a [u8], C>>::minimum_bytes_needed()
+        4
     }
 }
 
@@ -525,7 +525,7 @@ where
     fn minimum_bytes_needed() -> usize
         ensures { result ≡ ⟦<Cow<'a, BTreeSet<T>> as Layout>⟧.layout.least }
     {
-        <Cow<'a, BTreeSet<T>> as ReadFrom<&'a [u8], C>>::minimum_bytes_needed()
+        4
     }
 }
 

@@ -112,17 +112,14 @@ impl<L: AsSlice<u8> + Drop, C: Context> ReadFrom<L, C> for ToldHeader {
     }
 
     fn minimum_bytes_needed() -> usize {
-        <ToldHeaderParts as ReadFrom<L, C>>::minimum_bytes_needed()
+        4
     }
 }
 
 impl<C: Context> Writable<C> for ToldHeader {
     fn write_to<W: Writer<C>>(&self, writer: &mut W) -> Result<(), C::Error> {
         let name: WithLength<ToldHeaderNameLength, _, _> = WithLength {
-            before: (
-                (self.name_length, Other(Part(&self.is_last))),
-                Varint(self.end),
-            ),
+            before: ((self.name_length, Other(self.is_last)), Varint(self.end)),
             value: Part(&self.name),
             length: PhantomData,
         };
@@ -267,7 +264,7 @@ impl<C: Context> WriteCases<C> for ToldCases {
                     value: Part(t0),
                     length: PhantomData,
                 };
-                writer.write_value(&(t0, Part(t1)))
+                writer.write_value(&(t0, *t1))
             }
         }
     }

@@ -38,7 +38,7 @@ impl<L: AsSlice<u8> + Drop, C: Context> ReadFrom<L, C> for LengthU7 {
     }
 
     fn minimum_bytes_needed() -> usize {
-        <Prefixed<U7, Vec<u8>> as ReadFrom<L, C>>::minimum_bytes_needed()
+        1
     }
 }
 
@@ -76,7 +76,7 @@ impl<L: AsSlice<u8> + Drop, C: Context> ReadFrom<L, C> for LengthU8 {
     }
 
     fn minimum_bytes_needed() -> usize {
-        <Prefixed<u8, Vec<u8>> as ReadFrom<L, C>>::minimum_bytes_needed()
+        1
     }
 }
 
@@ -114,7 +114,7 @@ impl<L: AsSlice<u8> + Drop, C: Context> ReadFrom<L, C> for LengthU16 {
     }
 
     fn minimum_bytes_needed() -> usize {
-        <Prefixed<u16, Vec<u8>> as ReadFrom<L, C>>::minimum_bytes_needed()
+        2
     }
 }
 
@@ -152,7 +152,7 @@ impl<L: AsSlice<u8> + Drop, C: Context> ReadFrom<L, C> for LengthU32 {
     }
 
     fn minimum_bytes_needed() -> usize {
-        <Prefixed<u32, Vec<u8>> as ReadFrom<L, C>>::minimum_bytes_needed()
+        4
     }
 }
 
@@ -190,7 +190,7 @@ impl<L: AsSlice<u8> + Drop, C: Context> ReadFrom<L, C> for LengthU64 {
     }
 
     fn minimum_bytes_needed() -> usize {
-        <Prefixed<u64, Vec<u8>> as ReadFrom<L, C>>::minimum_bytes_needed()
+        8
     }
 }
 
@@ -231,7 +231,7 @@ impl<L: AsSlice<u8> + Drop, C: Context> ReadFrom<L, C> for LengthVarint {
     }
 
     fn minimum_bytes_needed() -> usize {
-        <LengthVarintParts as ReadFrom<L, C>>::minimum_bytes_needed()
+        1
     }
 }
 
@@ -279,7 +279,7 @@ impl<L: AsSlice<u8> + Drop, C: Context> ReadFrom<L, C> for LengthsOfMaps {
     }
 
     fn minimum_bytes_needed() -> usize {
-        <LengthsOfMapsParts as ReadFrom<L, C>>::minimum_bytes_needed()
+        2
     }
 }
 
@@ -329,7 +329,7 @@ impl<L: AsSlice<u8> + Drop, C: Context> ReadFrom<L, C> for LengthOfOption {
     }
 
     fn minimum_bytes_needed() -> usize {
-        <LengthOfOptionParts as ReadFrom<L, C>>::minimum_bytes_needed()
+        1
     }
 }
 
@@ -450,7 +450,7 @@ impl<C: Context> WriteCases<C> for LengthsInCases {
                     }),
                     None => None,
                 };
-                writer.write_value(&(t0, Part(t1)))
+                writer.write_value(&(t0, *t1))
             }
             LengthsInCases::C { held } => {
                 let held: Option<Prefixed<U7, _>> = match held {

@@ -35,7 +35,7 @@ impl<'a, C: Context> ReadFrom<&'a [u8], C> for CowOfBytes<'a> {
     fn minimum_bytes_needed() -> usize
         ensures { result ≡ ⟦<CowSlice<'a, u8> as Layout>⟧.layout.least }
     {
-        <CowSlice<'a, u8> as ReadFrom<&'a [u8], C>>::minimum_bytes_needed()
+        4
     }
 }
 
@@ -71,7 +71,7 @@ impl<'a, C: Context> ReadFrom<&'a [u8], C> for CowOfText<'a> {
     fn minimum_bytes_needed() -> usize
         ensures { result ≡ ⟦<CowStr<'a> as Layout>⟧.layout.least }
     {
-        <CowStr<'a> as ReadFrom<&'a [u8], C>>::minimum_bytes_needed()
+        4
     }
 }
 
@@ -112,7 +112,7 @@ impl<'a, C: Context> ReadFrom<&'a [u8], C> for TwoCows<'a> {
     fn minimum_bytes_needed() -> usize
         ensures { result ≡ ⟦<TwoCowsParts<'a> as Layout>⟧.layout.least }
     {
-        <TwoCowsParts<'a> as ReadFrom<&'a [u8], C>>::minimum_bytes_needed()
+        8
     }
 }
 
@@ -146,7 +146,7 @@ impl<'a, C: Context> ReadFrom<&'a [u8], C> for LentText<'a> {
     fn minimum_bytes_needed() -> usize
         ensures { result ≡ ⟦<&'a str as Layout>⟧.layout.least }
     {
-        <&'a str as ReadFrom<&'a [u8], C>>::minimum_bytes_needed()
+        4
     }
 }
 
@@ -180,7 +180,7 @@ impl<'a, C: Context> ReadFrom<&'a [u8], C> for LentBytes<'a> {
     fn minimum_bytes_needed() -> usize
         ensures { result ≡ ⟦<&'a [u8] as Layout>⟧.layout.least }
     {
-        <&'a [u8] as ReadFrom<&'a [u8], C>>::minimum_bytes_needed()
+        4
     }
 }
 

@@ -29,7 +29,7 @@ impl<L: AsSlice<u8> + Drop, C: Context> ReadFrom<L, C> for TransparentU8 {
     }
 
     fn minimum_bytes_needed() -> usize {
-        <u8 as ReadFrom<L, C>>::minimum_bytes_needed()
+        1
     }
 }
 
@@ -62,7 +62,7 @@ impl<L: AsSlice<u8> + Drop, C: Context> ReadFrom<L, C> for TransparentU16 {
     }
 
     fn minimum_bytes_needed() -> usize {
-        <u16 as ReadFrom<L, C>>::minimum_bytes_needed()
+        2
     }
 }
 
@@ -95,7 +95,7 @@ impl<L: AsSlice<u8> + Drop, C: Context> ReadFrom<L, C> for TransparentU32 {
     }
 
     fn minimum_bytes_needed() -> usize {
-        <u32 as ReadFrom<L, C>>::minimum_bytes_needed()
+        4
     }
 }
 
@@ -128,7 +128,7 @@ impl<L: AsSlice<u8> + Drop, C: Context> ReadFrom<L, C> for TransparentU128 {
     }
 
     fn minimum_bytes_needed() -> usize {
-        <u128 as ReadFrom<L, C>>::minimum_bytes_needed()
+        16
     }
 }
 
@@ -161,7 +161,7 @@ impl<L: AsSlice<u8> + Drop, C: Context, T: ReadMany<L, C>> ReadFrom<L, C> for Tr
     }
 
     fn minimum_bytes_needed() -> usize {
-        <Vec<T> as ReadFrom<L, C>>::minimum_bytes_needed()
+        4
     }
 }
 
@@ -194,7 +194,7 @@ impl<L: AsSlice<u8> + Drop, C: Context> ReadFrom<L, C> for TransparentArray {
     }
 
     fn minimum_bytes_needed() -> usize {
-        <[u8; 16] as ReadFrom<L, C>>::minimum_bytes_needed()
+        16
     }
 }
 
@@ -227,7 +227,7 @@ impl<L: AsSlice<u8> + Drop, C: Context> ReadFrom<L, C> for TransparentUnit {
     }
 
     fn minimum_bytes_needed() -> usize {
-        <() as ReadFrom<L, C>>::minimum_bytes_needed()
+        0
     }
 }
 
@@ -260,7 +260,7 @@ impl<L: AsSlice<u8> + Drop, C: Context> ReadFrom<L, C> for CByte {
     }
 
     fn minimum_bytes_needed() -> usize {
-        <u8 as ReadFrom<L, C>>::minimum_bytes_needed()
+        1
     }
 }
 
@@ -293,7 +293,7 @@ impl<L: AsSlice<u8> + Drop, C: Context> ReadFrom<L, C> for CNumber {
     }
 
     fn minimum_bytes_needed() -> usize {
-        <u16 as ReadFrom<L, C>>::minimum_bytes_needed()
+        2
     }
 }
 
@@ -329,13 +329,13 @@ impl<L: AsSlice<u8> + Drop, C: Context> ReadFrom<L, C> for CPair {
     }
 
     fn minimum_bytes_needed() -> usize {
-        <CPairParts as ReadFrom<L, C>>::minimum_bytes_needed()
+        4
     }
 }
 
 impl<C: Context> Writable<C> for CPair {
     fn write_to<W: Writer<C>>(&self, writer: &mut W) -> Result<(), C::Error> {
-        writer.write_value(&(Part(&self.0), Part(&self.1)))
+        writer.write_value(&(self.0, self.1))
     }
 }
 
@@ -365,13 +365,13 @@ impl<L: AsSlice<u8> + Drop, C: Context> ReadFrom<L, C> for CUneven {
     }
 
     fn minimum_bytes_needed() -> usize {
-        <CUnevenParts as ReadFrom<L, C>>::minimum_bytes_needed()
+        3
     }
 }
 
 impl<C: Context> Writable<C> for CUneven {
     fn write_to<W: Writer<C>>(&self, writer: &mut W) -> Result<(), C::Error> {
-        writer.write_value(&(Part(&self.0), Part(&self.1)))
+        writer.write_value(&(self.0, self.1))
     }
 }
 
@@ -398,7 +398,7 @@ impl<L: AsSlice<u8> + Drop, C: Context> ReadFrom<L, C> for CNested {
     }
 
     fn minimum_bytes_needed() -> usize {
-        <CNumber as ReadFrom<L, C>>::minimum_bytes_needed()
+        2
     }
 }
 
@@ -431,7 +431,7 @@ impl<L: AsSlice<u8> + Drop, C: Context> ReadFrom<L, C> for CUnit {
     }
 
     fn minimum_bytes_needed() -> usize {
-        <() as ReadFrom<L, C>>::minimum_bytes_needed()
+        0
     }
 }
 
@@ -463,7 +463,7 @@ impl<L: AsSlice<u8> + Drop, C: Context> ReadFrom<L, C> for PackedNumber {
     }
 
     fn minimum_bytes_needed() -> usize {
-        <u16 as ReadFrom<L, C>>::minimum_bytes_needed()
+        2
     }
 }
 
@@ -498,13 +498,13 @@ impl<L: AsSlice<u8> + Drop, C: Context> ReadFrom<L, C> for PackedPair {
     }
 
     fn minimum_bytes_needed() -> usize {
-        <PackedPairParts as ReadFrom<L, C>>::minimum_bytes_needed()
+        4
     }
 }
 
 impl<C: Context> Writable<C> for PackedPair {
     fn write_to<W: Writer<C>>(&self, writer: &mut W) -> Result<(), C::Error> {
-        writer.write_value(&(Part(&self.0), Part(&self.1)))
+        writer.write_value(&(self.0, self.1))
     }
 }
 
@@ -533,7 +533,7 @@ impl<L: AsSlice<u8> + Drop, C: Context> ReadFrom<L, C> for PackedPairs {
     }
 
     fn minimum_bytes_needed() -> usize {
-        <PackedPairsParts as ReadFrom<L, C>>::minimum_bytes_needed()
+        8
     }
 }
 
@@ -565,7 +565,7 @@ impl<L: AsSlice<u8> + Drop, C: Context> ReadFrom<L, C> for PackedUnit {
     }
 
     fn minimum_bytes_needed() -> usize {
-        <() as ReadFrom<L, C>>::minimum_bytes_needed()
+        0
     }
 }
 

@@ -2,7 +2,7 @@
 //!
 //! Structs of each form, parts that may be missing or are left out, and numbers of few bytes.
 use speedy::varints::Varint;
-use speedy::{Context, ItemByItem, Layout, LendingReader, Part, ReadFrom, Writable, Writer};
+use speedy::{Context, ItemByItem, Layout, LendingReader, ReadFrom, Writable, Writer};
 use std::convert::AsSlice;
 
 /// Named parts.
@@ -36,13 +36,13 @@ impl<L: AsSlice<u8> + Drop, C: Context> ReadFrom<L, C> for Numbers {
     }
 
     fn minimum_bytes_needed() -> usize {
-        <NumbersParts as ReadFrom<L, C>>::minimum_bytes_needed()
+        7
     }
 }
 
 impl<C: Context> Writable<C> for Numbers {
     fn write_to<W: Writer<C>>(&self, writer: &mut W) -> Result<(), C::Error> {
-        writer.write_value(&(Part(&self.a), Part(&self.b), Part(&self.c)))
+        writer.write_value(&(self.a, self.b, self.c))
     }
 }
 
@@ -72,13 +72,13 @@ impl<L: AsSlice<u8> + Drop, C: Context> ReadFrom<L, C> for Triple {
     }
 
     fn minimum_bytes_needed() -> usize {
-        <TripleParts as ReadFrom<L, C>>::minimum_bytes_needed()
+        7
     }
 }
 
 impl<C: Context> Writable<C> for Triple {
     fn write_to<W: Writer<C>>(&self, writer: &mut W) -> Result<(), C::Error> {
-        writer.write_value(&(Part(&self.0), Part(&self.1), Part(&self.2)))
+        writer.write_value(&(self.0, self.1, self.2))
     }
 }
 
@@ -105,7 +105,7 @@ impl<L: AsSlice<u8> + Drop, C: Context> ReadFrom<L, C> for Unit {
     }
 
     fn minimum_bytes_needed() -> usize {
-        <() as ReadFrom<L, C>>::minimum_bytes_needed()
+        0
     }
 }
 
@@ -138,7 +138,7 @@ impl<L: AsSlice<u8> + Drop, C: Context> ReadFrom<L, C> for Empty {
     }
 
     fn minimum_bytes_needed() -> usize {
-        <() as ReadFrom<L, C>>::minimum_bytes_needed()
+        0
     }
 }
 
@@ -171,7 +171,7 @@ impl<L: AsSlice<u8> + Drop, C: Context> ReadFrom<L, C> for Newtype {
     }
 
     fn minimum_bytes_needed() -> usize {
-        <u16 as ReadFrom<L, C>>::minimum_bytes_needed()
+        2
     }
 }
 
@@ -206,7 +206,7 @@ impl<L: AsSlice<u8> + Drop, C: Context> ReadFrom<L, C> for Holder {
     }
 
     fn minimum_bytes_needed() -> usize {
-        <Vec<Empty> as ReadFrom<L, C>>::minimum_bytes_needed()
+        4
     }
 }
 
@@ -240,7 +240,7 @@ impl<L: AsSlice<u8> + Drop, C: Context> ReadFrom<L, C> for Optional {
     }
 
     fn minimum_bytes_needed() -> usize {
-        <Option<u16> as ReadFrom<L, C>>::minimum_bytes_needed()
+        1
     }
 }
 
@@ -274,7 +274,7 @@ impl<L: AsSlice<u8> + Drop, C: Context> ReadFrom<L, C> for Outcome {
     }
 
     fn minimum_bytes_needed() -> usize {
-        <Result<u16, u16> as ReadFrom<L, C>>::minimum_bytes_needed()
+        1
     }
 }
 
@@ -317,13 +317,13 @@ impl<L: AsSlice<u8> + Drop, C: Context> ReadFrom<L, C> for Skipping {
     }
 
     fn minimum_bytes_needed() -> usize {
-        <SkippingParts as ReadFrom<L, C>>::minimum_bytes_needed()
+        2
     }
 }
 
 impl<C: Context> Writable<C> for Skipping {
     fn write_to<W: Writer<C>>(&self, writer: &mut W) -> Result<(), C::Error> {
-        writer.write_value(&(Part(&self.a), Part(&self.c)))
+        writer.write_value(&(self.a, self.c))
     }
 }
 
@@ -351,7 +351,7 @@ impl<L: AsSlice<u8> + Drop, C: Context> ReadFrom<L, C> for Variable {
     }
 
     fn minimum_bytes_needed() -> usize {
-        <Varint as ReadFrom<L, C>>::minimum_bytes_needed()
+        1
     }
 }
 

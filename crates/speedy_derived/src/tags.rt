@@ -9,7 +9,7 @@ use speedy::cases::{
 use speedy::prefixed::{Prefixed, U7};
 use speedy::private::error_invalid_enum_variant;
 use speedy::varint::VarInt64;
-use speedy::{Context, ItemByItem, Layout, LendingReader, Part, ReadFrom, Writable, Writer};
+use speedy::{Context, ItemByItem, Layout, LendingReader, ReadFrom, Writable, Writer};
 use std::convert::AsSlice;
 
 #[derive(Drop)]
@@ -720,8 +720,8 @@ impl<C: Context> WriteCases<C> for Mixed {
     fn write_case<W: Writer<C>>(&self, writer: &mut W) -> Result<(), C::Error> {
         match self {
             Mixed::A => Ok(()),
-            Mixed::B(t0, t1, t2) => writer.write_value(&(Part(t0), Part(t1), Part(t2))),
-            Mixed::C { a, b, c } => writer.write_value(&(Part(a), Part(b), Part(c))),
+            Mixed::B(t0, t1, t2) => writer.write_value(&(*t0, *t1, *t2)),
+            Mixed::C { a, b, c } => writer.write_value(&(*a, *b, *c)),
         }
     }
 }

@@ -59,7 +59,7 @@ impl<L: AsSlice<u8> + Drop, C: Context> ReadFrom<L, C> for ToldList {
     }
 
     fn minimum_bytes_needed() -> usize {
-        <ToldListParts as ReadFrom<L, C>>::minimum_bytes_needed()
+        1
     }
 }
 
@@ -124,7 +124,7 @@ impl<L: AsSlice<u8> + Drop, C: Context> ReadFrom<L, C> for ToldText {
     }
 
     fn minimum_bytes_needed() -> usize {
-        <ToldTextParts as ReadFrom<L, C>>::minimum_bytes_needed()
+        1
     }
 }
 
@@ -191,7 +191,7 @@ impl<'a, C: Context> ReadFrom<&'a [u8], C> for ToldCow<'a> {
     fn minimum_bytes_needed() -> usize
         ensures { result ≡ ⟦<ToldCowParts<'a> as Layout>⟧.layout.least }
     {
-        <ToldCowParts<'a> as ReadFrom<&'a [u8], C>>::minimum_bytes_needed()
+        1
     }
 }
 
@@ -260,7 +260,7 @@ impl<'a, C: Context> ReadFrom<&'a [u8], C> for ToldCowText<'a> {
     fn minimum_bytes_needed() -> usize
         ensures { result ≡ ⟦<ToldCowTextParts<'a> as Layout>⟧.layout.least }
     {
-        <ToldCowTextParts<'a> as ReadFrom<&'a [u8], C>>::minimum_bytes_needed()
+        1
     }
 }
 
@@ -327,7 +327,7 @@ impl<'a, C: Context> ReadFrom<&'a [u8], C> for ToldBytes<'a> {
     fn minimum_bytes_needed() -> usize
         ensures { result ≡ ⟦<ToldBytesParts<'a> as Layout>⟧.layout.least }
     {
-        <ToldBytesParts<'a> as ReadFrom<&'a [u8], C>>::minimum_bytes_needed()
+        1
     }
 }
 
@@ -396,7 +396,7 @@ impl<'a, C: Context> ReadFrom<&'a [u8], C> for ToldLentText<'a> {
     fn minimum_bytes_needed() -> usize
         ensures { result ≡ ⟦<ToldLentTextParts<'a> as Layout>⟧.layout.least }
     {
-        <ToldLentTextParts<'a> as ReadFrom<&'a [u8], C>>::minimum_bytes_needed()
+        1
     }
 }
 
@@ -455,7 +455,7 @@ impl<L: AsSlice<u8> + Drop, C: Context> ReadFrom<L, C> for ToldTuple {
     }
 
     fn minimum_bytes_needed() -> usize {
-        <ToldTupleParts as ReadFrom<L, C>>::minimum_bytes_needed()
+        1
     }
 }
 
@@ -520,7 +520,7 @@ impl<L: AsSlice<u8> + Drop, C: Context> ReadFrom<L, C> for ToldWords {
     }
 
     fn minimum_bytes_needed() -> usize {
-        <ToldWordsParts as ReadFrom<L, C>>::minimum_bytes_needed()
+        1
     }
 }
 

@@ -56,7 +56,7 @@ impl<L: AsSlice<u8> + Drop, C: Context> ReadFrom<L, C> for Start {
     }
 
     fn minimum_bytes_needed() -> usize {
-        <StartParts as ReadFrom<L, C>>::minimum_bytes_needed()
+        5
     }
 }
 
@@ -99,13 +99,13 @@ impl<L: AsSlice<u8> + Drop, C: Context> ReadFrom<L, C> for Header {
     }
 
     fn minimum_bytes_needed() -> usize {
-        <HeaderParts as ReadFrom<L, C>>::minimum_bytes_needed()
+        4
     }
 }
 
 impl<C: Context> Writable<C> for Header {
     fn write_to<W: Writer<C>>(&self, writer: &mut W) -> Result<(), C::Error> {
-        writer.write_value(&(Part(&self.version), Part(&self.flags)))
+        writer.write_value(&(self.version, self.flags))
     }
 }
 
@@ -143,13 +143,13 @@ impl<L: AsSlice<u8> + Drop, C: Context> ReadFrom<L, C> for Header2 {
     }
 
     fn minimum_bytes_needed() -> usize {
-        <Header2Parts as ReadFrom<L, C>>::minimum_bytes_needed()
+        12
     }
 }
 
 impl<C: Context> Writable<C> for Header2 {
     fn write_to<W: Writer<C>>(&self, writer: &mut W) -> Result<(), C::Error> {
-        writer.write_value(&(Part(&self.version), Part(&self.flags), Part(&self.session)))
+        writer.write_value(&(self.version, self.flags, self.session))
     }
 }
 
@@ -182,13 +182,13 @@ impl<L: AsSlice<u8> + Drop, C: Context> ReadFrom<L, C> for Reading {
     }
 
     fn minimum_bytes_needed() -> usize {
-        <ReadingParts as ReadFrom<L, C>>::minimum_bytes_needed()
+        8
     }
 }
 
 impl<C: Context> Writable<C> for Reading {
     fn write_to<W: Writer<C>>(&self, writer: &mut W) -> Result<(), C::Error> {
-        writer.write_value(&(Part(&self.second), Part(&self.value)))
+        writer.write_value(&(self.second, self.value))
     }
 }
 
@@ -302,9 +302,9 @@ impl<'a, C: Context> WriteCases<C> for Message<'a> {
         match self {
             Message::Ping => Ok(()),
             Message::Hello { name, mail } => writer.write_value(&(Part(name), Part(mail))),
-            Message::Readings { sensor, list } => writer.write_value(&(Part(sensor), Part(list))),
+            Message::Readings { sensor, list } => writer.write_value(&(*sensor, Part(list))),
             Message::Blob(t0) => writer.write_value(t0),
-            Message::Failure { code, text } => writer.write_value(&(Part(code), Part(text))),
+            Message::Failure { code, text } => writer.write_value(&(*code, Part(text))),
             Message::Bye => Ok(()),
         }
     }
