@@ -147,7 +147,8 @@ fn what_is_nested_is_read_within_limits(rt: HostRuntime) -> Result<(), Error> {
     let alloc = rt.alloc();
     let bytes = b"\x01\0\0\0a\x01\0\0\0\x01\0\0\0b\0\0\0\0";
     let node = read_node(&mut BufferReader::new(alloc, LittleEndian {}, bytes), 2)?;
-    assert!(rt; node.name.as_str() == "a" && node.children[0].name.as_str() == "b");
+    let child = node.children.first().expect(&rt, "a child");
+    assert!(rt; node.name.as_str() == "a" && child.name.as_str() == "b");
     let outcome = read_node(&mut BufferReader::new(alloc, LittleEndian {}, bytes), 1);
     assert_refused(&rt, alloc, outcome, "Custom(\"too many levels\")");
     let mut reader = BufferReader::new(alloc, LittleEndian {}, b"\xff\xff\xff\xff");
