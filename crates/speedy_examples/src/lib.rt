@@ -4,7 +4,6 @@
 #![tactic(auto)]
 
 pub mod files;
-pub mod first;
 pub mod generic;
 pub mod growing;
 pub mod headers;
@@ -25,11 +24,5 @@ pub mod records;
 pub mod signing;
 pub mod sockets;
 pub mod streams;
-#[cfg(test)]
-mod tests;
-#[cfg(test)]
-mod tests_own_types;
-#[cfg(test)]
-mod tests_tasks;
 pub mod versions;
 pub mod waiting;

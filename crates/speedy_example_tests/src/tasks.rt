@@ -1,20 +1,20 @@
 //! What the functions answer that the pages show for a task.
-use crate::generic::{load, load_owned, save};
-use crate::growing::{known_messages, read_grown};
-use crate::left_over::parse_whole;
-use crate::limits::read_body;
-use crate::nested::read_node;
-use crate::own_numbers::Colour;
-use crate::signing::{Order, are_same, bytes_to_sign, read_signed};
-use crate::sockets::{send, serve};
-use crate::tests::assert_refused;
-use crate::versions::read_person;
-use crate::waiting::{next_whole, wants_more};
-use crate::{readme, records};
+use crate::callers::assert_refused;
 use speedy::LittleEndian;
 use speedy::device::VecSink;
 use speedy::error::Error;
 use speedy::readable::BufferReader;
+use speedy_examples::generic::{load, load_owned, save};
+use speedy_examples::growing::{known_messages, read_grown};
+use speedy_examples::left_over::parse_whole;
+use speedy_examples::limits::read_body;
+use speedy_examples::nested::read_node;
+use speedy_examples::own_numbers::Colour;
+use speedy_examples::signing::{Order, are_same, bytes_to_sign, read_signed};
+use speedy_examples::sockets::{send, serve};
+use speedy_examples::versions::read_person;
+use speedy_examples::waiting::{next_whole, wants_more};
+use speedy_examples::{readme, records};
 use std::fs;
 
 #[test]

@@ -1,12 +1,12 @@
 //! Types of one's own: bytes that come from outside.
-use crate::own_key::Place;
-use crate::own_maps::Directory;
-use crate::own_numbers::{Colour, Packet, Twice};
-use crate::own_struct::Contact;
-use crate::tests::assert_refused;
+use crate::callers::assert_refused;
 use speedy::prefixed::Prefixed;
 use speedy::readable::BufferReader;
 use speedy::{LendingReader, LittleEndian, Writable};
+use speedy_examples::own_key::Place;
+use speedy_examples::own_maps::Directory;
+use speedy_examples::own_numbers::{Colour, Packet, Twice};
+use speedy_examples::own_struct::Contact;
 use std::alloc::Global;
 use std::collections::BTreeMap;
 

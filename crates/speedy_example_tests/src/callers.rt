@@ -1,12 +1,12 @@
 //! What the callers of `CALLING.md` and of the README answer.
-use crate::own_header::Header;
-use crate::own_lent::Entry;
-use crate::own_types::{Labelled, Mark};
-use crate::{files, headers, memory, readme, streams};
 use speedy::device::VecSink;
 use speedy::error::get_error_kind;
 use speedy::readable::{BufferReader, CopyingBufferReader};
 use speedy::{Endianness, Error, IsEof, LendingReader, LittleEndian, Reader, Writable};
+use speedy_examples::own_header::Header;
+use speedy_examples::own_lent::Entry;
+use speedy_examples::own_types::{Labelled, Mark};
+use speedy_examples::{files, headers, memory, readme, streams};
 use std::alloc::Global;
 use std::borrow::CowSlice;
 use std::fs;

@@ -1,0 +1,12 @@
+//! The tests of the example callers, and a first crate with a test of its own.
+//!
+//! They stand beside the callers, since a crate that has tests is proved twice.
+#![tactic(auto)]
+
+#[cfg(test)]
+mod callers;
+pub mod first;
+#[cfg(test)]
+mod own_types;
+#[cfg(test)]
+mod tasks;
