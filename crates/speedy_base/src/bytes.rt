@@ -1,4 +1,4 @@
-//! What a proof is to know of bytes.
+//! That bytes are below 256, shown to a proof.
 ghost use Rattle.speedy_base.specs.Digits.{AreBytes};
 
 /// Shows that each of the bytes is below 256: a call does not say so of what it puts into a buffer, or lends. This does

@@ -1,4 +1,4 @@
-//! The ring: bytes that wait between a device and its readers.
+//! The ring (`CircularBuffer`): bytes that wait between a device and its readers.
 ghost use Rattle.std.specs.Prelude.{◌≡◌, ◌+◌, ◌-◌, ◌≤◌, ◌↔◌, min, [], ◌++◌, length, take, drop, None, IsOk, IfOk, OnOk};
 ghost use Rattle.std.specs.Prelude.{OnErr, IsTrue};
 ghost use Rattle.std.specs.Borrow.{Array, Lends, sem, u8};

@@ -1,4 +1,4 @@
-//! Sources and sinks: where bytes come from and go to.
+//! Sources and sinks, where bytes come from and go to: slices, vectors, and files and sockets (`Counted`).
 ghost use Rattle.std.specs.Prelude.{◌≡◌, ◌≤◌, ◌↔◌, min, [], ◌++◌, length, take, drop, IsOk, IfOk, IfErr};
 ghost use Rattle.std.specs.Prelude.{IsTrue, false};
 ghost use Rattle.speedy_base.specs.FailedCalls.{OneFailed};

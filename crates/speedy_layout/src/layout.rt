@@ -1,4 +1,4 @@
-//! The layout of a type: which bytes encode which values.
+//! The layout of a type (`Layout`): which bytes encode which values.
 ghost use Rattle.speedy_layout.specs.Codecs.{Codec};
 
 /// The layout of a type: which bytes encode which values, and which of these are written.

@@ -1,6 +1,4 @@
-//! Keys of maps and items of sets: types whose values are equal exactly where they are the same.
-//!
-//! Those of numbers are in `numbers`, of floats in `floats`.
+//! Which types are keys of maps and items of sets (`SameKey`). Of numbers `numbers` says so, of floats `floats`.
 ghost use Rattle.std.specs.Prelude.{◌≡◌, ◌↔◌, IsTrue, refl};
 ghost use Rattle.std.specs.Box.{boxed_slice_items, boxed_str_bytes};
 ghost use Rattle.std.specs.Cmp.{unsigned_Decides, signed_Decides, booleans_Decides};

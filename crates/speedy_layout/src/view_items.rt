@@ -1,4 +1,4 @@
-//! Which items a view may show, and how each is decoded.
+//! Which items a view may show (`ZeroCopyable`), and how each is decoded.
 ghost use Rattle.std.specs.Prelude.{◌≡◌, ◌<◌, ◌^◌, ℕ, List, length};
 ghost use Rattle.speedy_base.specs.Digits.{AreBytes};
 ghost use Rattle.speedy_base.specs.Mode.{Mode, plain_mode};

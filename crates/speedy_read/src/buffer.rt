@@ -1,4 +1,4 @@
-//! Bytes that are named by a type, for callers that are generic in what they read.
+//! Decoding of a prefix of bytes in memory (`Buffer`): each way of reading that lends from a buffer goes through it.
 ghost use Rattle.std.specs.Prelude.{ℕ};
 ghost use Rattle.speedy_read.specs.WaysOfReading.{AnswersBuffer};
 

@@ -1,4 +1,4 @@
-//! Values that are read as codes, each of which means a value or is refused.
+//! Values that are read as codes (`Decode`), each of which means a value or is refused.
 ghost use Rattle.std.specs.Prelude.{◌≡◌};
 ghost use Rattle.speedy_read.specs.Decoding.{Decodes, IsCoded};
 

@@ -1,4 +1,4 @@
-//! How flags, and values that a flag chooses, are read.
+//! How flags (`bool`), and values that a flag chooses (`Option`, `Result`), are read.
 ghost use Rattle.std.specs.Prelude.{◌+◌};
 ghost use Rattle.speedy_read.specs.Decoding.{coded};
 

@@ -1,4 +1,4 @@
-//! How lists are read.
+//! How lists are read: vectors, boxed slices, small vectors, arrays, and bytes that are borrowed.
 #![tactic(auto, unfolding(speedy_layout::specs::Lists::list))]
 
 ghost use Rattle.std.specs.Prelude.{◌≡◌, false, IsErrAnd};

@@ -1,4 +1,4 @@
-//! How constants are read.
+//! How constants are read and compared.
 ghost use Rattle.std.specs.Prelude.{◌≡◌, [], ◌↔◌, length, IsTrue, IsOk};
 ghost use Rattle.speedy_layout.specs.Codecs.{constant_codec};
 ghost use Rattle.speedy_read.specs.Reading.{RefusesFewer, ReadsValue};

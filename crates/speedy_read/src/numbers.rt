@@ -1,4 +1,4 @@
-//! How numbers are read.
+//! How numbers are read: what all widths share is in `digits`.
 ghost use Rattle.speedy_read.specs.Decoding.{coded};
 
 use crate::bulk::{Bytes, Numbers};

@@ -1,4 +1,4 @@
-//! How a number is read, and behind it what it tells of.
+//! How lengths and tags of each width are read, and behind them what they tell of.
 ghost use Rattle.std.specs.Prelude.{◌≡◌};
 ghost use Rattle.speedy_layout.specs.Codecs.{varint_codec};
 ghost use Rattle.speedy_layout.specs.Numbers.{length_number};

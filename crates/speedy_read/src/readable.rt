@@ -1,4 +1,4 @@
-//! Types that can be read, and the ways of reading them.
+//! Types that can be read (`ReadFrom`, `Readable`), and the ways of reading them.
 ghost use Rattle.std.specs.Prelude.{◌≡◌, ℕ, true, false};
 ghost use Rattle.speedy_base.specs.Mode.{plain_mode};
 ghost use Rattle.speedy_read.specs.Reading.{ReadsValue};

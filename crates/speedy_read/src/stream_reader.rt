@@ -1,4 +1,4 @@
-//! The reader of a source.
+//! The reader of a source, buffered or not (`StreamReader`). What it reads of each type is in `reader`.
 ghost use Rattle.std.specs.Prelude.{◌≡◌, ◌≤◌, ◌<◌, [], ◌++◌, length, max, false, true, IsTrue, nat_le, if◌then◌else◌};
 ghost use Rattle.std.specs.Prelude.{Some, None, IfOk, IsOk, refl};
 ghost use Rattle.std.specs.Borrow.{sem, Lends};

@@ -1,4 +1,4 @@
-//! How integers of variable length are read.
+//! How integers of variable length are read: byte by byte, by `read_u64_varint` of `reader`.
 use crate::many::ItemByItem;
 use crate::readable::ReadFrom;
 use crate::reader::LendingReader;

@@ -1,4 +1,4 @@
-//! How the items of maps and sets are written.
+//! How the items of a map or a set are written, behind their number, in the order that it gives.
 ghost use Rattle.std.specs.Prelude.{◌≡◌, List, length};
 ghost use Rattle.std.specs.Iterator.{IsFinite, AlwaysYields};
 ghost use Rattle.speedy_layout.specs.Prefixed.{list_behind, prefixed_codec};

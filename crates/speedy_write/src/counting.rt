@@ -1,4 +1,4 @@
-//! The writer that `bytes_needed` counts by. Items of a list are counted together in `each`.
+//! The writer that `bytes_needed` of `writable` counts by. Items of a list are counted together in `each`.
 //!
 //! It stays at `usize::MAX`, where the public `SizeCalculatorCollector` of `collectors` refuses.
 ghost use Rattle.std.specs.Prelude.{◌≡◌, ◌∷◌, [], ◌^◌, ◌-◌, ◌≤◌, None, IsSome, refl};

@@ -1,4 +1,4 @@
-//! Items that are written one after another.
+//! Items that are written one after another, or counted together.
 ghost use Rattle.std.specs.Prelude.{◌≡◌, map, IfSome};
 ghost use Rattle.speedy_write.specs.Counting.{CountsEach};
 ghost use Rattle.speedy_write.specs.Writing.{WritesValue, WritesValues};

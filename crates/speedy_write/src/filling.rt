@@ -1,4 +1,4 @@
-//! Values that are written to the front of a buffer, as many as fit.
+//! How items are written whole where a writer has room: to the front of a buffer, as many as fit (`FillsFront`).
 ghost use Rattle.std.specs.Prelude.{◌≡◌, ◌≤◌, length, map, take, IfSome};
 ghost use Rattle.speedy_layout.specs.Format.{Each};
 ghost use Rattle.speedy_write.specs.Collectors.{IsAtFront};

@@ -1,4 +1,4 @@
-//! How flags, and values that a flag chooses, are written.
+//! How flags (`bool`), and values that a flag chooses (`Option`, `Result`), are written.
 use crate::fixed::{Codes, write_values};
 use crate::writable::Writable;
 use crate::writer::Writer;

@@ -1,4 +1,4 @@
-//! How lists are written.
+//! How lists are written: vectors, slices, boxed slices, small vectors and arrays.
 ghost use Rattle.std.specs.Prelude.{◌≡◌, ◌<◌, length, map, All};
 ghost use Rattle.speedy_layout.specs.Codecs.{list_codec};
 ghost use Rattle.speedy_layout.specs.Prefixed.{list_behind, prefixed_codec};

@@ -1,4 +1,4 @@
-//! How maps are written.
+//! How maps are written: in the order in which each walks its pairs, a `BTreeMap` by its keys.
 use crate::collections::write_counted_items;
 use crate::prefixed::{WritePrefix, WriteTold};
 use crate::writable::Writable;

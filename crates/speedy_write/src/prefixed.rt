@@ -1,4 +1,4 @@
-//! How a number is written, and behind it what it tells of.
+//! How lengths and tags are written, which are refused past their width, and behind them what they tell of.
 ghost use Rattle.std.specs.Prelude.{◌≡◌, ◌^◌, ◌<◌, ◌≤◌, IsErrAnd};
 ghost use Rattle.speedy_base.specs.Error.{error_of};
 ghost use Rattle.speedy_layout.specs.Numbers.{unsigned_number, length_number};

@@ -1,4 +1,4 @@
-//! How sets are written.
+//! How sets are written: in the order in which each walks its items, a `BTreeSet` in ascending order.
 use crate::collections::write_counted_items;
 use crate::prefixed::{WritePrefix, WriteTold};
 use crate::writable::Writable;

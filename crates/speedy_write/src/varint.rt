@@ -1,4 +1,4 @@
-//! How integers of variable length are written.
+//! How integers of variable length are written: by `write_u64_varint` of `writer`.
 ghost use Rattle.std.specs.Prelude.{◌<◌};
 
 use crate::writable::Writable;

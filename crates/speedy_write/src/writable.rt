@@ -1,4 +1,4 @@
-//! Types that can be written, and the ways of writing them.
+//! Types that can be written (`Writable`), the ways of writing them, and `bytes_needed`.
 ghost use Rattle.std.specs.Prelude.{◌≡◌, ◌≤◌, ℕ, List, length, MatchOption, MatchResult, IsOk};
 ghost use Rattle.speedy_base.specs.Error.{error_of};
 ghost use Rattle.speedy_base.specs.Mode.{plain_mode};
