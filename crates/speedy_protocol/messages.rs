@@ -1,4 +1,4 @@
-//! What a small protocol says: a header, and then messages.
+//! What a small protocol says: a header, of one version or the other, and then messages.
 use speedy::{Readable, Writable};
 
 /// What a stream begins with: a magic number, and a header of any version behind the number of its bytes.

@@ -64,9 +64,9 @@ class Made:
         body = []
         for item in self.file.items:
             body += [""] + bodies[id(item)]
-        head = [f"//! Made from `{name}` by `tools/derive`: change that, and make this again."]
-        if self.file.docs:
-            head += ["//!"] + [f"//!{line}".rstrip() for line in self.file.docs]
+        made = f"//! Made from `{name}` by `tools/derive`: change that, and make this again."
+        head = [f"//!{line}".rstrip() for line in self.file.docs]
+        head += ["//!", made] if head else [made]
         ghosts = []
         if self.scope.ghosts:
             ghosts.append(f"ghost use Rattle.std.specs.Prelude.{{{', '.join(sorted(self.scope.ghosts))}}};")

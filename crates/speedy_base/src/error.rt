@@ -1,4 +1,4 @@
-//! Errors: their kinds, their texts, and the functions that make them.
+//! Errors: their kinds, which of them are ends of input, their texts, and the functions that make them.
 ghost use Rattle.std.specs.Prelude.{◌≡◌, Bool, true};
 ghost use Rattle.std.specs.IoError.{error_kind};
 ghost use Rattle.speedy_base.specs.ErrorKind.{text_of, BecomesIo, EndsInput};

@@ -1,6 +1,6 @@
-//! Made from `constants.rs` by `tools/derive`: change that, and make this again.
-//!
 //! Parts behind constants of each kind.
+//!
+//! Made from `constants.rs` by `tools/derive`: change that, and make this again.
 ghost use Rattle.std.specs.Prelude.{[], ◌∷◌};
 
 use speedy::magic::{Constant, Magic};

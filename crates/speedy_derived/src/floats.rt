@@ -1,6 +1,6 @@
-//! Made from `floats.rs` by `tools/derive`: change that, and make this again.
-//!
 //! Floats, by themselves and within other parts.
+//!
+//! Made from `floats.rs` by `tools/derive`: change that, and make this again.
 ghost use Rattle.std.specs.Prelude.{◌≡◌};
 ghost use Rattle.std.proofs.Common.{inl, inr};
 

@@ -1,6 +1,6 @@
-//! Made from `generic.rs` by `tools/derive`: change that, and make this again.
-//!
 //! Structs that are generic in their parts.
+//!
+//! Made from `generic.rs` by `tools/derive`: change that, and make this again.
 ghost use Rattle.std.specs.Prelude.{◌≡◌};
 
 use speedy::{

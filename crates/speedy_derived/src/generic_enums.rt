@@ -1,6 +1,6 @@
-//! Made from `generic_enums.rs` by `tools/derive`: change that, and make this again.
-//!
 //! Enums that are generic in their parts.
+//!
+//! Made from `generic_enums.rs` by `tools/derive`: change that, and make this again.
 ghost use Rattle.std.proofs.Common.{inl, inr};
 
 use speedy::cases::{

@@ -1,6 +1,6 @@
-//! Made from `header_lengths.rs` by `tools/derive`: change that, and make this again.
-//!
 //! Headers and variants in which fields tell lengths: several numbers, and other parts between them.
+//!
+//! Made from `header_lengths.rs` by `tools/derive`: change that, and make this again.
 ghost use Rattle.std.specs.Prelude.{codes, ◌-◌, ◌≤◌};
 ghost use Rattle.std.proofs.Common.{inl, inr};
 

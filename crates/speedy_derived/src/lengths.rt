@@ -1,6 +1,6 @@
-//! Made from `lengths.rs` by `tools/derive`: change that, and make this again.
-//!
 //! Texts, lists, maps and sets behind lengths of each width, and options of these.
+//!
+//! Made from `lengths.rs` by `tools/derive`: change that, and make this again.
 ghost use Rattle.std.proofs.Common.{inl, inr};
 
 use speedy::cases::{

@@ -1,6 +1,6 @@
-//! Made from `lent.rs` by `tools/derive`: change that, and make this again.
-//!
 //! Structs that borrow from what they are read from.
+//!
+//! Made from `lent.rs` by `tools/derive`: change that, and make this again.
 ghost use Rattle.std.specs.Prelude.{◌≡◌};
 
 use speedy::{Context, ItemByItem, Layout, LendingReader, Part, ReadFrom, Writable, Writer};

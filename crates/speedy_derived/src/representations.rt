@@ -1,6 +1,6 @@
-//! Made from `representations.rs` by `tools/derive`: change that, and make this again.
-//!
 //! Structs whose place in memory is fixed, which changes no byte.
+//!
+//! Made from `representations.rs` by `tools/derive`: change that, and make this again.
 use speedy::{
     Context, ItemByItem, Layout, LendingReader, Part, ReadFrom, ReadMany, Writable, Writer,
 };

@@ -1,6 +1,6 @@
-//! Made from `structs.rs` by `tools/derive`: change that, and make this again.
-//!
 //! Structs of each form, parts that may be missing or are left out, and numbers of few bytes.
+//!
+//! Made from `structs.rs` by `tools/derive`: change that, and make this again.
 use speedy::varints::Varint;
 use speedy::{Context, ItemByItem, Layout, LendingReader, ReadFrom, Writable, Writer};
 use std::convert::AsSlice;

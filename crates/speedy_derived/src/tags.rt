@@ -1,6 +1,6 @@
-//! Made from `tags.rs` by `tools/derive`: change that, and make this again.
-//!
 //! Enums with tags of each width, without parts and with them.
+//!
+//! Made from `tags.rs` by `tools/derive`: change that, and make this again.
 ghost use Rattle.std.proofs.Common.{inl, inr};
 
 use speedy::cases::{

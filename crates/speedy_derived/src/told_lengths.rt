@@ -1,6 +1,6 @@
-//! Made from `told_lengths.rs` by `tools/derive`: change that, and make this again.
-//!
 //! Texts and lists of a length that one field before them tells.
+//!
+//! Made from `told_lengths.rs` by `tools/derive`: change that, and make this again.
 ghost use Rattle.std.specs.Prelude.{codes, ◌*◌, ◌/◌, ◌<◌, ◌^◌, ◌≡◌};
 
 use speedy::lengths::{Length, WithLength};

@@ -1,4 +1,4 @@
--- Which items a list has, in what order, and which pair with a key is the last.
+-- Which items a list has and in what order: that they ascend, are distinct, and which pair with a key is the last.
 use Rattle.std.specs.Prelude.{◌≡◌, List, [], ◌∷◌, ◌++◌, length, ◌⊎◌, refl}
 use Rattle.std.specs.Map.{keys_of}
 use Rattle.std.proofs.Common.{sym, ◌∙◌, ap, subst, inl, inr, arith}

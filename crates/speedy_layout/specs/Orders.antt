@@ -1,4 +1,4 @@
--- Orders in which a list has its items: ascending, or as they first occur in another list.
+-- What holds of lists that ascend, and of items in the order in which they first occur in another list.
 use Rattle.std.specs.Prelude.{◌≡◌, List, [], ◌∷◌, ◌++◌, ◌⊎◌, refl}
 use Rattle.std.proofs.Common.{sym, ◌∙◌, ap, subst, inl, inr}
 use Rattle.std.proofs.lemmas.List.{append_assoc, append-nil}

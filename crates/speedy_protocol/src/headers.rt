@@ -1,4 +1,4 @@
-//! Headers of two versions. A reader of either one takes both.
+//! Headers of two versions, whose types are in `messages`. A reader of either one takes both.
 ghost use Rattle.std.specs.Prelude.{◌≡◌, ◌<◌, ℕ, IfOk};
 ghost use Rattle.speedy.specs.Mode.{plain_mode};
 ghost use Rattle.speedy.specs.WaysOfReading.{AnswersBuffer};

@@ -1,6 +1,6 @@
-//! Made from `messages.rs` by `tools/derive`: change that, and make this again.
+//! What a small protocol says: a header, of one version or the other, and then messages.
 //!
-//! What a small protocol says: a header, and then messages.
+//! Made from `messages.rs` by `tools/derive`: change that, and make this again.
 ghost use Rattle.std.specs.Prelude.{[], ◌∷◌, ◌≡◌};
 ghost use Rattle.std.proofs.Common.{inl, inr};
 

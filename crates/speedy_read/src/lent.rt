@@ -1,4 +1,4 @@
-//! What readers lend to values that borrow, the error `Unsized` of those that do not, and the marker `NothingLent`.
+//! What readers lend to values that borrow, the answer `Unsized` of those that do not, and the marker `NothingLent`.
 ghost use Rattle.std.specs.Prelude.{◌≡◌, false, [], IfOk, IsErrAnd};
 ghost use Rattle.speedy_base.specs.Digits.{AreBytes};
 ghost use Rattle.speedy_base.specs.Error.{error_of};
