@@ -1,16 +1,12 @@
 -- Numbers of a fixed number of bytes, one after another.
 use Rattle.std.specs.Prelude.{◌≡◌, ℕ, zero, suc, ◌+◌, ◌-◌, ◌*◌, ◌<◌, ◌≤◌, List, [], ◌∷◌, ◌++◌, length, map, take}
-use Rattle.std.specs.Prelude.{Result, Ok, Err, MatchResult, OnOk, refl}
+use Rattle.std.specs.Prelude.{refl}
 use Rattle.std.proofs.Common.{drop, sym, ◌∙◌, ap, ap₂, subst, subst₂, arith}
 use Rattle.std.proofs.Math.ListN.{get_or, set}
-use Rattle.std.proofs.lemmas.List.{append_assoc, length-append, length-drop, length-take-le, map-append, take_all}
+use Rattle.std.proofs.lemmas.List.{append-nil, append_assoc, length-append}
+use Rattle.std.proofs.lemmas.List.{length-drop, length-take-le, map-append, take_all}
 use Rattle.std.proofs.lemmas.List.{take_at, take_more, take_more_set, take-append-drop}
 use borrow.Rule.Slice.PartMut.{put_mid, post_of}
-use denote.Ref.{Bor}
-use denote.Param.Members.{Mut, Called}
-use Rattle.std.specs.Iterator.{Drains}
-use Rattle.std.specs.Iterator.Adapters.{map_source, map_callee, map_steps}
-use Rattle.std.specs.Slice.Iter.{chunks_exact_rest, chunks_exact_size, chunks_exact_steps}
 use Rattle.speedy_base.specs.declared.endianness.Endianness.{Endianness}
 use Rattle.speedy_base.specs.declared.endianness.Endianness.TheVariants.{LittleEndian, BigEndian}
 use Rattle.speedy_base.specs.Digits.{AreBytes, number}
@@ -143,44 +139,71 @@ none_left : {width : ℕ} (xs : List ℕ) (count : ℕ) → length xs ≡ count 
 none_left xs zero e l = empty xs (omega (arith, e))
 none_left xs (suc count) e l = absurd (omega (arith, e, l))
 
--- what a function makes of each chunk of n bytes, where the bytes are of whole chunks
-module _ {A F V : Type 0} (S : V → List ℕ → Type 0) (seen : A → V) (width : ℕ) (some : 0 < width) {decoded : List ℕ → A}
-    (decodes : (bytes : List ℕ) → length bytes ≡ width → AreBytes bytes → S (seen (decoded bytes)) bytes)
-    {g : Mut F (Bor (List ℕ) × Unit {0}) A} {f : F}
-    (called : (x : Bor (List ℕ)) (r : A) (q : F) → length x.now ≡ width → Called g f (x, tt) r q
-    → (q ≡ f) × (r ≡ decoded x.now)) where
-  pub each_taken : (s : _) (count : ℕ) (xs : List A) → map_callee s ≡ f → chunks_exact_size (map_source s) ≡ width
-      → length (chunks_exact_rest (map_source s)) ≡ count * width
-      → AreBytes (chunks_exact_rest (map_source s)) → Drains (map_steps chunks_exact_steps g) s xs
-      → Each S (map seen xs) (chunks_exact_rest (map_source s))
-  each_taken s count [] same size whole are (u, (t, here, ended)) =
-      let at_end : length (chunks_exact_rest (map_source s)) < width =
-      subst₂ (λ (m n : ℕ). m < n) (ap (λ x. length (chunks_exact_rest (map_source x))) (sym here))
-      (ap (λ x. chunks_exact_size (map_source x)) (sym here) ∙ size) ended.0.1.0 in
-      none_left _ count whole at_end
-  each_taken s zero (x ∷ xs) same size whole are (u, (t, (j, step, rest), ended)) =
-      let l = ap length step.1.1.0 ∙ length-append step.0.now (chunks_exact_rest (map_source j)) in
-      absurd (omega (arith, l, step.1.1.1, size, whole, some))
-  each_taken s (suc count) (x ∷ xs) same size whole are (u, (t, (j, step, rest), ended)) =
-      let chunk = step.0.now in
-      let left = chunks_exact_rest (map_source j) in
-      let sized : length chunk ≡ width = step.1.1.1 ∙ size in
-      let call : Called g f (step.0, tt) x (map_callee j) =
-      subst (λ (h : F). Called g h (step.0, tt) x (map_callee j)) same step.2 in
-      let parts = AreBytes-append_parts chunk left (subst AreBytes step.1.1.0 are) in
-      let made = called step.0 x (map_callee j) sized call in
-      let l = ap length step.1.1.0 ∙ length-append chunk left in
-      record {
-        prefix = chunk;
-        suffix = left;
-        whole_is = step.1.1.0;
-        first_is = subst (λ (y : A). S (seen y) chunk) (sym made.1) (decodes chunk sized parts.0);
-        second_is = each_taken j count xs made.0 (step.1.0 ∙ size) (omega (arith, l, sized, whole)) parts.1
-            (u, (t, rest, ended));
-      }
+-- The numbers that were appended, of all but the rest of the bytes, and that there is room for those of the rest.
+pub record Appended {A V : Type 0} (S : V → List ℕ → Type 0) (seen : A → V) (width : ℕ) (before after : List A)
+    (bytes rest : List ℕ) (used room : ℕ) : Type 0 where
+  pub more : List A
+  pub done : List ℕ
+  pub left : ℕ
+  pub items_are : after ≡ before ++ more
+  pub bytes_are : bytes ≡ done ++ rest
+  pub each_is : Each S (map seen more) done
+  pub rest_is : length rest ≡ left * width
+  pub has_room : used + left ≤ room
 
--- what holds where a call succeeded
-pub on_success : {A E : Type 0} {P T : Type 0} (Q : E → Type 0) (r : Result A E) → MatchResult r (λ _. P) Q
-    → (P → T) → OnOk r T
-on_success Q (Ok x) h f = f h
-on_success Q (Err e) h f = tt
+-- a chunk that comes next leaves one number less
+next_left : (left width : ℕ) (rest chunk after : List ℕ) → 0 < width → length rest ≡ left * width
+    → rest ≡ chunk ++ after → length chunk ≡ width → (fewer : ℕ) × (left ≡ suc fewer) × (length after ≡ fewer * width)
+next_left zero width rest chunk after some e is sized =
+    let l = ap length is ∙ length-append chunk after in absurd (omega (arith, some, e, l, sized))
+next_left (suc fewer) width rest chunk after some e is sized =
+    let l = ap length is ∙ length-append chunk after in (fewer, refl, omega (arith, e, l, sized))
+
+module _ {A V : Type 0} {S : V → List ℕ → Type 0} {seen : A → V} {width : ℕ} where
+  pub none_appended : {used room : ℕ} (items : List A) (bytes rest : List ℕ) (count : ℕ) → rest ≡ bytes
+      → length bytes ≡ count * width → used + count ≤ room → Appended S seen width items items bytes rest used room
+  none_appended items bytes rest count same whole room = record {
+    more = [];
+    done = [];
+    left = count;
+    items_are = sym (append-nil items);
+    bytes_are = sym same;
+    each_is = refl;
+    rest_is = ap length same ∙ whole;
+    has_room = room;
+  }
+
+  module _ {before after : List A} {bytes rest : List ℕ} {used room : ℕ}
+      (h : Appended S seen width before after bytes rest used room) where
+    pub room_for_next : (chunk behind : List ℕ) → 0 < width → rest ≡ chunk ++ behind → length chunk ≡ width
+        → used < room
+    room_for_next chunk behind some is sized =
+        let n = next_left h.left width rest chunk behind some h.rest_is is sized in omega (arith, h.has_room, n.1)
+
+    pub next_are_bytes : (chunk behind : List ℕ) → rest ≡ chunk ++ behind → AreBytes bytes → AreBytes chunk
+    next_are_bytes chunk behind is are =
+        let parts = AreBytes-append_parts h.done rest (subst AreBytes h.bytes_are are) in
+        (AreBytes-append_parts chunk behind (subst AreBytes is parts.1)).0
+
+    pub one_more_appended : {x : A} {new : List A} {used' room' : ℕ} (chunk behind : List ℕ) → 0 < width
+        → rest ≡ chunk ++ behind → length chunk ≡ width → S (seen x) chunk → new ≡ after ++ x ∷ []
+        → used' ≡ used + 1 → room' ≡ room → Appended S seen width before new bytes behind used' room'
+    one_more_appended {x} chunk behind some is sized put added one same =
+        let n = next_left h.left width rest chunk behind some h.rest_is is sized in
+        record {
+          more = h.more ++ x ∷ [];
+          done = h.done ++ chunk;
+          left = n.0;
+          items_are = added ∙ (ap (λ ys. ys ++ x ∷ []) h.items_are ∙ append_assoc before h.more (x ∷ []));
+          bytes_are = h.bytes_are ∙ (ap (λ b. h.done ++ b) is ∙ sym (append_assoc h.done chunk behind));
+          each_is = subst (λ (vs : List V). Each S vs (h.done ++ chunk)) (sym (map-append seen h.more (x ∷ [])))
+              (each_more S (map seen h.more) (seen x) h.done chunk h.each_is put);
+          rest_is = n.2;
+          has_room = omega (arith, h.has_room, n.1, one, same);
+        }
+
+    pub all_appended : length rest < width → (more : List A) × (after ≡ before ++ more) × Each S (map seen more) bytes
+    all_appended short =
+        let ended = none_left rest h.left h.rest_is short in
+        let whole : bytes ≡ h.done = h.bytes_are ∙ (ap (λ b. h.done ++ b) ended ∙ append-nil h.done) in
+        (h.more, h.items_are, subst (λ (b : List ℕ). Each S (map seen h.more) b) (sym whole) h.each_is)

@@ -1,5 +1,5 @@
 //! Numbers of a fixed size: how one is decoded and encoded, and how many are.
-ghost use Rattle.std.specs.Prelude.{◌≡◌, ◌*◌, ◌++◌, ℕ, List, length, map, OnOk};
+ghost use Rattle.std.specs.Prelude.{◌≡◌, ◌+◌, ◌*◌, ◌≤◌, ◌++◌, ℕ, List, length, map, vec_len, vec_capacity};
 ghost use Rattle.speedy_base.specs.declared.endianness.Endianness.{Endianness as Order};
 ghost use Rattle.speedy_base.specs.Digits.{AreBytes};
 ghost use Rattle.speedy_layout.specs.FixedNumbers.{encoded_in, IsFixed, Decodes};
@@ -48,22 +48,21 @@ pub fn number_of<T: FixedNumber>(order: Endianness, bytes: &[u8]) -> T
     T::decode(order, bytes)
 }
 
-/// Appends the numbers that the bytes encode one after another. The bytes are those of whole numbers.
+/// Appends the numbers that the bytes encode one after another, for which the vector has room. The bytes are those of
+/// whole numbers.
+///
+/// The vector goes in and out by value, so that the loop keeps its place and length in registers.
 #[inline]
-pub fn append_each<T: FixedNumber>(
-    numbers: &mut Vec<T>,
-    order: Endianness,
-    bytes: &[u8],
-) -> Result<(), AllocError>
-    requires { (count : ℕ) × (length bytes.now ≡ count * T.SIZE) }
-    ensures { OnOk result ((more : List T) × (numbers.new.items ≡ numbers.old.items ++ more)
-        × Each (encoded_in T.layout.format order) (map T.seen more) bytes.now) }
+pub fn append_each<T: FixedNumber>(numbers: Vec<T>, order: Endianness, bytes: &[u8]) -> Vec<T>
+    requires { (count : ℕ) × (length bytes.now ≡ count * T.SIZE) × (vec_len numbers + count ≤ vec_capacity numbers) }
+    ensures { (more : List T) × (result.items ≡ numbers.items ++ more)
+        × Each (encoded_in T.layout.format order) (map T.seen more) bytes.now }
 {
-    numbers.extend(
-        bytes
-            .chunks_exact(T::SIZE)
-            .map(|digits| T::decode(order, digits)),
-    )
+    let mut numbers = numbers;
+    for digits in bytes.chunks_exact(T::SIZE) {
+        numbers.push_reserved(T::decode(order, digits));
+    }
+    numbers
 }
 
 /// Fills the places with the numbers that the bytes encode one after another. The bytes are those of as many numbers.

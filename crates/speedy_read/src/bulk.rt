@@ -164,10 +164,13 @@ fn flags_of<E: From<Error>>(alloc: Global, bytes: &[u8]) -> Result<Vec<bool>, E>
     ensures range { AreBytes bytes.now }
 {
     bytes_in_range(bytes);
-    match bytes.iter().map(|byte| *byte != 0).collect(alloc) {
-        Ok(flags) => Ok(flags),
-        Err(_) => Err(error_out_of_memory()),
+    let Ok(mut flags) = Vec::with_capacity(alloc, bytes.len()) else {
+        return Err(error_out_of_memory());
+    };
+    for byte in bytes.iter() {
+        flags.push_reserved(*byte != 0);
     }
+    Ok(flags)
 }
 
 // Reads `count` numbers. Those that the reader lends until it is used again are taken at once.
@@ -273,9 +276,7 @@ fn numbers_of<T: FixedNumber>(
     requires { length digits.now ≡ count * T.SIZE }
     ensures { IfOk result (λ v. Each (encoded_in T.layout.format order) (map T.seen v.items) digits.now) }
 {
-    let mut numbers = Vec::with_capacity(alloc, count)?;
-    append_each(&mut numbers, order, digits)?;
-    Ok(numbers)
+    Ok(append_each(Vec::with_capacity(alloc, count)?, order, digits))
 }
 
 // Reads `count` numbers, as many at a time as the chunk has room for.
@@ -296,9 +297,10 @@ fn read_number_chunks<T: FixedNumber, L: AsSlice<u8> + Drop, C: Context, R: Lend
         let some = left.min(most);
         let digits = &mut chunk[..some * T::SIZE];
         reader.read_bytes(digits)?;
-        if append_in_steps(&mut numbers, reader.endianness(), digits, left).is_err() {
-            return Err(error_out_of_memory());
-        }
+        numbers = match append_in_steps(numbers, reader.endianness(), digits, left) {
+            Ok(more) => more,
+            Err(_) => return Err(error_out_of_memory()),
+        };
         left -= some;
     }
     Ok(numbers)

@@ -152,24 +152,25 @@ fn with_room<T: Drop>(mut items: Vec<T>, left: usize) -> Result<Vec<T>, AllocErr
 // steps too.
 #[inline]
 pub(crate) fn append_in_steps<T: FixedNumber>(
-    numbers: &mut Vec<T>,
+    numbers: Vec<T>,
     order: Endianness,
     digits: &[u8],
     left: usize,
-) -> Result<(), AllocError>
+) -> Result<Vec<T>, AllocError>
     requires { (count : ℕ) × (count_of digits.now ≡ count * T.SIZE) }
-    ensures { OnOk result ((more : List T) × (numbers.new.items ≡ numbers.old.items ++ more)
+    ensures { IfOk result (λ v. (more : List T) × (v.items ≡ numbers.items ++ more)
         × Each (encoded_in T.layout.format order) (map T.seen more) digits.now) }
 {
+    let mut numbers = numbers;
     let count = digits.len() / T::SIZE;
     let mut at = 0;
     while at < count {
-        let some = STEP.min(count - at);
-        make_room(numbers, some, left.saturating_sub(at))?;
-        append_each(numbers, order, &digits[at * T::SIZE..(at + some) * T::SIZE])?;
+        numbers = with_a_place(numbers, left.saturating_sub(at))?;
+        let some = (count - at).min(numbers.capacity() - numbers.len());
+        numbers = append_each(numbers, order, &digits[at * T::SIZE..(at + some) * T::SIZE]);
         at += some;
     }
-    Ok(())
+    Ok(numbers)
 }
 
 // Adds zeros for as many bytes as there is room for, at most `left`. Where there is no room, a step of it is asked

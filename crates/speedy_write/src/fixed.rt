@@ -148,7 +148,9 @@ pub(crate) fn put_values_at<T: Layout, P: FixedBytes<T>>(
     ensures { PutsAt T.layout.format T.seen values.now P.BYTES order at buffer.old result buffer.new }
 {
     let end = at + values.len() * P::BYTES;
-    if order == Endianness::LittleEndian && P::BYTES <= 8 && values.len() >= LEAST_COPIED {
+    // Of one byte are flags, which become bytes by a test.
+    let may_copy = order == Endianness::LittleEndian && P::BYTES > 1 && P::BYTES <= 8;
+    if may_copy && values.len() >= LEAST_COPIED {
         put_by_chunks::<T, P>(values, order, &mut buffer[at..end]);
     } else {
         put_values::<T, P>(values, order, &mut buffer[at..end]);

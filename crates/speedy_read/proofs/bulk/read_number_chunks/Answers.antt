@@ -21,8 +21,8 @@ returns-in_err-read_bytes g c =
     c.from_residual-in_err-read_bytes.ensures.1
     c.in_err-read_bytes.ensures
 
-pub returns-then-is_err : goal.returns-then-is_err
-returns-then-is_err g c =
+pub returns-in-Err : goal.returns-in-Err
+returns-in-Err g c =
     let so_far = c.loop-left.invariant.2 in
     refused_room _ _ _ (Kept-after so_far.kept c.in_ok-read_bytes.ensures.kept)
     (c.in_ok-read_bytes.ensures.answer.no_fault ∙ so_far.got.no_fault) refl c.error_out_of_memory.ensures
@@ -30,8 +30,7 @@ returns-then-is_err g c =
 pub loop-left-preserved : goal.loop-left-preserved
 loop-left-preserved g c =
     let so_far = c.loop-left.invariant.2 in
-    let added =
-    from_ok c.append_in_steps.result (sym c.is_err.ensures.value ∙ c.if-is_err.false) c.append_in_steps.ensures in
+    let added = c.in-Ok.ensures in
     let size = length-take-le (c.min-some.result * c.SIZE-in-loop-left.result) c.loop-left.chunk
     (chunk_fits {some = c.min-some.result} g.met.T.FixedNumber.is_fixed.has_bytes (omega arith) c.SIZE-2.ensures
     c.SIZE-in-loop-left.ensures c.loop-left.auto.chunk) in

@@ -1,4 +1,4 @@
-use Rattle.std.proofs.Common.{◌≡◌, ◌∙◌, ◌+◌, ◌*◌, [], ◌++◌, ap, map, take, subst, subst₂, sym, arith}
+use Rattle.std.proofs.Common.{◌≡◌, ◌∙◌, ◌+◌, ◌*◌, ◌≤◌, ℕ, [], ◌++◌, length, ap, map, take, subst, subst₂, sym, arith}
 use Rattle.std.proofs.lemmas.List.{append_assoc, append-nil, map-append, take_all}
 use Rattle.speedy_layout.specs.FixedNumbers.{encoded_in}
 use Rattle.speedy_layout.specs.Format.{Each}
@@ -11,13 +11,20 @@ loop-at-init g c =
     let none : 0 * g.T.FixedSize.SIZE ≡ 0 = omega arith in
     (omega arith, ([], sym (append-nil _), ap (λ n. take n c.args.digits.now) none))
 
-pub append_each-requires : goal.append_each-requires
-append_each-requires g c =
+pub slice_bounds-append_each-end : goal.slice_bounds-append_each-end
+slice_bounds-append_each-end g c =
+    let some = c.loop-at.at + c.min-some.result in
+    subst (λ (n : ℕ). some * n ≤ length c.args.digits.now) (sym c.SIZE-in-loop-at-2.ensures)
+    (steps_within g.met.T.FixedNumber.is_fixed.has_bytes c.SIZE.ensures some c.args.digits.now (omega arith))
+
+pub append_each-numbers-requires : goal.append_each-numbers-requires
+append_each-numbers-requires g c =
     let within =
     steps_within g.met.T.FixedNumber.is_fixed.has_bytes c.SIZE.ensures _ c.args.digits.now (omega arith) in (
       c.min-some.result,
       step_length c.loop-at.at c.min-some.result c.SIZE-in-loop-at.ensures c.SIZE-in-loop-at-2.ensures
           c.args.digits.now within,
+      omega (arith, c.in_ok-numbers.ensures.one),
     )
 
 pub loop-at-preserved : goal.loop-at-preserved
@@ -26,13 +33,13 @@ loop-at-preserved g c =
     let within = steps_within g.met.T.FixedNumber.is_fixed.has_bytes c.SIZE.ensures (c.loop-at.at + c.min-some.result)
     c.args.digits.now (omega arith) in
     let before = c.loop-at.invariant.1 in
-    let more = c.in_ok-append_each.ensures in (
+    let more = c.append_each-numbers.ensures in (
       omega arith,
       (
         before.0 ++ more.0,
         more.1
-            ∙ (ap (λ xs. xs ++ more.0) (c.in_ok-make_room.ensures.same ∙ before.1)
-            ∙ append_assoc c.args.numbers.now.items before.0 more.0),
+            ∙ (ap (λ xs. xs ++ more.0) (c.in_ok-numbers.ensures.same ∙ before.1)
+            ∙ append_assoc c.args.numbers.items before.0 more.0),
         subst₂ (λ vs b. Each S vs b) (sym (map-append g.T.Layout.seen before.0 more.0))
             (sym (step_behind c.loop-at.at c.min-some.result c.SIZE-in-loop-at.ensures c.SIZE-in-loop-at-2.ensures
             c.args.digits.now within))
