@@ -1,4 +1,4 @@
-//! The example of the README.
+//! What the README says a contract promises: a round trip, proved, and messages that are parsed.
 ghost use Rattle.std.specs.Prelude.{◌≡◌, ◌<◌, ◌^◌, ℕ, length, false, IfOk, IsOkUnless};
 ghost use Rattle.speedy.specs.Error.{error_of};
 ghost use Rattle.speedy.specs.declared.error.ErrorKind.TheVariants.{OutOfMemory};

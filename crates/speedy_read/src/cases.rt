@@ -1,4 +1,4 @@
-//! How cases are read: a tag, and the value of the case that has it.
+//! How cases are read: a tag, and the value of the case that has it. The enum itself refuses a tag that no case has.
 ghost use Rattle.speedy_layout.specs.Choices.{tagged};
 ghost use Rattle.speedy_read.specs.Cases.{ReadsCase};
 ghost use Rattle.speedy_read.specs.Reading.{ReadsAs};
