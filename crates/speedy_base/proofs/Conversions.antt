@@ -5,13 +5,13 @@ use Rattle.std.proofs.lemmas.List.{append-nil, drop_all, length-append, length-d
 use Rattle.std.proofs.lemmas.List.{take_at}
 use borrow.Rule.Slice.PartMut.{put_mid, post_of}
 use mir.Val.{bits}
-use Rattle.std.specs.Int.{Width, byte_len, byte_worth, sum_through, from_le_bytes, from_be_bytes, to_le_bytes}
+use Rattle.std.specs.Int.{Width, byte_len, byte_worth, sum_through, from_be_bytes, to_le_bytes}
 use Rattle.std.specs.Int.{swap_bytes}
 use Rattle.speedy_base.specs.declared.endianness.Endianness.{Endianness}
 use Rattle.speedy_base.specs.declared.endianness.Endianness.TheVariants.{LittleEndian, BigEndian}
-use Rattle.speedy_base.specs.Digits.{little_number, number, little_digits, digits, AreBytes, EncodesNumber, swapped}
+use Rattle.speedy_base.specs.Digits.{little_number, number, little_digits, digits, EncodesNumber, swapped}
 use Rattle.speedy_base.specs.DigitsLemmas.{sum_first, sum_same, reverse-cons, little_number-append, byte_len-above}
-use Rattle.speedy_base.specs.DigitsLemmas.{little_number-from_le_bytes, to_le_bytes-little_digits, length-little_digits}
+use Rattle.speedy_base.specs.DigitsLemmas.{to_le_bytes-little_digits, length-little_digits}
 use Rattle.speedy_base.specs.DigitsLemmas.{AreBytes-little_digits, AreBytes-append, AreBytes-reverse}
 use Rattle.speedy_base.specs.DigitsLemmas.{little_digits-little_number, EncodesNumber-digits, EncodesNumber-to_le_bytes}
 use Rattle.speedy_base.specs.DigitsLemmas.{pow-byte_len}
@@ -43,29 +43,6 @@ from_high_first (suc k) (b ∷ bs) e =
 pub little_number-from_be_bytes : (w : Width) (bytes : List ℕ) → length bytes ≡ byte_len w
     → from_be_bytes w bytes ≡ little_number (reverse bytes)
 little_number-from_be_bytes w bytes e = from_high_first (byte_len w - 1) bytes (e ∙ byte_len-above w)
-
--- a number that was read from a slice, byte by byte
-pub EncodesNumber-from_le_bytes : (w : Width) (order : Endianness) (n : ℕ) (bytes items : List ℕ) → order ≡ LittleEndian
-    → items ≡ bytes
-    → length bytes ≡ byte_len w → AreBytes bytes → n ≡ from_le_bytes w items → EncodesNumber (byte_len w) order n bytes
-unfolding number
-EncodesNumber-from_le_bytes w order n bytes items is same len are e = record {
-  width_is = len;
-  are_bytes = are;
-  value_is = ap (λ (o : Endianness). number o bytes) is
-      ∙ sym (e ∙ ap (from_le_bytes w) same ∙ little_number-from_le_bytes w bytes len);
-}
-
-pub EncodesNumber-from_be_bytes : (w : Width) (order : Endianness) (n : ℕ) (bytes items : List ℕ) → order ≡ BigEndian
-    → items ≡ bytes
-    → length bytes ≡ byte_len w → AreBytes bytes → n ≡ from_be_bytes w items → EncodesNumber (byte_len w) order n bytes
-unfolding number
-EncodesNumber-from_be_bytes w order n bytes items is same len are e = record {
-  width_is = len;
-  are_bytes = are;
-  value_is = ap (λ (o : Endianness). number o bytes) is
-      ∙ sym (e ∙ ap (from_be_bytes w) same ∙ little_number-from_be_bytes w bytes len);
-}
 
 -- a number that was turned into the order, and then written least digit first
 pub EncodesNumber-turned : (w : Width) (order : Endianness) (n turned : ℕ) (bytes : List ℕ)

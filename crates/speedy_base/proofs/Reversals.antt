@@ -1,12 +1,15 @@
--- That std's reversal of a number's bytes is the number in the other order, of a signed one too.
-use Rattle.std.specs.Prelude.{◌≡◌, ℕ, ℤ}
-use Rattle.std.proofs.Common.{refl, ◌∙◌, ap}
+-- That std's reversal of a number's bytes is the number in the other order, of a signed one too; and what is read and
+-- written in an order is turned for it.
+use Rattle.std.specs.Prelude.{◌≡◌, ◌<◌, ◌^◌, ℕ, ℤ, List, [], ◌∷◌, length, map, reverse}
+use Rattle.std.proofs.Common.{refl, sym, ◌∙◌, ap, ap₂, subst}
 use mir.ValLaws.{to_z-of_z}
-use Rattle.std.specs.Int.{Width, w16, w32, w64, w128, cast_unsigned, cast_signed, swap_bytes}
+use Rattle.std.specs.Int.{Width, byte_len, cast_unsigned, cast_signed, swap_bytes, from_le_bytes, to_le_bytes}
 use Rattle.std.specs.Int.RustNames.{FitsSigned}
-use Rattle.speedy_base.specs.declared.endianness.Endianness.TheVariants.{BigEndian}
-use Rattle.speedy_base.proofs.Conversions.{swapped-swap_bytes}
-use Rattle.speedy_base.specs.Digits.{swapped}
+use Rattle.speedy_base.specs.declared.endianness.Endianness.{Endianness}
+use Rattle.speedy_base.specs.declared.endianness.Endianness.TheVariants.{LittleEndian, BigEndian}
+use Rattle.speedy_base.proofs.Conversions.{EncodesNumber-turned, swapped-swap_bytes}
+use Rattle.speedy_base.specs.Digits.{AreBytes, digits, little_number, number, swapped, turned_in, width_of}
+use Rattle.speedy_base.specs.DigitsLemmas.{little_digits-little_number, little_number-from_le_bytes, pow-byte_len}
 use Rattle.speedy_base.specs.Signed.{swapped_signed}
 
 pub swapped_signed-swap_bytes : (w : Width) (z : ℤ)
@@ -23,18 +26,77 @@ swapped_signed-answered w y z f g e =
     ∙ (e ∙ (ap (λ (x : ℤ). cast_signed w (swap_bytes w (cast_unsigned w x))) (to_z-of_z w z g)
     ∙ swapped_signed-swap_bytes w z))
 
--- unsigned numbers of each width
-pub reversed_16 : (n : ℕ) → swap_bytes w16 n ≡ swapped BigEndian 2 n
-reversed_16 n = swapped-swap_bytes w16 BigEndian n refl
+-- an unsigned number of so many bytes
+pub swapped-swap_bytes_of : (size n : ℕ) → byte_len (width_of size) ≡ size
+    → swapped BigEndian size n ≡ swap_bytes (width_of size) n
+swapped-swap_bytes_of size n is =
+    ap (λ (k : ℕ). swapped BigEndian k n) (sym is) ∙ sym (swapped-swap_bytes (width_of size) BigEndian n refl)
 
-pub reversed_32 : (n : ℕ) → swap_bytes w32 n ≡ swapped BigEndian 4 n
-reversed_32 n = swapped-swap_bytes w32 BigEndian n refl
+-- ---- numbers that are turned for an order
 
-pub reversed_64 : (n : ℕ) → swap_bytes w64 n ≡ swapped BigEndian 8 n
-reversed_64 n = swapped-swap_bytes w64 BigEndian n refl
+pub turned-big : {A : Type 0} (order : Endianness) (reversed : A → A) (x : A) → order ≡ BigEndian
+    → turned_in order reversed x ≡ reversed x
+unfolding turned_in
+turned-big order reversed x is = ap (λ (o : Endianness). turned_in o reversed x) is
 
-pub reversed_128 : (n : ℕ) → swap_bytes w128 n ≡ swapped BigEndian 16 n
-reversed_128 n = swapped-swap_bytes w128 BigEndian n refl
+pub turned-little : {A : Type 0} (order : Endianness) (reversed : A → A) (x : A) → order ≡ LittleEndian
+    → turned_in order reversed x ≡ x
+unfolding turned_in
+turned-little order reversed x is = ap (λ (o : Endianness). turned_in o reversed x) is
 
--- what is reversed
-pub ruleset reversals = (reversed_16, reversed_32, reversed_64, reversed_128, swapped_signed-answered)
+-- they are swapped, those of a list too
+pub turned-swapped : (order : Endianness) (size n : ℕ)
+    → turned_in order (swapped BigEndian size) n ≡ swapped order size n
+unfolding turned_in swapped
+turned-swapped LittleEndian size n = refl
+turned-swapped BigEndian size n = refl
+
+pub turned-swapped_signed : (order : Endianness) (w : Width) (z : ℤ)
+    → turned_in order (swapped_signed BigEndian w) z ≡ swapped_signed order w z
+unfolding turned_in swapped_signed
+turned-swapped_signed LittleEndian w z = refl
+turned-swapped_signed BigEndian w z = refl
+
+pub map-turned : (order : Endianness) (size : ℕ) (ns : List ℕ)
+    → map (turned_in order (swapped BigEndian size)) ns ≡ map (swapped order size) ns
+map-turned order size [] = refl
+map-turned order size (n ∷ ns) = ap₂ ◌∷◌ (turned-swapped order size n) (map-turned order size ns)
+
+pub map-turned_signed : (order : Endianness) (w : Width) (zs : List ℤ)
+    → map (turned_in order (swapped_signed BigEndian w)) zs ≡ map (swapped_signed order w) zs
+map-turned_signed order w [] = refl
+map-turned_signed order w (z ∷ zs) =
+    ap₂ ◌∷◌ (turned-swapped_signed order w z) (map-turned_signed order w zs)
+
+-- what swaps reverse and turn
+pub ruleset reversals =
+    (swapped-swap_bytes_of, swapped_signed-answered, turned-swapped, map-turned, turned-swapped_signed, map-turned_signed)
+
+-- ---- what is read and written
+
+-- what std reads from an array that was copied
+pub copied-reads : (size : ℕ) (items bytes : List ℕ) → items ≡ bytes → length bytes ≡ size
+    → byte_len (width_of size) ≡ size → from_le_bytes (width_of size) items ≡ little_number bytes
+copied-reads size items bytes same sized is = ap (from_le_bytes (width_of size)) same
+    ∙ little_number-from_le_bytes (width_of size) bytes (sized ∙ sym is)
+
+-- a number in an order is that of its digits least first, swapped
+pub number-swapped : (order : Endianness) (bytes : List ℕ) → AreBytes bytes
+    → number order bytes ≡ swapped order (length bytes) (little_number bytes)
+unfolding number swapped digits
+number-swapped LittleEndian bytes are = refl
+number-swapped BigEndian bytes are = ap (λ bs. little_number (reverse bs)) (sym (little_digits-little_number bytes are))
+
+-- what is turned and then written least digit first is written in the order; the first part is what a search finds it by
+pub turned-writes : (order : Endianness) (size n : ℕ) → byte_len (width_of size) ≡ size → n < 256 ^ size
+    → (turned_in order (swapped BigEndian size) n ≡ swapped order size n)
+    × (number order (to_le_bytes (width_of size) (turned_in order (swapped BigEndian size) n)) ≡ n)
+turned-writes order size n is l =
+    let turned = turned-swapped order size n in
+    let fits = subst (λ (m : ℕ). n < m) (ap (λ (k : ℕ). 256 ^ k) (sym is) ∙ sym (pow-byte_len (width_of size))) l in
+    let encoded = EncodesNumber-turned (width_of size) order n _ _
+    (turned ∙ ap (λ (k : ℕ). swapped order k n) (sym is)) fits refl in
+    (turned, encoded.value_is)
+
+-- what reads and writes in an order rest on
+pub ruleset conversions = (turned-swapped, number-swapped, turned-writes)

@@ -1,6 +1,7 @@
 -- How numbers are encoded: base 256 digits, in either byte order.
-use Rattle.std.specs.Prelude.{◌≡◌, ℕ, zero, suc, ◌+◌, ◌*◌, ◌/◌, ◌%◌, ◌<◌, List, [], ◌∷◌, length, reverse}
+use Rattle.std.specs.Prelude.{◌≡◌, ℕ, zero, suc, ◌+◌, ◌*◌, ◌/◌, ◌%◌, ◌<◌, List, [], ◌∷◌, length, reverse, nat_eq, cond}
 use Rattle.std.specs.List.{AllByRecursion}
+use Rattle.std.specs.Int.{Width, w16, w32, w64, w128}
 use Rattle.speedy_base.specs.declared.endianness.Endianness.{Endianness}
 use Rattle.speedy_base.specs.declared.endianness.Endianness.TheVariants.{LittleEndian, BigEndian}
 
@@ -38,3 +39,13 @@ pub record EncodesNumber (width : ℕ) (order : Endianness) (n : ℕ) (bytes : L
 unfoldable pub swapped : Endianness → ℕ → ℕ → ℕ
 swapped LittleEndian width n = n
 swapped BigEndian width n = number BigEndian (digits LittleEndian width n)
+
+-- what is reversed where the order is big
+unfoldable pub turned_in : {A : Type 0} → Endianness → (A → A) → A → A
+turned_in LittleEndian reversed x = x
+turned_in BigEndian reversed x = reversed x
+
+-- the width of so many bytes
+abbrev pub width_of : ℕ → Width
+width_of size =
+    cond (nat_eq size 2) w16 (cond (nat_eq size 4) w32 (cond (nat_eq size 8) w64 w128))

@@ -1,8 +1,12 @@
 //! Byte orders: how the digits of a number lie in bytes.
+#![tactic(auto, using(crate::proofs::Reversals::conversions))]
+
 ghost use Rattle.std.specs.Prelude.{◌≡◌, ◌↔◌, ◌++◌, length, IsTrue};
-ghost use Rattle.std.specs.Int.{w16, w32, w64, w128};
-ghost use Rattle.speedy_base.specs.Digits.{EncodesNumber};
+ghost use Rattle.std.specs.Int.{byte_len, from_le_bytes, w16, w32, w64, w128};
+ghost use Rattle.speedy_base.specs.Digits.{AreBytes, EncodesNumber, little_number, width_of};
 ghost use Rattle.speedy_base.specs.Signed.{EncodesSigned};
+
+use crate::swaps::turned;
 
 /// A byte order: the order in which the base 256 digits of a number are written.
 #[derive(Clone, Copy, Debug, PartialEq, Eq, PartialOrd, Ord, Hash)]
@@ -31,11 +35,7 @@ impl Endianness {
         requires { length slice.now ≡ 2 }
         ensures { EncodesNumber 2 self result slice.now }
     {
-        let bytes = [slice[0], slice[1]];
-        match self {
-            Endianness::LittleEndian => u16::from_le_bytes(bytes),
-            Endianness::BigEndian => u16::from_be_bytes(bytes),
-        }
+        turned(self, u16::from_le_bytes(array_of(slice)))
     }
 
     /// The number that four bytes encode in this order.
@@ -44,11 +44,7 @@ impl Endianness {
         requires { length slice.now ≡ 4 }
         ensures { EncodesNumber 4 self result slice.now }
     {
-        let bytes = [slice[0], slice[1], slice[2], slice[3]];
-        match self {
-            Endianness::LittleEndian => u32::from_le_bytes(bytes),
-            Endianness::BigEndian => u32::from_be_bytes(bytes),
-        }
+        turned(self, u32::from_le_bytes(array_of(slice)))
     }
 
     /// The number that eight bytes encode in this order.
@@ -57,12 +53,7 @@ impl Endianness {
         requires { length slice.now ≡ 8 }
         ensures { EncodesNumber 8 self result slice.now }
     {
-        let mut bytes = [0; 8];
-        bytes.copy_from_slice(slice);
-        match self {
-            Endianness::LittleEndian => u64::from_le_bytes(bytes),
-            Endianness::BigEndian => u64::from_be_bytes(bytes),
-        }
+        turned(self, u64::from_le_bytes(array_of(slice)))
     }
 
     /// The number that sixteen bytes encode in this order.
@@ -71,12 +62,7 @@ impl Endianness {
         requires { length slice.now ≡ 16 }
         ensures { EncodesNumber 16 self result slice.now }
     {
-        let mut bytes = [0; 16];
-        bytes.copy_from_slice(slice);
-        match self {
-            Endianness::LittleEndian => u128::from_le_bytes(bytes),
-            Endianness::BigEndian => u128::from_be_bytes(bytes),
-        }
+        turned(self, u128::from_le_bytes(array_of(slice)))
     }
 
     /// The signed number that two bytes encode in this order.
@@ -120,9 +106,7 @@ impl Endianness {
     pub fn bytes_of_u16(self, value: u16) -> [u8; 2]
         ensures { EncodesNumber 2 self value result }
     {
-        let mut turned = value;
-        self.swap_u16(&mut turned);
-        turned.to_le_bytes()
+        turned(self, value).to_le_bytes()
     }
 
     /// The four bytes that encode a number in this order.
@@ -130,9 +114,7 @@ impl Endianness {
     pub fn bytes_of_u32(self, value: u32) -> [u8; 4]
         ensures { EncodesNumber 4 self value result }
     {
-        let mut turned = value;
-        self.swap_u32(&mut turned);
-        turned.to_le_bytes()
+        turned(self, value).to_le_bytes()
     }
 
     /// The eight bytes that encode a number in this order.
@@ -140,9 +122,7 @@ impl Endianness {
     pub fn bytes_of_u64(self, value: u64) -> [u8; 8]
         ensures { EncodesNumber 8 self value result }
     {
-        let mut turned = value;
-        self.swap_u64(&mut turned);
-        turned.to_le_bytes()
+        turned(self, value).to_le_bytes()
     }
 
     /// The sixteen bytes that encode a number in this order.
@@ -158,6 +138,19 @@ impl Endianness {
             Endianness::BigEndian => joined(high, low),
         }
     }
+}
+
+// A slice of so many bytes, as an array.
+#[inline(always)]
+fn array_of<const N: usize>(slice: &[u8]) -> [u8; N]
+    requires { length slice.now ≡ N }
+    ensures same { result ≡ slice.now }
+    ensures bytes { AreBytes slice.now }
+    ensures value { byte_len (width_of N) ≡ N → from_le_bytes (width_of N) result ≡ little_number slice.now }
+{
+    let mut bytes = [0; N];
+    bytes.copy_from_slice(slice);
+    bytes
 }
 
 // Sixteen bytes, of two times eight.

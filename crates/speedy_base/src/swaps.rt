@@ -1,120 +1,107 @@
 //! Numbers of the machine, reversed in place for a byte order.
 #![tactic(auto, using(crate::proofs::Reversals::reversals))]
 
-ghost use Rattle.std.specs.Prelude.{◌≡◌, map, refl};
+ghost use Rattle.std.specs.Prelude.{◌≡◌, map};
 ghost use Rattle.std.specs.Int.{w16, w32, w64, w128};
-ghost use Rattle.speedy_base.specs.declared.endianness.Endianness.{Endianness as Order};
-ghost use Rattle.speedy_base.specs.declared.endianness.Endianness.TheVariants.{LittleEndian, BigEndian};
-ghost use Rattle.speedy_base.specs.Digits.{swapped};
-ghost use Rattle.speedy_base.specs.DigitsLemmas.{swapped-little};
+ghost use Rattle.speedy_base.specs.declared.endianness.Endianness.TheVariants.{BigEndian};
+ghost use Rattle.speedy_base.specs.Digits.{swapped, turned_in};
 ghost use Rattle.speedy_base.specs.Signed.{swapped_signed};
-ghost use Rattle.speedy_base.specs.SignedLemmas.{swapped_signed-little};
 
 use crate::endianness::Endianness;
 
 // Numbers whose bytes can be reversed.
-trait Swap: Copy {
-    // The number with its bytes reversed where the order is big.
-    ghost swapped_in: { Order → Self → Self };
+pub(crate) trait Swap: Copy {
+    ghost reversed: { Self → Self };
 
     // The number with its bytes reversed.
     fn reversed(self) -> Self
-        ensures { result ≡ swapped_in BigEndian self };
-
-    // Under the little order it stays as it is.
-    ghost stays: { (n : Self) → swapped_in LittleEndian n ≡ n };
+        ensures { result ≡ reversed self };
 }
 
 impl Swap for u16 {
-    ghost swapped_in = { λ order n. swapped order 2 n };
+    ghost reversed = { swapped BigEndian 2 };
 
     fn reversed(self) -> u16 {
         self.swap_bytes()
     }
-
-    ghost stays = { λ n. swapped-little LittleEndian 2 n refl };
 }
 
 impl Swap for u32 {
-    ghost swapped_in = { λ order n. swapped order 4 n };
+    ghost reversed = { swapped BigEndian 4 };
 
     fn reversed(self) -> u32 {
         self.swap_bytes()
     }
-
-    ghost stays = { λ n. swapped-little LittleEndian 4 n refl };
 }
 
 impl Swap for u64 {
-    ghost swapped_in = { λ order n. swapped order 8 n };
+    ghost reversed = { swapped BigEndian 8 };
 
     fn reversed(self) -> u64 {
         self.swap_bytes()
     }
-
-    ghost stays = { λ n. swapped-little LittleEndian 8 n refl };
 }
 
 impl Swap for u128 {
-    ghost swapped_in = { λ order n. swapped order 16 n };
+    ghost reversed = { swapped BigEndian 16 };
 
     fn reversed(self) -> u128 {
         self.swap_bytes()
     }
-
-    ghost stays = { λ n. swapped-little LittleEndian 16 n refl };
 }
 
 impl Swap for i16 {
-    ghost swapped_in = { λ order z. swapped_signed order w16 z };
+    ghost reversed = { swapped_signed BigEndian w16 };
 
     fn reversed(self) -> i16 {
         self.swap_bytes()
     }
-
-    ghost stays = { swapped_signed-little w16 };
 }
 
 impl Swap for i32 {
-    ghost swapped_in = { λ order z. swapped_signed order w32 z };
+    ghost reversed = { swapped_signed BigEndian w32 };
 
     fn reversed(self) -> i32 {
         self.swap_bytes()
     }
-
-    ghost stays = { swapped_signed-little w32 };
 }
 
 impl Swap for i64 {
-    ghost swapped_in = { λ order z. swapped_signed order w64 z };
+    ghost reversed = { swapped_signed BigEndian w64 };
 
     fn reversed(self) -> i64 {
         self.swap_bytes()
     }
-
-    ghost stays = { swapped_signed-little w64 };
 }
 
 impl Swap for i128 {
-    ghost swapped_in = { λ order z. swapped_signed order w128 z };
+    ghost reversed = { swapped_signed BigEndian w128 };
 
     fn reversed(self) -> i128 {
         self.swap_bytes()
     }
-
-    ghost stays = { swapped_signed-little w128 };
 }
 
-fn swap_one<T: Swap>(order: Endianness, value: &mut T)
-    ensures { value.new ≡ T.swapped_in order value.old }
+// The number with its bytes reversed where the order is big.
+#[inline(always)]
+pub(crate) fn turned<T: Swap>(order: Endianness, number: T) -> T
+    ensures { result ≡ turned_in order T.reversed number }
 {
     if order.conversion_necessary() {
-        *value = value.reversed();
+        number.reversed()
+    } else {
+        number
     }
 }
 
+fn swap_one<T: Swap>(order: Endianness, value: &mut T)
+    ensures { value.new ≡ turned_in order T.reversed value.old }
+{
+    *value = turned(order, *value);
+}
+
 fn swap_each<T: Swap>(order: Endianness, slice: &mut [T])
-    ensures { slice.new ≡ map (T.swapped_in order) slice.old }
+    ensures { slice.new ≡ map (turned_in order T.reversed) slice.old }
 {
     if order.conversion_necessary() {
         for value in slice.iter_mut() {

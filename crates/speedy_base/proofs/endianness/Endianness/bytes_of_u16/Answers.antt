@@ -1,6 +1,0 @@
-use Rattle.std.proofs.Common.{w16, arith}
-use Rattle.speedy_base.proofs.Conversions.{EncodesNumber-turned}
-use Rattle.speedy_base.proofs.endianness.Endianness.bytes_of_u16.Goals as goal
-
-pub returns : goal.returns
-returns c = EncodesNumber-turned w16 _ _ _ _ c.swap_u16.ensures (omega arith) c.to_le_bytes.ensures
