@@ -69,8 +69,14 @@ map-turned_signed order w (z ∷ zs) =
     ap₂ ◌∷◌ (turned-swapped_signed order w z) (map-turned_signed order w zs)
 
 -- what swaps reverse and turn
-pub ruleset reversals =
-    (swapped-swap_bytes_of, swapped_signed-answered, turned-swapped, map-turned, turned-swapped_signed, map-turned_signed)
+pub ruleset reversals = (
+  swapped-swap_bytes_of,
+  turned-swapped,
+  map-turned,
+  swapped_signed-answered,
+  turned-swapped_signed,
+  map-turned_signed,
+)
 
 -- ---- what is read and written
 
@@ -87,7 +93,7 @@ unfolding number swapped digits
 number-swapped LittleEndian bytes are = refl
 number-swapped BigEndian bytes are = ap (λ bs. little_number (reverse bs)) (sym (little_digits-little_number bytes are))
 
--- what is turned and then written least digit first is written in the order; the first part is what a search finds it by
+-- what is turned and then written least digit first is written in the order (a search finds it by the first part)
 pub turned-writes : (order : Endianness) (size n : ℕ) → byte_len (width_of size) ≡ size → n < 256 ^ size
     → (turned_in order (swapped BigEndian size) n ≡ swapped order size n)
     × (number order (to_le_bytes (width_of size) (turned_in order (swapped BigEndian size) n)) ≡ n)

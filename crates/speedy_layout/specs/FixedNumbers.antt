@@ -1,5 +1,5 @@
 -- Numbers of a fixed number of bytes, as what is read and written in bulk asks of them.
-use Rattle.std.specs.Prelude.{◌≡◌, ℕ, ℤ, ◌*◌, ◌^◌, ◌<◌, ◌≤◌, List, [], ◌∷◌, length, refl}
+use Rattle.std.specs.Prelude.{◌≡◌, ℕ, ◌*◌, ◌^◌, ◌<◌, ◌≤◌, List, [], ◌∷◌, length, refl}
 use Rattle.std.proofs.Common.{◌∙◌, ap, arith}
 use Rattle.std.proofs.lemmas.List.{length-append}
 use Rattle.std.specs.Int.{Width, w8, w16, w32, w64, w128, byte_len, cast_signed}
@@ -9,7 +9,8 @@ use Rattle.speedy_base.specs.Mode.{Mode, plain_mode}
 use Rattle.speedy_base.specs.SignedLemmas.{EncodesSigned-cast_signed}
 use Rattle.speedy_base.specs.DigitsLemmas.{byte_len-above}
 use Rattle.speedy_layout.specs.Format.{Format, Each}
-use Rattle.speedy_layout.specs.Numbers.{unsigned_number, signed_number}
+use Rattle.speedy_layout.specs.Numbers.{unsigned_codec, unsigned_number, signed_codec, signed_number}
+use Rattle.speedy_layout.specs.Laws.{Codec}
 
 -- how values are encoded in an order, whatever else is asked of the bytes
 abbrev pub encoded_in : {V : Type 0} → (Mode → Format V) → Endianness → V → List ℕ → Type 0
@@ -31,6 +32,12 @@ pub record IsFixed {V : Type 0} (size : ℕ) (F : Mode → Format V) : Type 0 wh
 abbrev pub Decodes : {A V : Type 0} → ℕ → (Mode → Format V) → (A → V) → (Endianness → List ℕ → A) → Type 0
 Decodes size F seen decoded = (order : Endianness) (bytes : List ℕ) → length bytes ≡ size → AreBytes bytes
     → encoded_in F order (seen (decoded order bytes)) bytes
+
+-- numbers that any bytes of a size encode, which is the least size of their layout
+pub record AreFixed {V : Type 0} (size : ℕ) (layout : Codec V) (shown : Endianness → List ℕ → V) : Type 0 where
+  pub least_is : layout.least ≡ size
+  pub is_fixed : IsFixed size layout.format
+  pub decodes : Decodes size layout.format (λ v. v) shown
 
 -- n values have n times as many bytes as one
 pub each_length : {V : Type 0} {size : ℕ} {F : Mode → Format V} → IsFixed size F
@@ -61,37 +68,34 @@ byte_len-at_most w128 = omega arith
 
 -- ---- the numbers of each width
 
-pub unsigned_fixed : (w : Width) → IsFixed (byte_len w) (unsigned_number (byte_len w))
+pub unsigned_fixed : (w : Width) → AreFixed (byte_len w) (unsigned_codec (byte_len w)) number
 unfolding unsigned_number
 unsigned_fixed w = record {
-  has_bytes = let l = byte_len-above w in omega arith;
-  at_most = byte_len-at_most w;
-  encodes = λ mode v bytes h. h;
-  writes = λ mode v bytes h. h;
-  length_is = λ order v bytes h. h.width_is;
-  none_malformed = λ _ _ h. h;
+  least_is = refl;
+  is_fixed = record {
+    has_bytes = let l = byte_len-above w in omega arith;
+    at_most = byte_len-at_most w;
+    encodes = λ mode v bytes h. h;
+    writes = λ mode v bytes h. h;
+    length_is = λ order v bytes h. h.width_is;
+    none_malformed = λ _ _ h. h;
+  };
+  decodes = λ order bytes l are. record { width_is = l; are_bytes = are; value_is = refl };
 }
 
-pub unsigned_decodes : (w : Width) → Decodes (byte_len w) (unsigned_number (byte_len w)) (λ (n : ℕ). n) number
-unfolding unsigned_number
-unsigned_decodes w order bytes l are = record { width_is = l; are_bytes = are; value_is = refl }
-
-pub signed_fixed : (w : Width) → IsFixed (byte_len w) (signed_number w)
+pub signed_fixed : (w : Width)
+    → AreFixed (byte_len w) (signed_codec w) (λ order bytes. cast_signed w (number order bytes))
 unfolding signed_number
 signed_fixed w = record {
-  has_bytes = let l = byte_len-above w in omega arith;
-  at_most = byte_len-at_most w;
-  encodes = λ mode v bytes h. h;
-  writes = λ mode v bytes h. h;
-  length_is = λ order v bytes h. h.digits.width_is;
-  none_malformed = λ _ _ h. h;
+  least_is = refl;
+  is_fixed = record {
+    has_bytes = let l = byte_len-above w in omega arith;
+    at_most = byte_len-at_most w;
+    encodes = λ mode v bytes h. h;
+    writes = λ mode v bytes h. h;
+    length_is = λ order v bytes h. h.digits.width_is;
+    none_malformed = λ _ _ h. h;
+  };
+  decodes = λ order bytes l are. EncodesSigned-cast_signed w order (number order bytes) bytes
+      (record { width_is = l; are_bytes = are; value_is = refl });
 }
-
-pub signed_decodes : (w : Width)
-    → Decodes (byte_len w) (signed_number w) (λ (z : ℤ). z) (λ order bytes. cast_signed w (number order bytes))
-unfolding signed_number
-signed_decodes w order bytes l are = EncodesSigned-cast_signed w order (number order bytes) bytes (record {
-  width_is = l;
-  are_bytes = are;
-  value_is = refl;
-})

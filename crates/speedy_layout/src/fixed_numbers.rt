@@ -2,7 +2,7 @@
 ghost use Rattle.std.specs.Prelude.{◌≡◌, ◌+◌, ◌*◌, ◌≤◌, ◌++◌, ℕ, List, length, map, vec_len, vec_capacity};
 ghost use Rattle.speedy_base.specs.declared.endianness.Endianness.{Endianness as Order};
 ghost use Rattle.speedy_base.specs.Digits.{AreBytes};
-ghost use Rattle.speedy_layout.specs.FixedNumbers.{encoded_in, IsFixed, Decodes};
+ghost use Rattle.speedy_layout.specs.FixedNumbers.{encoded_in, AreFixed};
 ghost use Rattle.speedy_layout.specs.Format.{Each};
 
 use crate::layout::Layout;
@@ -29,14 +29,9 @@ pub trait FixedNumber: FixedSize + Layout + Copy + Default + Drop {
         ensures bytes { AreBytes output.new }
         ensures number { decoded order output.new ≡ self };
 
-    /// The least size is `SIZE`.
-    ghost least_is: { Self.layout.least ≡ Self.SIZE };
-
-    /// An encoding always has `SIZE` bytes, and the order alone decides them.
-    ghost is_fixed: { IsFixed Self.SIZE Self.layout.format };
-
-    /// Bytes encode the number that is decoded from them.
-    ghost decodes: { Decodes Self.SIZE Self.layout.format Self.seen decoded };
+    /// The least size is `SIZE`, which each encoding has. The order alone decides its bytes, and any bytes encode the
+    /// number that is decoded from them.
+    ghost fixed: { AreFixed Self.SIZE Self.layout (λ order bytes. Self.seen (decoded order bytes)) };
 }
 
 /// The number that the bytes encode, of which there are `SIZE`.

@@ -1,5 +1,5 @@
 //! The layout of flags, and of values that a flag chooses.
-ghost use Rattle.std.specs.Prelude.{Bool, Option, Result};
+ghost use Rattle.std.specs.Prelude.{Option, Result};
 ghost use Rattle.std.specs.Option.{option_map};
 ghost use Rattle.std.specs.Result.{result_map_both};
 ghost use Rattle.speedy_layout.specs.Codecs.{alternative_codec, flag_codec, option_codec};
@@ -7,8 +7,6 @@ ghost use Rattle.speedy_layout.specs.Codecs.{alternative_codec, flag_codec, opti
 use crate::layout::Layout;
 
 impl Layout for bool {
-    ghost Seen = { Bool };
-
     ghost seen = { λ x. x };
 
     ghost layout = { flag_codec };

@@ -1,11 +1,11 @@
 //! Floats, held as their bits: what was read is written again bit for bit, NaNs too.
-ghost use Rattle.std.specs.Prelude.{◌≡◌, ℕ, false, refl, is_nan, to_bits, SomeIff};
+ghost use Rattle.std.specs.Prelude.{◌≡◌, ℕ, false, is_nan, to_bits, SomeIff};
 ghost use Rattle.std.specs.Cmp.{unsigned_Decides};
 ghost use Rattle.std.specs.Float.{binary32, binary64};
 ghost use Rattle.std.specs.Int.{w32, w64};
 ghost use Rattle.speedy_base.specs.Digits.{number};
 ghost use Rattle.speedy_layout.specs.Codecs.{unsigned_codec};
-ghost use Rattle.speedy_layout.specs.FixedNumbers.{unsigned_fixed, unsigned_decodes};
+ghost use Rattle.speedy_layout.specs.FixedNumbers.{unsigned_fixed};
 ghost use Rattle.speedy_layout.specs.Floats.{f32_bits, f32_value, f64_bits, f64_value};
 
 use crate::fixed_numbers::FixedNumber;
@@ -101,11 +101,7 @@ impl FixedNumber for F32 {
         u32::encode(self.0, order, output);
     }
 
-    ghost least_is = { refl };
-
-    ghost is_fixed = { unsigned_fixed w32 };
-
-    ghost decodes = { unsigned_decodes w32 };
+    ghost fixed = { unsigned_fixed w32 };
 }
 
 impl ZeroCopyable<LittleEndian> for F32 {
@@ -197,11 +193,7 @@ impl FixedNumber for F64 {
         u64::encode(self.0, order, output);
     }
 
-    ghost least_is = { refl };
-
-    ghost is_fixed = { unsigned_fixed w64 };
-
-    ghost decodes = { unsigned_decodes w64 };
+    ghost fixed = { unsigned_fixed w64 };
 }
 
 impl ZeroCopyable<LittleEndian> for F64 {

@@ -5,8 +5,9 @@ ghost use Rattle.speedy_layout.specs.Codecs.{Codec};
 ///
 /// It has no function to run. A type of your own quotes the layout of a tuple of its parts.
 pub trait Layout {
-    /// What is seen of a value. Two values are the same value where the same is seen of them.
-    ghost Seen: { Type 0 };
+    /// What is seen of a value: the value itself, where an impl says nothing else. Two values are the same value where
+    /// the same is seen of them.
+    ghost Seen: { Type 0 } = { Self };
 
     ghost seen: { Self → Seen };
 

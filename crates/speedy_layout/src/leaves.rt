@@ -1,6 +1,5 @@
 //! The layout of characters, byte orders, durations and UUIDs.
-ghost use Rattle.std.specs.Prelude.{ℕ, List};
-ghost use Rattle.speedy_base.specs.declared.endianness.Endianness.{Endianness as Order};
+ghost use Rattle.std.specs.Prelude.{ℕ};
 ghost use Rattle.std.specs.Duration.{as_nanos};
 ghost use Rattle.speedy_layout.specs.Codecs.{byte_order_codec, character_codec, duration_codec, raw_bytes_codec};
 
@@ -10,16 +9,12 @@ use std::time::Duration;
 use uuid::Uuid;
 
 impl Layout for char {
-    ghost Seen = { ℕ };
-
     ghost seen = { λ x. x };
 
     ghost layout = { character_codec };
 }
 
 impl Layout for Endianness {
-    ghost Seen = { Order };
-
     ghost seen = { λ x. x };
 
     ghost layout = { byte_order_codec };
@@ -34,8 +29,6 @@ impl Layout for Duration {
 }
 
 impl Layout for Uuid {
-    ghost Seen = { List ℕ };
-
     ghost seen = { λ x. x };
 
     ghost layout = { raw_bytes_codec 16 };

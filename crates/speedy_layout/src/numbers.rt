@@ -1,12 +1,11 @@
 //! Numbers: their layout and how they are decoded and encoded, that views show them and that they are keys.
 //!
 //! Their layout is their digits in the order of the encoding. What is said of a width is said here.
-ghost use Rattle.std.specs.Prelude.{ℕ, ℤ, refl};
 ghost use Rattle.std.specs.Cmp.{unsigned_Decides, signed_Decides};
 ghost use Rattle.std.specs.Int.{w8, w16, w32, w64, w128, cast_signed};
 ghost use Rattle.speedy_base.specs.Digits.{number};
 ghost use Rattle.speedy_layout.specs.Codecs.{signed_codec, unsigned_codec, usize_codec};
-ghost use Rattle.speedy_layout.specs.FixedNumbers.{unsigned_fixed, unsigned_decodes, signed_fixed, signed_decodes};
+ghost use Rattle.speedy_layout.specs.FixedNumbers.{unsigned_fixed, signed_fixed};
 ghost use Rattle.speedy_layout.specs.Views.{byte_number_alike, signed_byte_alike};
 
 use crate::fixed_numbers::FixedNumber;
@@ -17,8 +16,6 @@ use speedy_base::context::{Context, LittleEndian};
 use speedy_base::endianness::Endianness;
 
 impl Layout for u8 {
-    ghost Seen = { ℕ };
-
     ghost seen = { λ x. x };
 
     ghost layout = { unsigned_codec 1 };
@@ -43,11 +40,7 @@ impl FixedNumber for u8 {
         output[0] = self;
     }
 
-    ghost least_is = { refl };
-
-    ghost is_fixed = { unsigned_fixed w8 };
-
-    ghost decodes = { unsigned_decodes w8 };
+    ghost fixed = { unsigned_fixed w8 };
 }
 
 impl<C: Context> ZeroCopyable<C> for u8 {
@@ -59,8 +52,6 @@ impl SameKey for u8 {
 }
 
 impl Layout for u16 {
-    ghost Seen = { ℕ };
-
     ghost seen = { λ x. x };
 
     ghost layout = { unsigned_codec 2 };
@@ -85,11 +76,7 @@ impl FixedNumber for u16 {
         output.copy_from_slice(&order.bytes_of_u16(self));
     }
 
-    ghost least_is = { refl };
-
-    ghost is_fixed = { unsigned_fixed w16 };
-
-    ghost decodes = { unsigned_decodes w16 };
+    ghost fixed = { unsigned_fixed w16 };
 }
 
 impl ZeroCopyable<LittleEndian> for u16 {
@@ -101,8 +88,6 @@ impl SameKey for u16 {
 }
 
 impl Layout for u32 {
-    ghost Seen = { ℕ };
-
     ghost seen = { λ x. x };
 
     ghost layout = { unsigned_codec 4 };
@@ -127,11 +112,7 @@ impl FixedNumber for u32 {
         output.copy_from_slice(&order.bytes_of_u32(self));
     }
 
-    ghost least_is = { refl };
-
-    ghost is_fixed = { unsigned_fixed w32 };
-
-    ghost decodes = { unsigned_decodes w32 };
+    ghost fixed = { unsigned_fixed w32 };
 }
 
 impl ZeroCopyable<LittleEndian> for u32 {
@@ -143,8 +124,6 @@ impl SameKey for u32 {
 }
 
 impl Layout for u64 {
-    ghost Seen = { ℕ };
-
     ghost seen = { λ x. x };
 
     ghost layout = { unsigned_codec 8 };
@@ -169,11 +148,7 @@ impl FixedNumber for u64 {
         output.copy_from_slice(&order.bytes_of_u64(self));
     }
 
-    ghost least_is = { refl };
-
-    ghost is_fixed = { unsigned_fixed w64 };
-
-    ghost decodes = { unsigned_decodes w64 };
+    ghost fixed = { unsigned_fixed w64 };
 }
 
 impl ZeroCopyable<LittleEndian> for u64 {
@@ -185,8 +160,6 @@ impl SameKey for u64 {
 }
 
 impl Layout for u128 {
-    ghost Seen = { ℕ };
-
     ghost seen = { λ x. x };
 
     ghost layout = { unsigned_codec 16 };
@@ -211,11 +184,7 @@ impl FixedNumber for u128 {
         output.copy_from_slice(&order.bytes_of_u128(self));
     }
 
-    ghost least_is = { refl };
-
-    ghost is_fixed = { unsigned_fixed w128 };
-
-    ghost decodes = { unsigned_decodes w128 };
+    ghost fixed = { unsigned_fixed w128 };
 }
 
 impl ZeroCopyable<LittleEndian> for u128 {
@@ -227,8 +196,6 @@ impl SameKey for u128 {
 }
 
 impl Layout for i8 {
-    ghost Seen = { ℤ };
-
     ghost seen = { λ x. x };
 
     ghost layout = { signed_codec w8 };
@@ -253,11 +220,7 @@ impl FixedNumber for i8 {
         u8::encode(self.cast_unsigned(), order, output);
     }
 
-    ghost least_is = { refl };
-
-    ghost is_fixed = { signed_fixed w8 };
-
-    ghost decodes = { signed_decodes w8 };
+    ghost fixed = { signed_fixed w8 };
 }
 
 impl<C: Context> ZeroCopyable<C> for i8 {
@@ -269,8 +232,6 @@ impl SameKey for i8 {
 }
 
 impl Layout for i16 {
-    ghost Seen = { ℤ };
-
     ghost seen = { λ x. x };
 
     ghost layout = { signed_codec w16 };
@@ -295,11 +256,7 @@ impl FixedNumber for i16 {
         u16::encode(self.cast_unsigned(), order, output);
     }
 
-    ghost least_is = { refl };
-
-    ghost is_fixed = { signed_fixed w16 };
-
-    ghost decodes = { signed_decodes w16 };
+    ghost fixed = { signed_fixed w16 };
 }
 
 impl ZeroCopyable<LittleEndian> for i16 {
@@ -311,8 +268,6 @@ impl SameKey for i16 {
 }
 
 impl Layout for i32 {
-    ghost Seen = { ℤ };
-
     ghost seen = { λ x. x };
 
     ghost layout = { signed_codec w32 };
@@ -337,11 +292,7 @@ impl FixedNumber for i32 {
         u32::encode(self.cast_unsigned(), order, output);
     }
 
-    ghost least_is = { refl };
-
-    ghost is_fixed = { signed_fixed w32 };
-
-    ghost decodes = { signed_decodes w32 };
+    ghost fixed = { signed_fixed w32 };
 }
 
 impl ZeroCopyable<LittleEndian> for i32 {
@@ -353,8 +304,6 @@ impl SameKey for i32 {
 }
 
 impl Layout for i64 {
-    ghost Seen = { ℤ };
-
     ghost seen = { λ x. x };
 
     ghost layout = { signed_codec w64 };
@@ -379,11 +328,7 @@ impl FixedNumber for i64 {
         u64::encode(self.cast_unsigned(), order, output);
     }
 
-    ghost least_is = { refl };
-
-    ghost is_fixed = { signed_fixed w64 };
-
-    ghost decodes = { signed_decodes w64 };
+    ghost fixed = { signed_fixed w64 };
 }
 
 impl ZeroCopyable<LittleEndian> for i64 {
@@ -395,8 +340,6 @@ impl SameKey for i64 {
 }
 
 impl Layout for i128 {
-    ghost Seen = { ℤ };
-
     ghost seen = { λ x. x };
 
     ghost layout = { signed_codec w128 };
@@ -421,11 +364,7 @@ impl FixedNumber for i128 {
         u128::encode(self.cast_unsigned(), order, output);
     }
 
-    ghost least_is = { refl };
-
-    ghost is_fixed = { signed_fixed w128 };
-
-    ghost decodes = { signed_decodes w128 };
+    ghost fixed = { signed_fixed w128 };
 }
 
 impl ZeroCopyable<LittleEndian> for i128 {
@@ -437,8 +376,6 @@ impl SameKey for i128 {
 }
 
 impl Layout for usize {
-    ghost Seen = { ℕ };
-
     ghost seen = { λ x. x };
 
     ghost layout = { usize_codec };

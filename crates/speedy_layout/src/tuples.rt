@@ -6,8 +6,6 @@ ghost use Rattle.speedy_layout.specs.Codecs.{pair_codec, unit_codec};
 use crate::layout::Layout;
 
 impl Layout for () {
-    ghost Seen = { Unit {0} };
-
     ghost seen = { λ x. x };
 
     ghost layout = { unit_codec };

@@ -59,15 +59,15 @@ pub trait ZeroCopyable<C: Context>: ViewItem {
 impl<T: FixedNumber> ViewItem for T {
     ghost decoded = { T.decoded LittleOrder };
 
-    ghost some_bytes = { T.is_fixed.has_bytes };
+    ghost some_bytes = { T.fixed.is_fixed.has_bytes };
 
-    ghost few_bytes = { few_bytes T.is_fixed };
+    ghost few_bytes = { few_bytes T.fixed.is_fixed };
 
-    ghost least_is = { T.least_is };
+    ghost least_is = { T.fixed.least_is };
 
-    ghost one_size = { size_of_fixed T.is_fixed };
+    ghost one_size = { size_of_fixed T.fixed.is_fixed };
 
-    ghost decodes = { T.decodes LittleOrder };
+    ghost decodes = { T.fixed.decodes LittleOrder };
 
     #[inline(always)]
     fn decode(bytes: &[u8]) -> T {

@@ -1,4 +1,4 @@
-//! How numbers are written.
+//! How numbers are written: many of them by chunks of their digits, and bytes all at once.
 #![tactic(auto, using(crate::proofs::NumberLemmas::signed_value_written))]
 
 ghost use Rattle.std.specs.Prelude.{◌<◌};
@@ -14,7 +14,6 @@ impl<C: Context> Writable<C> for u8 {
         writer.write_u8(*self)
     }
 
-    /// Writes all the bytes at once.
     #[inline(always)]
     fn write_in_bulk<W: Writer<C>>(items: &[u8], writer: &mut W) -> Option<Result<(), C::Error>> {
         Some(writer.write_bytes(items))
@@ -27,7 +26,6 @@ impl<C: Context> Writable<C> for u16 {
         writer.write_u16(*self)
     }
 
-    /// Writes the numbers by chunks of their digits.
     #[inline(always)]
     fn write_in_bulk<W: Writer<C>>(items: &[u16], writer: &mut W) -> Option<Result<(), C::Error>> {
         Some(write_values::<C, u16, Digits, W>(items, writer))
@@ -40,7 +38,6 @@ impl<C: Context> Writable<C> for u32 {
         writer.write_u32(*self)
     }
 
-    /// Writes the numbers by chunks of their digits.
     #[inline(always)]
     fn write_in_bulk<W: Writer<C>>(items: &[u32], writer: &mut W) -> Option<Result<(), C::Error>> {
         Some(write_values::<C, u32, Digits, W>(items, writer))
@@ -53,7 +50,6 @@ impl<C: Context> Writable<C> for u64 {
         writer.write_u64(*self)
     }
 
-    /// Writes the numbers by chunks of their digits.
     #[inline(always)]
     fn write_in_bulk<W: Writer<C>>(items: &[u64], writer: &mut W) -> Option<Result<(), C::Error>> {
         Some(write_values::<C, u64, Digits, W>(items, writer))
@@ -66,7 +62,6 @@ impl<C: Context> Writable<C> for u128 {
         writer.write_u128(*self)
     }
 
-    /// Writes the numbers by chunks of their digits.
     #[inline(always)]
     fn write_in_bulk<W: Writer<C>>(items: &[u128], writer: &mut W) -> Option<Result<(), C::Error>> {
         Some(write_values::<C, u128, Digits, W>(items, writer))
@@ -79,7 +74,6 @@ impl<C: Context> Writable<C> for i8 {
         writer.write_i8(*self)
     }
 
-    /// Writes the numbers by chunks of their digits.
     #[inline(always)]
     fn write_in_bulk<W: Writer<C>>(items: &[i8], writer: &mut W) -> Option<Result<(), C::Error>> {
         Some(write_values::<C, i8, Digits, W>(items, writer))
@@ -92,7 +86,6 @@ impl<C: Context> Writable<C> for i16 {
         writer.write_i16(*self)
     }
 
-    /// Writes the numbers by chunks of their digits.
     #[inline(always)]
     fn write_in_bulk<W: Writer<C>>(items: &[i16], writer: &mut W) -> Option<Result<(), C::Error>> {
         Some(write_values::<C, i16, Digits, W>(items, writer))
@@ -105,7 +98,6 @@ impl<C: Context> Writable<C> for i32 {
         writer.write_i32(*self)
     }
 
-    /// Writes the numbers by chunks of their digits.
     #[inline(always)]
     fn write_in_bulk<W: Writer<C>>(items: &[i32], writer: &mut W) -> Option<Result<(), C::Error>> {
         Some(write_values::<C, i32, Digits, W>(items, writer))
@@ -118,7 +110,6 @@ impl<C: Context> Writable<C> for i64 {
         writer.write_i64(*self)
     }
 
-    /// Writes the numbers by chunks of their digits.
     #[inline(always)]
     fn write_in_bulk<W: Writer<C>>(items: &[i64], writer: &mut W) -> Option<Result<(), C::Error>> {
         Some(write_values::<C, i64, Digits, W>(items, writer))
@@ -131,7 +122,6 @@ impl<C: Context> Writable<C> for i128 {
         writer.write_i128(*self)
     }
 
-    /// Writes the numbers by chunks of their digits.
     #[inline(always)]
     fn write_in_bulk<W: Writer<C>>(items: &[i128], writer: &mut W) -> Option<Result<(), C::Error>> {
         Some(write_values::<C, i128, Digits, W>(items, writer))

@@ -144,8 +144,7 @@ pub trait Writer<C: Context> {
     /// Writes a byte.
     #[inline]
     final fn write_u8(&mut self, value: u8) -> Result<(), C::Error>
-        ensures writes { WritesNumber C.Error.from_gives state appends 1 value
-            result self.old self.new }
+        ensures writes { WritesNumber C.Error.from_gives state appends 1 value result self.old self.new }
         ensures full { RefusesFull C.Error.from_gives state result self.old self.new }
     {
         write_number::<u8, C, Self>(value, self)
@@ -154,8 +153,7 @@ pub trait Writer<C: Context> {
     /// Writes two bytes, in the context's order.
     #[inline]
     final fn write_u16(&mut self, value: u16) -> Result<(), C::Error>
-        ensures writes { WritesNumber C.Error.from_gives state appends 2 value
-            result self.old self.new }
+        ensures writes { WritesNumber C.Error.from_gives state appends 2 value result self.old self.new }
         ensures full { RefusesFull C.Error.from_gives state result self.old self.new }
     {
         write_number::<u16, C, Self>(value, self)
@@ -164,8 +162,7 @@ pub trait Writer<C: Context> {
     /// Writes four bytes, in the context's order.
     #[inline]
     final fn write_u32(&mut self, value: u32) -> Result<(), C::Error>
-        ensures writes { WritesNumber C.Error.from_gives state appends 4 value
-            result self.old self.new }
+        ensures writes { WritesNumber C.Error.from_gives state appends 4 value result self.old self.new }
         ensures full { RefusesFull C.Error.from_gives state result self.old self.new }
     {
         write_number::<u32, C, Self>(value, self)
@@ -189,8 +186,7 @@ pub trait Writer<C: Context> {
     /// Writes eight bytes, in the context's order.
     #[inline]
     final fn write_u64(&mut self, value: u64) -> Result<(), C::Error>
-        ensures writes { WritesNumber C.Error.from_gives state appends 8 value
-            result self.old self.new }
+        ensures writes { WritesNumber C.Error.from_gives state appends 8 value result self.old self.new }
         ensures full { RefusesFull C.Error.from_gives state result self.old self.new }
     {
         write_number::<u64, C, Self>(value, self)
@@ -199,8 +195,7 @@ pub trait Writer<C: Context> {
     /// Writes sixteen bytes, in the context's order.
     #[inline]
     final fn write_u128(&mut self, value: u128) -> Result<(), C::Error>
-        ensures writes { WritesNumber C.Error.from_gives state appends 16 value
-            result self.old self.new }
+        ensures writes { WritesNumber C.Error.from_gives state appends 16 value result self.old self.new }
         ensures full { RefusesFull C.Error.from_gives state result self.old self.new }
     {
         write_number::<u128, C, Self>(value, self)
@@ -209,8 +204,7 @@ pub trait Writer<C: Context> {
     /// Writes a signed number as a byte.
     #[inline]
     final fn write_i8(&mut self, value: i8) -> Result<(), C::Error>
-        ensures writes { WritesSigned C.Error.from_gives state appends w8 value
-            result self.old self.new }
+        ensures writes { WritesSigned C.Error.from_gives state appends w8 value result self.old self.new }
         ensures full { RefusesFull C.Error.from_gives state result self.old self.new }
     {
         write_number::<i8, C, Self>(value, self)
@@ -219,8 +213,7 @@ pub trait Writer<C: Context> {
     /// Writes a signed number as two bytes, in the context's order.
     #[inline]
     final fn write_i16(&mut self, value: i16) -> Result<(), C::Error>
-        ensures writes { WritesSigned C.Error.from_gives state appends w16 value
-            result self.old self.new }
+        ensures writes { WritesSigned C.Error.from_gives state appends w16 value result self.old self.new }
         ensures full { RefusesFull C.Error.from_gives state result self.old self.new }
     {
         write_number::<i16, C, Self>(value, self)
@@ -229,8 +222,7 @@ pub trait Writer<C: Context> {
     /// Writes a signed number as four bytes, in the context's order.
     #[inline]
     final fn write_i32(&mut self, value: i32) -> Result<(), C::Error>
-        ensures writes { WritesSigned C.Error.from_gives state appends w32 value
-            result self.old self.new }
+        ensures writes { WritesSigned C.Error.from_gives state appends w32 value result self.old self.new }
         ensures full { RefusesFull C.Error.from_gives state result self.old self.new }
     {
         write_number::<i32, C, Self>(value, self)
@@ -239,8 +231,7 @@ pub trait Writer<C: Context> {
     /// Writes a signed number as eight bytes, in the context's order.
     #[inline]
     final fn write_i64(&mut self, value: i64) -> Result<(), C::Error>
-        ensures writes { WritesSigned C.Error.from_gives state appends w64 value
-            result self.old self.new }
+        ensures writes { WritesSigned C.Error.from_gives state appends w64 value result self.old self.new }
         ensures full { RefusesFull C.Error.from_gives state result self.old self.new }
     {
         write_number::<i64, C, Self>(value, self)
@@ -249,8 +240,7 @@ pub trait Writer<C: Context> {
     /// Writes a signed number as sixteen bytes, in the context's order.
     #[inline]
     final fn write_i128(&mut self, value: i128) -> Result<(), C::Error>
-        ensures writes { WritesSigned C.Error.from_gives state appends w128 value
-            result self.old self.new }
+        ensures writes { WritesSigned C.Error.from_gives state appends w128 value result self.old self.new }
         ensures full { RefusesFull C.Error.from_gives state result self.old self.new }
     {
         write_number::<i128, C, Self>(value, self)

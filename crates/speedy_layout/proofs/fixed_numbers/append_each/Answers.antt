@@ -16,7 +16,7 @@ loop-digits-init g c =
 pub push_reserved-requires : goal.push_reserved-requires
 push_reserved-requires g c =
     let step = c.in-Some.ensures.steps in
-    room_for_next c.loop-digits.invariant.1 c.in-Some.digits.now _ g.met.T.FixedNumber.is_fixed.has_bytes step.1.0
+    room_for_next c.loop-digits.invariant.1 c.in-Some.digits.now _ g.met.T.FixedNumber.fixed.is_fixed.has_bytes step.1.0
     (step.1.1 ∙ c.loop-digits.invariant.0)
 
 pub loop-digits-preserved : goal.loop-digits-preserved
@@ -25,12 +25,12 @@ loop-digits-preserved g c =
     let h = c.loop-digits.invariant.1 in
     let digits = c.in-Some.digits.now in
     let sized = step.1.1 ∙ c.loop-digits.invariant.0 in
-    let encoded = encoding_stands g.T.Layout.layout.format g.T.Layout.seen (g.met.T.FixedNumber.decodes) c.args.order
-    digits sized
+    let encoded = encoding_stands g.T.Layout.layout.format g.T.Layout.seen g.met.T.FixedNumber.fixed.decodes
+    c.args.order digits sized
     (next_are_bytes h digits _ step.1.0 (AreBytes-slice c.args.bytes.now c.type_inv.bytes)) (sym c.decode.ensures) in (
       step.0 ∙ c.loop-digits.invariant.0,
       one_more_appended h {new = c.push_reserved.new.self.items} {used' = vec_len c.push_reserved.new.self}
-          {room' = vec_capacity c.push_reserved.new.self} digits _ g.met.T.FixedNumber.is_fixed.has_bytes step.1.0
+          {room' = vec_capacity c.push_reserved.new.self} digits _ g.met.T.FixedNumber.fixed.is_fixed.has_bytes step.1.0
           sized encoded c.push_reserved.ensures.items c.push_reserved.ensures.len c.push_reserved.ensures.capacity,
     )
 

@@ -9,7 +9,7 @@ pub loop-place-preserved : goal.loop-place-preserved
 loop-place-preserved g c =
     let i = c.loop-place.place-index in
     let at = c.loop-place.at in
-    let encoded = taken_encodes g.T.Layout.layout.format g.T.Layout.seen g.met.T.FixedNumber.decodes c.args.order
+    let encoded = taken_encodes g.T.Layout.layout.format g.T.Layout.seen g.met.T.FixedNumber.fixed.decodes c.args.order
     c.args.bytes.now at c.SIZE.result
     (room_ahead g.T.FixedSize.SIZE at i _ c.SIZE.result _ c.loop-place-test.true c.loop-place.invariant.0
     c.SIZE.ensures c.requires) c.SIZE.ensures (AreBytes-slice c.args.bytes.now c.type_inv.bytes)

@@ -18,7 +18,7 @@ pub returns-in-Ok : goal.returns-in-Ok
 returns-in-Ok g c =
     let lent = lent_is _ (Ok c.in-Some-Ok.digits) c.in-Some-Ok.is c.in-Some-Ok.field-0-is
     c.read_bytes_borrowed_from_reader.follows.holds-at-none in
-    arrays_read g.T.Layout.layout.laws g.met.T.FixedNumber.is_fixed _ _ c.args.length _ c.endianness-order.ensures
+    arrays_read g.T.Layout.layout.laws g.met.T.FixedNumber.fixed.is_fixed _ _ c.args.length _ c.endianness-order.ensures
     (length-map c.in-Ok.places.items _ ∙ c.in-Ok.ensures.whole) c.in-Ok.ensures.taken (lent_read _ lent)
 
 pub returns-in-Err : goal.returns-in-Err
@@ -33,6 +33,6 @@ returns-in-Some-Err g c =
     c.read_bytes_borrowed_from_reader.follows.holds-at-none in
     let e = c.error_end_of_input.ensures in
     let ended = ends_input g.met.C.Context.keeps_eof e in
-    refused_covered (arrays_cover g.T.Layout.layout.laws g.met.T.FixedNumber.is_fixed _
+    refused_covered (arrays_cover g.T.Layout.layout.laws g.met.T.FixedNumber.fixed.is_fixed _
     (c.in_ok-width.ensures.1 ∙ ap₂ ◌*◌ c.count.ensures c.SIZE.ensures) c.args.length c.in_ok-size.ensures.1 _)
     refl (lent_refused _ ended lent)

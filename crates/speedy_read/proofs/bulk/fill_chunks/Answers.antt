@@ -23,7 +23,7 @@ loop-at-preserved g c =
       omega (arith, same, c.loop-at.invariant.0),
       same ∙ c.loop-at.invariant.1,
       rw (put_behind places c.take_each.new.places at some c.loop-at.invariant.0 (omega (arith, sized)))
-          (more_numbers g.T.Layout.layout.laws g.met.T.FixedNumber.is_fixed _ g.T.Layout.seen (length places)
+          (more_numbers g.T.Layout.layout.laws g.met.T.FixedNumber.fixed.is_fixed _ g.T.Layout.seen (length places)
           (take at places) c.take_each.new.places _ order so_far c.in_ok-read_bytes.ensures c.take_each.ensures),
     )
 
@@ -37,9 +37,9 @@ pub returns-in_err-read_bytes : goal.returns-in_err-read_bytes
 returns-in_err-read_bytes g c =
     let at = c.loop-at.at in
     let count = length-take-le at c.loop-at.places c.loop-at.invariant.0 in
-    numbers_refused g.T.Layout.layout.laws g.met.T.FixedNumber.is_fixed _ g.T.Layout.seen _ (take at c.loop-at.places)
-    c.min-some.result (omega (arith, count, c.loop-at.invariant.0, c.loop-at.invariant.1))
+    numbers_refused g.T.Layout.layout.laws g.met.T.FixedNumber.fixed.is_fixed _ g.T.Layout.seen _
+    (take at c.loop-at.places) c.min-some.result (omega (arith, count, c.loop-at.invariant.0, c.loop-at.invariant.1))
     (length-take-le (c.min-some.result * c.SIZE-in-loop-at.result) c.loop-at.chunk
-    (chunk_fits {some = c.min-some.result} g.met.T.FixedNumber.is_fixed.has_bytes (omega arith) c.SIZE.ensures
+    (chunk_fits {some = c.min-some.result} g.met.T.FixedNumber.fixed.is_fixed.has_bytes (omega arith) c.SIZE.ensures
     c.SIZE-in-loop-at.ensures c.loop-at.auto.chunk) ∙ ap (λ n. c.min-some.result * n) c.SIZE-in-loop-at.ensures)
     c.loop-at.invariant.2 c.from_residual.ensures.1 c.in_err-read_bytes.ensures

@@ -12,10 +12,10 @@ returns-in_err-numbers g c = refused_room _ _ _ Kept-same refl c.from_residual.e
 pub returns-in_err-read_bytes : goal.returns-in_err-read_bytes
 returns-in_err-read_bytes g c =
     let so_far = c.loop-left.invariant.2 in
-    numbers_refused g.T.Layout.layout.laws g.met.T.FixedNumber.is_fixed _ g.T.Layout.seen c.args.count
+    numbers_refused g.T.Layout.layout.laws g.met.T.FixedNumber.fixed.is_fixed _ g.T.Layout.seen c.args.count
     c.loop-left.numbers.items c.min-some.result (omega (arith, c.loop-left.invariant.0, c.loop-left.invariant.1))
     (length-take-le (c.min-some.result * c.SIZE-in-loop-left.result) c.loop-left.chunk
-    (chunk_fits {some = c.min-some.result} g.met.T.FixedNumber.is_fixed.has_bytes (omega arith)
+    (chunk_fits {some = c.min-some.result} g.met.T.FixedNumber.fixed.is_fixed.has_bytes (omega arith)
     c.SIZE-2.ensures c.SIZE-in-loop-left.ensures c.loop-left.auto.chunk) ∙ ap
     (λ n. c.min-some.result * n) c.SIZE-in-loop-left.ensures) so_far
     c.from_residual-in_err-read_bytes.ensures.1
@@ -32,15 +32,16 @@ loop-left-preserved g c =
     let so_far = c.loop-left.invariant.2 in
     let added = c.in-Ok.ensures in
     let size = length-take-le (c.min-some.result * c.SIZE-in-loop-left.result) c.loop-left.chunk
-    (chunk_fits {some = c.min-some.result} g.met.T.FixedNumber.is_fixed.has_bytes (omega arith) c.SIZE-2.ensures
+    (chunk_fits {some = c.min-some.result} g.met.T.FixedNumber.fixed.is_fixed.has_bytes (omega arith) c.SIZE-2.ensures
     c.SIZE-in-loop-left.ensures c.loop-left.auto.chunk) in
     let count =
-    count_of_digits g.met.T.FixedNumber.is_fixed g.T.Layout.seen _ added.0 c.read_bytes.new.output c.min-some.result
+    count_of_digits g.met.T.FixedNumber.fixed.is_fixed g.T.Layout.seen _ added.0 c.read_bytes.new.output
+    c.min-some.result
     added.2 (c.read_bytes.auto.output ∙ (size ∙ ap (λ n. c.min-some.result * n) c.SIZE-in-loop-left.ensures)) in (
       omega arith,
       ap length added.1
           ∙ (length-append c.loop-left.numbers.items added.0 ∙ omega (arith, count, c.loop-left.invariant.1)),
-      rw added.1 (more_numbers g.T.Layout.layout.laws g.met.T.FixedNumber.is_fixed _ g.T.Layout.seen c.args.count
+      rw added.1 (more_numbers g.T.Layout.layout.laws g.met.T.FixedNumber.fixed.is_fixed _ g.T.Layout.seen c.args.count
           c.loop-left.numbers.items added.0 _
           (c.endianness.ensures ∙ ap (λ e. e.order)
           (c.in_ok-read_bytes.ensures.kept.mode ∙ so_far.kept.mode)) so_far c.in_ok-read_bytes.ensures

@@ -11,7 +11,7 @@ returns-in_default g c shown =
     refused_early (g.T.Layout.layout.laws _) c.args.count
     (ends_input g.met.C.Context.keeps_eof c.error_end_of_input.ensures)
     (λ told fit. past_usize (c.args.count * c.SIZE.result) _ _ c.in_default.ensures
-    (ap (λ n. c.args.count * n) (c.SIZE.ensures ∙ sym g.met.T.FixedNumber.least_is)) fit)
+    (ap (λ n. c.args.count * n) (c.SIZE.ensures ∙ sym g.met.T.FixedNumber.fixed.least_is)) fit)
 
 pub numbers_of-requires : goal.numbers_of-requires
 numbers_of-requires g c =
@@ -23,7 +23,7 @@ numbers_of-requires g c =
 pub returns-in-Ok : goal.returns-in-Ok
 returns-in-Ok g c shown =
     let laws = g.T.Layout.layout.laws in
-    let fixed = g.met.T.FixedNumber.is_fixed in
+    let fixed = g.met.T.FixedNumber.fixed.is_fixed in
     let seen = g.T.Layout.seen in
     let numbers = c.in-Ok.numbers.items in
     let lent = lent_is _ (Ok c.in-Some-Ok.digits) c.in-Some-Ok.is c.in-Some-Ok.field-0-is
@@ -46,7 +46,8 @@ returns-in-Some-Err g c shown =
     let lent = lent_is _ (Err c.in-Some-Err.field-0-0) c.in-Some-Err.is c.in-Some-Err.field-0-is
     c.read_bytes_borrowed_from_reader.follows.holds-at-none in
     let e = c.error_end_of_input-in-Some-Err.ensures in
-    numbers_refused g.T.Layout.layout.laws g.met.T.FixedNumber.is_fixed _ g.T.Layout.seen c.args.count [] c.args.count
-    (omega arith) (all_digits c.args.count c.SIZE.result c.in-Some.ensures.1 c.SIZE.ensures) (none_so_far refl) refl
+    numbers_refused g.T.Layout.layout.laws g.met.T.FixedNumber.fixed.is_fixed _ g.T.Layout.seen c.args.count []
+    c.args.count (omega arith) (all_digits c.args.count c.SIZE.result c.in-Some.ensures.1 c.SIZE.ensures)
+    (none_so_far refl) refl
     (lent_refused _
     (ends_input g.met.C.Context.keeps_eof e) lent)

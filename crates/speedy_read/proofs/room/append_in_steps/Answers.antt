@@ -15,12 +15,12 @@ pub slice_bounds-append_each-end : goal.slice_bounds-append_each-end
 slice_bounds-append_each-end g c =
     let some = c.loop-at.at + c.min-some.result in
     subst (λ (n : ℕ). some * n ≤ length c.args.digits.now) (sym c.SIZE-in-loop-at-2.ensures)
-    (steps_within g.met.T.FixedNumber.is_fixed.has_bytes c.SIZE.ensures some c.args.digits.now (omega arith))
+    (steps_within g.met.T.FixedNumber.fixed.is_fixed.has_bytes c.SIZE.ensures some c.args.digits.now (omega arith))
 
 pub append_each-numbers-requires : goal.append_each-numbers-requires
 append_each-numbers-requires g c =
     let within =
-    steps_within g.met.T.FixedNumber.is_fixed.has_bytes c.SIZE.ensures _ c.args.digits.now (omega arith) in (
+    steps_within g.met.T.FixedNumber.fixed.is_fixed.has_bytes c.SIZE.ensures _ c.args.digits.now (omega arith) in (
       c.min-some.result,
       step_length c.loop-at.at c.min-some.result c.SIZE-in-loop-at.ensures c.SIZE-in-loop-at-2.ensures
           c.args.digits.now within,
@@ -30,8 +30,8 @@ append_each-numbers-requires g c =
 pub loop-at-preserved : goal.loop-at-preserved
 loop-at-preserved g c =
     let S = encoded_in g.T.Layout.layout.format c.args.order in
-    let within = steps_within g.met.T.FixedNumber.is_fixed.has_bytes c.SIZE.ensures (c.loop-at.at + c.min-some.result)
-    c.args.digits.now (omega arith) in
+    let within = steps_within g.met.T.FixedNumber.fixed.is_fixed.has_bytes c.SIZE.ensures
+    (c.loop-at.at + c.min-some.result) c.args.digits.now (omega arith) in
     let before = c.loop-at.invariant.1 in
     let more = c.append_each-numbers.ensures in (
       omega arith,
@@ -49,7 +49,7 @@ loop-at-preserved g c =
 
 pub returns : goal.returns
 returns g c =
-    let done = steps_done g.met.T.FixedNumber.is_fixed.has_bytes c.SIZE.ensures c.requires.0 c.loop-at.at
+    let done = steps_done g.met.T.FixedNumber.fixed.is_fixed.has_bytes c.SIZE.ensures c.requires.0 c.loop-at.at
     c.args.digits.now c.requires.1 (omega arith) in
     let items = c.loop-at.invariant.1 in (
       items.0,
