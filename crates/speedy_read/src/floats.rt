@@ -14,7 +14,6 @@ impl<L: AsSlice<u8> + Drop, C: Context> ReadFrom<L, C> for F32 {
         Ok(F32::from_bits(reader.read_u32()?))
     }
 
-    #[inline]
     fn minimum_bytes_needed() -> usize {
         4
     }
@@ -28,7 +27,6 @@ impl<L: AsSlice<u8> + Drop, C: Context> ReadFrom<L, C> for F64 {
         Ok(F64::from_bits(reader.read_u64()?))
     }
 
-    #[inline]
     fn minimum_bytes_needed() -> usize {
         8
     }

@@ -18,7 +18,6 @@ impl<L: AsSlice<u8> + Drop, C: Context> ReadFrom<L, C> for u8 {
         reader.read_u8()
     }
 
-    #[inline]
     fn minimum_bytes_needed() -> usize {
         1
     }
@@ -32,7 +31,6 @@ impl<L: AsSlice<u8> + Drop, C: Context> ReadFrom<L, C> for u16 {
         reader.read_u16()
     }
 
-    #[inline]
     fn minimum_bytes_needed() -> usize {
         2
     }
@@ -46,7 +44,6 @@ impl<L: AsSlice<u8> + Drop, C: Context> ReadFrom<L, C> for u32 {
         reader.read_u32()
     }
 
-    #[inline]
     fn minimum_bytes_needed() -> usize {
         4
     }
@@ -60,7 +57,6 @@ impl<L: AsSlice<u8> + Drop, C: Context> ReadFrom<L, C> for u64 {
         reader.read_u64()
     }
 
-    #[inline]
     fn minimum_bytes_needed() -> usize {
         8
     }
@@ -74,7 +70,6 @@ impl<L: AsSlice<u8> + Drop, C: Context> ReadFrom<L, C> for u128 {
         reader.read_u128()
     }
 
-    #[inline]
     fn minimum_bytes_needed() -> usize {
         16
     }
@@ -88,7 +83,6 @@ impl<L: AsSlice<u8> + Drop, C: Context> ReadFrom<L, C> for i8 {
         reader.read_i8()
     }
 
-    #[inline]
     fn minimum_bytes_needed() -> usize {
         1
     }
@@ -102,7 +96,6 @@ impl<L: AsSlice<u8> + Drop, C: Context> ReadFrom<L, C> for i16 {
         reader.read_i16()
     }
 
-    #[inline]
     fn minimum_bytes_needed() -> usize {
         2
     }
@@ -116,7 +109,6 @@ impl<L: AsSlice<u8> + Drop, C: Context> ReadFrom<L, C> for i32 {
         reader.read_i32()
     }
 
-    #[inline]
     fn minimum_bytes_needed() -> usize {
         4
     }
@@ -130,7 +122,6 @@ impl<L: AsSlice<u8> + Drop, C: Context> ReadFrom<L, C> for i64 {
         reader.read_i64()
     }
 
-    #[inline]
     fn minimum_bytes_needed() -> usize {
         8
     }
@@ -144,7 +135,6 @@ impl<L: AsSlice<u8> + Drop, C: Context> ReadFrom<L, C> for i128 {
         reader.read_i128()
     }
 
-    #[inline]
     fn minimum_bytes_needed() -> usize {
         16
     }
