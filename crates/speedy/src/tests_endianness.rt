@@ -65,16 +65,12 @@ fn the_big_order_has_to_be_converted(rt: HostRuntime) {
 fn assert_short_digits(rt: &impl Abort, order: Endianness, two: [u8; 2], four: [u8; 4]) {
     assert_same(rt, order.read_u16(&two), 0x0102);
     assert_same(rt, order.read_u32(&four), 0x0102_0304);
-    assert_same(rt, order.bytes_of_u16(0x0102), two);
-    assert_same(rt, order.bytes_of_u32(0x0102_0304), four);
 }
 
 /// Asserts that the bytes are the digits of the wide numbers in the order.
 fn assert_wide_digits(rt: &impl Abort, order: Endianness, eight: [u8; 8], sixteen: [u8; 16]) {
     assert_same(rt, order.read_u64(&eight), EIGHT);
     assert_same(rt, order.read_u128(&sixteen), SIXTEEN);
-    assert_same(rt, order.bytes_of_u64(EIGHT), eight);
-    assert_same(rt, order.bytes_of_u128(SIXTEEN), sixteen);
 }
 
 #[test]

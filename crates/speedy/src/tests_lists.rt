@@ -84,12 +84,16 @@ fn vectors_of_numbers_lie_behind_their_count(rt: HostRuntime) {
 /// So many numbers, each with other digits, and their bytes in the order, behind their count.
 fn make_wide(rt: &impl Abort, alloc: Global, order: Endianness, count: u8) -> (Vec<u128>, Vec<u8>) {
     let mut numbers = Vec::new(alloc);
-    let mut bytes = make_vec(rt, alloc, &order.bytes_of_u32(u32::from(count)));
+    let mut turned_count = u32::from(count);
+    order.swap_u32(&mut turned_count);
+    let mut bytes = make_vec(rt, alloc, &turned_count.to_le_bytes());
     let mut next = 0x0102_0304_0506_0708_090a_0b0c_0d0e_0f10_u128;
     for _ in 0..count {
         numbers.push(next).expect(rt, "room");
+        let mut turned = next;
+        order.swap_u128(&mut turned);
         bytes
-            .extend_from_slice(&order.bytes_of_u128(next))
+            .extend_from_slice(&turned.to_le_bytes())
             .expect(rt, "room");
         next = next.wrapping_mul(31);
     }

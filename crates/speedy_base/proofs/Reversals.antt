@@ -1,15 +1,15 @@
--- That std's reversal of a number's bytes is the number in the other order, of a signed one too; and what is read and
--- written in an order is turned for it.
-use Rattle.std.specs.Prelude.{◌≡◌, ◌<◌, ◌^◌, ℕ, ℤ, List, [], ◌∷◌, length, map, reverse}
-use Rattle.std.proofs.Common.{refl, sym, ◌∙◌, ap, ap₂, subst}
+-- That std's reversal of a number's bytes is the number in the other order, of a signed one too; and what is read in
+-- an order is turned for it.
+use Rattle.std.specs.Prelude.{◌≡◌, ℕ, ℤ, List, [], ◌∷◌, length, map, reverse}
+use Rattle.std.proofs.Common.{refl, sym, ◌∙◌, ap, ap₂}
 use mir.ValLaws.{to_z-of_z}
-use Rattle.std.specs.Int.{Width, byte_len, cast_unsigned, cast_signed, swap_bytes, from_le_bytes, to_le_bytes}
+use Rattle.std.specs.Int.{Width, byte_len, cast_unsigned, cast_signed, swap_bytes, from_le_bytes}
 use Rattle.std.specs.Int.RustNames.{FitsSigned}
 use Rattle.speedy_base.specs.declared.endianness.Endianness.{Endianness}
 use Rattle.speedy_base.specs.declared.endianness.Endianness.TheVariants.{LittleEndian, BigEndian}
-use Rattle.speedy_base.proofs.Conversions.{EncodesNumber-turned, swapped-swap_bytes}
+use Rattle.speedy_base.proofs.Conversions.{swapped-swap_bytes}
 use Rattle.speedy_base.specs.Digits.{AreBytes, digits, little_number, number, swapped, turned_in, width_of}
-use Rattle.speedy_base.specs.DigitsLemmas.{little_digits-little_number, little_number-from_le_bytes, pow-byte_len}
+use Rattle.speedy_base.specs.DigitsLemmas.{little_digits-little_number, little_number-from_le_bytes, turned-swapped}
 use Rattle.speedy_base.specs.Signed.{swapped_signed}
 
 pub swapped_signed-swap_bytes : (w : Width) (z : ℤ)
@@ -45,12 +45,6 @@ unfolding turned_in
 turned-little order reversed x is = ap (λ (o : Endianness). turned_in o reversed x) is
 
 -- they are swapped, those of a list too
-pub turned-swapped : (order : Endianness) (size n : ℕ)
-    → turned_in order (swapped BigEndian size) n ≡ swapped order size n
-unfolding turned_in swapped
-turned-swapped LittleEndian size n = refl
-turned-swapped BigEndian size n = refl
-
 pub turned-swapped_signed : (order : Endianness) (w : Width) (z : ℤ)
     → turned_in order (swapped_signed BigEndian w) z ≡ swapped_signed order w z
 unfolding turned_in swapped_signed
@@ -93,16 +87,5 @@ unfolding number swapped digits
 number-swapped LittleEndian bytes are = refl
 number-swapped BigEndian bytes are = ap (λ bs. little_number (reverse bs)) (sym (little_digits-little_number bytes are))
 
--- what is turned and then written least digit first is written in the order (a search finds it by the first part)
-pub turned-writes : (order : Endianness) (size n : ℕ) → byte_len (width_of size) ≡ size → n < 256 ^ size
-    → (turned_in order (swapped BigEndian size) n ≡ swapped order size n)
-    × (number order (to_le_bytes (width_of size) (turned_in order (swapped BigEndian size) n)) ≡ n)
-turned-writes order size n is l =
-    let turned = turned-swapped order size n in
-    let fits = subst (λ (m : ℕ). n < m) (ap (λ (k : ℕ). 256 ^ k) (sym is) ∙ sym (pow-byte_len (width_of size))) l in
-    let encoded = EncodesNumber-turned (width_of size) order n _ _
-    (turned ∙ ap (λ (k : ℕ). swapped order k n) (sym is)) fits refl in
-    (turned, encoded.value_is)
-
--- what reads and writes in an order rest on
-pub ruleset conversions = (turned-swapped, number-swapped, turned-writes)
+-- what reads in an order rest on
+pub ruleset conversions = (turned-swapped, number-swapped)

@@ -3,13 +3,14 @@
 use Rattle.std.proofs.Common.{◌≡◌, ℕ, zero, suc, ◌+◌, ◌-◌, ◌*◌, ◌/◌, ◌%◌, ◌^◌, ◌<◌, ◌≤◌, List, [], ◌∷◌, ◌++◌, length}
 use Rattle.std.proofs.Common.{reverse, get_or, slice_index, refl, sym, ap, ap₂, ◌∙◌, subst, subst₂, arith}
 use Rattle.std.proofs.Math.Nat.{pow-suc, div-div-eq-div-mul, div-one}
-use Rattle.std.proofs.lemmas.List.{reverse-append, reverse-reverse, length-reverse}
+use Rattle.std.proofs.lemmas.List.{length-append, reverse-append, reverse-reverse, length-reverse}
 use mir.Val.{bits, Fits}
 use Rattle.std.specs.Int.{Width, w8, w16, w32, w64, w128, byte_len, byte_at, byte_worth, bytes_low_first, sum_through}
 use Rattle.std.specs.Int.{from_le_bytes, to_le_bytes}
 use Rattle.speedy_base.specs.declared.endianness.Endianness.{Endianness}
 use Rattle.speedy_base.specs.declared.endianness.Endianness.TheVariants.{LittleEndian, BigEndian}
 use Rattle.speedy_base.specs.Digits.{little_number, number, little_digits, digits, AreBytes, EncodesNumber, swapped}
+use Rattle.speedy_base.specs.Digits.{turned_in, width_of}
 
 -- ---- sums
 
@@ -271,3 +272,78 @@ EncodesNumber-is_one_byte LittleEndian n (b ∷ []) h =
 EncodesNumber-is_one_byte BigEndian n (b ∷ []) h =
     ap (λ (x : ℕ). x ∷ []) (let e : b + 256 * 0 ≡ n = h.value_is in omega arith)
 EncodesNumber-is_one_byte order n (b ∷ c ∷ bytes) h = let l = h.width_is in absurd (omega arith)
+
+-- ---- numbers that are turned for an order
+
+-- they are swapped
+pub turned-swapped : (order : Endianness) (size n : ℕ)
+    → turned_in order (swapped BigEndian size) n ≡ swapped order size n
+unfolding turned_in swapped
+turned-swapped LittleEndian size n = refl
+turned-swapped BigEndian size n = refl
+
+-- a number that was swapped for the order, and then written least digit first
+pub EncodesNumber-swapped : (w : Width) (order : Endianness) (n turned : ℕ) (bytes : List ℕ)
+    → turned ≡ swapped order (byte_len w) n → n < 2 ^ bits w
+    → bytes ≡ to_le_bytes w turned → EncodesNumber (byte_len w) order n bytes
+unfolding digits number swapped
+EncodesNumber-swapped w LittleEndian n turned bytes is l e =
+    EncodesNumber-to_le_bytes w LittleEndian n bytes refl l (e ∙ ap (to_le_bytes w) is)
+EncodesNumber-swapped w BigEndian n turned bytes is l e =
+    let width = byte_len w in
+    let low = little_digits width n in
+    let sized : length (reverse low) ≡ width = length-reverse low ∙ length-little_digits width n in
+    let same : little_digits width (little_number (reverse low)) ≡ reverse low =
+    ap (λ (k : ℕ). little_digits k (little_number (reverse low))) (sym sized)
+    ∙ little_digits-little_number (reverse low) (AreBytes-reverse low (AreBytes-little_digits width n)) in
+    subst (EncodesNumber width BigEndian n)
+    (sym (e ∙ (to_le_bytes-little_digits w turned ∙ (ap (little_digits width) is ∙ same))))
+    (EncodesNumber-digits width BigEndian n (subst (λ (m : ℕ). n < m) (pow-byte_len w) l))
+
+-- what is turned and then written least digit first is written in the order (a search finds it by the first part)
+pub turned-writes : (order : Endianness) (size n : ℕ) → byte_len (width_of size) ≡ size → n < 256 ^ size
+    → (turned_in order (swapped BigEndian size) n ≡ swapped order size n)
+    × (number order (to_le_bytes (width_of size) (turned_in order (swapped BigEndian size) n)) ≡ n)
+turned-writes order size n is l =
+    let turned = turned-swapped order size n in
+    let fits = subst (λ (m : ℕ). n < m) (ap (λ (k : ℕ). 256 ^ k) (sym is) ∙ sym (pow-byte_len (width_of size))) l in
+    let encoded = EncodesNumber-swapped (width_of size) order n _ _
+    (turned ∙ ap (λ (k : ℕ). swapped order k n) (sym is)) fits refl in
+    (turned, encoded.value_is)
+
+-- what is written in an order rests on it
+pub ruleset written = (turned-writes)
+
+-- ---- halves
+
+-- the digits of a number are those of its halves, the lower first under little and the higher under big
+pub EncodesNumber-low_first : (half n low high : ℕ) (order : Endianness) (xs ys : List ℕ) → order ≡ LittleEndian
+    → EncodesNumber half order low xs → EncodesNumber half order high ys
+    → n ≡ low + 256 ^ half * high → EncodesNumber (half + half) order n (xs ++ ys)
+unfolding number
+EncodesNumber-low_first half n low high order xs ys is h k e =
+    let a = subst (λ (o : Endianness). EncodesNumber half o low xs) is h in
+    let b = subst (λ (o : Endianness). EncodesNumber half o high ys) is k in
+    let value : little_number (xs ++ ys) ≡ n =
+    little_number-append xs ys ∙ (ap₂ ◌+◌ a.value_is (ap₂ (λ w m. 256 ^ w * m) a.width_is b.value_is) ∙ sym e) in
+    subst (λ (o : Endianness). EncodesNumber (half + half) o n (xs ++ ys)) (sym is) (record {
+      width_is = length-append xs ys ∙ ap₂ ◌+◌ a.width_is b.width_is;
+      are_bytes = AreBytes-append xs ys a.are_bytes b.are_bytes;
+      value_is = value;
+    })
+
+pub EncodesNumber-high_first : (half n low high : ℕ) (order : Endianness) (xs ys : List ℕ) → order ≡ BigEndian
+    → EncodesNumber half order high xs → EncodesNumber half order low ys
+    → n ≡ low + 256 ^ half * high → EncodesNumber (half + half) order n (xs ++ ys)
+unfolding number
+EncodesNumber-high_first half n low high order xs ys is h k e =
+    let a = subst (λ (o : Endianness). EncodesNumber half o high xs) is h in
+    let b = subst (λ (o : Endianness). EncodesNumber half o low ys) is k in
+    let value : little_number (reverse (xs ++ ys)) ≡ n =
+    ap little_number (reverse-append xs ys) ∙ (little_number-append (reverse ys) (reverse xs)
+    ∙ (ap₂ ◌+◌ b.value_is (ap₂ (λ w m. 256 ^ w * m) (length-reverse ys ∙ b.width_is) a.value_is) ∙ sym e)) in
+    subst (λ (o : Endianness). EncodesNumber (half + half) o n (xs ++ ys)) (sym is) (record {
+      width_is = length-append xs ys ∙ ap₂ ◌+◌ a.width_is b.width_is;
+      are_bytes = AreBytes-append xs ys a.are_bytes b.are_bytes;
+      value_is = value;
+    })

@@ -100,44 +100,6 @@ impl Endianness {
     {
         self.read_u128(slice).cast_signed()
     }
-
-    /// The two bytes that encode a number in this order.
-    #[inline]
-    pub fn bytes_of_u16(self, value: u16) -> [u8; 2]
-        ensures { EncodesNumber 2 self value result }
-    {
-        turned(self, value).to_le_bytes()
-    }
-
-    /// The four bytes that encode a number in this order.
-    #[inline]
-    pub fn bytes_of_u32(self, value: u32) -> [u8; 4]
-        ensures { EncodesNumber 4 self value result }
-    {
-        turned(self, value).to_le_bytes()
-    }
-
-    /// The eight bytes that encode a number in this order.
-    #[inline]
-    pub fn bytes_of_u64(self, value: u64) -> [u8; 8]
-        ensures { EncodesNumber 8 self value result }
-    {
-        turned(self, value).to_le_bytes()
-    }
-
-    /// The sixteen bytes that encode a number in this order.
-    #[inline]
-    pub fn bytes_of_u128(self, value: u128) -> [u8; 16]
-        ensures { EncodesNumber 16 self value result }
-    {
-        // Two numbers of 64 bits are turned much faster than one of 128.
-        let low = self.bytes_of_u64((value % (1 << 64)) as u64);
-        let high = self.bytes_of_u64((value >> 64) as u64);
-        match self {
-            Endianness::LittleEndian => joined(low, high),
-            Endianness::BigEndian => joined(high, low),
-        }
-    }
 }
 
 // A slice of so many bytes, as an array.
@@ -150,16 +112,5 @@ fn array_of<const N: usize>(slice: &[u8]) -> [u8; N]
 {
     let mut bytes = [0; N];
     bytes.copy_from_slice(slice);
-    bytes
-}
-
-// Sixteen bytes, of two times eight.
-#[inline(always)]
-fn joined(first: [u8; 8], second: [u8; 8]) -> [u8; 16]
-    ensures { result ≡ first ++ second }
-{
-    let mut bytes = [0; 16];
-    bytes[..8].copy_from_slice(&first);
-    bytes[8..].copy_from_slice(&second);
     bytes
 }

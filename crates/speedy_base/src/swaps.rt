@@ -9,11 +9,11 @@ ghost use Rattle.speedy_base.specs.Signed.{swapped_signed};
 
 use crate::endianness::Endianness;
 
-// Numbers whose bytes can be reversed.
-pub(crate) trait Swap: Copy {
+/// Numbers whose bytes can be reversed.
+pub trait Swap: Copy {
     ghost reversed: { Self → Self };
 
-    // The number with its bytes reversed.
+    /// The number with its bytes reversed.
     fn reversed(self) -> Self
         ensures { result ≡ reversed self };
 }
@@ -82,9 +82,9 @@ impl Swap for i128 {
     }
 }
 
-// The number with its bytes reversed where the order is big.
+/// The number with its bytes reversed where the order is big.
 #[inline(always)]
-pub(crate) fn turned<T: Swap>(order: Endianness, number: T) -> T
+pub fn turned<T: Swap>(order: Endianness, number: T) -> T
     ensures { result ≡ turned_in order T.reversed number }
 {
     if order.conversion_necessary() {

@@ -1,6 +1,8 @@
 //! Numbers: their layout and how they are decoded and encoded, that views show them and that they are keys.
 //!
 //! Their layout is their digits in the order of the encoding. What is said of a width is said here.
+#![tactic(auto, using(speedy_base::specs::DigitsLemmas::written))]
+
 ghost use Rattle.std.specs.Cmp.{unsigned_Decides, signed_Decides};
 ghost use Rattle.std.specs.Int.{w8, w16, w32, w64, w128, cast_signed};
 ghost use Rattle.speedy_base.specs.Digits.{number};
@@ -14,6 +16,7 @@ use crate::same_key::SameKey;
 use crate::view_items::{FixedSize, ZeroCopyable};
 use speedy_base::context::{Context, LittleEndian};
 use speedy_base::endianness::Endianness;
+use speedy_base::swaps::turned;
 
 impl Layout for u8 {
     ghost seen = { λ x. x };
@@ -73,7 +76,7 @@ impl FixedNumber for u16 {
 
     #[inline(always)]
     fn encode(self, order: Endianness, output: &mut [u8]) {
-        output.copy_from_slice(&order.bytes_of_u16(self));
+        output.copy_from_slice(&turned(order, self).to_le_bytes());
     }
 
     ghost fixed = { unsigned_fixed w16 };
@@ -109,7 +112,7 @@ impl FixedNumber for u32 {
 
     #[inline(always)]
     fn encode(self, order: Endianness, output: &mut [u8]) {
-        output.copy_from_slice(&order.bytes_of_u32(self));
+        output.copy_from_slice(&turned(order, self).to_le_bytes());
     }
 
     ghost fixed = { unsigned_fixed w32 };
@@ -145,7 +148,7 @@ impl FixedNumber for u64 {
 
     #[inline(always)]
     fn encode(self, order: Endianness, output: &mut [u8]) {
-        output.copy_from_slice(&order.bytes_of_u64(self));
+        output.copy_from_slice(&turned(order, self).to_le_bytes());
     }
 
     ghost fixed = { unsigned_fixed w64 };
@@ -181,7 +184,20 @@ impl FixedNumber for u128 {
 
     #[inline(always)]
     fn encode(self, order: Endianness, output: &mut [u8]) {
-        output.copy_from_slice(&order.bytes_of_u128(self));
+        // Two numbers of 64 bits are turned much faster than one of 128.
+        let low = (self % (1 << 64)) as u64;
+        let high = (self >> 64) as u64;
+        let (first, second) = output.split_at_mut(8);
+        match order {
+            Endianness::LittleEndian => {
+                low.encode(order, first);
+                high.encode(order, second);
+            }
+            Endianness::BigEndian => {
+                high.encode(order, first);
+                low.encode(order, second);
+            }
+        }
     }
 
     ghost fixed = { unsigned_fixed w128 };

@@ -8,6 +8,7 @@ use crate::reader::LendingReader;
 use speedy_base::context::Context;
 use speedy_base::endianness::Endianness;
 use speedy_base::error::error_invalid_enum_variant;
+use speedy_layout::fixed_numbers::FixedNumber;
 use std::convert::AsSlice;
 use std::net::{IpAddr, Ipv4Addr, Ipv6Addr};
 
@@ -18,7 +19,9 @@ impl Decode for Ipv4Addr {
 
     #[inline]
     fn decode<C: Context>(code: u32, _: bool) -> Result<Ipv4Addr, C::Error> {
-        Ok(Ipv4Addr::from(Endianness::BigEndian.bytes_of_u32(code)))
+        let mut octets = [0; 4];
+        code.encode(Endianness::BigEndian, &mut octets);
+        Ok(Ipv4Addr::from(octets))
     }
 
     ghost is_coded = { coded _ _ _ };
@@ -31,7 +34,9 @@ impl Decode for Ipv6Addr {
 
     #[inline]
     fn decode<C: Context>(code: u128, _: bool) -> Result<Ipv6Addr, C::Error> {
-        Ok(Ipv6Addr::from(Endianness::BigEndian.bytes_of_u128(code)))
+        let mut octets = [0; 16];
+        code.encode(Endianness::BigEndian, &mut octets);
+        Ok(Ipv6Addr::from(octets))
     }
 
     ghost is_coded = { coded _ _ _ };

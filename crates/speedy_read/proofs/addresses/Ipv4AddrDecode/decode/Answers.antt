@@ -1,4 +1,4 @@
-use Rattle.std.proofs.Common.{sym, subst}
+use Rattle.std.proofs.Common.{arith, sym, subst}
 use Rattle.speedy_base.specs.declared.endianness.Endianness.TheVariants.{BigEndian}
 use Rattle.speedy_base.specs.Digits.{EncodesNumber}
 use Rattle.speedy_read.specs.Decoding.{decoded_exactly}
@@ -6,4 +6,7 @@ use Rattle.speedy_read.proofs.addresses.Ipv4AddrDecode.decode.Goals as goal
 
 pub returns : goal.returns
 returns g c =
-    decoded_exactly _ _ (subst (EncodesNumber 4 BigEndian c.args.code) (sym c.from.ensures) c.bytes_of_u32.ensures)
+    let put = c.encode.ensures in
+    let octets : EncodesNumber 4 BigEndian c.args.code c.encode.new.output =
+    record { width_is = omega arith; are_bytes = put.bytes; value_is = put.number } in
+    decoded_exactly _ _ (subst (EncodesNumber 4 BigEndian c.args.code) (sym c.from.ensures) octets)
