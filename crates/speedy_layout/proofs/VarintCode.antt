@@ -5,7 +5,7 @@ use Rattle.std.proofs.Math.Pow.{pow_mono}
 use Rattle.std.proofs.Math.Nat.{pow-suc, one-le-pow, mul-zero}
 use Rattle.std.proofs.lemmas.Bool.{cases_lt}
 use Rattle.std.specs.Int.{w64, from_le_bytes}
-use Rattle.std.proofs.lemmas.Nat.{leading_length, mod-mul-add, div_below, shl_whole}
+use Rattle.std.proofs.lemmas.Nat.{leading_length, div-mul-add, mod-mul-add, div_below, pow-add, pow_pos, shl_whole}
 use lib.Count.{count_leading_zeros}
 use Rattle.std.proofs.lemmas.List.{take-append-drop, length-take-le, length-append, length-drop}
 use Rattle.speedy_base.specs.declared.endianness.Endianness.TheVariants.{LittleEndian}
@@ -13,34 +13,16 @@ use Rattle.speedy_base.specs.Digits.{EncodesNumber, number, little_number, AreBy
 use Rattle.speedy_base.specs.DigitsLemmas.{little_number-append, little_number-from_le_bytes, AreBytes-append_parts}
 use Rattle.speedy_base.specs.DigitsLemmas.{little_number-below}
 use Rattle.speedy_base.specs.Mode.{Mode}
-use Rattle.speedy_layout.specs.Varint.{IsFirstByte, StartsVarint, HasNoShorter, varint, capacity}
+use Rattle.speedy_layout.specs.Varint.{IsFirstByte, StartsVarint, HasNoShorter, varint, byte_power, capacity}
 use Rattle.speedy_layout.proofs.VarintForms.{varint-written}
 
 -- the mark of n leading ones
 pub mark : (k : ℕ) → k ≤ 8 → 256 / 2 ^ k ≡ 2 ^ (8 - k)
-mark zero l = refl
-mark (suc zero) l = refl
-mark (suc (suc zero)) l = refl
-mark (suc (suc (suc zero))) l = refl
-mark (suc (suc (suc (suc zero)))) l = refl
-mark (suc (suc (suc (suc (suc zero))))) l = refl
-mark (suc (suc (suc (suc (suc (suc zero)))))) l = refl
-mark (suc (suc (suc (suc (suc (suc (suc zero))))))) l = refl
-mark (suc (suc (suc (suc (suc (suc (suc (suc zero)))))))) l = refl
-mark (suc (suc (suc (suc (suc (suc (suc (suc (suc k))))))))) l = absurd (omega arith)
-
--- shifts by whole bytes
-pub byte_power : (k : ℕ) → k ≤ 8 → 2 ^ (8 * k) ≡ 256 ^ k
-byte_power zero l = refl
-byte_power (suc zero) l = refl
-byte_power (suc (suc zero)) l = refl
-byte_power (suc (suc (suc zero))) l = refl
-byte_power (suc (suc (suc (suc zero)))) l = refl
-byte_power (suc (suc (suc (suc (suc zero))))) l = refl
-byte_power (suc (suc (suc (suc (suc (suc zero)))))) l = refl
-byte_power (suc (suc (suc (suc (suc (suc (suc zero))))))) l = refl
-byte_power (suc (suc (suc (suc (suc (suc (suc (suc zero)))))))) l = refl
-byte_power (suc (suc (suc (suc (suc (suc (suc (suc (suc k))))))))) l = absurd (omega arith)
+mark k l =
+    let bits : 8 ≡ (8 - k) + k = omega arith in
+    let whole = ap (λ (i : ℕ). 2 ^ i) bits ∙ pow-add 2 (8 - k) k in
+    let parts : 256 ≡ 2 ^ (8 - k) * 2 ^ k + 0 = omega arith in
+    ap (λ (i : ℕ). i / 2 ^ k) parts ∙ div-mul-add (2 ^ (8 - k)) (2 ^ k) 0 (pow_pos k)
 
 -- a number of n bits needs m bytes after the first one
 pub no_shorter_from_power : (k n : ℕ) → (0 < k → 2 ^ (7 * k) ≤ n) → HasNoShorter k n
@@ -227,4 +209,4 @@ high_below_eight k low x l h =
     let up : 2 ^ ((7 - k) + 8 * k) ≤ 2 ^ 64 = pow_mono {i = (7 - k) + 8 * k} {j = 64} (omega arith) in
     ap (λ (i : ℕ). (i * 2 ^ (8 * k)) % 2 ^ 64) (low_is k low x h)
     ∙ (shl_whole low (7 - k) (8 * k) 64 h.low_is_below (omega arith)
-    ∙ ap (λ (i : ℕ). low * i) (byte_power k h.at_most_eight))
+    ∙ ap (λ (i : ℕ). low * i) (byte_power k))

@@ -7,7 +7,7 @@ use Rattle.speedy_base.specs.declared.error.ErrorKind.TheVariants as kinds
 use Rattle.speedy_layout.specs.Codecs.{Codec, borrowed_codec, subset_codec, vector_codec}
 use Rattle.speedy_layout.specs.Codes.{coding, Accepts-exact_means}
 use Rattle.speedy_layout.specs.Format.{Asks, asks_nothing, Format, IsOwnKind}
-use Rattle.speedy_layout.specs.Laws.{Laws, Laws-less}
+use Rattle.speedy_layout.specs.Laws.{Laws, Laws-less, Laws-refusing}
 use Rattle.speedy_layout.specs.Lists.{vector_asks, vector_length}
 use Rattle.speedy_layout.specs.Owned.{borrowed_content, owned_content}
 use Rattle.speedy_layout.specs.Sequences.{AsksAtMost, sequence, sequence_laws}
@@ -40,19 +40,9 @@ other_length_own field _ h = absurd h
 
 pub told_length_laws : {V : Type 0} {strict : Bool} {least : ℕ} {F : Format V} (field : List ℕ)
     → Laws strict least F → Laws strict least (told_length field F)
-told_length_laws field laws = record {
-  decodes = laws.decodes;
-  tells = laws.tells;
-  written_encodes = laws.written_encodes;
-  written_alone = laws.written_alone;
-  shortest = laws.shortest;
-  least_size = laws.least_size;
-  has_written = laws.has_written;
-  one_written = laws.one_written;
-  malformed_undecodable = laws.malformed_undecodable;
-  names_own = laws.names_own;
-  refuses_own = λ kind h. elim h [ inl x ↦ other_length_own field kind x | inr x ↦ laws.refuses_own kind x ];
-}
+told_length_laws {F = F} field laws =
+    Laws-refusing (λ kind. IsOtherLength field kind ⊎ F.refuses_writing kind)
+    (λ kind h. elim h [ inl x ↦ other_length_own field kind x | inr x ↦ laws.refuses_own kind x ]) laws
 
 -- Parts that tell a length. Where they tell none, they are refused as a length that is out of range.
 abbrev pub told_codec : {B : Type 0} → (B → Type 0) → Codec B → Codec B

@@ -5,7 +5,7 @@ use Rattle.std.proofs.Common.{sym, ◌∙◌, ap, ap₂, subst, inl, inr, lit<, 
 use Rattle.std.proofs.Math.Nat.{pow-suc, one-le-pow}
 use Rattle.std.proofs.Math.Pow.{pow_mono}
 use Rattle.std.proofs.lemmas.Bool.{cases_lt}
-use Rattle.std.proofs.lemmas.Nat.{div_below, mod_below, mul-le, div-add-mod', same_from_place}
+use Rattle.std.proofs.lemmas.Nat.{div_below, mod_below, mul-le, div-add-mod', pow-add, same_from_place}
 use Rattle.speedy_base.specs.declared.endianness.Endianness.TheVariants.{LittleEndian}
 use Rattle.speedy_base.specs.Digits.{EncodesNumber, digits}
 use Rattle.speedy_base.specs.DigitsLemmas.{EncodesNumber-below, EncodesNumber-digits, EncodesNumber-one_byte}
@@ -105,17 +105,22 @@ StartsVarint-byte k x h =
 
 -- ---- how much n bytes hold
 
+-- a byte has eight bits
+pub byte_power : (k : ℕ) → 2 ^ (8 * k) ≡ 256 ^ k
+byte_power zero = refl
+byte_power (suc k) =
+    let eight_more : 8 * suc k ≡ 8 + 8 * k = omega arith in
+    let split = ap (λ (i : ℕ). 2 ^ i) eight_more ∙ pow-add 2 8 (8 * k) in
+    let rest = byte_power k in
+    let one_more = pow-suc 256 k in
+    omega arith
+
 -- up to 7 bytes after the first one hold what is below this power
 pub capacity : (k : ℕ) → k ≤ 7 → 2 ^ (7 - k) * 256 ^ k ≡ 2 ^ (7 * (k + 1))
-capacity zero l = refl
-capacity (suc zero) l = refl
-capacity (suc (suc zero)) l = refl
-capacity (suc (suc (suc zero))) l = refl
-capacity (suc (suc (suc (suc zero)))) l = refl
-capacity (suc (suc (suc (suc (suc zero))))) l = refl
-capacity (suc (suc (suc (suc (suc (suc zero)))))) l = refl
-capacity (suc (suc (suc (suc (suc (suc (suc zero))))))) l = refl
-capacity (suc (suc (suc (suc (suc (suc (suc (suc k)))))))) l = absurd (omega arith)
+capacity k l =
+    let bits : (7 - k) + 8 * k ≡ 7 * (k + 1) = omega arith in
+    ap (λ (i : ℕ). 2 ^ (7 - k) * i) (sym (byte_power k))
+    ∙ (sym (pow-add 2 (7 - k) (8 * k)) ∙ ap (λ (i : ℕ). 2 ^ i) bits)
 
 -- and 8 hold what is below 2 ^ 64
 pub capacity-below_64 : (k n : ℕ) → k ≤ 8 → n < 2 ^ (7 - k) * 256 ^ k → n < 2 ^ 64

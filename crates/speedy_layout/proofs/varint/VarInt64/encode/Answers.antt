@@ -2,9 +2,9 @@ use Rattle.std.proofs.Common.{◌≡◌, ℕ, ◌+◌, ◌-◌, ◌/◌, ◌^◌
 use Rattle.std.specs.Int.{w64}
 use Rattle.speedy_base.specs.declared.endianness.Endianness.TheVariants.{LittleEndian}
 use Rattle.speedy_base.specs.DigitsLemmas.{listed-all, EncodesNumber-to_le_bytes}
-use Rattle.speedy_layout.specs.Varint.{capacity-below_64}
+use Rattle.speedy_layout.specs.Varint.{byte_power, capacity-below_64}
 use Rattle.speedy_layout.specs.Zigzag.{varint_number}
-use Rattle.speedy_layout.proofs.VarintCode.{byte_power, low_below, no_low, first_byte_is, first_byte_fits, written}
+use Rattle.speedy_layout.proofs.VarintCode.{low_below, no_low, first_byte_is, first_byte_fits, written}
 use Rattle.speedy_layout.proofs.varint.VarInt64.encode.Goals as goal
 use Rattle.speedy_layout.proofs.varint.VarInt64.encode.Goals.{then-more-lt8, else-more-lt8}
 
@@ -12,7 +12,7 @@ low_is : (c : goal.After-row_known-1) → c.if-more-lt8.low ≡ varint_number c.
 low_is c =
     elim c.if-more-lt8.branch [
       | then-more-lt8 w ↦ w.low-is ∙ ap (λ (i : ℕ). varint_number c.args.self / i)
-          (byte_power c.more_bytes-more.result c.more_bytes-more.ensures.at_most_eight)
+          (byte_power c.more_bytes-more.result)
       | else-more-lt8 w ↦ w.low-is ∙ no_low c.more_bytes-more.result (varint_number c.args.self)
           c.more_bytes-more.ensures.at_most_eight w.if-more-lt8.false c.more_bytes-more.ensures.enough
     ]
@@ -36,7 +36,7 @@ low_is_still : (c : goal.After-to_le_bytes-digits)
 low_is_still c =
     elim c.if-more-lt8.branch [
       | then-more-lt8 w ↦ w.low-is ∙ ap (λ (i : ℕ). varint_number c.args.self / i)
-          (byte_power c.more_bytes-more.result c.more_bytes-more.ensures.at_most_eight)
+          (byte_power c.more_bytes-more.result)
       | else-more-lt8 w ↦ w.low-is ∙ no_low c.more_bytes-more.result (varint_number c.args.self)
           c.more_bytes-more.ensures.at_most_eight w.if-more-lt8.false c.more_bytes-more.ensures.enough
     ]
