@@ -28,10 +28,10 @@ impl VarInt64 {
         ensures written { (e : Mode) →
             (varint e).writes (varint_number self) (take result.1 result.0) }
     {
+        let digits = self.0.to_le_bytes();
         let more = more_bytes(self.0);
         let low = if more < 8 { self.0 >> (8 * more) } else { 0 };
         let first = (256 - (256_u64 >> more) + low) as u8;
-        let digits = self.0.to_le_bytes();
         (
             [
                 first, digits[0], digits[1], digits[2], digits[3], digits[4], digits[5], digits[6],

@@ -31,16 +31,6 @@ overflow_add-first c = let small = fits c in omega arith
 pub overflow_cast-first : goal.overflow_cast-first
 overflow_cast-first c = let small = fits c in omega arith
 
-low_is_still : (c : goal.After-to_le_bytes-digits)
-    → c.if-more-lt8.low ≡ varint_number c.args.self / 256 ^ c.more_bytes-more.result
-low_is_still c =
-    elim c.if-more-lt8.branch [
-      | then-more-lt8 w ↦ w.low-is ∙ ap (λ (i : ℕ). varint_number c.args.self / i)
-          (byte_power c.more_bytes-more.result)
-      | else-more-lt8 w ↦ w.low-is ∙ no_low c.more_bytes-more.result (varint_number c.args.self)
-          c.more_bytes-more.ensures.at_most_eight w.if-more-lt8.false c.more_bytes-more.ensures.enough
-    ]
-
 pub returns-clause-written : goal.returns-clause-written
 returns-clause-written c = λ e.
     let n = varint_number c.args.self in
@@ -50,4 +40,4 @@ returns-clause-written c = λ e.
     let width = digits.width_is in
     written e n c.more_bytes-more.result c.if-more-lt8.low c.to_le_bytes-digits.result _
     c.more_bytes-more.ensures.at_most_eight c.more_bytes-more.ensures.enough c.more_bytes-more.ensures.no_shorter
-    (low_is_still c) digits (listed-all c.to_le_bytes-digits.result 8 width)
+    (low_is c) digits (listed-all c.to_le_bytes-digits.result 8 width)
