@@ -1,5 +1,5 @@
 -- Which bytes stand for which values.
-use Rattle.std.specs.Prelude.{◌≡◌, ℕ, List, [], ◌∷◌, ◌++◌, Bool, false, ◌||◌}
+use Rattle.std.specs.Prelude.{◌≡◌, ℕ, List, [], ◌∷◌, ◌++◌, Bool, false, ◌||◌, refl}
 use Rattle.speedy_base.specs.declared.error.ErrorKind.{ErrorKind}
 use Rattle.speedy_base.specs.declared.error.ErrorKind.TheVariants as kinds
 
@@ -55,6 +55,17 @@ pub record Parts (first second : List ℕ → Type 0) (bytes : List ℕ) : Type 
   pub whole_is : bytes ≡ prefix ++ suffix
   pub first_is : first prefix
   pub second_is : second suffix
+
+-- and two parts make such bytes
+abbrev pub Parts-joined : {first second : List ℕ → Type 0} (prefix suffix : List ℕ) → first prefix → second suffix
+    → Parts first second (prefix ++ suffix)
+Parts-joined prefix suffix first_is second_is = record {
+  prefix = prefix;
+  suffix = suffix;
+  whole_is = refl;
+  first_is = first_is;
+  second_is = second_is;
+}
 
 -- the bytes are an encoding of each item, one after the other
 abbrev pub Each : {V : Type 0} → (V → List ℕ → Type 0) → List V → List ℕ → Type 0

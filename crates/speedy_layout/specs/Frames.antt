@@ -8,7 +8,7 @@ use Rattle.speedy_base.specs.declared.error.ErrorKind.TheVariants as kinds
 use Rattle.speedy_base.specs.Mode.{Mode}
 use Rattle.speedy_layout.specs.Codecs.{Codec}
 use Rattle.speedy_layout.specs.Codes.{Code, IsCode, coding, coding_laws}
-use Rattle.speedy_layout.specs.Format.{Asks, Format, IsOwnKind}
+use Rattle.speedy_layout.specs.Format.{Asks, Format, IsOwnKind, Parts-joined}
 use Rattle.speedy_layout.specs.Laws.{Laws, Laws-less, Laws-refusing}
 use Rattle.speedy_layout.specs.Numbers.{WritesSmaller}
 use Rattle.speedy_layout.specs.Prefixed.{Numbers, Behind}
@@ -81,7 +81,7 @@ shorter_frame asks laws smaller u w s fewer h =
     let whole = ap length h.whole_is ∙ length-append h.prefix h.suffix in
     let suffix = h.second_is.1 in (
       n.0 ++ u,
-      record { prefix = n.0; suffix = u; whole_is = refl; first_is = n.1; second_is = (refl, refl) },
+      Parts-joined n.0 u n.1 (refl, refl),
       omega arith,
     )
 

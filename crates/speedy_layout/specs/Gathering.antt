@@ -3,7 +3,7 @@ use Rattle.std.specs.Prelude.{◌≡◌, ℕ, ◌+◌, ◌≤◌, List, [], ◌�
 use Rattle.std.proofs.Common.{sym, ◌∙◌, ap, subst, inl, inr, arith}
 use Rattle.std.proofs.lemmas.List.{length-append}
 use Rattle.speedy_base.specs.Mode.{Mode}
-use Rattle.speedy_layout.specs.Format.{Format, Each}
+use Rattle.speedy_layout.specs.Format.{Format, Each, Parts-joined}
 use Rattle.speedy_layout.specs.Laws.{Laws, Codec, Laws-asking, Decided}
 use Rattle.speedy_layout.specs.Codes.{Code, Coded, IsCode, coding, coding_laws}
 use Rattle.speedy_layout.specs.Numbers.{WritesSmaller}
@@ -95,13 +95,7 @@ module _ {V : Type 0} (encodes : V → List ℕ → Type 0) where
         item = t.item;
         item_is = t.item_is;
         rest = h.prefix ++ t.rest;
-        rest_is = record {
-          prefix = h.prefix;
-          suffix = t.rest;
-          whole_is = refl;
-          first_is = h.first_is;
-          second_is = t.rest_is;
-        };
+        rest_is = Parts-joined h.prefix t.rest h.first_is t.rest_is;
         size_is = omega arith;
       }
 
@@ -139,13 +133,7 @@ module _ {V : Type 0} (encodes : V → List ℕ → Type 0) where
       let q = length-append a.before a.after in
       record {
         shorter = t.item ++ w.shorter;
-        encoded = record {
-          prefix = t.item;
-          suffix = w.shorter;
-          whole_is = refl;
-          first_is = t.item_is;
-          second_is = w.encoded;
-        };
+        encoded = Parts-joined t.item w.shorter t.item_is w.encoded;
         size = omega arith;
         count = omega arith;
       }
@@ -194,13 +182,7 @@ module _ {E S : Type 0} {hashed : Bool} {stands : List E → S → Type 0} {writ
       (is.form_inside xs h.code s is_written stands_for h.stands) h.code_is.second_is.1 in
       let n = smaller (length xs) (length h.code) h.code_is.prefix w.count h.code_is.first_is in (
         n.0 ++ w.shorter,
-        record {
-          prefix = n.0;
-          suffix = w.shorter;
-          whole_is = refl;
-          first_is = numbers.written_encodes (length xs) n.0 n.1;
-          second_is = (refl, w.encoded);
-        },
+        Parts-joined n.0 w.shorter (numbers.written_encodes (length xs) n.0 n.1) (refl, w.encoded),
       )
 
   -- and there is one

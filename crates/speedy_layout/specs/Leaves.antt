@@ -10,7 +10,7 @@ use Rattle.speedy_base.specs.declared.error.ErrorKind.TheVariants as kinds
 use Rattle.speedy_base.specs.Digits.{digits}
 use Rattle.speedy_base.specs.DigitsLemmas.{EncodesNumber-digits}
 use Rattle.speedy_base.specs.Mode.{Mode}
-use Rattle.speedy_layout.specs.Format.{Format}
+use Rattle.speedy_layout.specs.Format.{Format, Parts-joined}
 use Rattle.speedy_layout.specs.Laws.{Codec}
 use Rattle.speedy_layout.specs.Codes.{Code, IsCode, ReadsWider, coding_codec, exact_code, exact_is_code, one_kind}
 use Rattle.speedy_layout.specs.Codes.{subset_codec}
@@ -110,13 +110,8 @@ duration_is_code mode = record {
         digits mode.order 8 s ++ digits mode.order 4 m,
         record {
           code = (s, m);
-          code_is = record {
-            prefix = digits mode.order 8 s;
-            suffix = digits mode.order 4 m;
-            whole_is = refl;
-            first_is = EncodesNumber-digits 8 mode.order s (omega arith);
-            second_is = EncodesNumber-digits 4 mode.order m (omega arith);
-          };
+          code_is = Parts-joined (digits mode.order 8 s) (digits mode.order 4 m)
+              (EncodesNumber-digits 8 mode.order s (omega arith)) (EncodesNumber-digits 4 mode.order m (omega arith));
           stands = (omega arith, fits, omega arith);
         },
       );

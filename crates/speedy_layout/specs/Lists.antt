@@ -3,7 +3,7 @@ use Rattle.std.specs.Prelude.{◌≡◌, ℕ, zero, suc, ◌+◌, ◌*◌, ◌�
 use Rattle.std.proofs.Common.{sym, ◌∙◌, ap, ap₂, subst, inl, inr, arith}
 use Rattle.std.proofs.lemmas.List.{append_assoc, append-nil, length-append}
 use Rattle.speedy_base.specs.Mode.{Mode}
-use Rattle.speedy_layout.specs.Format.{Format, Each}
+use Rattle.speedy_layout.specs.Format.{Format, Each, Parts-joined}
 use Rattle.speedy_layout.specs.Laws.{Laws, Codec, Laws-less, saturated_size, saturated_laws, Decided}
 use Rattle.speedy_layout.specs.Numbers.{unsigned_number, unsigned_number_laws}
 use Rattle.speedy_layout.specs.Owned.{owned_content, owned_content_laws}
@@ -123,7 +123,7 @@ module _ {V : Type 0} {strict : Bool} {least : ℕ} {F : Format V} (laws : Laws 
       let first = laws.has_written v h.prefix h.first_is in
       let more = each_has_written vs h.suffix h.second_is in (
         first.0 ++ more.0,
-        record { prefix = first.0; suffix = more.0; whole_is = refl; first_is = first.1; second_is = more.1 },
+        Parts-joined first.0 more.0 first.1 more.1,
       )
 
   -- just one, where no item is hashed

@@ -2,7 +2,7 @@
 use Rattle.std.specs.Prelude.{◌≡◌, ℕ, ◌+◌, List, [], ◌++◌, length, Bool, true, false, IsTrue, ◌||◌, ◌⊎◌, refl}
 use Rattle.std.proofs.Common.{sym, ◌∙◌, ap, subst, arith, inl, inr}
 use Rattle.std.proofs.lemmas.List.{append_assoc, length-append}
-use Rattle.speedy_layout.specs.Format.{Asks, asks_nothing, either_asks, Format, Parts}
+use Rattle.speedy_layout.specs.Format.{Asks, asks_nothing, either_asks, Format, Parts, Parts-joined}
 use Rattle.speedy_layout.specs.Laws.{Laws}
 
 -- what is asked no more than that
@@ -170,7 +170,7 @@ module _ {U V : Type 0} {W : U → Type 0} {split : V → (u : U) × W u} {L : F
         let first = laws.has_written (split v).0 h.prefix h.first_is in
         let second = (more (split v).0).has_written (split v).1 h.suffix h.second_is in (
           first.0 ++ second.0,
-          record { prefix = first.0; suffix = second.0; whole_is = refl; first_is = first.1; second_is = second.1 },
+          Parts-joined first.0 second.0 first.1 second.1,
         );
     one_written = λ u v b c h k.
         let no = neither L.asks.hashed asks.hashed u in

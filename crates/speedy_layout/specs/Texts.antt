@@ -9,7 +9,7 @@ use Rattle.speedy_base.specs.declared.endianness.Endianness.{Endianness}
 use Rattle.speedy_base.specs.Digits.{EncodesNumber, AreBytes}
 use Rattle.speedy_base.specs.DigitsLemmas.{EncodesNumber-one_byte, EncodesNumber-is_one_byte}
 use Rattle.speedy_base.specs.Mode.{Mode}
-use Rattle.speedy_layout.specs.Format.{asks_nothing, Format, plain_format, Each, IsOwnKind}
+use Rattle.speedy_layout.specs.Format.{asks_nothing, Format, plain_format, Each, IsOwnKind, Parts-joined}
 use Rattle.speedy_layout.specs.Laws.{Laws, Codec, Laws-less, plain_laws}
 use Rattle.speedy_layout.specs.Codes.{subset, subset_codec, coding, coding_laws, exact_code, exact_is_code}
 use Rattle.speedy_layout.specs.Numbers.{unsigned_number, unsigned_codec, same_prefixes}
@@ -108,13 +108,8 @@ text_codec = record { least = 4; format = text; laws = text_laws }
 -- bytes are numbers of one digit each
 pub each_byte : (order : Endianness) (bytes : List ℕ) → AreBytes bytes → Each (EncodesNumber 1 order) bytes bytes
 each_byte order [] h = refl
-each_byte order (b ∷ bytes) h = record {
-  prefix = b ∷ [];
-  suffix = bytes;
-  whole_is = refl;
-  first_is = EncodesNumber-one_byte order b h.0;
-  second_is = each_byte order bytes h.1;
-}
+each_byte order (b ∷ bytes) h =
+    Parts-joined (b ∷ []) bytes (EncodesNumber-one_byte order b h.0) (each_byte order bytes h.1)
 
 -- and such numbers are the bytes that encode them
 pub each_byte_is : (order : Endianness) (vs bytes : List ℕ) → Each (EncodesNumber 1 order) vs bytes → vs ≡ bytes

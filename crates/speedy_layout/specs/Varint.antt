@@ -11,7 +11,7 @@ use Rattle.speedy_base.specs.Digits.{EncodesNumber, digits}
 use Rattle.speedy_base.specs.DigitsLemmas.{EncodesNumber-below, EncodesNumber-digits, EncodesNumber-one_byte}
 use Rattle.speedy_base.specs.DigitsLemmas.{EncodesNumber-is_one_byte}
 use Rattle.speedy_base.specs.Mode.{Mode}
-use Rattle.speedy_layout.specs.Format.{asks_nothing, Format}
+use Rattle.speedy_layout.specs.Format.{asks_nothing, Format, Parts-joined}
 use Rattle.speedy_layout.specs.Laws.{Laws, Codec, Laws-less}
 use Rattle.speedy_layout.specs.Codes.{Code, IsCode, coding, coding_codec, exact_code, exact_is_code}
 use Rattle.speedy_layout.specs.Codes.{Accepts-exact_means, Accepts-is, Accepts-means}
@@ -225,17 +225,10 @@ prefixed_unhashed mode = refl
 pub prefixed_written : (mode : Mode) (k low rest first : ℕ) (tail : List ℕ) → IsFirstByte k low first
     → EncodesNumber k LittleEndian rest tail → (prefixed_digits.format mode).writes ((k, low), rest) (first ∷ tail)
 unfolding sequence coding unsigned_number
-prefixed_written mode k low rest first tail h digits = record {
-  prefix = first ∷ [];
-  suffix = tail;
-  whole_is = refl;
-  first_is = record {
-    code = first;
-    code_is = EncodesNumber-one_byte mode.order first (StartsVarint-byte k first (low, h));
-    stands = h;
-  };
-  second_is = digits;
-}
+prefixed_written mode k low rest first tail h digits =
+    let is_byte = StartsVarint-byte k first (low, h) in
+    Parts-joined (first ∷ []) tail
+    (record { code = first; code_is = EncodesNumber-one_byte mode.order first is_byte; stands = h }) digits
 
 -- and as they are read
 pub prefixed-encoded : (mode : Mode) (k low rest first : ℕ) (tail : List ℕ) → IsFirstByte k low first

@@ -11,7 +11,7 @@ use Rattle.speedy_base.specs.DigitsLemmas.{EncodesNumber-one_byte}
 use Rattle.speedy_base.specs.Mode.{Mode}
 use Rattle.speedy_layout.specs.Codes.{Accepts-is, coding}
 use Rattle.speedy_layout.specs.Flags.{flag, flag_code}
-use Rattle.speedy_layout.specs.Format.{Each}
+use Rattle.speedy_layout.specs.Format.{Each, Parts-joined}
 use Rattle.speedy_layout.specs.Lists.{repeat, vector}
 use Rattle.speedy_layout.specs.Numbers.{unsigned_number}
 use Rattle.speedy_layout.specs.Owned.{owned_content}
@@ -27,17 +27,11 @@ each_flag : (mode : Mode) → mode.strict ≡ false → (bytes : List ℕ) → A
     → Each (flag mode).encodes (map (λ n. not (nat_eq n 0)) bytes) bytes
 unfolding coding unsigned_number
 each_flag mode plain [] are = refl
-each_flag mode plain (b ∷ bytes) are = record {
-  prefix = b ∷ [];
-  suffix = bytes;
-  whole_is = refl;
-  first_is = record {
-    code = b;
-    code_is = EncodesNumber-one_byte mode.order b are.0;
-    stands = Accepts-is mode.strict flag_code b (not (nat_eq b 0)) (number_is_flag b) (λ strict. absurd (cc));
-  };
-  second_is = each_flag mode plain bytes are.1;
-}
+each_flag mode plain (b ∷ bytes) are =
+    let is = Accepts-is mode.strict flag_code b (not (nat_eq b 0)) (number_is_flag b) (λ strict. absurd (cc)) in
+    Parts-joined (b ∷ []) bytes
+    (record { code = b; code_is = EncodesNumber-one_byte mode.order b are.0; stands = is })
+    (each_flag mode plain bytes are.1)
 
 -- and flags are encoded by bytes alone
 flag_bytes : (mode : Mode) (flags : List Bool) (s : List ℕ) → Each (flag mode).encodes flags s

@@ -5,7 +5,7 @@ use Rattle.std.proofs.lemmas.List.{append_assoc}
 use Rattle.speedy_base.specs.declared.error.ErrorKind.{ErrorKind}
 use Rattle.speedy_base.specs.declared.error.Error.{Error}
 use Rattle.speedy_base.specs.Error.{IsNamed-more}
-use Rattle.speedy_layout.specs.Format.{Asks, Format, Parts}
+use Rattle.speedy_layout.specs.Format.{Asks, Format, Parts, Parts-joined}
 use Rattle.speedy_layout.specs.Laws.{Laws}
 use Rattle.speedy_layout.specs.Sequences.{AsksAtMost, asks_same, asks_left, asks_right, asks_after, sequence}
 use Rattle.speedy_layout.specs.Tuples.{pair}
@@ -37,7 +37,7 @@ sequence_composes {U = U} {W = W} split {L = L} {asks = asks} {M = M} within suf
   joins = λ u w s t h k.
       let whole : (u : U) × W u = (u, w) in
       subst (λ (p : (u : U) × W u). Parts (L.encodes p.0) ((M p.0).encodes p.1) (s ++ t)) (sym (suffix u w t k))
-      (record { prefix = s; suffix = t; whole_is = refl; first_is = h; second_is = k });
+      (Parts-joined s t h k);
   splits = λ v s h. ((split v).0, (split v).1, h);
   names_first = λ kind h. inl h;
   names_second = λ u kind h. inr (u, h);

@@ -7,7 +7,7 @@ use Rattle.speedy_base.specs.Mode.{Mode}
 use Rattle.speedy_base.specs.Error.{passed_on}
 use Rattle.speedy_layout.specs.Codecs.{Codec}
 use Rattle.speedy_layout.specs.Codes.{coding, Accepts-means}
-use Rattle.speedy_layout.specs.Format.{Format}
+use Rattle.speedy_layout.specs.Format.{Format, Parts-joined}
 use Rattle.speedy_layout.specs.Frames.{frame, frame_behind, frame_code, AreCounted}
 use Rattle.speedy_layout.specs.Laws.{Laws}
 use Rattle.speedy_layout.specs.Prefixed.{Numbers}
@@ -89,13 +89,8 @@ module _ {E V : Type 0} {gives : Error → E → Type 0} (numbers : Numbers) (va
       let fewer = laws.shortest v bytes k.0 takes.1 k.2 in
       let number = numbers.smaller f n (length k.0) k.1 (omega arith) k.4 in (
         number.0 ++ bytes,
-        record {
-          prefix = number.0;
-          suffix = bytes;
-          whole_is = refl;
-          first_is = (numbers.codec.laws f).written_encodes n number.0 number.1;
-          second_is = laws.written_encodes v bytes takes.1;
-        },
+        Parts-joined number.0 bytes ((numbers.codec.laws f).written_encodes n number.0 number.1)
+            (laws.written_encodes v bytes takes.1),
       ))
       w
 

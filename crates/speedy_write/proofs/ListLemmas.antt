@@ -11,7 +11,7 @@ use Rattle.speedy_base.specs.declared.endianness.Endianness.{Endianness}
 use Rattle.speedy_base.specs.Digits.{AreBytes}
 use Rattle.speedy_base.specs.Error.{passed_on}
 use Rattle.speedy_base.specs.Mode.{Mode}
-use Rattle.speedy_layout.specs.Format.{Format, Parts, Each}
+use Rattle.speedy_layout.specs.Format.{Format, Parts, Each, Parts-joined}
 use Rattle.speedy_layout.specs.Laws.{Laws}
 use Rattle.speedy_layout.specs.Lists.{each_append, repeat, repeat_laws}
 use Rattle.speedy_layout.specs.Numbers.{unsigned_number, unsigned_number_laws}
@@ -28,20 +28,14 @@ module _ {V : Type 0} (R : V → List ℕ → Type 0) where
       subst (Each R (xs ++ ys)) (sym p.whole_is) (each_append R xs ys p.prefix p.suffix p.first_is p.second_is)
 
   pub Each-parts : (xs ys : List V) (b : List ℕ) → Each R (xs ++ ys) b → Parts (Each R xs) (Each R ys) b
-  Each-parts [] ys b h = record { prefix = []; suffix = b; whole_is = refl; first_is = refl; second_is = h }
+  Each-parts [] ys b h = Parts-joined [] b refl h
   Each-parts (x ∷ xs) ys b h =
       let r = Each-parts xs ys h.suffix h.second_is in
       record {
         prefix = h.prefix ++ r.prefix;
         suffix = r.suffix;
         whole_is = h.whole_is ∙ (ap (λ z. h.prefix ++ z) r.whole_is ∙ sym (append_assoc h.prefix r.prefix r.suffix));
-        first_is = record {
-          prefix = h.prefix;
-          suffix = r.prefix;
-          whole_is = refl;
-          first_is = h.first_is;
-          second_is = r.first_is;
-        };
+        first_is = Parts-joined h.prefix r.prefix h.first_is r.first_is;
         second_is = r.second_is;
       }
 

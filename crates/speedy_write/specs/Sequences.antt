@@ -9,7 +9,7 @@ use Rattle.speedy_base.specs.DeviceLemmas.{fault_after}
 use Rattle.speedy_base.specs.Mode.{Mode}
 use Rattle.speedy_base.specs.Error.{error_of, IsNamed-more, passed_on}
 use Rattle.speedy_base.specs.FailedCalls.{IsOfFault}
-use Rattle.speedy_layout.specs.Format.{Format, Parts, Asks}
+use Rattle.speedy_layout.specs.Format.{Format, Parts, Asks, Parts-joined}
 use Rattle.speedy_layout.specs.Laws.{Laws}
 use Rattle.speedy_layout.specs.Sequences.{sequence}
 use Rattle.speedy_layout.specs.Tuples.{unit}
@@ -92,13 +92,7 @@ Put-both {old = old} join p q =
     let l = length-append p.bytes q.bytes in
     record {
       bytes = p.bytes ++ q.bytes;
-      is_written = record {
-        prefix = p.bytes;
-        suffix = q.bytes;
-        whole_is = refl;
-        first_is = p.is_written;
-        second_is = q.is_written;
-      };
+      is_written = Parts-joined p.bytes q.bytes p.is_written q.is_written;
       is_appended = join p.bytes q.bytes p.is_appended q.is_appended;
       fits = subst (λ n. Fits n old.space) (sym l)
           (fits_both old.space (length p.bytes) (length q.bytes) p.fits (subst (Fits (length q.bytes)) p.space q.fits));
