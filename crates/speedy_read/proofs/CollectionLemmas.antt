@@ -9,17 +9,17 @@ use Rattle.speedy_base.specs.Error.{error_of, passed_on}
 use Rattle.speedy_layout.specs.Format.{Format, Each}
 use Rattle.speedy_layout.specs.Laws.{Laws, Codec}
 use Rattle.speedy_layout.specs.Codes.{Code, ReadsWider, coding, Accepts-is, Accepts-demanded}
-use Rattle.speedy_layout.specs.Sequences.{across, sequence, asks_after, asks_hashed, Parts-as}
+use Rattle.speedy_layout.specs.Sequences.{across, asks_after, asks_hashed}
 use Rattle.speedy_layout.specs.Gathering.{gathering, items_of, hashed_items}
 use Rattle.speedy_base.specs.Mode.{Mode}
 use Rattle.speedy_read.specs.Sequences.{Composes, second_decides, refused_first}
-use Rattle.speedy_layout.specs.Lists.{vector, repeat, prefixed_list}
+use Rattle.speedy_layout.specs.Lists.{vector, vector_asks, vector_length, repeat}
 use Rattle.speedy_layout.specs.Owned.{owned_content}
 use Rattle.speedy_read.specs.Reading.{ReaderState, Kept, Undecodable, Reads}
 use Rattle.speedy_read.specs.ReadingLemmas.{Kept-same, Got-nothing, Got-as, ReadSoFar}
 use Rattle.speedy_read.specs.Codes.{code_refused}
-use Rattle.speedy_read.specs.Counted.{prefixed_list_composes}
-use Rattle.speedy_read.specs.Collections.{Gatherer, GotItems, NotWritten, Collects}
+use Rattle.speedy_read.specs.Counted.{counted_code_composes}
+use Rattle.speedy_read.specs.Collections.{Gatherer, gatherer, GotItems, NotWritten, Collects}
 use Rattle.speedy_read.proofs.ListLemmas.{item_more, refused_item}
 
 -- from old to mid n items were read, which gather to the collection
@@ -251,64 +251,14 @@ collected_read {V = V} {g = g} {c = c} {L = L} {n = n} {gives = gives} {eof = eo
       ]
     ]
 
--- a coded list is read as its length, and then the items
-coded_list_composes : {V S : Type 0} (count : Format ℕ) (L : Format V) (mode : Mode) (c : Code (List V) S)
-    → Composes count (λ n. coding mode c (vector n L)) (coding mode c (prefixed_list count L)) (λ n s. s)
-unfolding coding sequence
-coded_list_composes count L mode c =
-    let parts = prefixed_list_composes count L in
-    record {
-      joins = λ n s a b h k. record {
-        code = k.code;
-        code_is = parts.joins n k.code a b h k.code_is;
-        stands = k.stands;
-      };
-      splits = λ s bytes h. (
-        length h.code,
-        s,
-        Parts-as (λ a k. k) (λ a k. record { code = h.code; code_is = k; stands = h.stands }) h.code_is,
-      );
-      names_first = λ kind h. inl (parts.names_first kind h);
-      names_second = λ n kind h. elim h [ inl x ↦ inl (parts.names_second n kind x) | inr x ↦ inr x ];
-      malformed = λ bytes h.
-          elim h [
-            | inl x ↦ elim (parts.malformed bytes x) [
-              | inl y ↦ inl y
-              | inr y ↦ inr (y.0, Parts-as (λ a k. k) (λ a k. inl k) y.1)
-            ]
-            | inr x ↦
-                let list_is = x.code_is in
-                inr (
-                  length x.code,
-                  record {
-                    prefix = list_is.prefix;
-                    suffix = list_is.suffix ++ x.rest;
-                    whole_is = x.whole_is
-                        ∙ (ap (λ s. s ++ x.rest) list_is.whole_is ∙ append_assoc list_is.prefix list_is.suffix x.rest);
-                    first_is = list_is.first_is;
-                    second_is = inr (record {
-                      code = x.code;
-                      prefix = list_is.suffix;
-                      rest = x.rest;
-                      whole_is = refl;
-                      code_is = list_is.second_is;
-                      nothing = x.nothing;
-                    });
-                  },
-                )
-          ];
-      asks_first = parts.asks_first;
-      asks_second = parts.asks_second;
-    }
-
 -- the items of a thing that has no order of its own are read alike
 gathered_composes : {V S : Type 0} (hashed : Bool) (count : Format ℕ) (L : Format V) (mode : Mode)
     (c : Code (List V) S) → Composes count (λ n. coding mode c (vector n L))
     (coding mode c (items_of hashed count L)) (λ n s. s)
 unfolding coding hashed_items
-gathered_composes false count L mode c = coded_list_composes count L mode c
+gathered_composes false count L mode c = counted_code_composes mode c count _ (vector_asks L) (λ n. vector_length n L)
 gathered_composes true count L mode c =
-    let same = coded_list_composes count L mode c in
+    let same = counted_code_composes mode c count _ (vector_asks L) (λ n. vector_length n L) in
     record {
       joins = same.joins;
       splits = same.splits;
@@ -319,28 +269,28 @@ gathered_composes true count L mode c =
       asks_second = λ n. asks_after (same.asks_second n) asks_hashed;
     }
 
--- what stands for what it gathers to, and is written so, is the code of it
-pub gatherer_code : {T F V S : Type 0} {g : Gatherer T F V} {stands : List V → S → Type 0} {written : List V → Type 0}
-    {seen' : F → S} → ((items : List T) (whole : F) → g.gathers items whole → stands (map g.seen items) (seen' whole))
-    → ((items : List T) → g.are_written items → written (map g.seen items))
-    → ((items : List T) → written (map g.seen items) → g.are_written items)
-    → ((xs ys : List V) → written (xs ++ ys) → written xs) → IsCodeOf g (gathering stands written) seen'
-gatherer_code {g = g} stands to from first = record {
-  meant = stands;
-  chosen = λ items whole h w. (stands items whole h, to items w);
-  first_chosen = λ items more s h. from items (first (map g.seen items) more h.1);
-}
-
--- the number of items and then the items are read as what they gather to
-pub collection_read : {T F V S : Type 0} {g : Gatherer T F V} {c : Code (List V) S} {seen' : F → S} {n : ℕ} {E : Type 0}
-    {gives : Error → E → Type 0} {eof : E → Bool} {result : Result F E} {old mid new : ReaderState} (hashed : Bool)
-    (count : Codec ℕ) (item : Codec V) → IsCodeOf g c seen'
+-- The number of items and then the items are read as what they gather to. The items stand for that, and the first ones
+-- of canonical items are canonical.
+pub collection_read : {T F V S : Type 0} {seen : T → V} {gathers : List T → F → Type 0}
+    {written : List V → Type 0} {seen' : F → S} {n : ℕ} {E : Type 0} {gives : Error → E → Type 0} {eof : E → Bool}
+    {result : Result F E} {old mid new : ReaderState} (hashed : Bool) (count : Codec ℕ) (item : Codec V)
+    (stands : List V → S → Type 0)
+    → ((items : List T) (whole : F) → gathers items whole → stands (map seen items) (seen' whole))
+    → ((xs ys : List V) → written (xs ++ ys) → written xs)
     → Reads gives eof (λ x. x) (count.format old.mode) (Ok n) old mid
-    → Collects g (item.format mid.mode) n gives eof result mid new
-    → Reads gives eof seen'
-    (coding old.mode c (items_of hashed (count.format old.mode) (item.format old.mode))) result old new
-collection_read {c = c} {seen' = seen'} {n = n} {gives = gives} {eof = eof} {result = result} {old = old} {mid = mid}
-    {new = new} hashed count item is number r =
+    → Collects (gatherer seen gathers (λ items. written (map seen items))) (item.format mid.mode) n gives eof result mid
+    new
+    → Reads gives eof seen' (coding old.mode (gathering stands written)
+    (items_of hashed (count.format old.mode) (item.format old.mode))) result old new
+collection_read {T = T} {F = F} {V = V} {S = S} {seen = seen} {gathers = gathers} {written = written}
+    {seen' = seen'} {n = n} {gives = gives} {eof = eof} {result = result} {old = old} {mid = mid} {new = new}
+    hashed count item stands stands_for first number r =
+    let c : Code (List V) S = gathering stands written in
+    let is : IsCodeOf (gatherer seen gathers (λ items. written (map seen items))) c seen' = record {
+      meant = stands_for;
+      chosen = λ items whole h w. (stands_for items whole h, w);
+      first_chosen = λ items more s h. first (map seen items) more h.1;
+    } in
     second_decides (gathered_composes hashed _ _ old.mode c) (count.laws old.mode) number
     (subst (λ (e : Mode). Reads gives eof seen' (coding e c (vector n (item.format e))) result mid new)
     number.kept.mode (collected_read (item.laws mid.mode) is r)) (λ _. refl)

@@ -4,7 +4,7 @@ use Rattle.std.specs.Prelude.{IsTrue, ◌⊎◌, Result, Ok, Err, IsErrAnd, refl
 use Rattle.std.specs.Borrow.{GName}
 use Rattle.std.proofs.Common.{sym, ◌∙◌, ap, subst, arith, inl, inr, lit<}
 use Rattle.std.proofs.lemmas.Bool.{true≢false}
-use Rattle.std.proofs.lemmas.List.{append_assoc, append-nil, length-append, length-replicate, nil_from_length}
+use Rattle.std.proofs.lemmas.List.{append-nil, length-append, length-replicate, nil_from_length}
 use Rattle.speedy_base.specs.declared.error.ErrorKind.{ErrorKind}
 use Rattle.speedy_base.specs.declared.error.ErrorKind.TheVariants as kinds
 use Rattle.speedy_base.specs.declared.error.Error.{Error}
@@ -16,14 +16,15 @@ use Rattle.speedy_base.specs.MemoryDevices.{no_faults}
 use Rattle.speedy_base.specs.Error.{error_of, is_eof_error, IsNamed, IsNamed-more}
 use Rattle.speedy_layout.specs.Codes.{coding, IsDemand, Accepts-is, Accepts-means}
 use Rattle.speedy_layout.specs.Format.{Format}
-use Rattle.speedy_layout.specs.Frames.{frame, frame_code, frame_asks, AreCounted}
+use Rattle.speedy_layout.specs.Frames.{frame, frame_code, frame_asks, raw_asks, AreCounted}
 use Rattle.speedy_layout.specs.Laws.{Laws}
 use Rattle.speedy_layout.specs.Lists.{repeat, vector}
 use Rattle.speedy_layout.specs.Numbers.{unsigned_number}
 use Rattle.speedy_layout.specs.Owned.{owned_content}
-use Rattle.speedy_layout.specs.Sequences.{asks_left, asks_right, asks_nothing_more, sequence}
+use Rattle.speedy_layout.specs.Sequences.{asks_right, asks_nothing_more, sequence}
 use Rattle.speedy_layout.specs.Texts.{raw_bytes, raw_bytes_laws, each_byte, each_byte_is}
 use Rattle.speedy_read.specs.Buffers.{memory_state}
+use Rattle.speedy_read.specs.Counted.{counted_code_composes}
 use Rattle.speedy_read.specs.Codes.{Covers, got_covered, unaccepted}
 use Rattle.speedy_read.specs.Frames.{filling, Unfilled, Fills, FillsIfNoneLeft}
 use Rattle.speedy_read.specs.Reading.{ReaderState, Got, IsTold, refusing_kinds, Excused, Refused, Undecodable, Reads}
@@ -34,57 +35,18 @@ use Rattle.speedy_read.specs.Sequences.{Composes}
 pub frame_composes : {V : Type 0} (f : Mode) (number : Format ℕ) (F : Format V)
     → Composes number (filling f F) (frame f number F) (λ n v. v)
 unfolding frame coding sequence raw_bytes
-frame_composes f number F = record {
-  joins = λ n v s t h k. record {
-    code = k.code;
-    code_is = record {
-      prefix = s;
-      suffix = t;
-      whole_is = refl;
-      first_is = subst (λ (m : ℕ). number.encodes m s) (sym (ap length k.code_is.0 ∙ k.code_is.1)) h;
-      second_is = (k.code_is.0, sym (ap length k.code_is.0));
-    };
-    stands = k.stands;
-  };
-  splits = λ v s h. (
-    length h.code,
-    v,
+frame_composes f number F =
+    let coded = counted_code_composes f (frame_code F) number raw_bytes (raw_asks (frame_asks F.asks))
+    (λ n u s h. ap length h.0 ∙ h.1) in
     record {
-      prefix = h.code_is.prefix;
-      suffix = h.code_is.suffix;
-      whole_is = h.code_is.whole_is;
-      first_is = h.code_is.first_is;
-      second_is = record { code = h.code; code_is = h.code_is.second_is; stands = h.stands };
-    },
-  );
-  names_first = λ kind h. inl (inl h);
-  names_second = λ n kind h. elim h [ inl x ↦ absurd x | inr x ↦ inr x ];
-  malformed = λ bytes h.
-      elim h [
-        | inl (inl x) ↦ inl x
-        | inl (inr x) ↦ absurd x.1.second_is
-        | inr x ↦ inr (
-          length x.code,
-          record {
-            prefix = x.code_is.prefix;
-            suffix = x.code_is.suffix ++ x.rest;
-            whole_is = x.whole_is
-                ∙ (ap (λ s. s ++ x.rest) x.code_is.whole_is ∙ append_assoc x.code_is.prefix x.code_is.suffix x.rest);
-            first_is = x.code_is.first_is;
-            second_is = inr (record {
-              code = x.code;
-              prefix = x.code_is.suffix;
-              rest = x.rest;
-              whole_is = refl;
-              code_is = x.code_is.second_is;
-              nothing = x.nothing;
-            });
-          },
-        )
-      ];
-  asks_first = asks_left number.asks (frame_asks F.asks);
-  asks_second = λ n. asks_right number.asks (frame_asks F.asks);
-}
+      joins = coded.joins;
+      splits = coded.splits;
+      names_first = coded.names_first;
+      names_second = coded.names_second;
+      malformed = coded.malformed;
+      asks_first = coded.asks_first;
+      asks_second = λ n. asks_right number.asks (frame_asks F.asks);
+    }
 
 -- where n bytes are refused, a value that fills them is
 pub bytes_cover_filling : {V : Type 0} (f : Mode) (F : Format V) (n : ℕ) → Covers (raw_bytes n) (filling f F n)

@@ -2,7 +2,7 @@ use Rattle.std.proofs.Common.{true}
 use Rattle.speedy_layout.specs.Tuples.{pair_codec}
 use Rattle.speedy_layout.specs.StdMaps.{hash_map_seen}
 use Rattle.speedy_layout.specs.OneMoreItem.{HasDistinctKeys-first}
-use Rattle.speedy_read.proofs.CollectionLemmas.{gatherer_code, collection_read, collection_refused}
+use Rattle.speedy_read.proofs.CollectionLemmas.{collection_read, collection_refused}
 use Rattle.speedy_read.proofs.maps.HashMapReadTold.read_behind.Goals as goal
 
 pub returns-in_err-count : goal.returns-in_err-count
@@ -10,7 +10,6 @@ returns-in_err-count g c = collection_refused _ _ true c.from_residual.ensures.1
 
 pub returns : goal.returns
 returns g c =
-    let seen = hash_map_seen g.V.Layout.seen g.met.K.SameKey.same_key in
-    let is = gatherer_code seen (λ _ h. h) (λ _ h. h) HasDistinctKeys-first in
-    collection_read true g.N.Prefix.numbers.codec (pair_codec g.K.Layout.layout g.V.Layout.layout) is
+    collection_read true g.N.Prefix.numbers.codec (pair_codec g.K.Layout.layout g.V.Layout.layout) _
+    (hash_map_seen g.V.Layout.seen g.met.K.SameKey.same_key) HasDistinctKeys-first
     c.in_ok-count.ensures c.read_key_value_collection.ensures

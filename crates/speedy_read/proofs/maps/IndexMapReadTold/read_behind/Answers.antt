@@ -2,7 +2,7 @@ use Rattle.std.proofs.Common.{false}
 use Rattle.speedy_layout.specs.Tuples.{pair_codec}
 use Rattle.speedy_layout.specs.IndexMaps.{index_map_seen}
 use Rattle.speedy_layout.specs.OneMoreItem.{HasDistinctKeys-first}
-use Rattle.speedy_read.proofs.CollectionLemmas.{gatherer_code, collection_read, collection_refused}
+use Rattle.speedy_read.proofs.CollectionLemmas.{collection_read, collection_refused}
 use Rattle.speedy_read.proofs.maps.IndexMapReadTold.read_behind.Goals as goal
 
 pub returns-in_err-number : goal.returns-in_err-number
@@ -10,7 +10,6 @@ returns-in_err-number g c = collection_refused _ _ false c.from_residual.ensures
 
 pub returns : goal.returns
 returns g c =
-    let seen = index_map_seen g.V.Layout.seen g.met.K.SameKey.same_key in
-    let is = gatherer_code seen (λ _ h. h) (λ _ h. h) HasDistinctKeys-first in
-    collection_read false g.N.Prefix.numbers.codec (pair_codec g.K.Layout.layout g.V.Layout.layout) is
+    collection_read false g.N.Prefix.numbers.codec (pair_codec g.K.Layout.layout g.V.Layout.layout) _
+    (index_map_seen g.V.Layout.seen g.met.K.SameKey.same_key) HasDistinctKeys-first
     c.in_ok-number.ensures c.read_key_value_collection.ensures

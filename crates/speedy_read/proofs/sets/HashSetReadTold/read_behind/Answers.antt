@@ -1,7 +1,7 @@
 use Rattle.std.proofs.Common.{true}
 use Rattle.speedy_layout.specs.StdSets.{hash_set_seen}
 use Rattle.speedy_layout.specs.OneMoreItem.{AreDistinct-first}
-use Rattle.speedy_read.proofs.CollectionLemmas.{gatherer_code, collection_read, collection_refused}
+use Rattle.speedy_read.proofs.CollectionLemmas.{collection_read, collection_refused}
 use Rattle.speedy_read.proofs.sets.HashSetReadTold.read_behind.Goals as goal
 
 pub returns-in_err-count : goal.returns-in_err-count
@@ -9,5 +9,6 @@ returns-in_err-count g c = collection_refused _ _ true c.from_residual.ensures.1
 
 pub returns : goal.returns
 returns g c =
-    let is = gatherer_code (hash_set_seen g.met.T.SameKey.same_key) (λ _ h. h) (λ _ h. h) AreDistinct-first in
-    collection_read true g.N.Prefix.numbers.codec g.T.Layout.layout is c.in_ok-count.ensures c.read_collection.ensures
+    collection_read true g.N.Prefix.numbers.codec g.T.Layout.layout _
+    (hash_set_seen g.met.T.SameKey.same_key) AreDistinct-first
+    c.in_ok-count.ensures c.read_collection.ensures

@@ -1,7 +1,7 @@
 use Rattle.std.proofs.Common.{false}
 use Rattle.speedy_layout.specs.IndexMaps.{index_set_seen}
 use Rattle.speedy_layout.specs.OneMoreItem.{AreDistinct-first}
-use Rattle.speedy_read.proofs.CollectionLemmas.{gatherer_code, collection_read, collection_refused}
+use Rattle.speedy_read.proofs.CollectionLemmas.{collection_read, collection_refused}
 use Rattle.speedy_read.proofs.sets.IndexSetReadTold.read_behind.Goals as goal
 
 pub returns-in_err-number : goal.returns-in_err-number
@@ -9,5 +9,6 @@ returns-in_err-number g c = collection_refused _ _ false c.from_residual.ensures
 
 pub returns : goal.returns
 returns g c =
-    let is = gatherer_code (index_set_seen g.met.T.SameKey.same_key) (λ _ h. h) (λ _ h. h) AreDistinct-first in
-    collection_read false g.N.Prefix.numbers.codec g.T.Layout.layout is c.in_ok-number.ensures c.read_collection.ensures
+    collection_read false g.N.Prefix.numbers.codec g.T.Layout.layout _
+    (index_set_seen g.met.T.SameKey.same_key) AreDistinct-first
+    c.in_ok-number.ensures c.read_collection.ensures
