@@ -4,7 +4,8 @@ use Rattle.std.specs.Borrow.{GName}
 use Rattle.std.proofs.Common.{ap, inl, inr}
 use Rattle.speedy_base.specs.declared.error.Error.{Error}
 use Rattle.speedy_layout.specs.Format.{Format}
-use Rattle.speedy_read.specs.Reading.{ReaderKind, ReaderState, Kept, KeptByPeek, Got, Reads, Peeks, LendsUntilUsed}
+use Rattle.speedy_read.specs.Reading.{ReaderKind, ReaderState, Kept, KeptByPeek, Got, Refused, Reads, Peeks}
+use Rattle.speedy_read.specs.Reading.{LendsUntilUsed}
 use Rattle.speedy_read.specs.Buffers.{held_kind, held_state}
 
 module _ (name : GName) {old new : ReaderState} where
@@ -34,6 +35,15 @@ module _ (name : GName) {old new : ReaderState} where
     untouched = λ none. ap (λ (s : ReaderState). held_state name s) (g.untouched none);
   }
 
+  held_refused : {E : Type 0} {gives : Error → E → Type 0} {eof : E → Bool} {V : Type 0} {L : Format V} {e : E}
+      → Refused gives eof L e old new → Refused gives eof L e (held_state name old) (held_state name new)
+  held_refused k = record {
+    no_fault = k.no_fault;
+    kind = k.kind;
+    because = λ told. k.because
+        (record { tells = told.tells; are_bytes = told.are_bytes; fit = told.fit; lends = told.lends });
+  }
+
   module _ {E : Type 0} {gives : Error → E → Type 0} {eof : E → Bool} {A V : Type 0} {seen : A → V} {L : Format V} where
     -- what reads see of a reader is the same whether it is held or not
     pub held_reads : {result : Result A E} → Reads gives eof seen L result old new
@@ -41,20 +51,7 @@ module _ (name : GName) {old new : ReaderState} where
     held_reads {result = Ok x} r = record { kept = held_kept r.kept; answer = held_got r.answer }
     held_reads {result = Err e} r = record {
       kept = held_kept r.kept;
-      answer =
-          elim r.answer [
-            | inl x ↦ inl x
-            | inr k ↦ inr (record {
-              no_fault = k.no_fault;
-              kind = k.kind;
-              because = λ told. k.because (record {
-                tells = told.tells;
-                are_bytes = told.are_bytes;
-                fit = told.fit;
-                lends = told.lends;
-              });
-            })
-          ];
+      answer = elim r.answer [ inl x ↦ inl x | inr k ↦ inr (held_refused k) ];
     }
 
     pub held_peeks : {result : Result A E} → Peeks gives eof seen L result old new
@@ -72,20 +69,7 @@ module _ (name : GName) {old new : ReaderState} where
     held_peeks {result = Err e} r = record {
       kept = held_kept_by_peek r.kept;
       answer =
-          elim r.answer [
-            | inl x ↦ inl x
-            | inr (inl x) ↦ inr (inl x)
-            | inr (inr k) ↦ inr (inr (record {
-              no_fault = k.no_fault;
-              kind = k.kind;
-              because = λ told. k.because (record {
-                tells = told.tells;
-                are_bytes = told.are_bytes;
-                fit = told.fit;
-                lends = told.lends;
-              });
-            }))
-          ];
+          elim r.answer [ inl x ↦ inl x | inr (inl x) ↦ inr (inl x) | inr (inr k) ↦ inr (inr (held_refused k)) ];
     }
 
 -- ---- what the reader shows that was held

@@ -15,12 +15,15 @@ use Rattle.speedy_read.specs.Reading.{ReaderState, IsTold, refusing_kinds}
 use Rattle.speedy_read.specs.UntilEnd.{Begin, UntilEndIsDecided, CleanUntilEnd}
 use Rattle.speedy_read.proofs.ListLemmas.{next_item}
 
+-- the bytes begin with no encoding
+abbrev StandsNone : {V : Type 0} → Format V → List ℕ → Type 0
+StandsNone {V = V} L bytes = (v : V) (prefix rest : List ℕ) → bytes ≡ prefix ++ rest → L.encodes v prefix → ⊥
+
 module _ {V : Type 0} {strict : Bool} {least : ℕ} {L : Format V} (laws : Laws strict least L) where
   -- a prefix of a longer encoding begins with none
-  no_prefix_of_prefix : (v w : V) (prefix more s rest : List ℕ) → L.encodes v (prefix ++ more) → more ≢ []
-      → prefix ≡ s ++ rest → L.encodes w s → ⊥
-  no_prefix_of_prefix v w prefix [] s rest h some is k = some refl
-  no_prefix_of_prefix v w prefix (x ∷ more) s rest h some is k =
+  no_prefix_of_prefix : (v : V) (prefix more : List ℕ) → L.encodes v (prefix ++ more) → more ≢ [] → StandsNone L prefix
+  no_prefix_of_prefix v prefix [] h some w s rest is k = some refl
+  no_prefix_of_prefix v prefix (x ∷ more) h some w s rest is k =
       let all : List ℕ = x ∷ more in
       let joined : s ++ (rest ++ all) ≡ (prefix ++ all) ++ [] =
       sym (append_assoc s rest all) ∙ (ap (λ b. b ++ all) (sym is) ∙ sym (append-nil (prefix ++ all))) in
@@ -50,6 +53,22 @@ module _ {V : Type 0} {strict : Bool} {least : ℕ} {L : Format V} (laws : Laws 
         each_decodes laws us vs b.prefix bytes b.rest tail l b.prefix_is are (sym (b.stands told) ∙ whole_is) in
         (same.0, same.2)
 
+    -- where none stands behind those in front, and none in the tail, just these stand in front
+    just_these : (us : List V) (b : Begin L us old) → IsTrue old.fixed.tells → StandsNone L b.rest → StandsNone L tail
+        → (us ≡ vs) × (b.rest ≡ tail)
+    just_these us b told no_more none =
+        elim (cases_lt (length us) (length vs)) [
+          | inl l ↦ (let w = fewer_in_prefix us b told l in absurd (no_more w.0 w.1 w.2 w.3 w.4))
+          | inr l ↦ elim (cases_lt (length vs) (length us)) [
+            | inl m ↦ (let w = more_in_prefix us b told m in absurd (none w.0 w.1 w.2 w.3 w.4))
+            | inr m ↦ as_many us b told (omega arith)
+          ]
+        ]
+
+  -- malformed bytes begin with none
+  none_in_fault : {bytes : List ℕ} → L.malformed bytes → StandsNone L bytes
+  none_in_fault bad w prefix rest is = laws.malformed_undecodable w prefix rest (subst L.malformed is bad)
+
   -- where all is lent that a type borrows, it is refused with a kind that it names
   lent_kind : {E : Type 0} (gives : Error → E → Type 0) {e : E} {old : ReaderState}
       → IsNamed gives (refusing_kinds L old.fixed.lends) e → IsTold L old
@@ -66,28 +85,17 @@ module _ {V : Type 0} {strict : Bool} {least : ℕ} {L : Format V} (laws : Laws 
         (gives (error_of kinds.OutOfMemory))
     cut_is_read v more {result = Ok whole} encoded some within c =
         let got = c.read.answer in
-        let us = map seen got.items in
         elim got.ended [
           | inr x ↦ absurd (c.clean x.2.0)
-          | inl x ↦
-              let ends = x.1 c.told in
-              elim (cases_lt (length us) (length vs)) [
-                | inl l ↦
-                    (let w = fewer_in_prefix vs bytes tail are whole_is us got.begin c.told.tells l in
-                    absurd (ends.no_prefix w.0 w.1 w.2 w.3 w.4))
-                | inr l ↦ elim (cases_lt (length vs) (length us)) [
-                  | inl m ↦
-                      (let w = more_in_prefix vs bytes tail are whole_is us got.begin c.told.tells m in
-                      absurd (no_prefix_of_prefix v w.0 tail more w.1 w.2 encoded some w.3 w.4))
-                  | inr m ↦ (
-                    got.items,
-                    (as_many vs bytes tail are whole_is us got.begin c.told.tells (omega arith)).0,
-                    got.gathered,
-                  )
-                ]
-              ]
+          | inl x ↦ (
+            got.items,
+            (just_these vs bytes tail are whole_is (map seen got.items) got.begin c.told.tells (x.1 c.told).no_prefix
+                (no_prefix_of_prefix v tail more encoded some)).0,
+            got.gathered,
+          )
         ]
     cut_is_read v more {result = Err e} encoded some within c =
+        let none = no_prefix_of_prefix v tail more encoded some in
         elim c.read.answer [
           | inl x ↦ elim x [ inl y ↦ y.0 | inr y ↦ absurd (c.clean y.0) ]
           | inr x ↦ elim x [
@@ -95,26 +103,15 @@ module _ {V : Type 0} {strict : Bool} {least : ℕ} {L : Format V} (laws : Laws 
                 let l = length-map y.items seen in
                 let w = more_in_prefix vs bytes tail are whole_is (map seen y.items) y.begin c.told.tells
                 (let m = y.more in omega arith) in
-                absurd (no_prefix_of_prefix v w.0 tail more w.1 w.2 encoded some w.3 w.4)
+                absurd (none w.0 w.1 w.2 w.3 w.4)
             | inr y ↦
-                let us = map seen y.items in
                 let un = y.because c.told in
-                elim (cases_lt (length us) (length vs)) [
-                  | inl l ↦
-                      (let w = fewer_in_prefix vs bytes tail are whole_is us y.begin c.told.tells l in
-                      absurd (un.no_prefix w.0 w.1 w.2 w.3 w.4))
-                  | inr l ↦ elim (cases_lt (length vs) (length us)) [
-                    | inl m ↦
-                        (let w = more_in_prefix vs bytes tail are whole_is us y.begin c.told.tells m in
-                        absurd (no_prefix_of_prefix v w.0 tail more w.1 w.2 encoded some w.3 w.4))
-                    | inr m ↦
-                        let rest_is = (as_many vs bytes tail are whole_is us y.begin c.told.tells (omega arith)).1 in
-                        let ends =
-                        un.too_short v more (subst (λ (b : List ℕ). L.encodes v (b ++ more)) (sym rest_is) encoded) in
-                        let no_end = y.no_end in
-                        absurd (cc)
-                  ]
-                ]
+                let same =
+                just_these vs bytes tail are whole_is (map seen y.items) y.begin c.told.tells un.no_prefix none in
+                let ends =
+                un.too_short v more (subst (λ (b : List ℕ). L.encodes v (b ++ more)) (sym same.1) encoded) in
+                let no_end = y.no_end in
+                absurd (cc)
           ]
         ]
 
@@ -152,24 +149,14 @@ module _ {V : Type 0} {strict : Bool} {least : ℕ} {L : Format V} (laws : Laws 
         → MatchResult result (λ _. ⊥) (λ e. IsNamed gives L.names e ⊎ gives (error_of kinds.OutOfMemory) e)
     fault_refused {result = Ok whole} bad within c =
         let got = c.read.answer in
-        let us = map seen got.items in
         elim got.ended [
           | inr x ↦ c.clean x.2.0
           | inl x ↦
               let ends = x.1 c.told in
-              elim (cases_lt (length us) (length vs)) [
-                | inl l ↦
-                    (let w = fewer_in_prefix vs bytes tail are whole_is us got.begin c.told.tells l in
-                    ends.no_prefix w.0 w.1 w.2 w.3 w.4)
-                | inr l ↦ elim (cases_lt (length vs) (length us)) [
-                  | inl m ↦
-                      (let w = more_in_prefix vs bytes tail are whole_is us got.begin c.told.tells m in
-                      laws.malformed_undecodable w.0 w.1 w.2 (subst L.malformed w.3 bad) w.4)
-                  | inr m ↦
-                      ends.not_malformed (subst L.malformed
-                      (sym (as_many vs bytes tail are whole_is us got.begin c.told.tells (omega arith)).1) bad)
-                ]
-              ]
+              let same =
+              just_these vs bytes tail are whole_is (map seen got.items) got.begin c.told.tells ends.no_prefix
+              (none_in_fault bad) in
+              ends.not_malformed (subst L.malformed (sym same.1) bad)
         ]
     fault_refused {result = Err e} bad within c =
         elim c.read.answer [
@@ -179,7 +166,7 @@ module _ {V : Type 0} {strict : Bool} {least : ℕ} {L : Format V} (laws : Laws 
                 let l = length-map y.items seen in
                 let w = more_in_prefix vs bytes tail are whole_is (map seen y.items) y.begin c.told.tells
                 (let m = y.more in omega arith) in
-                absurd (laws.malformed_undecodable w.0 w.1 w.2 (subst L.malformed w.3 bad) w.4)
+                absurd (none_in_fault bad w.0 w.1 w.2 w.3 w.4)
             | inr y ↦ inl (lent_kind gives y.kind c.told)
           ]
         ]
