@@ -1,12 +1,12 @@
 -- The items of a collection are written one after the other, and make a write of the collection.
 use Rattle.std.specs.Prelude.{◌≡◌, ℕ, List, [], ◌∷◌, ◌++◌, length, map, Bool, true, false, Option, Some, None, Result}
 use Rattle.std.specs.Prelude.{Ok, Err, MatchResult, IsErrAnd, refl}
-use Rattle.std.proofs.Common.{sym, ap, subst}
+use Rattle.std.proofs.Common.{sym, ◌∙◌, ap, subst}
 use Rattle.std.proofs.iter.Next.{Yields-more}
 use Rattle.std.proofs.iter.Yields.{gives_left, gives_Drains, listed}
 use Rattle.std.proofs.lemmas.List.{length-map}
 use Rattle.std.specs.Iterator.{Yields, YieldsFirst, Drains, AlwaysYields}
-use Rattle.std.specs.Map.Iter.{TakesFirst}
+use Rattle.std.specs.Map.Iter.{TakesFirst, deref, deref_pair}
 use Rattle.speedy_base.specs.declared.error.ErrorKind.{ErrorKind}
 use Rattle.speedy_base.specs.declared.error.Error.{Error}
 use Rattle.speedy_base.specs.Mode.{Mode}
@@ -16,6 +16,7 @@ use Rattle.speedy_layout.specs.GatheredLemmas.{gathered_writes, gathered_form, g
 use Rattle.speedy_layout.specs.Gathering.{IsGathering, hashed_items, items_of, gathered}
 use Rattle.speedy_layout.specs.Laws.{Laws, Codec}
 use Rattle.speedy_layout.specs.Lists.{repeat, vector, prefixed_list}
+use Rattle.speedy_layout.specs.Maps.{seen_pair}
 use Rattle.speedy_layout.specs.Owned.{owned_content, borrowed_content}
 use Rattle.speedy_layout.specs.Prefixed.{Numbers}
 use Rattle.speedy_layout.specs.Sequences.{sequence}
@@ -160,22 +161,32 @@ module _ {E S : Type 0} {gives : Error → E → Type 0} {hashed : Bool} {whole 
       (λ b h. gathered_form_length f laws smaller (item.laws f) is whole b h shown form.0 form.1)
       (λ b h. gathered_form f laws smaller (item.laws f) is whole b h shown form.0 form.1) w
 
-  -- the lent items of a set, where they are a form of it
-  pub set_written : {X : Type 0} {stands : List X → S → Type 0} {are_written : List X → Type 0} {shown : List X}
-      (item : Codec X) → IsGathering hashed stands are_written → stands shown whole × are_written shown
+  -- The lent items of a set, which an iterator shows in their order, where they are a form of it.
+  pub set_written : {T X : Type 0} {stands : List X → S → Type 0} {are_written : List X → Type 0} {items rest : List T}
+      {count : ℕ} (item : Codec X) (seen : T → X) → IsGathering hashed stands are_written
+      → stands (map seen items) whole × are_written (map seen items) → count ≡ length items → rest ≡ items
+      → ((shown : List X) → count ≡ length shown → AlwaysYields (TakesFirst deref) (λ b. seen (deref b)) rest shown
       → Writes gives (λ f. prefixed_list (numbers.codec.format f) (borrowed_content (item.format f))) shown result old
-      new appended
+      new appended)
       → Writes gives (λ f. gathered hashed f (numbers.codec.format f) stands are_written (item.format f)) whole result
       old new appended
-  set_written item is form w = form_written_as item is form (lent_items numbers.codec.format item.format w)
+  set_written {items = items} item seen is form count same writes =
+      form_written_as item is form (lent_items numbers.codec.format item.format
+      (writes (map seen items) (count ∙ sym (length-map items seen)) (shown_in_order deref seen same)))
 
   -- and the lent pairs of a map
-  pub map_written : {K V : Type 0} {stands : List (K × V) → S → Type 0} {are_written : List (K × V) → Type 0}
-      {shown : List (K × V)} (key : Codec K) (value : Codec V) → IsGathering hashed stands are_written
-      → stands shown whole × are_written shown
+  pub map_written : {J U K V : Type 0} {stands : List (K × V) → S → Type 0} {are_written : List (K × V) → Type 0}
+      {entries rest : List (J × U)} {count : ℕ} (key : Codec K) (value : Codec V)
+      (key_seen : J → K) (value_seen : U → V) → IsGathering hashed stands are_written
+      → let seen = seen_pair key_seen value_seen in
+      stands (map seen entries) whole × are_written (map seen entries) → count ≡ length entries → rest ≡ entries
+      → ((shown : List (K × V)) → count ≡ length shown
+      → AlwaysYields (TakesFirst deref_pair) (λ p. seen (deref_pair p)) rest shown
       → Writes gives (λ f. prefixed_list (numbers.codec.format f)
-      (pair (borrowed_content (key.format f)) (borrowed_content (value.format f)))) shown result old new appended
+      (pair (borrowed_content (key.format f)) (borrowed_content (value.format f)))) shown result old new appended)
       → Writes gives (λ f. gathered hashed f (numbers.codec.format f) stands are_written
       (pair (key.format f) (value.format f))) whole result old new appended
-  map_written key value is form w =
-      form_written_as (pair_codec key value) is form (lent_pairs numbers.codec.format key.format value.format w)
+  map_written {entries = entries} key value key_seen value_seen is form count same writes =
+      let seen = seen_pair key_seen value_seen in
+      form_written_as (pair_codec key value) is form (lent_pairs numbers.codec.format key.format value.format
+      (writes (map seen entries) (count ∙ sym (length-map entries seen)) (shown_in_order deref_pair seen same)))
