@@ -12,18 +12,10 @@ use Rattle.speedy_layout.specs.Format.{Format, Each}
 use Rattle.speedy_layout.specs.Laws.{Laws}
 use Rattle.speedy_layout.specs.Lists.{each_more, repeat, repeat_laws}
 use Rattle.speedy_write.specs.Writing.{WriterState, Writes, WritesEach, WritesBytes}
-use Rattle.speedy_write.specs.Sequences.{form_written}
+use Rattle.speedy_write.specs.Sequences.{form_written, one_length}
 use Rattle.speedy_write.specs.Counting.{counting_state, CountAppends, CountsEach}
 use Rattle.speedy_write.specs.WaysOfWriting.{NeedsIn}
 use Rattle.speedy_write.proofs.ListLemmas.{first_items}
-
--- all canonical encodings of a value have one length
-one_length : {V : Type 0} {strict : Bool} {least : ℕ} {L : Format V} → Laws strict least L → (v : V) (b c : List ℕ)
-    → L.writes v b → L.writes v c → length b ≡ length c
-one_length laws v b c h k =
-    let x = laws.shortest v b c h (laws.written_encodes v c k) in
-    let y = laws.shortest v c b k (laws.written_encodes v b h) in
-    omega arith
 
 -- a sum below its greatest value is the length of what was written
 pub counted : {E : Type 0} {gives : Error → E → Type 0} {V : Type 0} {F : Mode → Format V} {v : V}

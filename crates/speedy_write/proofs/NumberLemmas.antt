@@ -1,5 +1,6 @@
 -- What the writing of numbers, lengths, flags and durations cites.
-use Rattle.std.specs.Prelude.{◌≡◌, ℕ, ℤ, ◌^◌, ◌/◌, ◌%◌, ◌≤◌, ◌<◌, List, [], ◌∷◌, Bool, true, false, Result, Err, refl}
+use Rattle.std.specs.Prelude.{◌≡◌, ℕ, ℤ, ◌+◌, ◌^◌, ◌/◌, ◌%◌, ◌≤◌, ◌<◌, List, [], ◌∷◌, Bool, true, false, Result}
+use Rattle.std.specs.Prelude.{Err, refl}
 use Rattle.std.proofs.Common.{subst, arith, inr, inl}
 use mir.Val.{bool_byte}
 use mir.ValLaws.{to_z-of_z}
@@ -21,7 +22,8 @@ use Rattle.speedy_layout.specs.Numbers.{unsigned_number, unsigned_number_laws, s
 use Rattle.speedy_layout.specs.Numbers.{length_number, length_codec}
 use Rattle.speedy_layout.specs.Varint.{varint, prefixed_written}
 use Rattle.speedy_write.specs.Codes.{subset_written}
-use Rattle.speedy_write.specs.Writing.{WriterState, Writes}
+use Rattle.speedy_write.specs.Lengths.{WritesLength}
+use Rattle.speedy_write.specs.Writing.{WriterState, Writes, WritesNumber, RefusesFull}
 use Rattle.speedy_write.specs.Sequences.{Kept-same}
 
 module _ {E : Type 0} {gives : Error → E → Type 0} {result : Result (Unit {0}) E} {old new : WriterState}
@@ -51,30 +53,46 @@ undecodable_refused {v = v} {old = old} laws undecodable given = record {
   };
 }
 
--- a number past its width is
-pub too_long_refused : {E : Type 0} {gives : Error → E → Type 0} (width : ℕ) {n : ℕ} {e : E} {old : WriterState}
-    {appended : List ℕ → Type 0} → 256 ^ width ≤ n → gives (error_of kinds.OutOfRangeLength) e
-    → Writes gives (unsigned_number width) n (Err e) old old appended
-unfolding unsigned_number
-too_long_refused width {n = n} {old = old} long given = undecodable_refused (unsigned_number_laws width old.mode)
-    (λ b h. let below = EncodesNumber-below width old.mode.order n b h in omega arith) given
+module _ {E S : Type 0} {gives : Error → E → Type 0} {state : S → WriterState} {appends : S → List ℕ → S → Type 0}
+    {n bound : ℕ} {old : S} where
+  -- so is a length that is past what all lengths are that are encoded
+  long_refused : {F : Mode → Format ℕ} {least : ℕ} {e : E} → ((mode : Mode) → Laws mode.strict least (F mode))
+      → ((mode : Mode) (b : List ℕ) → (F mode).encodes n b → n < bound) → bound ≤ n
+      → gives (error_of kinds.OutOfRangeLength) e → WritesLength gives state appends F bound n (Err e) old old
+  long_refused laws within long given = record {
+    writes = undecodable_refused (laws _) (λ b h. let below = within _ b h in omega arith) given;
+    full = λ below. absurd (omega arith);
+    too_long = λ _. (refl, given);
+  }
 
--- a length of at most n is written as the number is
-pub length_written : {E : Type 0} {gives : Error → E → Type 0} (width greatest : ℕ) {n : ℕ}
-    {result : Result (Unit {0}) E} {old new : WriterState} {appended : List ℕ → Type 0} → n ≤ greatest
-    → Writes gives (unsigned_number width) n result old new appended
-    → Writes gives (length_number width greatest) n result old new appended
-length_written width greatest within w = subset_written _ _ (refl, within) w
+  -- of a number of n bytes
+  pub too_long_refused : (width : ℕ) {e : E} → bound ≡ 256 ^ width → bound ≤ n
+      → gives (error_of kinds.OutOfRangeLength) e
+      → WritesLength gives state appends (unsigned_number width) bound n (Err e) old old
+  unfolding unsigned_number
+  too_long_refused width is long given =
+      long_refused (λ mode. unsigned_number_laws width mode)
+      (λ mode b h. let below = EncodesNumber-below width mode.order n b h in omega arith) long given
 
--- and a longer one is refused
-pub past_greatest_refused : {E : Type 0} {gives : Error → E → Type 0} (width greatest : ℕ) {n : ℕ} {e : E}
-    {old : WriterState} {appended : List ℕ → Type 0} → greatest < n → gives (error_of kinds.OutOfRangeLength) e
-    → Writes gives (length_number width greatest) n (Err e) old old appended
-unfolding coding
-past_greatest_refused width greatest {old = old} past given =
-    undecodable_refused {F = length_number width greatest} ((length_codec width greatest).laws old.mode)
-    (λ b h. let means = Accepts-exact_means old.mode.strict _ _ _ _ h.stands in
-    let same = means.0 in let within = means.1 in omega arith) given
+  -- and of one that is at most a greatest one
+  pub past_greatest_refused : (width greatest : ℕ) {e : E} → bound ≡ greatest + 1 → bound ≤ n
+      → gives (error_of kinds.OutOfRangeLength) e
+      → WritesLength gives state appends (length_number width greatest) bound n (Err e) old old
+  unfolding coding
+  past_greatest_refused width greatest is long given =
+      long_refused (length_codec width greatest).laws
+      (λ mode b h. let means = Accepts-exact_means mode.strict _ _ _ _ h.stands in
+      let same = means.0 in let within = means.1 in omega arith) long given
+
+  -- which is written as the number is
+  pub within_greatest_written : (width greatest : ℕ) {result : Result (Unit {0}) E} {new : S} → bound ≡ greatest + 1
+      → n < bound → WritesNumber gives state appends width n result old new → RefusesFull gives state result old new
+      → WritesLength gives state appends (length_number width greatest) bound n result old new
+  within_greatest_written width greatest is within w full = record {
+    writes = subset_written _ _ (refl, omega arith) w;
+    full = λ _. full;
+    too_long = λ past. absurd (omega arith);
+  }
 
 -- std's byte of a flag is what the flag is written as
 pub bool_byte_is : (b : Bool) → bool_byte b ≡ written_flag b

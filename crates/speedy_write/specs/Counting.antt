@@ -18,12 +18,12 @@ counting_state mode targets = record {
   settled = true;
 }
 
--- the sum grows by the number of bytes, and stays at `usize::MAX` once it is there
+-- the sum grows by the number of bytes, and stays at `usize::MAX`, the greatest one, once it is there
 abbrev pub CountAppends : ℕ → List ℕ → ℕ → Type 0
-CountAppends sum bytes after = after ≡ min (sum + length bytes) (2 ^ 64 - 1)
+CountAppends sum bytes after = min after (2 ^ 64 - 1) ≡ min (sum + length bytes) (2 ^ 64 - 1)
 
-pub count_nothing : (n : ℕ) → n ≤ 2 ^ 64 - 1 → CountAppends n [] n
-count_nothing n fits = omega arith
+pub count_nothing : (n : ℕ) → CountAppends n [] n
+count_nothing n = omega arith
 
 pub count_additive : (a b c : ℕ) (s t : List ℕ) → CountAppends a s b → CountAppends b t c → CountAppends a (s ++ t) c
 count_additive a b c s t h k = omega (arith, length-append s t)

@@ -1,7 +1,7 @@
 //! The writer that `bytes_needed` of `writable` counts by. Items of a list are counted together in `each`.
 //!
 //! It stays at `usize::MAX`, where the public `SizeCalculatorCollector` of `collectors` refuses.
-ghost use Rattle.std.specs.Prelude.{◌≡◌, ◌∷◌, [], ◌^◌, ◌-◌, ◌≤◌, None, IsSome, refl};
+ghost use Rattle.std.specs.Prelude.{◌≡◌, ◌∷◌, [], None, IsSome, refl};
 ghost use Rattle.speedy_write.specs.Counting.{counting_state, CountAppends, count_nothing, count_additive};
 ghost use Rattle.speedy_write.specs.Writing.{CountsBytes};
 
@@ -16,7 +16,6 @@ use speedy_base::context::Context;
 pub struct CountingCollector<'a, C> {
     context: &'a mut C,
     size: usize,
-    ghost in_range: { size ≤ 2 ^ 64 - 1 },
 }
 
 impl<'a, C> CountingCollector<'a, C> {
@@ -59,7 +58,7 @@ impl<'a, C: Context> Writer<C> for CountingCollector<'a, C> {
 
     ghost state_with = { λ w c. refl };
 
-    ghost nothing = { λ w. count_nothing w.size w.in_range };
+    ghost nothing = { λ w. count_nothing w.size };
 
     ghost additive = { λ a b c s t h k. count_additive a.size b.size c.size s t h k };
 

@@ -1,16 +1,15 @@
 //! How lengths and tags are written, which are refused past their width, and behind them what they tell of.
-ghost use Rattle.std.specs.Prelude.{◌≡◌, ◌^◌, ◌<◌, ◌≤◌, IsErrAnd};
-ghost use Rattle.speedy_base.specs.Error.{error_of};
+ghost use Rattle.std.specs.Prelude.{◌^◌};
 ghost use Rattle.speedy_layout.specs.Numbers.{unsigned_number, length_number};
 ghost use Rattle.speedy_layout.specs.Prefixed.{prefixed_codec};
 ghost use Rattle.speedy_layout.specs.Varint.{varint};
 ghost use Rattle.speedy_write.specs.Lengths.{WritesLength};
-ghost use Rattle.speedy_write.specs.Writing.{WritesNumber, WritesValue, RefusesFull};
+ghost use Rattle.speedy_write.specs.Writing.{WritesValue};
 
 use crate::writable::Writable;
 use crate::writer::Writer;
 use speedy_base::context::Context;
-use speedy_base::error::{ErrorKind, error_out_of_range_length};
+use speedy_base::error::error_out_of_range_length;
 use speedy_layout::prefixed::{Prefix, Prefixed, Told, U7};
 use speedy_layout::varint::VarInt64;
 
@@ -102,12 +101,8 @@ impl<C: Context, N: WritePrefix, T: WriteTold<C>> Writable<C> for Prefixed<N, T>
 /// Writes a length as a `u32`. A longer one is the error `OutOfRangeLength`, before anything is written.
 #[inline]
 pub fn write_length<C: Context, W: Writer<C>>(length: usize, writer: &mut W) -> Result<(), C::Error>
-    ensures writes { WritesNumber C.Error.from_gives W.state W.appends 4 length
+    ensures { WritesLength C.Error.from_gives W.state W.appends (unsigned_number 4) (2 ^ 32) length
         result writer.old writer.new }
-    ensures full { length < 2 ^ 32 → RefusesFull C.Error.from_gives W.state
-        result writer.old writer.new }
-    ensures too_long { 2 ^ 32 ≤ length → (writer.new ≡ writer.old)
-        × IsErrAnd result (λ e. C.Error.from_gives (error_of ErrorKind.OutOfRangeLength) e) }
 {
     match u32::try_from(length) {
         Ok(length) => writer.write_u32(length),
@@ -115,12 +110,8 @@ pub fn write_length<C: Context, W: Writer<C>>(length: usize, writer: &mut W) -> 
     }
 }
 
-// The greatest lengths of 7, 8 and 16 bits.
+// The greatest length of seven bits.
 const U7_MAX: usize = 127;
-
-const U8_MAX: usize = 255;
-
-const U16_MAX: usize = 65535;
 
 /// Writes a length as a byte of at most 127. A longer one is the error `OutOfRangeLength`, before anything is written.
 #[inline]
@@ -146,10 +137,10 @@ pub fn write_length_u8<C: Context, W: Writer<C>>(
     ensures { WritesLength C.Error.from_gives W.state W.appends (unsigned_number 1) (2 ^ 8) length
         result writer.old writer.new }
 {
-    if length > U8_MAX {
-        return Err(error_out_of_range_length());
+    match u8::try_from(length) {
+        Ok(length) => writer.write_u8(length),
+        Err(_) => Err(error_out_of_range_length()),
     }
-    writer.write_u8(length as u8)
 }
 
 /// Writes a length as a `u16`. A longer one is the error `OutOfRangeLength`, before anything is written.
@@ -161,10 +152,10 @@ pub fn write_length_u16<C: Context, W: Writer<C>>(
     ensures { WritesLength C.Error.from_gives W.state W.appends (unsigned_number 2) (2 ^ 16) length
         result writer.old writer.new }
 {
-    if length > U16_MAX {
-        return Err(error_out_of_range_length());
+    match u16::try_from(length) {
+        Ok(length) => writer.write_u16(length),
+        Err(_) => Err(error_out_of_range_length()),
     }
-    writer.write_u16(length as u16)
 }
 
 /// Writes a length as a `u32`, as [`write_length`] does.
