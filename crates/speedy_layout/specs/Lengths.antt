@@ -44,20 +44,21 @@ told_length_laws {F = F} field laws =
     Laws-refusing (λ kind. IsOtherLength field kind ⊎ F.refuses_writing kind)
     (λ kind h. elim h [ inl x ↦ other_length_own field kind x | inr x ↦ laws.refuses_own kind x ]) laws
 
--- Parts that tell a length. Where they tell none, they are refused as a length that is out of range.
-abbrev pub told_codec : {B : Type 0} → (B → Type 0) → Codec B → Codec B
-told_codec is_told before = subset_codec is_told kinds.OutOfRangeLength tt before
+-- Parts whose numbers tell a length. Where they tell none, they are refused as a length that is out of range.
+abbrev pub told_codec : {N B : Type 0} → (N → Type 0) → (B → N) → Codec B → Codec B
+told_codec is_told numbers before = subset_codec (λ b. is_told (numbers b)) kinds.OutOfRangeLength tt before
 
--- Parts that tell a length, and behind them a value of that length.
-abbrev pub with_length_codec : {B V : Type 0} → (B → Type 0) → (B → ℕ) → List ℕ → Codec B → Counting V → Codec (B × V)
-with_length_codec {B = B} {V = V} is_told told field before counting = record {
+-- Parts whose numbers tell a length, and behind them a value of that length.
+abbrev pub with_length_codec : {N B V : Type 0} → (N → Type 0) → (N → ℕ) → (B → N) → List ℕ → Codec B → Counting V
+    → Codec (B × V)
+with_length_codec {B = B} {V = V} is_told told numbers field before counting = record {
   least = before.least;
-  format = λ f. sequence (λ (p : B × V). p) ((told_codec is_told before).format f) (counting.asks f)
-      (λ b. told_length field ((counting.of_length (told b)).format f));
+  format = λ f. sequence (λ (p : B × V). p) ((told_codec is_told numbers before).format f) (counting.asks f)
+      (λ b. told_length field ((counting.of_length (told (numbers b))).format f));
   laws = λ f. Laws-less {n = before.least + 0} (omega arith)
-      (sequence_laws {n = before.least} {m = 0} ((told_codec is_told before).laws f)
-      (λ b. Laws-less (omega arith) (told_length_laws field ((counting.of_length (told b)).laws f)))
-      (λ b. counting.within f (told b)) (λ v w e. e));
+      (sequence_laws {n = before.least} {m = 0} ((told_codec is_told numbers before).laws f)
+      (λ b. Laws-less (omega arith) (told_length_laws field ((counting.of_length (told (numbers b))).laws f)))
+      (λ b. counting.within f (told (numbers b))) (λ v w e. e));
 }
 
 -- lists of n items
@@ -110,15 +111,14 @@ borrowed_counting counting = record {
 
 -- ---- a value for which no length is told, and one of another length than is told, have no encoding
 
-module _ {B V : Type 0} (is_told : B → Type 0) (told : B → ℕ) (field : List ℕ) (before : Codec B)
-    (counting : Counting V)
-    (f : Mode) (b : B) (v : V) where
-  pub untold_undecodable : (is_told b → ⊥) → (s : List ℕ)
-      → ((with_length_codec is_told told field before counting).format f).encodes (b, v) s → ⊥
+module _ {N B V : Type 0} (is_told : N → Type 0) (told : N → ℕ) (numbers : B → N) (field : List ℕ)
+    (before : Codec B) (counting : Counting V) (f : Mode) (b : B) (v : V) where
+  pub untold_undecodable : (is_told (numbers b) → ⊥) → (s : List ℕ)
+      → ((with_length_codec is_told told numbers field before counting).format f).encodes (b, v) s → ⊥
   unfolding sequence coding
   untold_undecodable untold s h = untold (Accepts-exact_means f.strict _ _ _ _ h.first_is.stands).1
 
-  pub other_length_undecodable : (counting.count v ≡ told b → ⊥) → (s : List ℕ)
-      → ((with_length_codec is_told told field before counting).format f).encodes (b, v) s → ⊥
+  pub other_length_undecodable : (counting.count v ≡ told (numbers b) → ⊥) → (s : List ℕ)
+      → ((with_length_codec is_told told numbers field before counting).format f).encodes (b, v) s → ⊥
   unfolding sequence
-  other_length_undecodable other s h = other (counting.is_count f (told b) v h.suffix h.second_is)
+  other_length_undecodable other s h = other (counting.is_count f (told (numbers b)) v h.suffix h.second_is)

@@ -262,8 +262,7 @@ impl<B: Holds, K: Length<B::Numbers>, T: OfLength> Layout for WithLength<K, B, T
 
     ghost seen = { λ it. (B.seen it.before, T.seen it.value) };
 
-    ghost layout = { with_length_codec (λ b. K.is_told (B.numbers b)) (λ b. K.told (B.numbers b)) K.field
-        B.layout T.counting };
+    ghost layout = { with_length_codec K.is_told K.told B.numbers K.field B.layout T.counting };
 }
 
 // What stands behind these parts may have a length too that their numbers tell.

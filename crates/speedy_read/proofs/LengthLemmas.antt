@@ -9,14 +9,14 @@ use Rattle.speedy_read.specs.Reading.{ReaderState, Reads}
 use Rattle.speedy_read.specs.ReadingLemmas.{refused_as, got_as}
 use Rattle.speedy_read.specs.Sequences.{Composes, sequence_composes}
 
-pub with_length_composes : {B V : Type 0} (is_told : B → Type 0) (told : B → ℕ) (field : List ℕ) (before : Codec B)
-    (counting : Counting V) (f : Mode)
-    → Composes ((told_codec is_told before).format f) (λ b. (counting.of_length (told b)).format f)
-    ((with_length_codec is_told told field before counting).format f) (λ b v. (b, v))
-with_length_composes {B = B} {V = V} is_told told field before counting f =
+pub with_length_composes : {N B V : Type 0} (is_told : N → Type 0) (told : N → ℕ) (numbers : B → N) (field : List ℕ)
+    (before : Codec B) (counting : Counting V) (f : Mode)
+    → Composes ((told_codec is_told numbers before).format f) (λ b. (counting.of_length (told (numbers b))).format f)
+    ((with_length_codec is_told told numbers field before counting).format f) (λ b v. (b, v))
+with_length_composes {B = B} {V = V} is_told told numbers field before counting f =
     let c = sequence_composes (λ (p : B × V). p) {join = λ (b : B) (v : V). (b, v)}
-    {M = λ b. told_length field ((counting.of_length (told b)).format f)}
-    (λ b. counting.within f (told b)) (λ b v s h. refl) in
+    {M = λ b. told_length field ((counting.of_length (told (numbers b))).format f)}
+    (λ b. counting.within f (told (numbers b))) (λ b v s h. refl) in
     record {
       joins = c.joins;
       splits = c.splits;

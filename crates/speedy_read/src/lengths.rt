@@ -277,7 +277,7 @@ fn read_told<
     R: LendingReader<L, C>,
 >(reader: &mut R) -> Result<(B, usize), C::Error>
     ensures reads { ReadsValue C.Error.IsEof R.state (λ read. B.seen read.0)
-        (told_codec (λ b. K.is_told (B.numbers b)) B.layout) result reader.old reader.new }
+        (told_codec K.is_told B.numbers B.layout) result reader.old reader.new }
     ensures length { IfOk result (λ read. read.1 ≡ K.told (B.numbers (B.seen read.0))) }
 {
     let before = B::read_parts(reader)?;

@@ -1,7 +1,7 @@
 -- How a value of a case is written behind its tag.
 use Rattle.std.specs.Prelude.{◌≡◌, ℕ, List, Option, Some, None, MatchOption, [], Result, Ok, Err, IsOk}
 use Rattle.std.specs.Prelude.{refl}
-use Rattle.std.proofs.Common.{sym, subst}
+use Rattle.std.proofs.Common.{sym, subst, inl}
 use Rattle.speedy_base.specs.declared.error.Error.{Error}
 use Rattle.speedy_base.specs.Mode.{Mode}
 use Rattle.speedy_layout.specs.Choices.{AtTag, no_case, a_unit, a_case, case_format, case_laws, holding, holds_one}
@@ -24,7 +24,7 @@ module _ {E S : Type 0} {gives : Error → E → Type 0} (state : S → WriterSt
       let failed : Result (Unit {0}) E = Err e in
       subst (λ (s : S). Writes gives (case_format at_tag) value failed (state old) (state s) (λ b. appends old b s))
       (sym refused.1)
-      (undecodable_refused (case_laws at_tag (state old).mode) undecodable refused.0)
+      (undecodable_refused (case_laws at_tag (state old).mode) undecodable (inl refused.0))
 
   held_written : {V P : Type 0} (part : V → Option P) (F : Mode → Format P) (value : V) (v : P)
       (result : Result (Unit {0}) E) → part value ≡ Some v

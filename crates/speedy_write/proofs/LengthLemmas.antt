@@ -21,27 +21,11 @@ module _ {E V : Type 0} {gives : Error → E → Type 0} {F : Mode → Format V}
       → Writes gives (λ f. told_length field (F f)) v result old new appended
   told_length_written field w = Writes-as (λ _ k. inr k) (λ b h. h) (λ b h. (b, h, refl)) (λ b h. (b, h)) w
 
-  -- a value that no bytes encode is refused before anything is written, with a kind of its own
-  pub undecodable_named : {e : E} {strict : Bool} {least : ℕ} → Laws strict least (F old.mode)
-      → ((b : List ℕ) → (F old.mode).encodes v b → ⊥) → IsNamed gives (F old.mode).refuses_writing e
-      → Writes gives F v (Err e) old old appended
-  undecodable_named laws undecodable named = record {
-    kept = Kept-same old;
-    answer = record {
-      beginning = λ b h. absurd (undecodable b (laws.written_encodes v b h));
-      because = inr (record {
-        no_fault = refl;
-        no_fit = λ b h _. undecodable b (laws.written_encodes v b h);
-        no_encoding = λ _ b h. undecodable b h;
-        kind = inr (inr named);
-      });
-    };
-  }
-
--- and it is named so where it has another length than is told
-pub other_length_named : {E B V : Type 0} (gives : Error → E → Type 0) (is_told : B → Type 0) (told : B → ℕ)
-    (field : List ℕ) (before : Codec B) (counting : Counting V) (f : Mode) (b : B) (kind : ErrorKind) {e : E}
+-- a value is refused with a kind of its own where it has another length than is told
+pub other_length_named : {E N B V : Type 0} (gives : Error → E → Type 0) (is_told : N → Type 0) (told : N → ℕ)
+    (numbers : B → N) (field : List ℕ) (before : Codec B) (counting : Counting V) (f : Mode) (b : B)
+    (kind : ErrorKind) {e : E}
     → IsOtherLength field kind → gives (error_of kind) e
-    → IsNamed gives ((with_length_codec is_told told field before counting).format f).refuses_writing e
+    → IsNamed gives ((with_length_codec is_told told numbers field before counting).format f).refuses_writing e
 unfolding sequence
-other_length_named gives is_told told field before counting f b kind is given = (kind, inr (b, inl is), given)
+other_length_named gives is_told told numbers field before counting f b kind is given = (kind, inr (b, inl is), given)

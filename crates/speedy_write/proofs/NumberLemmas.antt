@@ -23,7 +23,7 @@ use Rattle.speedy_layout.specs.Numbers.{length_number, length_codec}
 use Rattle.speedy_layout.specs.Varint.{varint, prefixed_written}
 use Rattle.speedy_write.specs.Codes.{subset_written}
 use Rattle.speedy_write.specs.Lengths.{WritesLength}
-use Rattle.speedy_write.specs.Writing.{WriterState, Writes, WritesNumber, RefusesFull}
+use Rattle.speedy_write.specs.Writing.{WriterState, IsOutOfRange, Writes, WritesNumber, RefusesFull}
 use Rattle.speedy_write.specs.Sequences.{Kept-same}
 
 module _ {E : Type 0} {gives : Error → E → Type 0} {result : Result (Unit {0}) E} {old new : WriterState}
@@ -38,7 +38,7 @@ module _ {E : Type 0} {gives : Error → E → Type 0} {result : Result (Unit {0
 -- a value that no bytes encode is refused before anything is written
 pub undecodable_refused : {E V : Type 0} {gives : Error → E → Type 0} {F : Mode → Format V} {v : V} {e : E}
     {old : WriterState} {appended : List ℕ → Type 0} {strict : Bool} {least : ℕ} → Laws strict least (F old.mode)
-    → ((b : List ℕ) → (F old.mode).encodes v b → ⊥) → gives (error_of kinds.OutOfRangeLength) e
+    → ((b : List ℕ) → (F old.mode).encodes v b → ⊥) → IsOutOfRange gives (F old.mode).refuses_writing e
     → Writes gives F v (Err e) old old appended
 undecodable_refused {v = v} {old = old} laws undecodable given = record {
   kept = Kept-same old;
@@ -48,7 +48,7 @@ undecodable_refused {v = v} {old = old} laws undecodable given = record {
       no_fault = refl;
       no_fit = λ b h _. undecodable b (laws.written_encodes v b h);
       no_encoding = λ _ b h. undecodable b h;
-      kind = inr (inl given);
+      kind = inr given;
     });
   };
 }
@@ -60,7 +60,7 @@ module _ {E S : Type 0} {gives : Error → E → Type 0} {state : S → WriterSt
       → ((mode : Mode) (b : List ℕ) → (F mode).encodes n b → n < bound) → bound ≤ n
       → gives (error_of kinds.OutOfRangeLength) e → WritesLength gives state appends F bound n (Err e) old old
   long_refused laws within long given = record {
-    writes = undecodable_refused (laws _) (λ b h. let below = within _ b h in omega arith) given;
+    writes = undecodable_refused (laws _) (λ b h. let below = within _ b h in omega arith) (inl given);
     full = λ below. absurd (omega arith);
     too_long = λ _. (refl, given);
   }

@@ -8,8 +8,8 @@ pub returns-in_err-before : goal.returns-in_err-before
 returns-in_err-before g c =
     let K = g.K.Length in
     let B = g.B.Holds in
-    refused_first (with_length_composes (λ b. K.is_told (B.numbers b)) (λ b. K.told (B.numbers b)) K.field B.layout
-    g.T.OfLength.counting _) c.from_residual.ensures.1 c.in_err-before.ensures.reads
+    refused_first (with_length_composes K.is_told K.told B.numbers K.field B.layout g.T.OfLength.counting _)
+    c.from_residual.ensures.1 c.in_err-before.ensures.reads
 
 pub returns-in_err-value : goal.returns-in_err-value
 returns-in_err-value g c =
@@ -17,8 +17,8 @@ returns-in_err-value g c =
     let B = g.B.Holds in
     let first = c.in_ok-before.ensures.reads in
     let second = rw first.kept.mode at c.in_err-value.ensures in
-    refused_second (with_length_composes (λ b. K.is_told (B.numbers b)) (λ b. K.told (B.numbers b)) K.field B.layout
-    g.T.OfLength.counting _) ((told_codec (λ b. K.is_told (B.numbers b)) B.layout).laws _) first
+    refused_second (with_length_composes K.is_told K.told B.numbers K.field B.layout g.T.OfLength.counting _)
+    ((told_codec K.is_told B.numbers B.layout).laws _) first
     c.from_residual-in_err-value.ensures.1 (rw c.in_ok-before.ensures.length at second)
 
 pub returns : goal.returns
@@ -27,5 +27,5 @@ returns g c =
     let B = g.B.Holds in
     let first = c.in_ok-before.ensures.reads in
     let second = rw first.kept.mode at c.in_ok-value.ensures in
-    got_both (with_length_composes (λ b. K.is_told (B.numbers b)) (λ b. K.told (B.numbers b)) K.field B.layout
-    g.T.OfLength.counting _) first (rw c.in_ok-before.ensures.length at second) refl
+    got_both (with_length_composes K.is_told K.told B.numbers K.field B.layout g.T.OfLength.counting _) first
+    (rw c.in_ok-before.ensures.length at second) refl
