@@ -73,7 +73,8 @@ any_bytes_cover n mode = record {
   asks = asks_memory;
 }
 
-short_of : {E : Type 0} {gives : Error → E → Type 0} {eof : E → Bool} {e : E} (size : ℕ) (bytes : List ℕ)
+-- bytes of which no prefix has n are fewer than n
+pub short_of : {E : Type 0} {gives : Error → E → Type 0} {eof : E → Bool} {e : E} (size : ℕ) (bytes : List ℕ)
     → Undecodable gives eof (raw_bytes size) e bytes → length bytes < size
 unfolding raw_bytes
 short_of size bytes un =

@@ -1,8 +1,13 @@
 -- Reads of items make reads of what they gather to.
 use Rattle.std.specs.Prelude.{◌≡◌, ℕ, ◌+◌, ◌≤◌, ◌<◌, List, [], ◌∷◌, ◌++◌, length, map, Bool, true, false, IsTrue}
-use Rattle.std.specs.Prelude.{Result, Ok, Err, OnOk, is_err, IsErrAnd, refl}
+use Rattle.std.specs.Prelude.{Result, Ok, Err, IfOk, OnOk, is_err, IsErrAnd, ⊤, refl}
 use Rattle.std.proofs.Common.{sym, ◌∙◌, ap, subst, arith, inl, inr}
+use Rattle.std.proofs.lemmas.Iterator.Adapters.{fact_from_collect, YieldsList-from_vec}
+use Rattle.std.proofs.lemmas.Result.{IfOk-weaker}
 use Rattle.std.proofs.lemmas.List.{map-append, append_assoc, append-nil, length-append, length-map}
+use Rattle.std.specs.Iterator.{DrainsIf}
+use Rattle.std.specs.declared.vec.IntoIter.{IntoIter}
+use Rattle.std.specs.Vec.Iter.{into_iter_items, into_iter_len, into_iter_steps}
 use Rattle.speedy_base.specs.declared.error.ErrorKind.TheVariants as kinds
 use Rattle.speedy_base.specs.declared.error.Error.{Error}
 use Rattle.speedy_base.specs.Error.{error_of, passed_on}
@@ -145,6 +150,15 @@ gathered_at_once {g = g} items {all = all} r gathered written =
         written = written;
       };
     }
+
+-- a vector of items that is collected gathers to what is said of all its items
+pub collected : {T F E Z : Type 0} {gathers : F → Type 0} (iter : IntoIter T Z) (result : Result F E) (items : List T)
+    (is_of : List T → F → Type 0) → ((whole : F) → is_of items whole → gathers whole) → into_iter_items iter ≡ items
+    → into_iter_len iter ≡ length items
+    → IfOk result (λ whole. (all : List T) × DrainsIf (into_iter_steps {X = T} {Z = Z}) ⊤ iter all × is_of all whole)
+    → IfOk result gathers
+collected iter result items is_of gathered rest count made =
+    IfOk-weaker result _ _ gathered (fact_from_collect is_of result made (YieldsList-from_vec items rest count))
 
 -- ---- what was gathered is a value of a code
 

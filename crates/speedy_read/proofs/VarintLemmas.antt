@@ -23,6 +23,7 @@ use Rattle.speedy_read.specs.Sequences.{peek_refused_first}
 use Rattle.speedy_read.specs.Codes.{got_covered, code_refused, code_read, code_not_written, exact_code_read}
 use Rattle.speedy_read.specs.Codes.{refused_covered, unaccepted, peek_refused_covered, codes_cover}
 use Rattle.speedy_base.specs.Error.{error_of}
+use Rattle.speedy_read.proofs.ByteLemmas.{short_of}
 use Rattle.speedy_read.proofs.NumberLemmas.{bytes_cover_digits}
 use Rattle.speedy_base.specs.declared.endianness.Endianness.TheVariants.{LittleEndian}
 use Rattle.std.proofs.lemmas.Bool.{cases_lt}
@@ -210,18 +211,6 @@ rest_not_malformed mode more first bytes rest starts is few (inr h) =
     let w = p.width_is in
     omega arith
 
--- bytes of which no prefix has n are fewer than n
-too_few : {E : Type 0} {gives : Error → E → Type 0} {eof : E → Bool} {e : E} (n : ℕ) (bytes : List ℕ)
-    → Undecodable gives eof (raw_bytes n) e bytes → length bytes < n
-unfolding raw_bytes
-too_few n bytes un =
-    elim (cases_lt (length bytes) n) [
-      | inl h ↦ h
-      | inr h ↦
-          absurd (un.no_prefix (take n bytes) (take n bytes) (drop n bytes) (sym (take-append-drop n bytes))
-          (refl, length-take-le n bytes h))
-    ]
-
 module _ {E : Type 0} {gives : Error → E → Type 0} {eof : E → Bool} (mode : Mode) {first : ℕ} where
   -- where the bytes after a first byte are not there, no integer is
   rest_undecodable : {e : E} (more : ℕ) (bytes rest : List ℕ) → StartsVarint more first → bytes ≡ first ∷ rest
@@ -238,7 +227,7 @@ module _ {E : Type 0} {gives : Error → E → Type 0} {eof : E → Bool} (mode 
           (append-nil (bytes ++ after) ∙ ap (λ x. x ++ after) is),
     );
     malformed =
-        λ bad. absurd (rest_not_malformed mode more first bytes rest starts is (too_few (more + 1) bytes un) bad);
+        λ bad. absurd (rest_not_malformed mode more first bytes rest starts is (short_of (more + 1) bytes un) bad);
   }
 
   -- what remains begins with the byte that was peeked

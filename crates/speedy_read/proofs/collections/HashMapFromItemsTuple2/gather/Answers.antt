@@ -1,15 +1,11 @@
 use Rattle.std.proofs.Common.{◌∙◌}
-use Rattle.std.proofs.lemmas.Result.{IfOk-weaker}
-use Rattle.std.proofs.lemmas.Iterator.Adapters.{fact_from_collect, YieldsList-from_vec}
 use Rattle.std.specs.HashMap.{IsFromIterResult}
 use Rattle.speedy_layout.specs.GathersToLemmas.{hash_map_collected}
+use Rattle.speedy_read.proofs.CollectionLemmas.{collected}
 use Rattle.speedy_read.proofs.collections.HashMapFromItemsTuple2.gather.Goals as goal
 
 pub returns : goal.returns
 returns g c =
-    let eq = g.K.PartialEq.eq in
-    let items = c.args.items.items in
-    let count = c.into_iter.ensures.len ∙ c.args.items.ok.0 in
-    let all = YieldsList-from_vec {s = c.into_iter.result} items c.into_iter.ensures.rest count in
-    let made = fact_from_collect (λ xs m. IsFromIterResult eq xs m) c.collect.result c.collect.ensures.ran all in
-    IfOk-weaker c.collect.result _ _ (hash_map_collected eq items) made
+    collected c.into_iter.result c.collect.result c.args.items.items
+    (λ xs m. IsFromIterResult g.K.PartialEq.eq xs m) (hash_map_collected g.K.PartialEq.eq c.args.items.items)
+    c.into_iter.ensures.rest (c.into_iter.ensures.len ∙ c.args.items.ok.0) c.collect.ensures.ran

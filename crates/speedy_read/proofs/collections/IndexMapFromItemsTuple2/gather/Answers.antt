@@ -1,16 +1,13 @@
 use Rattle.std.proofs.Common.{◌≡◌, ◌∙◌, []}
-use Rattle.std.proofs.lemmas.Result.{IfOk-weaker}
-use Rattle.std.proofs.lemmas.Iterator.Adapters.{fact_from_collect, YieldsList-from_vec}
 use Rattle.indexmap.specs.IndexMap.{insert_all, IsFromIterResult}
 use Rattle.speedy_layout.specs.GathersToLemmas.{index_map_collected}
+use Rattle.speedy_read.proofs.CollectionLemmas.{collected}
 use Rattle.speedy_read.proofs.collections.IndexMapFromItemsTuple2.gather.Goals as goal
 
 pub returns : goal.returns
 returns g c =
     let eq = g.K.PartialEq.eq in
-    let items = c.args.items.items in
-    let count = c.into_iter.ensures.len ∙ c.args.items.ok.0 in
-    let all = YieldsList-from_vec {s = c.into_iter.result} items c.into_iter.ensures.rest count in
-    let made = fact_from_collect (λ xs m. (m.entries ≡ insert_all eq [] xs)
-    × IsFromIterResult eq xs m) c.collect.result c.collect.ensures.ran all in
-    IfOk-weaker c.collect.result _ _ (λ m h. index_map_collected eq items m g.met.K.Eq.laws h.0 h.1) made
+    collected c.into_iter.result c.collect.result c.args.items.items
+    (λ xs m. (m.entries ≡ insert_all eq [] xs) × IsFromIterResult eq xs m)
+    (λ m h. index_map_collected eq c.args.items.items m g.met.K.Eq.laws h.0 h.1)
+    c.into_iter.ensures.rest (c.into_iter.ensures.len ∙ c.args.items.ok.0) c.collect.ensures.ran
