@@ -16,49 +16,56 @@ use speedy_layout::frames::Framed;
 use std::alloc::Global;
 use std::convert::AsSlice;
 
+/// How a value is read that fills the next bytes. Each type that is read from borrowed bytes or from a stream has it.
+pub trait ReadFramed<L: AsSlice<u8> + Drop, C: Context>: ReadFrom<L, C> {
+    /// Reads the value that fills the next `length` bytes, from which it may borrow.
+    fn read_framed<R: LendingReader<L, C>>(reader: &mut R, length: usize) -> Result<Self, C::Error>
+        ensures { let mode = (R.state reader.old).mode in
+            Reads C.Error.from_gives C.Error.eof Self.seen (filling mode (Self.layout.format mode) length) result
+            (R.state reader.old) (R.state reader.new) };
+}
+
+impl<L: AsSlice<u8> + Drop, C: Context, T: ReadFramed<L, C>> ReadTold<L, C> for Framed<T> {
+    #[inline]
+    fn read_behind<N: ReadPrefix, R: LendingReader<L, C>>(
+        reader: &mut R,
+    ) -> Result<Framed<T>, C::Error> {
+        let length = N::read_number(reader)?;
+        let value = T::read_framed(reader, length)?;
+        Ok(Framed(value))
+    }
+}
+
 // Out of the bytes that the reader lends, or out of a vector that grows as they come.
-impl<'a, C: Context, T: ReadFrom<&'a [u8], C>> ReadTold<&'a [u8], C> for Framed<T> {
-    #[inline]
-    fn read_behind<N: ReadPrefix, R: LendingReader<&'a [u8], C>>(
+impl<'a, C: Context, T: ReadFrom<&'a [u8], C>> ReadFramed<&'a [u8], C> for T {
+    fn read_framed<R: LendingReader<&'a [u8], C>>(
         reader: &mut R,
-    ) -> Result<Framed<T>, C::Error> {
-        let length = N::read_number(reader)?;
-        let value = read_framed(reader, length)?;
-        Ok(Framed(value))
+        length: usize,
+    ) -> Result<T, C::Error> {
+        keeps_context(reader);
+        let alloc = reader.alloc();
+        match reader.read_bytes_borrowed(length) {
+            Some(lent) => {
+                let bytes = lent?;
+                fill_lent(alloc, reader.context_mut(), bytes)
+            }
+            None => {
+                let bytes: Vec<u8> = reader.read_vec(length)?;
+                fill_copied(alloc, reader.context_mut(), &bytes)
+            }
+        }
     }
 }
 
-impl<C: Context, T: ReadFrom<NothingLent, C>> ReadTold<NothingLent, C> for Framed<T> {
-    #[inline]
-    fn read_behind<N: ReadPrefix, R: LendingReader<NothingLent, C>>(
+// What is read so borrows nothing.
+impl<C: Context, T: ReadFrom<NothingLent, C>> ReadFramed<NothingLent, C> for T {
+    fn read_framed<R: LendingReader<NothingLent, C>>(
         reader: &mut R,
-    ) -> Result<Framed<T>, C::Error> {
-        let length = N::read_number(reader)?;
-        let value = read_framed_owned(reader, length)?;
-        Ok(Framed(value))
-    }
-}
-
-// The value that fills the next `length` bytes, from which it may borrow.
-fn read_framed<'a, T: ReadFrom<&'a [u8], C>, C: Context, R: LendingReader<&'a [u8], C>>(
-    reader: &mut R,
-    length: usize,
-) -> Result<T, C::Error>
-    ensures { let mode = (R.state reader.old).mode in
-        Reads C.Error.from_gives C.Error.eof T.seen (filling mode (T.layout.format mode) length) result
-        (R.state reader.old) (R.state reader.new) }
-{
-    keeps_context(reader);
-    let alloc = reader.alloc();
-    match reader.read_bytes_borrowed(length) {
-        Some(lent) => {
-            let bytes = lent?;
-            fill_lent(alloc, reader.context_mut(), bytes)
-        }
-        None => {
-            let bytes: Vec<u8> = reader.read_vec(length)?;
-            fill_copied(alloc, reader.context_mut(), &bytes)
-        }
+        length: usize,
+    ) -> Result<T, C::Error> {
+        let alloc = reader.alloc();
+        let bytes: Vec<u8> = reader.read_vec(length)?;
+        fill_owned(alloc, reader.context_mut(), &bytes)
     }
 }
 
@@ -69,20 +76,6 @@ fn keeps_context<L: AsSlice<u8> + Drop, C: Context, R: LendingReader<L, C>>(_rea
     ensures with_another { (r : R) (c : C) →
         R.state (R.with_context r c) ≡ record (R.state r) { mode = C.mode c } }
 {}
-
-// The value that fills the next `length` bytes, which borrows nothing.
-fn read_framed_owned<T: ReadFrom<NothingLent, C>, C: Context, R: LendingReader<NothingLent, C>>(
-    reader: &mut R,
-    length: usize,
-) -> Result<T, C::Error>
-    ensures { let mode = (R.state reader.old).mode in
-        Reads C.Error.from_gives C.Error.eof T.seen (filling mode (T.layout.format mode) length) result
-        (R.state reader.old) (R.state reader.new) }
-{
-    let alloc = reader.alloc();
-    let bytes: Vec<u8> = reader.read_vec(length)?;
-    fill_owned(alloc, reader.context_mut(), &bytes)
-}
 
 // The value that fills the bytes, and may borrow from them.
 #[inline]

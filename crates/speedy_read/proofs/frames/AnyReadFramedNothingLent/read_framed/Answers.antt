@@ -3,7 +3,7 @@ use Rattle.std.specs.Borrow.{Bor}
 use Rattle.std.proofs.lemmas.Bool.{true≢false}
 use Rattle.std.proofs.lemmas.List.{map-id}
 use Rattle.speedy_read.proofs.FrameLemmas.{vector_refused, bytes_of_vector, frame_filled, context_back}
-use Rattle.speedy_read.proofs.frames.read_framed_owned.Goals as goal
+use Rattle.speedy_read.proofs.frames.AnyReadFramedNothingLent.read_framed.Goals as goal
 
 pub returns-in_err-bytes : goal.returns-in_err-bytes
 returns-in_err-bytes g c =

@@ -6,7 +6,7 @@ use Rattle.speedy_read.specs.Codes.{refused_covered}
 use Rattle.speedy_read.proofs.FrameLemmas.{bytes_cover_filling, vector_refused, bytes_of_vector}
 use Rattle.speedy_read.proofs.FrameLemmas.{frame_filled, context_back}
 use Rattle.speedy_read.proofs.LentLemmas.{lends_nothing, slices_show}
-use Rattle.speedy_read.proofs.frames.read_framed.Goals as goal
+use Rattle.speedy_read.proofs.frames.AnyReadFramedRefSliceU8.read_framed.Goals as goal
 
 pub returns-in_err-bytes-in-Some : goal.returns-in_err-bytes-in-Some
 returns-in_err-bytes-in-Some g c =

@@ -1,7 +1,7 @@
 use Rattle.std.proofs.Common.{refl}
 use Rattle.speedy_read.specs.Sequences.{refused_first, refused_second, got_both}
 use Rattle.speedy_read.proofs.FrameLemmas.{frame_composes}
-use Rattle.speedy_read.proofs.frames.FramedReadToldNothingLent.read_behind.Goals as goal
+use Rattle.speedy_read.proofs.frames.FramedReadTold.read_behind.Goals as goal
 
 pub returns-in_err-length : goal.returns-in_err-length
 returns-in_err-length g c = refused_first (frame_composes _ _ _) c.from_residual.ensures.1 c.in_err-length.ensures
