@@ -2,7 +2,7 @@
 use Rattle.std.specs.Prelude.{◌≡◌, ℕ, ◌+◌, ◌-◌, ◌≤◌, List, [], ◌∷◌, ◌++◌, length, take, drop, Bool, IsTrue, Ok, Err}
 use Rattle.std.specs.Prelude.{Result, IsErrAnd, refl, ◌<◌}
 use Rattle.std.proofs.Common.{sym, ◌∙◌, ap, ap₂, subst, arith, inl, inr}
-use Rattle.std.proofs.lemmas.List.{append-nil, length-take-le, take_all, length-append, take-append-drop}
+use Rattle.std.proofs.lemmas.List.{append-nil, length-take-le, take_all, length-append}
 use Rattle.speedy_base.specs.declared.error.Error.{Error}
 use Rattle.speedy_base.specs.declared.error.ErrorKind.TheVariants as kinds
 use Rattle.speedy_base.specs.Digits.{AreBytes, EncodesNumber, number}
@@ -26,7 +26,6 @@ use Rattle.speedy_base.specs.Error.{error_of}
 use Rattle.speedy_read.proofs.ByteLemmas.{short_of}
 use Rattle.speedy_read.proofs.NumberLemmas.{bytes_cover_digits}
 use Rattle.speedy_base.specs.declared.endianness.Endianness.TheVariants.{LittleEndian}
-use Rattle.std.proofs.lemmas.Bool.{cases_lt}
 
 -- more bytes than the number needs are read as it, and not written
 reads_wider : {first n : ℕ} {tail : List ℕ} → VarintParts first tail n → (IsFewest (length tail) n → ⊥)

@@ -5,11 +5,24 @@ use Rattle.std.proofs.lemmas.List.{append_assoc}
 use Rattle.speedy_base.specs.Mode.{Mode}
 use Rattle.speedy_layout.specs.Codes.{Code, coding}
 use Rattle.speedy_layout.specs.Format.{Asks, Format}
-use Rattle.speedy_layout.specs.Lengths.{text_length}
+use Rattle.speedy_layout.specs.Laws.{Codec}
+use Rattle.speedy_layout.specs.Lengths.{Counting, text_length}
 use Rattle.speedy_layout.specs.Lists.{vector, vector_length, vector_asks, prefixed_list}
 use Rattle.speedy_layout.specs.Sequences.{AsksAtMost, counted_parts, so_many, sequence, Parts-as}
 use Rattle.speedy_layout.specs.Texts.{text_of_length, text_asks, prefixed_text}
 use Rattle.speedy_read.specs.Sequences.{Composes, sequence_composes}
+
+-- values of a length behind that length
+abbrev pub counted : {V : Type 0} → Codec ℕ → Counting V → Mode → Format V
+counted {V = V} number counting f =
+    sequence (λ v. let parts : ℕ × V = (counting.count v, v) in parts) (number.format f) (counting.asks f)
+    (λ n. (counting.of_length n).format f)
+
+pub counted_composes : {V : Type 0} (number : Codec ℕ) (counting : Counting V) (f : Mode)
+    → Composes (number.format f) (λ n. (counting.of_length n).format f) (counted number counting f) (λ n v. v)
+counted_composes {V = V} number counting f =
+    sequence_composes (λ v. let parts : ℕ × V = (counting.count v, v) in parts) (counting.within f)
+    (λ n v s h. ap (λ (m : ℕ). let parts : ℕ × V = (m, v) in parts) (counting.is_count f n v s h))
 
 pub prefixed_list_composes : {V : Type 0} (count : Format ℕ) (F : Format V)
     → Composes count (λ n. vector n F) (prefixed_list count F) (λ n vs. vs)

@@ -3,11 +3,11 @@
 
 ghost use Rattle.std.specs.Prelude.{◌≡◌};
 
+use crate::lengths::read_counted;
 use crate::many::ItemByItem;
 use crate::prefixed::{ReadPrefix, ReadTold};
 use crate::readable::{ReadFrom, ReadMany};
 use crate::reader::LendingReader;
-use crate::utf8::cow_bytes_to_cow_str;
 use speedy_base::context::Context;
 use std::borrow::{Cow, CowSlice, CowStr};
 use std::convert::AsSlice;
@@ -62,8 +62,7 @@ impl<'a, C: Context, T: ReadMany<&'a [u8], C> + 'a> ReadTold<&'a [u8], C> for Co
     fn read_behind<N: ReadPrefix, R: LendingReader<&'a [u8], C>>(
         reader: &mut R,
     ) -> Result<CowSlice<'a, T>, C::Error> {
-        let length = N::read_number(reader)?;
-        reader.read_cow(length)
+        read_counted::<N, CowSlice<'a, T>, &'a [u8], C, R>(reader)
     }
 }
 
@@ -89,8 +88,6 @@ impl<'a, C: Context> ReadTold<&'a [u8], C> for CowStr<'a> {
     fn read_behind<N: ReadPrefix, R: LendingReader<&'a [u8], C>>(
         reader: &mut R,
     ) -> Result<CowStr<'a>, C::Error> {
-        let length = N::read_number(reader)?;
-        let bytes: CowSlice<'a, u8> = reader.read_cow(length)?;
-        cow_bytes_to_cow_str(bytes)
+        read_counted::<N, CowStr<'a>, &'a [u8], C, R>(reader)
     }
 }

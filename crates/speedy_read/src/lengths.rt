@@ -1,10 +1,12 @@
 //! How parts are read, and behind them a text or a list of the length that they tell; and how lengths are compared.
 ghost use Rattle.std.specs.Prelude.{◌≡◌, ℕ, ◌↔◌, IsTrue, IfOk};
 ghost use Rattle.speedy_layout.specs.Lengths.{told_codec};
-ghost use Rattle.speedy_read.specs.Reading.{ReadsValue};
+ghost use Rattle.speedy_read.specs.Counted.{counted};
+ghost use Rattle.speedy_read.specs.Reading.{ReadsAs, ReadsValue};
 
 use crate::lent::read_lent;
 use crate::many::ItemByItem;
+use crate::prefixed::ReadPrefix;
 use crate::readable::{ReadFrom, ReadMany};
 use crate::reader::LendingReader;
 use crate::utf8::{bytes_to_str, cow_bytes_to_cow_str};
@@ -25,6 +27,22 @@ pub trait ReadOfLength<L: AsSlice<u8> + Drop, C: Context>: OfLength + Sized + Dr
     ) -> Result<Self, C::Error>
         ensures { ReadsValue C.Error.IsEof R.state Self.seen (Self.counting.of_length length) result
             reader.old reader.new };
+}
+
+// Reads a length as a number of the type `N`, and then a value of that length.
+#[inline]
+pub(crate) fn read_counted<
+    N: ReadPrefix,
+    T: ReadOfLength<L, C>,
+    L: AsSlice<u8> + Drop,
+    C: Context,
+    R: LendingReader<L, C>,
+>(reader: &mut R) -> Result<T, C::Error>
+    ensures { ReadsAs C.Error.IsEof R.state T.seen (counted N.numbers.codec T.counting) result
+        reader.old reader.new }
+{
+    let length = N::read_number(reader)?;
+    T::read_of_length(reader, length)
 }
 
 impl<L: AsSlice<u8> + Drop, C: Context> ReadOfLength<L, C> for String {

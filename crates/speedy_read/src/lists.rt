@@ -8,6 +8,7 @@ ghost use Rattle.speedy_layout.specs.Prefixed.{prefixed_codec};
 ghost use Rattle.speedy_read.specs.Reading.{RefusesUnsized, ReadsValue};
 
 use crate::arrays::Arrays;
+use crate::lengths::read_counted;
 use crate::lent::read_lent;
 use crate::many::{Fills, ItemByItem, Places, Strategy, Takes};
 use crate::prefixed::{ReadPrefix, ReadTold};
@@ -44,8 +45,7 @@ impl<L: AsSlice<u8> + Drop, C: Context, T: ReadMany<L, C>> ReadTold<L, C> for Ve
     fn read_behind<N: ReadPrefix, R: LendingReader<L, C>>(
         reader: &mut R,
     ) -> Result<Vec<T>, C::Error> {
-        let length = N::read_number(reader)?;
-        reader.read_vec(length)
+        read_counted::<N, Vec<T>, L, C, R>(reader)
     }
 }
 
@@ -68,8 +68,7 @@ impl<L: AsSlice<u8> + Drop, C: Context, T: ReadMany<L, C>> ReadTold<L, C> for Bo
     fn read_behind<N: ReadPrefix, R: LendingReader<L, C>>(
         reader: &mut R,
     ) -> Result<BoxedSlice<T>, C::Error> {
-        let items: Vec<T> = Vec::read_behind::<N, R>(reader)?;
-        Ok(items.into_boxed_slice())
+        read_counted::<N, BoxedSlice<T>, L, C, R>(reader)
     }
 }
 

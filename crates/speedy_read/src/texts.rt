@@ -6,6 +6,7 @@ ghost use Rattle.speedy_layout.specs.Codecs.{unsigned_codec};
 ghost use Rattle.speedy_layout.specs.Prefixed.{prefixed_codec};
 ghost use Rattle.speedy_read.specs.Reading.{RefusesUnsized, ReadsValue};
 
+use crate::lengths::read_counted;
 use crate::lent::read_lent;
 use crate::many::ItemByItem;
 use crate::prefixed::{ReadPrefix, ReadTold};
@@ -37,8 +38,7 @@ impl<L: AsSlice<u8> + Drop, C: Context> ReadTold<L, C> for String {
     fn read_behind<N: ReadPrefix, R: LendingReader<L, C>>(
         reader: &mut R,
     ) -> Result<String, C::Error> {
-        let length = N::read_number(reader)?;
-        reader.read_string(length)
+        read_counted::<N, String, L, C, R>(reader)
     }
 }
 
@@ -61,8 +61,7 @@ impl<L: AsSlice<u8> + Drop, C: Context> ReadTold<L, C> for BoxedStr {
     fn read_behind<N: ReadPrefix, R: LendingReader<L, C>>(
         reader: &mut R,
     ) -> Result<BoxedStr, C::Error> {
-        let text = String::read_behind::<N, R>(reader)?;
-        Ok(text.into_boxed_str())
+        read_counted::<N, BoxedStr, L, C, R>(reader)
     }
 }
 

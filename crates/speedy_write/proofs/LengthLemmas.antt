@@ -1,5 +1,5 @@
 -- Parts that tell a length are written, and then a value of that length.
-use Rattle.std.specs.Prelude.{ℕ, List, Bool, Result, Err, refl}
+use Rattle.std.specs.Prelude.{ℕ, List, Result, refl}
 use Rattle.std.proofs.Common.{inl, inr}
 use Rattle.speedy_base.specs.declared.error.Error.{Error}
 use Rattle.speedy_base.specs.Mode.{Mode}
@@ -7,10 +7,9 @@ use Rattle.speedy_base.specs.declared.error.ErrorKind.{ErrorKind}
 use Rattle.speedy_base.specs.Error.{IsNamed, error_of}
 use Rattle.speedy_layout.specs.Codecs.{Codec}
 use Rattle.speedy_layout.specs.Format.{Format}
-use Rattle.speedy_layout.specs.Laws.{Laws}
 use Rattle.speedy_layout.specs.Lengths.{Counting, IsOtherLength, told_length, with_length_codec}
 use Rattle.speedy_layout.specs.Sequences.{sequence}
-use Rattle.speedy_write.specs.Sequences.{Kept-same, Writes-as}
+use Rattle.speedy_write.specs.Sequences.{Writes-as}
 use Rattle.speedy_write.specs.Writing.{WriterState, Writes}
 
 module _ {E V : Type 0} {gives : Error → E → Type 0} {F : Mode → Format V} {v : V} {old : WriterState}

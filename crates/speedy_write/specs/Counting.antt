@@ -1,5 +1,5 @@
 -- What a writer does that only counts.
-use Rattle.std.specs.Prelude.{◌≡◌, ℕ, ◌+◌, ◌-◌, ◌^◌, ◌≤◌, List, [], ◌++◌, length, min, None, true, false}
+use Rattle.std.specs.Prelude.{◌≡◌, ℕ, ◌+◌, ◌-◌, ◌^◌, List, [], ◌++◌, length, min, None, true, false}
 use Rattle.std.specs.Borrow.{GName}
 use Rattle.std.proofs.Common.{arith, length-append}
 use Rattle.speedy_base.specs.declared.error.ErrorKind.TheVariants as kinds

@@ -1,4 +1,3 @@
-use Rattle.std.proofs.Common.{refl}
 use Rattle.speedy_layout.specs.Codes.{coding}
 use Rattle.speedy_layout.specs.Format.{Parts-joined}
 use Rattle.speedy_layout.specs.Numbers.{unsigned_number}
