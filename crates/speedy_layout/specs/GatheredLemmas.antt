@@ -41,40 +41,34 @@ module _ {E S : Type 0} (hashed : Bool) (mode : Mode) (count : Format ℕ) (stan
     stands = (k, w);
   }
 
--- each form of a thing that has an encoding has one itself
-pub gathered_form : {E S : Type 0} {hashed : Bool} {stands : List E → S → Type 0} {written : List E → Type 0}
-    {width least : ℕ} {count : Format ℕ} {L : Format E} (mode : Mode)
-    → Laws mode.strict width count → WritesSmaller count → Laws mode.strict least L
-    → IsGathering hashed stands written → (s : S) (bytes : List ℕ)
-    → (gathered hashed mode count stands written L).encodes s bytes
-    → (items : List E) → stands items s → written items → (b : List ℕ) × (prefixed_list count L).encodes items b
-gathered_form {hashed = hashed} {stands = stands} {written = written} {count = count} {L = L} mode
-    numbers smaller laws is s bytes h items stands_for is_written =
-    let x = gathered_encoded hashed mode count stands written L s bytes h in
-    form_encoded numbers smaller laws is s bytes (record { code = x.0; code_is = x.1; stands = x.2 }) items
-    stands_for is_written
+module _ {E S : Type 0} {hashed : Bool} {stands : List E → S → Type 0} {written : List E → Type 0}
+    {width least : ℕ} {count : Format ℕ} {L : Format E} (mode : Mode) (numbers : Laws mode.strict width count)
+    (smaller : WritesSmaller count) (laws : Laws mode.strict least L) (is : IsGathering hashed stands written)
+    (s : S) (bytes : List ℕ) where
+  -- each form of a thing that has an encoding has one itself
+  pub gathered_form : (gathered hashed mode count stands written L).encodes s bytes → (items : List E)
+      → stands items s → written items → (b : List ℕ) × (prefixed_list count L).encodes items b
+  gathered_form h items stands_for is_written =
+      let x = gathered_encoded hashed mode count stands written L s bytes h in
+      form_encoded numbers smaller laws is s bytes (record { code = x.0; code_is = x.1; stands = x.2 }) items
+      stands_for is_written
 
--- and is written in just as many bytes as the thing
-pub gathered_form_length : {E S : Type 0} {hashed : Bool} {stands : List E → S → Type 0} {written : List E → Type 0}
-    {width least : ℕ} {count : Format ℕ} {L : Format E} (mode : Mode)
-    → Laws mode.strict width count → WritesSmaller count → Laws mode.strict least L
-    → IsGathering hashed stands written → (s : S) (bytes : List ℕ)
-    → (gathered hashed mode count stands written L).writes s bytes
-    → (items : List E) → stands items s → written items → (b : List ℕ) × (prefixed_list count L).writes items b
-    × (length b ≡ length bytes)
-unfolding coding
-gathered_form_length {hashed = hashed} {stands = stands} {written = written} {count = count} {L = L} mode
-    numbers smaller laws is s bytes h items stands_for is_written =
-    let lists = prefixed_list_laws numbers laws in
-    let x : (prefixed_list count L).writes h.code bytes =
-    subst (λ writes. writes h.code bytes) (items_of_list hashed count L).1 h.code_is in
-    let read : Coded (prefixed_list count L).encodes stands s bytes =
-    record { code = h.code; code_is = lists.written_encodes h.code bytes x; stands = h.stands.0 } in
-    let encoded = form_encoded numbers smaller laws is s bytes read items stands_for is_written in
-    let b = lists.has_written items encoded.0 encoded.1 in
-    let no_less = form_shortest numbers smaller laws is s bytes b.0
-    (record { code = h.code; code_is = x; stands = h.stands })
-    (record { code = items; code_is = lists.written_encodes items b.0 b.1; stands = stands_for }) in
-    let no_more = form_shortest numbers smaller laws is s b.0 bytes
-    (record { code = items; code_is = b.1; stands = (stands_for, is_written) }) read in
-    (b.0, b.1, omega arith)
+  -- and is written in just as many bytes as the thing
+  pub gathered_form_length : (gathered hashed mode count stands written L).writes s bytes → (items : List E)
+      → stands items s → written items
+      → (b : List ℕ) × (prefixed_list count L).writes items b × (length b ≡ length bytes)
+  unfolding coding
+  gathered_form_length h items stands_for is_written =
+      let lists = prefixed_list_laws numbers laws in
+      let x : (prefixed_list count L).writes h.code bytes =
+      subst (λ writes. writes h.code bytes) (items_of_list hashed count L).1 h.code_is in
+      let read : Coded (prefixed_list count L).encodes stands s bytes =
+      record { code = h.code; code_is = lists.written_encodes h.code bytes x; stands = h.stands.0 } in
+      let encoded = form_encoded numbers smaller laws is s bytes read items stands_for is_written in
+      let b = lists.has_written items encoded.0 encoded.1 in
+      let no_less = form_shortest numbers smaller laws is s bytes b.0
+      (record { code = h.code; code_is = x; stands = h.stands })
+      (record { code = items; code_is = lists.written_encodes items b.0 b.1; stands = stands_for }) in
+      let no_more = form_shortest numbers smaller laws is s b.0 bytes
+      (record { code = items; code_is = b.1; stands = (stands_for, is_written) }) read in
+      (b.0, b.1, omega arith)

@@ -1,7 +1,7 @@
 -- Which maps and sets of std and of `indexmap` a list of items gathers to.
 -- Here keys and items are the same where they are equal; what a collection holds are the list's own, also where others
 -- are equal to them.
-use Rattle.std.specs.Prelude.{◌≡◌, List, Bool, false, IsTrue, Option, Some, ◌↔◌}
+use Rattle.std.specs.Prelude.{◌≡◌, List, ◌∷◌, Bool, false, IsTrue, Option, Some, ◌↔◌}
 use Rattle.std.specs.Map.{keys_of}
 use Rattle.std.specs.Set.{is_member}
 use Rattle.std.specs.declared.cmp.Ordering.{Ordering}
@@ -14,7 +14,7 @@ use Rattle.std.specs.BTreeMap.{BTreeMap}
 use Rattle.std.specs.HashMap.{HashMap}
 use Rattle.std.specs.BTreeSet.{BTreeSet}
 use Rattle.std.specs.HashSet.{HashSet}
-use Rattle.speedy_layout.specs.Members.{IsIn, Around, InFirstOrderBy}
+use Rattle.speedy_layout.specs.Members.{IsIn, Around, Around-behind, InFirstOrderBy}
 
 -- the last pair of the list whose key is equal to k has the value v
 pub record HasLast {K V : Type 0} (eq : K → K → Bool) (items : List (K × V)) (k : K) (v : V) : Type 0 where
@@ -22,6 +22,11 @@ pub record HasLast {K V : Type 0} (eq : K → K → Bool) (items : List (K × V)
   pub at : Around {X = K × V} (key, v) items
   pub equal : IsTrue (eq key k)
   pub no_later : (e : K × V) → IsIn e at.after → eq e.0 k ≡ false
+
+-- so it has behind one more
+pub HasLast-behind : {K V : Type 0} {eq : K → K → Bool} {items : List (K × V)} {k : K} {v : V} (x : K × V)
+    → HasLast eq items k v → HasLast eq (x ∷ items) k v
+HasLast-behind x h = record { key = h.key; at = Around-behind x h.at; equal = h.equal; no_later = h.no_later }
 
 -- at the key k the value v is found exactly if the last pair whose key is equal to k has it
 abbrev pub HasLastValues : {K V : Type 0} → (K → K → Bool) → List (K × V) → (K → Option V) → Type 0

@@ -22,7 +22,7 @@ use Rattle.indexmap.specs.IndexSet as index_set
 use Rattle.speedy_layout.specs.Members.{IsIn, Around, ComesFirst, InFirstOrderBy, IsIn-left, IsIn-right, IsIn-either}
 use Rattle.speedy_layout.specs.Members.{IsIn-pair, around_last, Around-more}
 use Rattle.speedy_layout.specs.GathersTo.{HasLast, HasLastValues, HoldsItems, AreFirsts, IsTreeMapOf, IsHashMapOf}
-use Rattle.speedy_layout.specs.GathersTo.{IsIndexMapOf, IsIndexSetOf}
+use Rattle.speedy_layout.specs.GathersTo.{IsIndexMapOf, IsIndexSetOf, HasLast-behind}
 
 or_true : (b : Bool) → IsTrue (b || true)
 or_true true = refl
@@ -131,17 +131,7 @@ module _ {K V : Type 0} {eq : K → K → Bool} where
   last_or_none [] k = inr (λ e s. absurd s)
   last_or_none (x ∷ xs) k =
       elim (last_or_none xs k) [
-        | inl l ↦
-            let h = l.1 in
-            inl (
-              l.0,
-              record {
-                key = h.key;
-                at = record { before = x ∷ h.at.before; after = h.at.after; whole_is = ap (λ l. x ∷ l) h.at.whole_is };
-                equal = h.equal;
-                no_later = h.no_later;
-              },
-            )
+        | inl l ↦ inl (l.0, HasLast-behind x l.1)
         | inr none ↦ by none (eq x.0 k) refl
       ]
     where

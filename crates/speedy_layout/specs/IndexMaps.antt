@@ -7,7 +7,7 @@ use Rattle.std.specs.HashMap as hash
 use Rattle.std.specs.HashSet as bag
 use Rattle.std.specs.HashMap.{HashMap}
 use Rattle.std.specs.HashSet.{HashSet}
-use Rattle.speedy_layout.specs.Members.{IsIn, AreDistinct, Around, InFirstOrder}
+use Rattle.speedy_layout.specs.Members.{IsIn, AreDistinct, Around, Around-behind, InFirstOrder}
 use Rattle.speedy_layout.specs.Equality.{TellsApart}
 use Rattle.speedy_layout.specs.GathersTo.{AreFirsts, IsIndexMapOf, IsIndexSetOf}
 use Rattle.speedy_layout.specs.Maps.{HasDistinctKeys, GathersToIndexMap, own_index_map}
@@ -41,11 +41,7 @@ module _ {T A : Type 0} (seen : T → A) where
       let rest = seen_around a xs before after tails in
       record {
         item = rest.item;
-        at = record {
-          before = x ∷ rest.at.before;
-          after = rest.at.after;
-          whole_is = ap (λ l. x ∷ l) rest.at.whole_is;
-        };
+        at = Around-behind x rest.at;
         seen_is = rest.seen_is;
         before_is = let t = rest.before_is in let s : b ∷ before ≡ seen x ∷ map seen rest.at.before = cc in s;
       }

@@ -30,6 +30,10 @@ pub record Around {X : Type 0} (x : X) (xs : List X) : Type 0 where
   pub after : List X
   pub whole_is : xs ≡ before ++ x ∷ after
 
+-- so it stands behind one more
+abbrev pub Around-behind : {X : Type 0} {x : X} {xs : List X} (y : X) → Around x xs → Around x (y ∷ xs)
+Around-behind y a = record { before = y ∷ a.before; after = a.after; whole_is = ap (λ z. y ∷ z) a.whole_is }
+
 -- some x stands in the items, and each one before it is among the earlier ones, as `has` tells
 pub record ComesFirst {X : Type 0} (has : X → List X → Type 0) (x : X) (earlier items : List X) : Type 0 where
   pub at : Around x items
@@ -62,9 +66,7 @@ module _ {X : Type 0} where
   pub IsIn-around : (x : X) (xs : List X) → IsIn x xs → Around x xs
   IsIn-around x [] h = absurd h
   IsIn-around x (y ∷ ys) (inl e) = record { before = []; after = ys; whole_is = ap (λ z. z ∷ ys) (sym e) }
-  IsIn-around x (y ∷ ys) (inr h) =
-      let a = IsIn-around x ys h in
-      record { before = y ∷ a.before; after = a.after; whole_is = ap (λ z. y ∷ z) a.whole_is }
+  IsIn-around x (y ∷ ys) (inr h) = Around-behind y (IsIn-around x ys h)
 
   pub IsIn-middle : (x : X) (xs ys : List X) → IsIn x (xs ++ x ∷ ys)
   IsIn-middle x xs ys = IsIn-right x xs (x ∷ ys) (inl refl)

@@ -15,7 +15,7 @@ use Rattle.std.specs.HashMap as hash
 use Rattle.std.specs.BTreeMap.{BTreeMap}
 use Rattle.std.specs.HashMap.{HashMap}
 use Rattle.speedy_layout.specs.Equality.{TellsApart}
-use Rattle.speedy_layout.specs.GathersTo.{HasLast, HasLastValues, IsTreeMapOf, IsHashMapOf}
+use Rattle.speedy_layout.specs.GathersTo.{HasLast, HasLast-behind, HasLastValues, IsTreeMapOf, IsHashMapOf}
 use Rattle.speedy_layout.specs.SeenItems.{AreSeen, IsLess, less_is_asymmetric, cmp_tells_apart, item_seen}
 use Rattle.speedy_layout.specs.SeenItems.{items_are_seen, differs, unique_seen, sorted_ascend}
 use Rattle.speedy_layout.specs.Maps.{seen_pair, by_key, HasLasts, Ascends-distinct_keys, HasDistinctKeys, own_lasts}
@@ -104,16 +104,7 @@ module _ {K V A B : Type 0} (seen : K → A) (value : V → B) where
     seen_last k w [] l = absurd l
     seen_last k w (x ∷ xs) (inl l) =
         let rest = seen_last k w xs l in
-        let h = rest.1 in (
-          rest.0,
-          record {
-            key = h.key;
-            at = record { before = x ∷ h.at.before; after = h.at.after; whole_is = ap (λ es. x ∷ es) h.at.whole_is };
-            equal = h.equal;
-            no_later = h.no_later;
-          },
-          rest.2,
-        )
+        (rest.0, HasLast-behind x rest.1, rest.2)
     seen_last k w (x ∷ xs) (inr l) = (
       x.1,
       record {
