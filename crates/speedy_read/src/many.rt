@@ -120,6 +120,8 @@ pub trait Fills<L: AsSlice<u8> + Drop, C: Context, T: ReadFrom<L, C>> {
 }
 
 /// How places take values from bytes.
+///
+/// A trait, since numbers are `Copy`, and a method of a trait, as `take` of [`Places`], may not ask that of `T`.
 pub trait Takes<T: Layout> {
     /// How many bytes each value is taken from.
     ghost size: { ℕ };

@@ -42,20 +42,9 @@ module _ {V : Type 0} (R : V → List ℕ → Type 0) where
   Each-one : (x : V) (b : List ℕ) → R x b → Each R (x ∷ []) b
   Each-one x b h = record { prefix = b; suffix = []; whole_is = sym (append-nil b); first_is = h; second_is = refl }
 
-  -- the items before one, that one, and those after it
-  abbrev Three : ℕ → List V → V → List V → List ℕ → Type 0
-  Three n vs v rest =
-      Parts (λ b. (length vs ≡ n) × Each R vs b) (Parts (R v) (λ b. (length rest ≡ length rest) × Each R rest b))
-
-  Three-each : (n : ℕ) (vs : List V) (v : V) (rest : List V) (b : List ℕ) → Three n vs v rest b
-      → Each R (vs ++ v ∷ rest) b
-  Three-each n vs v rest b h =
-      Each-append vs (v ∷ rest) b (Parts-as (λ s k. k.1) (λ s k. Parts-as (λ t l. l) (λ t l. l.1) k) h)
-
-  Each-three : (n : ℕ) (vs : List V) (v : V) (rest : List V) (b : List ℕ) → length vs ≡ n → Each R (vs ++ v ∷ rest) b
-      → Three n vs v rest b
-  Each-three n vs v rest b l h =
-      Parts-as (λ s k. (l, k)) (λ s k. Parts-as (λ t m. m) (λ t m. (refl, m)) k) (Each-parts vs (v ∷ rest) b h)
+  Each-is-one : (x : V) (b : List ℕ) → Each R (x ∷ []) b → R x b
+  Each-is-one x b h =
+      subst (R x) (sym (h.whole_is ∙ (ap (λ z. h.prefix ++ z) h.second_is ∙ append-nil h.prefix))) h.first_is
 
 -- the items as far as the next one, and all of them
 pub first_items : {A : Type 0} (items : List A) (i : ℕ) {x : A} → i < length items → x ≡ get_or items i x
@@ -77,63 +66,15 @@ no_items_written {old = old} F seen h = record {
   answer = Put-as (λ b k. (refl, k)) (Put-nothing old h);
 }
 
-module _ {E : Type 0} {gives : Error → E → Type 0} {A V : Type 0} {F : Mode → Format V} {old mid new : WriterState}
-    {prefix suffix whole : List ℕ → Type 0} (join : (a b : List ℕ) → prefix a → suffix b → whole (a ++ b))
-    (seen : A → V)
-    (xs : List A) (x : A) where
-  -- one more item is written
-  pub next_written : {done : Unit {0}} → WritesEach gives F seen xs (Ok tt) old mid prefix
-      → Writes gives F (seen x) (Ok done) mid new suffix → WritesEach gives F seen (xs ++ x ∷ []) (Ok tt) old new whole
-  unfolding repeat
-  next_written h w =
-      let R = (F old.mode).writes in
-      let vs = map seen xs in
-      let item = Put-as (Each-one R (seen x)) (Writes-at h.kept w).answer in
-      let all = Put-as (Each-append R vs (seen x ∷ [])) (Put-both join (Put-as (λ b k. k.1) h.answer) item) in
-      record {
-        kept = Kept-after h.kept w.kept;
-        answer = Put-as (λ b k. (
-          length-map (xs ++ x ∷ []) seen,
-          subst (λ (us : List V). Each R us b) (sym (map-append seen xs (x ∷ []))) k,
-        )) all;
-      }
-
-  -- where the next item is refused, the items before it, that one and others after it are
-  three_refused : {least : ℕ} {e : E} {result : Result (Unit {0}) E}
-      → ((mode : Mode) → Laws mode.strict least (F mode)) → IsErrAnd result (λ r. r ≡ e)
-      → WritesEach gives F seen xs (Ok tt) old mid prefix → Writes gives F (seen x) (Err e) mid new suffix
-      → (ys : List A)
-      → let rest : List V = map seen ys in
-      let n = length xs in
-      Writes gives (λ mode. pair (repeat n (F mode)) (pair (F mode) (repeat (length rest) (F mode))))
-      (map seen xs, (seen x, rest)) result old new whole
-  three_refused laws passed h w ys =
-      second_written is_sequence refl (λ mode. repeat_laws (laws mode) (length xs)) join h
-      (first_refused is_sequence refl passed w)
-
-  -- and so is their list
-  pub next_refused : {least : ℕ} {e : E} {result : Result (Unit {0}) E}
-      → ((mode : Mode) → Laws mode.strict least (F mode)) → IsErrAnd result (λ r. r ≡ e)
-      → WritesEach gives F seen xs (Ok tt) old mid prefix → Writes gives F (seen x) (Err e) mid new suffix
-      → (ys : List A)
-      → WritesEach gives F seen (xs ++ x ∷ ys) result old new whole
-  unfolding repeat sequence
-  next_refused laws passed h w ys =
-      let n = length xs in
-      let vs = map seen xs in
-      let rest = map seen ys in
-      let parts : map seen (xs ++ x ∷ ys) ≡ vs ++ seen x ∷ rest = map-append seen xs (x ∷ ys) in
-      let R = (F old.mode).writes in
-      let turned : (S : V → List ℕ → Type 0) (b : List ℕ) → Each S (map seen (xs ++ x ∷ ys)) b
-      → Three S n vs (seen x) rest b =
-      λ S b k. Each-three S n vs (seen x) rest b (length-map xs seen) (subst (λ (us : List V). Each S us b) parts k) in
-      Writes-as (λ kind k. elim k [ inl y ↦ y | inr y ↦ elim y.1 [ inl z ↦ z | inr z ↦ z.1 ] ])
-      (λ b k. (
-        length-map (xs ++ x ∷ ys) seen,
-        subst (λ (us : List V). Each R us b) (sym parts) (Three-each R n vs (seen x) rest b k),
-      ))
-      (λ b k. (b, turned R b k.1, refl)) (λ b k. (b, turned (F old.mode).encodes b k.1))
-      (three_refused laws passed h w ys)
+-- one item is written as a list of it is
+one_written : {E : Type 0} {gives : Error → E → Type 0} {A V : Type 0} {F : Mode → Format V} {old new : WriterState}
+    {appended : List ℕ → Type 0} (seen : A → V) (x : A) {result : Result (Unit {0}) E}
+    → Writes gives F (seen x) result old new appended → WritesEach gives F seen (x ∷ []) result old new appended
+unfolding repeat
+one_written {F = F} {old = old} seen x w =
+    Writes-as (λ _ k. k) (λ b k. (refl, Each-one (F old.mode).writes (seen x) b k))
+    (λ b k. (b, Each-is-one (F old.mode).writes (seen x) b k.1, refl))
+    (λ b k. (b, Each-is-one (F old.mode).encodes (seen x) b k.1)) w
 
 -- items are written after others
 module _ {E : Type 0} {gives : Error → E → Type 0} {A V : Type 0} (F : Mode → Format V) {old mid new : WriterState}
@@ -154,25 +95,6 @@ module _ {E : Type 0} {gives : Error → E → Type 0} {A V : Type 0} (F : Mode 
           subst (λ (us : List V). Each R us b) (sym (map-append seen xs ys)) k,
         )) all;
       }
-
--- the same of the items of a list that stand before an index, and of the one that stands there
-module _ {E : Type 0} {gives : Error → E → Type 0} {A V : Type 0} {F : Mode → Format V} {x : A}
-    {old mid new : WriterState} {prefix suffix whole : List ℕ → Type 0}
-    (join : (a b : List ℕ) → prefix a → suffix b → whole (a ++ b)) (seen : A → V) (items : List A) (i : ℕ)
-    (within : i < length items) (is : x ≡ get_or items i x) where
-  pub one_more_written : {done : Unit {0}} → WritesEach gives F seen (take i items) (Ok tt) old mid prefix
-      → Writes gives F (seen x) (Ok done) mid new suffix
-      → WritesEach gives F seen (take (i + 1) items) (Ok tt) old new whole
-  one_more_written h w = subst (λ (us : List A). WritesEach gives F seen us (Ok tt) old new whole)
-      (sym (first_items items i within is)) (next_written join seen (take i items) x h w)
-
-  pub items_refused : {least : ℕ} {e : E} {result : Result (Unit {0}) E}
-      → ((mode : Mode) → Laws mode.strict least (F mode)) → IsErrAnd result (λ r. r ≡ e)
-      → WritesEach gives F seen (take i items) (Ok tt) old mid prefix → Writes gives F (seen x) (Err e) mid new suffix
-      → WritesEach gives F seen items result old new whole
-  items_refused {result = result} laws passed h w =
-      subst (λ (us : List A). WritesEach gives F seen us result old new whole) (all_items items i within is)
-      (next_refused join seen (take i items) x laws passed h w (drop (suc i) items))
 
 -- ---- some items, and others after them
 
@@ -241,6 +163,41 @@ module _ {E : Type 0} {gives : Error → E → Type 0} {A V : Type 0} {F : Mode 
       (λ b k. (b, turned R b k.1, refl)) (λ b k. (b, turned (F old.mode).encodes b k.1)) (both_refused laws h w) in
       subst (λ (r : Result (Unit {0}) E). WritesEach gives F seen (xs ++ (ys ++ more)) r old new whole)
       (passed_on result e passed) refused
+
+module _ {E : Type 0} {gives : Error → E → Type 0} {A V : Type 0} {F : Mode → Format V} {old mid new : WriterState}
+    {prefix suffix whole : List ℕ → Type 0} (join : (a b : List ℕ) → prefix a → suffix b → whole (a ++ b))
+    (seen : A → V) (xs : List A) (x : A) where
+  -- one more item is written
+  pub next_written : {done : Unit {0}} → WritesEach gives F seen xs (Ok tt) old mid prefix
+      → Writes gives F (seen x) (Ok done) mid new suffix → WritesEach gives F seen (xs ++ x ∷ []) (Ok tt) old new whole
+  next_written h w = more_written F join seen xs (x ∷ []) h (one_written seen x w)
+
+  -- where it is refused, the items before it, that one and others after it are
+  pub next_refused : {least : ℕ} {e : E} {result : Result (Unit {0}) E}
+      → ((mode : Mode) → Laws mode.strict least (F mode)) → IsErrAnd result (λ r. r ≡ e)
+      → WritesEach gives F seen xs (Ok tt) old mid prefix → Writes gives F (seen x) (Err e) mid new suffix
+      → (ys : List A) → WritesEach gives F seen (xs ++ x ∷ ys) result old new whole
+  next_refused laws passed h w ys =
+      later_items_refused join seen xs (x ∷ []) ys laws passed h (one_written seen x w)
+
+-- the same of the items of a list that stand before an index, and of the one that stands there
+module _ {E : Type 0} {gives : Error → E → Type 0} {A V : Type 0} {F : Mode → Format V} {x : A}
+    {old mid new : WriterState} {prefix suffix whole : List ℕ → Type 0}
+    (join : (a b : List ℕ) → prefix a → suffix b → whole (a ++ b)) (seen : A → V) (items : List A) (i : ℕ)
+    (within : i < length items) (is : x ≡ get_or items i x) where
+  pub one_more_written : {done : Unit {0}} → WritesEach gives F seen (take i items) (Ok tt) old mid prefix
+      → Writes gives F (seen x) (Ok done) mid new suffix
+      → WritesEach gives F seen (take (i + 1) items) (Ok tt) old new whole
+  one_more_written h w = subst (λ (us : List A). WritesEach gives F seen us (Ok tt) old new whole)
+      (sym (first_items items i within is)) (next_written join seen (take i items) x h w)
+
+  pub items_refused : {least : ℕ} {e : E} {result : Result (Unit {0}) E}
+      → ((mode : Mode) → Laws mode.strict least (F mode)) → IsErrAnd result (λ r. r ≡ e)
+      → WritesEach gives F seen (take i items) (Ok tt) old mid prefix → Writes gives F (seen x) (Err e) mid new suffix
+      → WritesEach gives F seen items result old new whole
+  items_refused {result = result} laws passed h w =
+      subst (λ (us : List A). WritesEach gives F seen us result old new whole) (all_items items i within is)
+      (next_refused join seen (take i items) x laws passed h w (drop (suc i) items))
 
 -- ---- items that are put at once, and the next one
 

@@ -14,7 +14,7 @@ use Rattle.speedy_layout.specs.Laws.{Laws}
 use Rattle.speedy_layout.specs.Sequences.{sequence}
 use Rattle.speedy_layout.specs.Tuples.{unit}
 use Rattle.speedy_write.specs.Writing.{WriterKind, WriterState, IsOutOfRange, Fits, less, Kept, Put, Refused, Writes}
-use Rattle.speedy_write.specs.Writing.{WritesBytes}
+use Rattle.speedy_write.specs.Writing.{Begun, WritesBytes}
 
 -- ---- spaces
 
@@ -61,17 +61,30 @@ Kept-after h k = record {
 pub Kept-same : (a : WriterState) → Kept a a
 Kept-same a = record { fixed = refl; mode = refl; faults = omega arith; waits = λ settled. settled }
 
--- what was put is said in other words
+-- what was put, or begun, is said in other words
+module _ {writes other appended more : List ℕ → Type 0} (f : (b : List ℕ) → writes b → other b)
+    (g : (b : List ℕ) → appended b → more b) where
+  Put-with : {old new : WriterState} → Put writes old new appended → Put other old new more
+  Put-with p = record {
+    bytes = p.bytes;
+    is_written = f p.bytes p.is_written;
+    is_appended = g p.bytes p.is_appended;
+    fits = p.fits;
+    space = p.space;
+    no_fault = p.no_fault;
+  }
+
+  Begun-with : Begun writes appended → Begun other more
+  Begun-with x = record {
+    prefix = x.prefix;
+    rest = x.rest;
+    is_written = f (x.prefix ++ x.rest) x.is_written;
+    is_appended = g x.prefix x.is_appended;
+  }
+
 pub Put-as : {writes other appended : List ℕ → Type 0} {old new : WriterState} → ((b : List ℕ) → writes b → other b)
     → Put writes old new appended → Put other old new appended
-Put-as f p = record {
-  bytes = p.bytes;
-  is_written = f p.bytes p.is_written;
-  is_appended = p.is_appended;
-  fits = p.fits;
-  space = p.space;
-  no_fault = p.no_fault;
-}
+Put-as f p = Put-with f (λ _ h. h) p
 
 -- nothing was put
 pub Put-nothing : {appended : List ℕ → Type 0} (old : WriterState) → appended [] → Put (λ b. b ≡ []) old old appended
@@ -132,14 +145,7 @@ module _ {E : Type 0} {gives : Error → E → Type 0} {U V : Type 0} {F : Mode 
   Writes-as {result = Err e} n f g h w = record {
     kept = w.kept;
     answer = record {
-      beginning = λ b k. let d = g b k in
-          let x = w.answer.beginning d.0 d.1 in
-          record {
-            prefix = x.prefix;
-            rest = x.rest;
-            is_written = f (x.prefix ++ x.rest) x.is_written;
-            is_appended = x.is_appended;
-          };
+      beginning = λ b k. let d = g b k in Begun-with f (λ _ h. h) (w.answer.beginning d.0 d.1);
       because = elim w.answer.because [
         | inl x ↦ inl x
         | inr x ↦ inr (record {
@@ -174,21 +180,9 @@ module _ {E : Type 0} {gives : Error → E → Type 0} {V : Type 0} {F : Mode �
         (λ e. Refused gives (F old.mode) v e old new appended)
         → MatchResult r (λ _. Put ((F old.mode).writes v) old new more)
         (λ e. Refused gives (F old.mode) v e old new more)
-    by (Ok _) p = record {
-      bytes = p.bytes;
-      is_written = p.is_written;
-      is_appended = f p.bytes p.is_appended;
-      fits = p.fits;
-      space = p.space;
-      no_fault = p.no_fault;
-    }
+    by (Ok _) p = Put-with (λ _ h. h) f p
     by (Err e) r = record {
-      beginning = λ b h. let x = r.beginning b h in record {
-        prefix = x.prefix;
-        rest = x.rest;
-        is_written = x.is_written;
-        is_appended = f x.prefix x.is_appended;
-      };
+      beginning = λ b h. Begun-with (λ _ k. k) f (r.beginning b h);
       because = r.because;
     }
 
