@@ -18,7 +18,7 @@ counting_state mode targets = record {
   settled = true;
 }
 
--- the sum grows by the number of bytes, and stays at `usize::MAX`, the greatest one, once it is there
+-- the sum grows by the number of bytes, as far as `usize::MAX`, at which it stays
 abbrev pub CountAppends : ℕ → List ℕ → ℕ → Type 0
 CountAppends sum bytes after = min after (2 ^ 64 - 1) ≡ min (sum + length bytes) (2 ^ 64 - 1)
 
