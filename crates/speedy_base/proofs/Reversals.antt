@@ -26,7 +26,7 @@ swapped_signed-answered w y z f g e =
     ∙ (e ∙ (ap (λ (x : ℤ). cast_signed w (swap_bytes w (cast_unsigned w x))) (to_z-of_z w z g)
     ∙ swapped_signed-swap_bytes w z))
 
--- an unsigned number of so many bytes
+-- an unsigned number of n bytes
 pub swapped-swap_bytes_of : (size n : ℕ) → byte_len (width_of size) ≡ size
     → swapped BigEndian size n ≡ swap_bytes (width_of size) n
 swapped-swap_bytes_of size n is =

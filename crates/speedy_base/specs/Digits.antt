@@ -45,7 +45,7 @@ unfoldable pub turned_in : {A : Type 0} → Endianness → (A → A) → A → A
 turned_in LittleEndian reversed x = x
 turned_in BigEndian reversed x = reversed x
 
--- the width of so many bytes
+-- the width of n bytes
 abbrev pub width_of : ℕ → Width
 width_of size =
     cond (nat_eq size 2) w16 (cond (nat_eq size 4) w32 (cond (nat_eq size 8) w64 w128))

@@ -102,7 +102,7 @@ impl Endianness {
     }
 }
 
-// A slice of so many bytes, as an array.
+// A slice of `N` bytes, as an array.
 #[inline(always)]
 fn array_of<const N: usize>(slice: &[u8]) -> [u8; N]
     requires { length slice.now ≡ N }
