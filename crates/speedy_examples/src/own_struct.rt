@@ -25,8 +25,10 @@ impl<L: AsSlice<u8> + Drop, C: Context> ReadFrom<L, C> for Contact {
     type Strategy = ItemByItem<C>;
 
     fn read_from<R: LendingReader<L, C>>(reader: &mut R) -> Result<Contact, C::Error> {
-        let (name, mail, groups) = reader.read_value()?;
-        Ok(Contact { name, mail, groups })
+        match reader.read_value() {
+            Ok((name, mail, groups)) => Ok(Contact { name, mail, groups }),
+            Err(error) => Err(error),
+        }
     }
 
     fn minimum_bytes_needed() -> usize {
