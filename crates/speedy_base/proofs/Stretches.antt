@@ -40,6 +40,13 @@ stretch_moved xs start end p q =
     ∙ take_at (slice_range xs start end) (drop (0 + (end - start)) xs) (end - start)
     (length-take-le (end - start) (drop start xs) (omega (arith, length-drop start xs)))
 
+-- a stretch of a list that goes on
+pub stretch_kept : (xs ys : List ℕ) (start end : ℕ) → end ≤ length xs → take (length xs) ys ≡ xs
+    → slice_range ys start end ≡ slice_range xs start end
+stretch_kept xs ys start end p longer =
+    between_is ys start end ∙ ap (drop start) (sym (take-take end (length xs) ys p) ∙ ap (take end) longer)
+    ∙ sym (between_is xs start end)
+
 -- what was written over a list counts only up to a cut
 overwritten_cut : (w ys : List ℕ) (n : ℕ) → take n (w ++ drop (length w) ys) ≡ take n (w ++ drop (length w) (take n ys))
 overwritten_cut [] ys n = sym (take-take n n ys (omega arith))

@@ -1,6 +1,6 @@
 //! The ring (`CircularBuffer`): bytes that wait between a device and its readers.
 ghost use Rattle.std.specs.Prelude.{◌≡◌, ◌+◌, ◌-◌, ◌≤◌, ◌↔◌, min, [], ◌++◌, length, take, drop, None, IsOk, IfOk, OnOk};
-ghost use Rattle.std.specs.Prelude.{OnErr, IsTrue};
+ghost use Rattle.std.specs.Prelude.{OnErr, IsTrue, max, slice_range, vec_len, vec_capacity};
 ghost use Rattle.std.specs.Borrow.{Array, Lends, sem, u8};
 ghost use Rattle.speedy_base.specs.Ring.{with_room};
 ghost use Rattle.speedy_base.specs.contracts.circular_buffer.CircularBuffer.{the_row};
@@ -14,7 +14,9 @@ use std::marker::Model;
 /// are taken from the front. What stands in a stretch is forgotten once another call changes the buffer.
 #[derive(Drop)]
 pub struct CircularBuffer {
+    // It has room for the capacity, and is as long as what was lent of it reached.
     memory: Vec<u8>,
+    capacity: usize,
     // The kept bytes lie from `start` to `end`, and right behind them as many as were lent last.
     start: usize,
     end: usize,
@@ -22,18 +24,51 @@ pub struct CircularBuffer {
 }
 
 impl Model for CircularBuffer {
-    ghost use Rattle.std.specs.Prelude.{◌+◌, ◌≤◌, length, take, drop, slice_range};
+    ghost use Rattle.std.specs.Prelude.{◌+◌, ◌≤◌, length, take, drop, slice_range, vec_capacity};
     ghost use Rattle.speedy_base.specs.Ring.{Ring};
 
     ghost Value = { Ring };
 
     ghost view = { λ b. record {
       bytes = slice_range b.memory.items b.start b.end;
-      capacity = length b.memory.items;
+      capacity = b.capacity;
       room = take b.lent (drop b.end b.memory.items);
     } };
 
-    ghost invariant = { λ b. (b.start ≤ b.end) × (b.end + b.lent ≤ length b.memory.items) };
+    ghost invariant = { λ b. (b.start ≤ b.end) × (b.end + b.lent ≤ length b.memory.items)
+        × (length b.memory.items ≤ b.capacity) × (b.capacity ≤ vec_capacity b.memory) };
+}
+
+// Makes room for `count` bytes behind those from `start` to `end`, and says where these begin then. They are moved to
+// the front where the room behind them is too short. The room is zeroed here, and not before, as long as it is.
+fn make_room(memory: &mut Vec<u8>, start: usize, end: usize, count: usize, capacity: usize) -> usize
+    requires held { (start ≤ end) × (end ≤ vec_len memory.old) }
+    requires within { (vec_len memory.old ≤ capacity) × (capacity ≤ vec_capacity memory.old) }
+    requires fits { end - start + count ≤ capacity }
+    ensures bytes { slice_range memory.new.items result (result + (end - start))
+        ≡ slice_range memory.old.items start end }
+    ensures room { result + (end - start) + count ≤ vec_len memory.new }
+    ensures within { (vec_len memory.new ≤ capacity) × (capacity ≤ vec_capacity memory.new) }
+{
+    if capacity - end >= count {
+        lay_zeros(memory, end + count);
+        return start;
+    }
+    memory.copy_within(start..end, 0);
+    lay_zeros(memory, end - start + count);
+    0
+}
+
+// Lays zeros behind the bytes of a vector that has room for them, where it is shorter than `least`.
+fn lay_zeros(memory: &mut Vec<u8>, least: usize)
+    requires { least ≤ vec_capacity memory.old }
+    ensures bytes { take (vec_len memory.old) memory.new.items ≡ memory.old.items }
+    ensures length { vec_len memory.new ≡ max least (vec_len memory.old) }
+    ensures capacity { vec_capacity memory.old ≤ vec_capacity memory.new }
+{
+    if memory.len() < least && memory.resize(least, 0).is_err() {
+        unreachable!();
+    }
 }
 
 impl CircularBuffer {
@@ -43,10 +78,10 @@ impl CircularBuffer {
             (λ b. b ≡ record { bytes = []; capacity = capacity; room = [] }) }
         ensures zero { capacity ≡ 0 → IsOk result }
     {
-        let mut memory = Vec::new(alloc);
-        memory.resize(capacity, 0)?;
+        let memory = Vec::with_capacity(alloc, capacity)?;
         Ok(CircularBuffer {
             memory,
+            capacity,
             start: 0,
             end: 0,
             lent: 0,
@@ -76,7 +111,7 @@ impl CircularBuffer {
         ensures value { result ≡ self.now.capacity }
         ensures fits { length self.now.bytes ≤ self.now.capacity }
     {
-        self.memory.len()
+        self.capacity
     }
 
     /// Makes room for `additional` more bytes. It takes no memory if they fit already. Out of memory changes nothing.
@@ -90,10 +125,8 @@ impl CircularBuffer {
             → IsOk result × (self.new ≡ record self.old { room = [] }) }
     {
         if self.capacity() - self.len() < additional {
-            let Some(size) = self.end.checked_add(additional) else {
-                return Err(AllocError);
-            };
-            self.memory.resize(size, 0)?;
+            self.memory.reserve(additional)?;
+            self.capacity = self.memory.len() + additional;
         }
         self.lent = 0;
         Ok(())
@@ -107,13 +140,10 @@ impl CircularBuffer {
             (with_room self.old result.now)) }
         ensures count { length result.now ≡ min max (self.old.capacity - length self.old.bytes) }
     {
-        let count = max.min(self.capacity() - self.len());
-        if self.memory.len() - self.end < count {
-            let (start, end) = (self.start, self.end);
-            self.memory.copy_within(start..end, 0);
-            self.start = 0;
-            self.end = end - start;
-        }
+        let length = self.len();
+        let count = max.min(self.capacity - length);
+        self.start = make_room(&mut self.memory, self.start, self.end, count, self.capacity);
+        self.end = self.start + length;
         self.lent = count;
         let end = self.end;
         self.memory.slice_mut(end..end + count)

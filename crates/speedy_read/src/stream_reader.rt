@@ -117,8 +117,8 @@ fn fill_list<S: Source>(source: &mut S, output: &mut [u8]) -> Result<bool, io::E
     Ok(true)
 }
 
-// Pulls until the ring holds `count` bytes, and says whether it does. Each pull is of all that fits where it reads
-// ahead, and else of what lacks.
+// Pulls until the ring holds `count` bytes, and says whether it does. Each pull is of what lacks, or where it reads
+// ahead of all that fits, or of few where few remain.
 fn fill_ring<S: Source>(
     ring: &mut CircularBuffer,
     source: &mut S,
@@ -130,10 +130,11 @@ fn fill_ring<S: Source>(
         (S.source source.old) (S.source source.new) }
 {
     while ring.len() < count {
+        let lacking = count - ring.len();
         let most = if reads_ahead {
-            usize::MAX
+            most_ahead(source, lacking)
         } else {
-            count - ring.len()
+            lacking
         };
         let pulled = source.pull(ring.free(most))?;
         ring.appended(pulled);
@@ -142,6 +143,22 @@ fn fill_ring<S: Source>(
         }
     }
     Ok(true)
+}
+
+// How many bytes to ask a source for, of which `lacking` have to come: all that fit, or few where the source says that
+// few remain. The ring lays zeros in what it lends, so a short value takes less time.
+#[inline]
+fn most_ahead<S: Source>(source: &S, lacking: usize) -> usize
+    ensures { lacking ≤ result }
+{
+    if source.can_pull_at_least(lacking) {
+        for few in [256, 1_024, 4_096] {
+            if lacking <= few && !source.can_pull_at_least(few + 1) {
+                return few;
+            }
+        }
+    }
+    usize::MAX
 }
 
 // What a read answers where a call of the source failed, and where the source ended.

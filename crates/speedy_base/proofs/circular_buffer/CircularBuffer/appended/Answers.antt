@@ -12,7 +12,7 @@ returns c =
     omega (arith, ap (λ (r : Ring). length r.room) c.self.view_is, length-take b.lent (drop b.end xs)) in
     (λ i. record {
       bytes = stretch_appended xs b.start b.end n b.lent c.self.invariant.0 lent i;
-      capacity = length xs;
+      capacity = b.capacity;
       room = [];
     })
     ∙ ap (λ (r : Ring). record r { bytes = r.bytes ++ take n r.room; room = [] }) c.self.view_is

@@ -10,5 +10,5 @@ returns c =
     let n = c.args.count in
     let kept : b.start + n ≤ b.end =
     omega (arith, ap (λ (r : Ring). length r.bytes) c.self.view_is, length-take (b.end - b.start) (drop b.start xs)) in
-    (λ i. record { bytes = stretch_consumed xs b.start b.end n kept i; capacity = length xs; room = [] })
+    (λ i. record { bytes = stretch_consumed xs b.start b.end n kept i; capacity = b.capacity; room = [] })
     ∙ ap (λ (r : Ring). record r { bytes = drop n r.bytes; room = [] }) c.self.view_is
