@@ -16,6 +16,7 @@ pub use Rattle.speedy_layout.specs.Addresses
 pub use Rattle.speedy_layout.specs.Choices
 pub use Rattle.speedy_layout.specs.Codecs
 pub use Rattle.speedy_layout.specs.Codes
+pub mod Encoding
 pub use Rattle.speedy_layout.specs.GathersToLemmas
 pub use Rattle.speedy_layout.specs.GathersTo
 pub use Rattle.speedy_layout.specs.IndexMaps
@@ -56,7 +57,7 @@ pub use Rattle.speedy_read.specs.Codes as ReadCodes
 pub use Rattle.speedy_read.specs.Collections as ReadCollections
 pub use Rattle.speedy_read.specs.Counted as ReadCounted
 pub use Rattle.speedy_read.specs.CopyingModel
-pub use Rattle.speedy_read.specs.Decoding
+pub mod Decoding
 pub use Rattle.speedy_read.specs.Flags as ReadFlags
 pub use Rattle.speedy_read.specs.FrameModel
 pub use Rattle.speedy_read.specs.Frames as ReadFrames

@@ -66,7 +66,7 @@ pub mod varints;
 pub mod writable_impl;
 
 pub use buffer::Buffer;
-pub use codes::Decode;
+pub use codes::{Decode, Encode};
 pub use collections::FromItems;
 pub use context::{
     BigEndian, Context, LittleEndian, PlainContext, StrictBigEndian, StrictLittleEndian,

@@ -3,6 +3,7 @@ use crate::callers::assert_refused;
 use speedy::prefixed::Prefixed;
 use speedy::readable::BufferReader;
 use speedy::{LendingReader, LittleEndian, Writable};
+use speedy_examples::own_checked::Percent;
 use speedy_examples::own_key::Place;
 use speedy_examples::own_maps::Directory;
 use speedy_examples::own_numbers::{Colour, Packet, Twice};
@@ -99,4 +100,17 @@ fn of_two_variants_with_one_tag_the_first_counts(rt: HostRuntime) {
     assert!(rt; first == Twice::First);
     let outcome = Writable::<LittleEndian>::write_to_vec(&Twice::Second(7), alloc);
     assert_refused(&rt, alloc, outcome, "OutOfRangeLength");
+}
+
+#[test]
+fn a_number_is_checked_where_it_is_read(rt: HostRuntime) {
+    let alloc = rt.alloc();
+    let percent: Percent = make_reader(alloc, &[100])
+        .read_value()
+        .expect(&rt, "a share");
+    assert!(rt; percent == Percent { number: 100 });
+    let again = Writable::<LittleEndian>::write_to_vec(&percent, alloc).expect(&rt, "bytes");
+    assert!(rt; again.as_slice() == [100].as_slice());
+    let outcome = make_reader(alloc, &[101]).read_value::<Percent>();
+    assert_refused(&rt, alloc, outcome, "InvalidEnumVariant");
 }

@@ -11,6 +11,7 @@ pub mod left_over;
 pub mod limits;
 pub mod memory;
 pub mod nested;
+pub mod own_checked;
 pub mod own_header;
 pub mod own_key;
 pub mod own_lent;

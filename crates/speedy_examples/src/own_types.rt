@@ -6,7 +6,7 @@ ghost use Rattle.speedy.specs.declared.error.ErrorKind.TheVariants.{InvalidEnumV
 
 use speedy::private::error_invalid_enum_variant;
 use speedy::{
-    Context, Decode, ItemByItem, Layout, LendingReader, Part, ReadFrom, Writable, Writer,
+    Context, Decode, Encode, ItemByItem, Layout, LendingReader, Part, ReadFrom, Writable, Writer,
 };
 use std::convert::AsSlice;
 
@@ -22,9 +22,17 @@ impl Layout for Mark {
     ghost layout = { subset_codec (λ n. n ≡ 0) InvalidEnumVariant tt (unsigned_codec 1) };
 }
 
-impl Decode for Mark {
+#[tactic(auto, using(speedy::specs::Encoding::encoded))]
+impl Encode for Mark {
     type Code = u8;
 
+    fn encode(&self) -> u8 {
+        0
+    }
+}
+
+#[tactic(auto, using(speedy::specs::Decoding::decoded))]
+impl Decode for Mark {
     type Strategy = ItemByItem<()>;
 
     fn decode<C: Context>(code: u8, _: bool) -> Result<Mark, C::Error> {
@@ -39,7 +47,7 @@ impl Decode for Mark {
 
 impl<C: Context> Writable<C> for Mark {
     fn write_to<W: Writer<C>>(&self, writer: &mut W) -> Result<(), C::Error> {
-        writer.write_u8(0)
+        writer.write_code(self)
     }
 }
 

@@ -1,5 +1,5 @@
 -- Characters, byte orders and durations.
-use Rattle.std.specs.Prelude.{◌≡◌, ℕ, ◌+◌, ◌*◌, ◌/◌, ◌%◌, ◌<◌, List, ◌++◌, length, refl}
+use Rattle.std.specs.Prelude.{◌≡◌, ℕ, ◌+◌, ◌*◌, ◌/◌, ◌%◌, ◌^◌, ◌<◌, List, ◌++◌, length, refl}
 use Rattle.std.specs.Char.{InScalarRange}
 use Rattle.std.specs.Duration.{FitsDuration}
 use Rattle.std.proofs.Common.{sym, ◌∙◌, ap, ap₂, arith}
@@ -14,6 +14,7 @@ use Rattle.speedy_layout.specs.Format.{Format, Parts-joined}
 use Rattle.speedy_layout.specs.Laws.{Codec}
 use Rattle.speedy_layout.specs.Codes.{Code, IsCode, ReadsWider, coding_codec, exact_code, exact_is_code, one_kind}
 use Rattle.speedy_layout.specs.Codes.{subset_codec}
+use Rattle.speedy_layout.specs.Encoding.{Encodes, encoded_as}
 use Rattle.speedy_layout.specs.Numbers.{unsigned_number, unsigned_codec}
 use Rattle.speedy_layout.specs.Sequences.{sequence}
 use Rattle.speedy_layout.specs.Tuples.{pair_codec}
@@ -127,3 +128,11 @@ duration_codec = coding_codec duration_code seconds_and_nanos_codec duration_is_
 
 abbrev pub duration : Mode → Format ℕ
 duration = duration_codec.format
+
+-- a duration is encoded as its whole seconds and the rest
+pub duration_encoded : {n seconds nanos : ℕ} → seconds ≡ n / 1_000_000_000 → nanos ≡ n % 1_000_000_000
+    → seconds < 2 ^ 64 → Encodes seconds_and_nanos_codec duration_codec (seconds, nanos) n
+unfolding sequence unsigned_number
+duration_encoded s m small =
+    encoded_as duration_code seconds_and_nanos_codec duration_is_code (λ _. refl)
+    (omega arith, omega arith, omega arith)

@@ -1,6 +1,7 @@
 pub mod Format
 pub mod Laws
 pub mod Codes
+pub mod Encoding
 pub mod Sequences
 pub mod Numbers
 pub mod FixedNumbers

@@ -1,10 +1,14 @@
 //! The layout of addresses.
+#![tactic(auto, using(crate::specs::Encoding::encoded))]
+
 ghost use Rattle.std.specs.Prelude.{ℕ, List, ◌⊎◌};
 ghost use Rattle.std.specs.Net.Addr.{ipv4_octets, ipv6_octets};
 ghost use Rattle.speedy_layout.specs.Addresses.{ip_octets};
 ghost use Rattle.speedy_layout.specs.Codecs.{address_codec, ip_address_codec};
 
+use crate::codes::Encode;
 use crate::layout::Layout;
+use speedy_base::endianness::Endianness;
 use std::net::{IpAddr, Ipv4Addr, Ipv6Addr};
 
 impl Layout for Ipv4Addr {
@@ -15,12 +19,32 @@ impl Layout for Ipv4Addr {
     ghost layout = { address_codec 4 };
 }
 
+impl Encode for Ipv4Addr {
+    type Code = u32;
+
+    #[inline(always)]
+    fn encode(&self) -> u32 {
+        let octets = self.octets();
+        Endianness::BigEndian.read_u32(&octets)
+    }
+}
+
 impl Layout for Ipv6Addr {
     ghost Seen = { List ℕ };
 
     ghost seen = { ipv6_octets };
 
     ghost layout = { address_codec 16 };
+}
+
+impl Encode for Ipv6Addr {
+    type Code = u128;
+
+    #[inline(always)]
+    fn encode(&self) -> u128 {
+        let octets = self.octets();
+        Endianness::BigEndian.read_u128(&octets)
+    }
 }
 
 impl Layout for IpAddr {

@@ -4,12 +4,23 @@ ghost use Rattle.std.specs.Option.{option_map};
 ghost use Rattle.std.specs.Result.{result_map_both};
 ghost use Rattle.speedy_layout.specs.Codecs.{alternative_codec, flag_codec, option_codec};
 
+use crate::codes::Encode;
 use crate::layout::Layout;
 
 impl Layout for bool {
     ghost seen = { λ x. x };
 
     ghost layout = { flag_codec };
+}
+
+#[tactic(auto, using(crate::specs::Encoding::encoded))]
+impl Encode for bool {
+    type Code = u8;
+
+    #[inline(always)]
+    fn encode(&self) -> u8 {
+        u8::from(*self)
+    }
 }
 
 impl<T: Layout> Layout for Option<T> {

@@ -3,6 +3,7 @@
 
 pub mod addresses;
 pub mod cases;
+pub mod codes;
 pub mod cows;
 pub mod fixed_numbers;
 pub mod flags;
@@ -29,6 +30,7 @@ pub mod varint;
 pub mod view_items;
 pub mod views;
 
+pub use codes::Encode;
 pub use floats::{F32, F64};
 pub use layout::Layout;
 pub use same_key::SameKey;

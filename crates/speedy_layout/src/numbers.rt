@@ -10,6 +10,7 @@ ghost use Rattle.speedy_layout.specs.Codecs.{signed_codec, unsigned_codec, usize
 ghost use Rattle.speedy_layout.specs.FixedNumbers.{unsigned_fixed, signed_fixed};
 ghost use Rattle.speedy_layout.specs.Views.{byte_number_alike, signed_byte_alike};
 
+use crate::codes::Encode;
 use crate::fixed_numbers::FixedNumber;
 use crate::layout::Layout;
 use crate::same_key::SameKey;
@@ -395,6 +396,16 @@ impl Layout for usize {
     ghost seen = { λ x. x };
 
     ghost layout = { usize_codec };
+}
+
+#[tactic(auto, using(crate::specs::Encoding::encoded))]
+impl Encode for usize {
+    type Code = u64;
+
+    #[inline(always)]
+    fn encode(&self) -> u64 {
+        *self as u64
+    }
 }
 
 impl SameKey for usize {

@@ -12,9 +12,8 @@ use speedy_layout::fixed_numbers::FixedNumber;
 use std::convert::AsSlice;
 use std::net::{IpAddr, Ipv4Addr, Ipv6Addr};
 
+#[tactic(auto, using(crate::specs::Decoding::decoded))]
 impl Decode for Ipv4Addr {
-    type Code = u32;
-
     type Strategy = ItemByItem<()>;
 
     #[inline]
@@ -28,8 +27,6 @@ impl Decode for Ipv4Addr {
 }
 
 impl Decode for Ipv6Addr {
-    type Code = u128;
-
     type Strategy = ItemByItem<()>;
 
     #[inline]

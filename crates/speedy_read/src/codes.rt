@@ -5,16 +5,14 @@ ghost use Rattle.speedy_read.specs.Decoding.{Decodes, IsCoded};
 use crate::readable::ReadFrom;
 use crate::reader::LendingReader;
 use speedy_base::context::Context;
+pub use speedy_layout::codes::Encode;
 use speedy_layout::layout::Layout;
 use std::convert::AsSlice;
 
-/// Types of which each value is encoded as a value of another type, its code: a number, bytes or what else is read.
+/// Types of which each code, a value of the type that [`Encode`] names, means a value or is refused.
 ///
 /// It takes the place of an impl of [`ReadFrom`]: what is decoded is read where its codes are.
-pub trait Decode: Layout + Sized + Drop {
-    /// The type of the codes.
-    type Code: Layout + Drop;
-
+pub trait Decode: Encode + Sized + Drop {
     /// How several of its values are read, as in [`ReadFrom`]: `ItemByItem<()>` for a type of one's own.
     type Strategy;
 
@@ -23,7 +21,7 @@ pub trait Decode: Layout + Sized + Drop {
     ///
     /// A value has each encoding of the code. An error says that none of these begins an encoding of any value.
     fn decode<C: Context>(code: Self::Code, demands_written_form: bool) -> Result<Self, C::Error>
-        ensures { Decodes C.Error.IsEof demands_written_form Self.Code.layout.format Self.layout.format
+        ensures { Decodes C.Error.IsEof demands_written_form Self.Code.layout Self.layout
             (Self.Code.seen code) Self.seen result };
 
     /// Each encoding of a value is one of a code, and both have one least size.

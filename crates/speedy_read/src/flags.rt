@@ -12,8 +12,6 @@ use speedy_base::error::error_not_written_form;
 use std::convert::AsSlice;
 
 impl Decode for bool {
-    type Code = u8;
-
     type Strategy = Flags;
 
     #[inline]

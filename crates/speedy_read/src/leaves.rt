@@ -17,9 +17,8 @@ use std::convert::AsSlice;
 use std::time::Duration;
 use uuid::Uuid;
 
+#[tactic(auto, using(crate::specs::Decoding::decoded))]
 impl Decode for char {
-    type Code = u32;
-
     type Strategy = ItemByItem<()>;
 
     #[inline]
@@ -33,9 +32,8 @@ impl Decode for char {
     ghost is_coded = { coded _ _ _ };
 }
 
+#[tactic(auto, using(crate::specs::Decoding::decoded))]
 impl Decode for Endianness {
-    type Code = u8;
-
     type Strategy = ItemByItem<()>;
 
     #[inline]

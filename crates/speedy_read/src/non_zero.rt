@@ -1,5 +1,5 @@
 //! How numbers that are not 0 are read.
-#![tactic(auto, using(crate::proofs::NonZeroLemmas::non_zero_decodes))]
+#![tactic(auto, using(crate::proofs::NonZeroLemmas::signed_non_zero_decoded, crate::specs::Decoding::decoded))]
 
 ghost use Rattle.speedy_read.specs.Decoding.{coded};
 
@@ -12,8 +12,6 @@ use std::num::{
 };
 
 impl Decode for NonZeroU8 {
-    type Code = u8;
-
     type Strategy = ItemByItem<()>;
 
     #[inline]
@@ -28,8 +26,6 @@ impl Decode for NonZeroU8 {
 }
 
 impl Decode for NonZeroU16 {
-    type Code = u16;
-
     type Strategy = ItemByItem<()>;
 
     #[inline]
@@ -44,8 +40,6 @@ impl Decode for NonZeroU16 {
 }
 
 impl Decode for NonZeroU32 {
-    type Code = u32;
-
     type Strategy = ItemByItem<()>;
 
     #[inline]
@@ -60,8 +54,6 @@ impl Decode for NonZeroU32 {
 }
 
 impl Decode for NonZeroU64 {
-    type Code = u64;
-
     type Strategy = ItemByItem<()>;
 
     #[inline]
@@ -76,8 +68,6 @@ impl Decode for NonZeroU64 {
 }
 
 impl Decode for NonZeroI8 {
-    type Code = i8;
-
     type Strategy = ItemByItem<()>;
 
     #[inline]
@@ -92,8 +82,6 @@ impl Decode for NonZeroI8 {
 }
 
 impl Decode for NonZeroI16 {
-    type Code = i16;
-
     type Strategy = ItemByItem<()>;
 
     #[inline]
@@ -108,8 +96,6 @@ impl Decode for NonZeroI16 {
 }
 
 impl Decode for NonZeroI32 {
-    type Code = i32;
-
     type Strategy = ItemByItem<()>;
 
     #[inline]
@@ -124,8 +110,6 @@ impl Decode for NonZeroI32 {
 }
 
 impl Decode for NonZeroI64 {
-    type Code = i64;
-
     type Strategy = ItemByItem<()>;
 
     #[inline]

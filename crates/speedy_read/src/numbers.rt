@@ -140,9 +140,8 @@ impl<L: AsSlice<u8> + Drop, C: Context> ReadFrom<L, C> for i128 {
     }
 }
 
+#[tactic(auto, using(crate::specs::Decoding::decoded))]
 impl Decode for usize {
-    type Code = u64;
-
     type Strategy = ItemByItem<()>;
 
     #[inline(always)]

@@ -8,7 +8,6 @@ pub mod LengthLemmas
 pub mod ListLemmas
 pub mod FrameLemmas
 pub mod FrontLemmas
-pub mod NonZeroLemmas
 pub mod NumberLemmas
 pub mod OptionLemmas
 pub mod OwnedLemmas

@@ -1,8 +1,7 @@
--- What the writing of numbers, lengths, flags and durations cites.
+-- What the writing of numbers and lengths cites.
 use Rattle.std.specs.Prelude.{◌≡◌, ℕ, ℤ, ◌+◌, ◌^◌, ◌/◌, ◌%◌, ◌≤◌, ◌<◌, List, [], ◌∷◌, Bool, true, false, Result}
 use Rattle.std.specs.Prelude.{Err, refl}
 use Rattle.std.proofs.Common.{subst, arith, inr, inl}
-use mir.Val.{bool_byte}
 use mir.ValLaws.{to_z-of_z}
 use Rattle.std.specs.Int.{Width, cast_unsigned, cast_signed}
 use Rattle.std.specs.Int.RustNames.{FitsSigned}
@@ -14,14 +13,13 @@ use Rattle.speedy_base.specs.DigitsLemmas.{EncodesNumber-below, EncodesNumber-di
 use Rattle.speedy_base.specs.Mode.{Mode}
 use Rattle.speedy_base.specs.Error.{error_of}
 use Rattle.speedy_layout.specs.Codes.{coding, Accepts-exact_means}
-use Rattle.speedy_layout.specs.Flags.{written_flag}
+use Rattle.speedy_layout.specs.Encoding.{subset_encoded}
 use Rattle.speedy_layout.specs.Format.{Format}
 use Rattle.speedy_layout.specs.Laws.{Laws}
-use Rattle.speedy_layout.specs.Leaves.{duration_code}
 use Rattle.speedy_layout.specs.Numbers.{unsigned_number, unsigned_number_laws, signed_number}
-use Rattle.speedy_layout.specs.Numbers.{length_number, length_codec}
+use Rattle.speedy_layout.specs.Numbers.{length_number, length_codec, unsigned_codec}
 use Rattle.speedy_layout.specs.Varint.{varint, prefixed_written}
-use Rattle.speedy_write.specs.Codes.{subset_written}
+use Rattle.speedy_write.specs.Codes.{encoded_written}
 use Rattle.speedy_write.specs.Lengths.{WritesLength}
 use Rattle.speedy_write.specs.Writing.{WriterState, IsOutOfRange, Writes, WritesNumber, RefusesFull}
 use Rattle.speedy_write.specs.Sequences.{Kept-same}
@@ -89,20 +87,10 @@ module _ {E S : Type 0} {gives : Error → E → Type 0} {state : S → WriterSt
       → n < bound → WritesNumber gives state appends width n result old new → RefusesFull gives state result old new
       → WritesLength gives state appends (length_number width greatest) bound n result old new
   within_greatest_written width greatest is within w full = record {
-    writes = subset_written _ _ (refl, omega arith) w;
+    writes = encoded_written (subset_encoded _ _ tt (unsigned_codec width) refl (omega arith)) w;
     full = λ _. full;
     too_long = λ past. absurd (omega arith);
   }
-
--- std's byte of a flag is what the flag is written as
-pub bool_byte_is : (b : Bool) → bool_byte b ≡ written_flag b
-bool_byte_is true = refl
-bool_byte_is false = refl
-
--- a duration is its whole seconds and the rest
-pub duration_is_chosen : (n seconds nanos : ℕ) → seconds ≡ n / 1_000_000_000 → nanos ≡ n % 1_000_000_000
-    → seconds < 2 ^ 64 → duration_code.chosen (seconds, nanos) n
-duration_is_chosen n seconds nanos s m small = (omega arith, omega arith, omega arith)
 
 -- a small number is written as itself
 no_digits : EncodesNumber 0 LittleEndian 0 []

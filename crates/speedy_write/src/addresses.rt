@@ -2,22 +2,19 @@
 use crate::writable::Writable;
 use crate::writer::Writer;
 use speedy_base::context::Context;
-use speedy_base::endianness::Endianness;
 use std::net::{IpAddr, Ipv4Addr, Ipv6Addr};
 
 impl<C: Context> Writable<C> for Ipv4Addr {
     #[inline(always)]
     fn write_to<W: Writer<C>>(&self, writer: &mut W) -> Result<(), C::Error> {
-        let octets = self.octets();
-        writer.write_u32(Endianness::BigEndian.read_u32(&octets))
+        writer.write_code(self)
     }
 }
 
 impl<C: Context> Writable<C> for Ipv6Addr {
     #[inline(always)]
     fn write_to<W: Writer<C>>(&self, writer: &mut W) -> Result<(), C::Error> {
-        let octets = self.octets();
-        writer.write_u128(Endianness::BigEndian.read_u128(&octets))
+        writer.write_code(self)
     }
 }
 

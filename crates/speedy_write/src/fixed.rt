@@ -8,8 +8,9 @@ ghost use Rattle.speedy_write.specs.Writing.{RefusesFull, WritesValue, WritesVal
 use crate::writer::Writer;
 use speedy_base::context::Context;
 use speedy_base::endianness::Endianness;
-use speedy_layout::Layout;
 use speedy_layout::fixed_numbers::{FixedNumber, MOST_DIGITS};
+use speedy_layout::view_items::FixedSize;
+use speedy_layout::{Encode, Layout};
 use std::time::Duration;
 
 /// How values of a type are put as bytes: each as `BYTES` bytes, which the order alone decides.
@@ -47,38 +48,30 @@ impl<T: FixedNumber> FixedBytes<T> for Digits {
     }
 }
 
-/// `bool`, `char` and `Duration` are put as the digits of the numbers that stand for them.
+/// Values that are encoded as numbers are put as the digits of these.
 pub(crate) struct Codes {}
 
-impl FixedBytes<bool> for Codes {
-    const BYTES: usize = 1;
+impl<T: Encode> FixedBytes<T> for Codes
+where
+    T::Code: FixedNumber,
+{
+    const BYTES: usize = <T::Code as FixedSize>::SIZE;
 
-    ghost BYTES = { 1 };
-
-    #[inline(always)]
-    fn has_few_bytes() {}
-
-    #[inline(always)]
-    fn put(value: &bool, order: Endianness, output: &mut [u8]) {
-        put_number(u8::from(*value), order, output);
-    }
-}
-
-impl FixedBytes<char> for Codes {
-    const BYTES: usize = 4;
-
-    ghost BYTES = { 4 };
+    ghost BYTES = { T.Code.SIZE };
 
     #[inline(always)]
     fn has_few_bytes() {}
 
     #[inline(always)]
-    fn put(value: &char, order: Endianness, output: &mut [u8]) {
-        put_number(*value as u32, order, output);
+    fn put(value: &T, order: Endianness, output: &mut [u8]) {
+        put_number(value.encode(), order, output);
     }
 }
 
-impl FixedBytes<Duration> for Codes {
+/// Durations are put as the digits of both their numbers.
+pub(crate) struct Durations {}
+
+impl FixedBytes<Duration> for Durations {
     const BYTES: usize = 12;
 
     ghost BYTES = { 12 };
@@ -88,9 +81,10 @@ impl FixedBytes<Duration> for Codes {
 
     #[inline(always)]
     fn put(value: &Duration, order: Endianness, output: &mut [u8]) {
-        let (seconds, nanos) = output.split_at_mut(8);
-        put_number(value.as_secs(), order, seconds);
-        put_number(value.subsec_nanos(), order, nanos);
+        let (first, second) = output.split_at_mut(8);
+        let (seconds, nanos) = value.encode();
+        put_number(seconds, order, first);
+        put_number(nanos, order, second);
     }
 }
 

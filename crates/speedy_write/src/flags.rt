@@ -7,7 +7,7 @@ use speedy_base::context::Context;
 impl<C: Context> Writable<C> for bool {
     #[inline]
     fn write_to<W: Writer<C>>(&self, writer: &mut W) -> Result<(), C::Error> {
-        writer.write_u8(u8::from(*self))
+        writer.write_code(self)
     }
 
     /// Writes the flags by chunks of their bytes.

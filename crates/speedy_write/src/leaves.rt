@@ -1,5 +1,5 @@
 //! How characters, byte orders, durations and UUIDs are written.
-use crate::fixed::{Codes, write_values};
+use crate::fixed::{Codes, Durations, write_values};
 use crate::writable::Writable;
 use crate::writer::Writer;
 use speedy_base::context::Context;
@@ -10,7 +10,7 @@ use uuid::Uuid;
 impl<C: Context> Writable<C> for char {
     #[inline]
     fn write_to<W: Writer<C>>(&self, writer: &mut W) -> Result<(), C::Error> {
-        writer.write_u32(*self as u32)
+        writer.write_code(self)
     }
 
     /// Writes the characters by chunks of their bytes.
@@ -23,18 +23,14 @@ impl<C: Context> Writable<C> for char {
 impl<C: Context> Writable<C> for Endianness {
     #[inline]
     fn write_to<W: Writer<C>>(&self, writer: &mut W) -> Result<(), C::Error> {
-        let number = match *self {
-            Endianness::LittleEndian => 0,
-            Endianness::BigEndian => 1,
-        };
-        writer.write_u8(number)
+        writer.write_code(self)
     }
 }
 
 impl<C: Context> Writable<C> for Duration {
     #[inline]
     fn write_to<W: Writer<C>>(&self, writer: &mut W) -> Result<(), C::Error> {
-        (self.as_secs(), self.subsec_nanos()).write_to(writer)
+        writer.write_code(self)
     }
 
     /// Writes the durations by chunks of their bytes.
@@ -43,7 +39,7 @@ impl<C: Context> Writable<C> for Duration {
         items: &[Duration],
         writer: &mut W,
     ) -> Option<Result<(), C::Error>> {
-        Some(write_values::<C, Duration, Codes, W>(items, writer))
+        Some(write_values::<C, Duration, Durations, W>(items, writer))
     }
 }
 

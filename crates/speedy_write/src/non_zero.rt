@@ -1,6 +1,4 @@
 //! How numbers that are not 0 are written.
-#![tactic(auto, using(crate::proofs::NonZeroLemmas::non_zero_writes))]
-
 use crate::writable::Writable;
 use crate::writer::Writer;
 use speedy_base::context::Context;
@@ -11,55 +9,55 @@ use std::num::{
 impl<C: Context> Writable<C> for NonZeroU8 {
     #[inline]
     fn write_to<W: Writer<C>>(&self, writer: &mut W) -> Result<(), C::Error> {
-        writer.write_u8(self.get())
+        writer.write_code(self)
     }
 }
 
 impl<C: Context> Writable<C> for NonZeroU16 {
     #[inline]
     fn write_to<W: Writer<C>>(&self, writer: &mut W) -> Result<(), C::Error> {
-        writer.write_u16(self.get())
+        writer.write_code(self)
     }
 }
 
 impl<C: Context> Writable<C> for NonZeroU32 {
     #[inline]
     fn write_to<W: Writer<C>>(&self, writer: &mut W) -> Result<(), C::Error> {
-        writer.write_u32(self.get())
+        writer.write_code(self)
     }
 }
 
 impl<C: Context> Writable<C> for NonZeroU64 {
     #[inline]
     fn write_to<W: Writer<C>>(&self, writer: &mut W) -> Result<(), C::Error> {
-        writer.write_u64(self.get())
+        writer.write_code(self)
     }
 }
 
 impl<C: Context> Writable<C> for NonZeroI8 {
     #[inline]
     fn write_to<W: Writer<C>>(&self, writer: &mut W) -> Result<(), C::Error> {
-        writer.write_i8(self.get())
+        writer.write_code(self)
     }
 }
 
 impl<C: Context> Writable<C> for NonZeroI16 {
     #[inline]
     fn write_to<W: Writer<C>>(&self, writer: &mut W) -> Result<(), C::Error> {
-        writer.write_i16(self.get())
+        writer.write_code(self)
     }
 }
 
 impl<C: Context> Writable<C> for NonZeroI32 {
     #[inline]
     fn write_to<W: Writer<C>>(&self, writer: &mut W) -> Result<(), C::Error> {
-        writer.write_i32(self.get())
+        writer.write_code(self)
     }
 }
 
 impl<C: Context> Writable<C> for NonZeroI64 {
     #[inline]
     fn write_to<W: Writer<C>>(&self, writer: &mut W) -> Result<(), C::Error> {
-        writer.write_i64(self.get())
+        writer.write_code(self)
     }
 }

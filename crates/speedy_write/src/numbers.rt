@@ -131,6 +131,6 @@ impl<C: Context> Writable<C> for i128 {
 impl<C: Context> Writable<C> for usize {
     #[inline]
     fn write_to<W: Writer<C>>(&self, writer: &mut W) -> Result<(), C::Error> {
-        writer.write_u64(*self as u64)
+        writer.write_code(self)
     }
 }

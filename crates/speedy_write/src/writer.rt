@@ -14,7 +14,7 @@ use crate::fixed::{FixedBytes, write_number};
 use crate::writable::Writable;
 use speedy_base::context::Context;
 use speedy_base::endianness::Endianness;
-use speedy_layout::{Layout, VarInt64};
+use speedy_layout::{Encode, Layout, VarInt64};
 
 /// Writers, with the calls of each.
 pub trait Writer<C: Context> {
@@ -255,6 +255,19 @@ pub trait Writer<C: Context> {
             result self.old self.new }
     {
         item.write_to(self)
+    }
+
+    /// Writes a value as its code. It is the body of `write_to` of a type with [`Encode`].
+    #[inline]
+    #[tactic(auto, using(crate::specs::Codes::encoded_written))]
+    final fn write_code<T: Encode>(&mut self, value: &T) -> Result<(), C::Error>
+    where
+        Self: Sized,
+        T::Code: Writable<C>,
+        ensures { WritesValue C.Error.from_gives state appends T.seen T.layout value.now
+            result self.old self.new }
+    {
+        value.encode().write_to(self)
     }
 
     /// Writes values, one after the other and with no count.

@@ -13,4 +13,4 @@ returns g c =
     record { width_is = omega arith; are_bytes = put.bytes; value_is = put.number } in
     let same : ipv6_octets c.from.result ≡ c.encode.new.output =
     ap octets_of c.from.ensures ∙ octets_of-segments_of 8 c.encode.new.output octets.width_is octets.are_bytes in
-    decoded_exactly _ _ (subst (EncodesNumber 16 BigEndian c.args.code) (sym same) octets)
+    decoded_exactly _ _ _ _ (subst (EncodesNumber 16 BigEndian c.args.code) (sym same) octets)

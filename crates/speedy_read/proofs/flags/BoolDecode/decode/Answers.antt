@@ -1,6 +1,5 @@
 use Rattle.std.specs.Prelude.{◌≡◌, IsTrue, not, nat_eq}
-use Rattle.speedy_layout.specs.Numbers.{unsigned_number_laws}
-use Rattle.speedy_layout.specs.Flags.{flag_code, flag_reads_wider, written_flag}
+use Rattle.speedy_layout.specs.Flags.{flag_code, flag_is_code, flag_reads_wider, written_flag}
 use Rattle.speedy_read.specs.Decoding.{decoded_as, not_chosen}
 use Rattle.speedy_read.specs.Flags.{number_is_flag, number_is_written_flag, not_written_flag}
 use Rattle.speedy_read.proofs.flags.BoolDecode.decode.Given.{Over}
@@ -12,7 +11,7 @@ use Rattle.speedy_read.proofs.flags.BoolDecode.decode.Goals.{else-not-is_written
 
 pub returns-then-demands_written_form : goal.returns-then-demands_written_form
 returns-then-demands_written_form g c =
-    not_chosen flag_code (unsigned_number_laws 1) flag_reads_wider c.if-demands_written_form.true
+    not_chosen flag_code _ flag_is_code flag_reads_wider c.if-demands_written_form.true
     (λ b. not_written_flag _ b c.if-not-is_written.true) c.error_not_written_form.ensures
 
 is_written : (g : Over) (c : goal.Joined-else-not-is_written g) → IsTrue c.args.demands_written_form
@@ -25,4 +24,4 @@ is_written g c strict =
     ]
 
 pub returns : goal.returns
-returns g c = decoded_as flag_code (number_is_flag _) (is_written g c)
+returns g c = decoded_as flag_code _ flag_is_code (number_is_flag _) (is_written g c)

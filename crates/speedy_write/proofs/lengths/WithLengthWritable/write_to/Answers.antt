@@ -1,7 +1,8 @@
 use Rattle.std.proofs.Common.{refl, sym, subst, ◌∙◌, inl, inr}
 use Rattle.speedy_base.specs.declared.error.ErrorKind.TheVariants as kinds
+use Rattle.speedy_layout.specs.Encoding.{subset_encoded}
 use Rattle.speedy_layout.specs.Lengths.{told_codec, with_length_codec, untold_undecodable, other_length_undecodable}
-use Rattle.speedy_write.specs.Codes.{subset_written}
+use Rattle.speedy_write.specs.Codes.{encoded_written}
 use Rattle.speedy_write.specs.Sequences.{is_sequence, first_refused, second_written}
 use Rattle.speedy_write.proofs.LengthLemmas.{told_length_written, other_length_named}
 use Rattle.speedy_write.proofs.NumberLemmas.{undecodable_refused}
@@ -34,8 +35,8 @@ returns-in_err-write_parts g c =
     let K = g.K.Length in
     let B = g.B.Holds in
     first_refused is_sequence refl c.from_residual.ensures.1
-    (subset_written (λ b. K.is_told (B.numbers b)) kinds.OutOfRangeLength
-    (refl, subst K.is_told c.numbers.ensures c.in-Some.ensures.0) c.in_err-write_parts.ensures)
+    (encoded_written (subset_encoded (λ b. K.is_told (B.numbers b)) kinds.OutOfRangeLength tt B.layout refl
+    (subst K.is_told c.numbers.ensures c.in-Some.ensures.0)) c.in_err-write_parts.ensures)
 
 pub returns : goal.returns
 returns g c =
@@ -44,6 +45,6 @@ returns g c =
     let same = sym c.length-2.ensures ∙ (c.if-length-told.false ∙ rw c.numbers.ensures at c.in-Some.ensures.1) in
     second_written is_sequence refl (told_codec K.is_told B.numbers B.layout).laws
     (g.met.W.Writer.additive _ _ _)
-    (subset_written (λ b. K.is_told (B.numbers b)) kinds.OutOfRangeLength
-    (refl, subst K.is_told c.numbers.ensures c.in-Some.ensures.0) c.in_ok-write_parts.ensures)
+    (encoded_written (subset_encoded (λ b. K.is_told (B.numbers b)) kinds.OutOfRangeLength tt B.layout refl
+    (subst K.is_told c.numbers.ensures c.in-Some.ensures.0)) c.in_ok-write_parts.ensures)
     (told_length_written K.field (rw same at c.write_of_length.ensures))
