@@ -282,34 +282,35 @@ unfolding turned_in swapped
 turned-swapped LittleEndian size n = refl
 turned-swapped BigEndian size n = refl
 
--- a number that was swapped for the order, and then written least digit first
-pub EncodesNumber-swapped : (w : Width) (order : Endianness) (n turned : ℕ) (bytes : List ℕ)
-    → turned ≡ swapped order (byte_len w) n → n < 2 ^ bits w
-    → bytes ≡ to_le_bytes w turned → EncodesNumber (byte_len w) order n bytes
+-- and then written least digit first
+number-swapped_digits : (order : Endianness) (size n : ℕ) → n < 256 ^ size
+    → number order (little_digits size (swapped order size n)) ≡ n
 unfolding digits number swapped
-EncodesNumber-swapped w LittleEndian n turned bytes is l e =
-    EncodesNumber-to_le_bytes w LittleEndian n bytes refl l (e ∙ ap (to_le_bytes w) is)
-EncodesNumber-swapped w BigEndian n turned bytes is l e =
-    let width = byte_len w in
-    let low = little_digits width n in
-    let sized : length (reverse low) ≡ width = length-reverse low ∙ length-little_digits width n in
-    let same : little_digits width (little_number (reverse low)) ≡ reverse low =
+number-swapped_digits LittleEndian size n l = little_number-little_digits size n l
+number-swapped_digits BigEndian size n l =
+    let low = little_digits size n in
+    let sized : length (reverse low) ≡ size = length-reverse low ∙ length-little_digits size n in
+    let same : little_digits size (little_number (reverse low)) ≡ reverse low =
     ap (λ (k : ℕ). little_digits k (little_number (reverse low))) (sym sized)
-    ∙ little_digits-little_number (reverse low) (AreBytes-reverse low (AreBytes-little_digits width n)) in
-    subst (EncodesNumber width BigEndian n)
-    (sym (e ∙ (to_le_bytes-little_digits w turned ∙ (ap (little_digits width) is ∙ same))))
-    (EncodesNumber-digits width BigEndian n (subst (λ (m : ℕ). n < m) (pow-byte_len w) l))
+    ∙ little_digits-little_number (reverse low) (AreBytes-reverse low (AreBytes-little_digits size n)) in
+    ap (λ (bs : List ℕ). little_number (reverse bs)) same
+    ∙ (ap little_number (reverse-reverse low) ∙ little_number-little_digits size n l)
 
--- what is turned and then written least digit first is written in the order (a search finds it by the first part)
-pub turned-writes : (order : Endianness) (size n : ℕ) → byte_len (width_of size) ≡ size → n < 256 ^ size
+-- what is turned and then written least digit first is written in the order (a search finds it by the first part), by
+-- std too where it has the width
+pub turned-writes : (order : Endianness) (size n : ℕ) → n < 256 ^ size
     → (turned_in order (swapped BigEndian size) n ≡ swapped order size n)
-    × (number order (to_le_bytes (width_of size) (turned_in order (swapped BigEndian size) n)) ≡ n)
-turned-writes order size n is l =
+    × (number order (little_digits size (turned_in order (swapped BigEndian size) n)) ≡ n)
+    × (byte_len (width_of size) ≡ size
+    → number order (to_le_bytes (width_of size) (turned_in order (swapped BigEndian size) n)) ≡ n)
+turned-writes order size n l =
     let turned = turned-swapped order size n in
-    let fits = subst (λ (m : ℕ). n < m) (ap (λ (k : ℕ). 256 ^ k) (sym is) ∙ sym (pow-byte_len (width_of size))) l in
-    let encoded = EncodesNumber-swapped (width_of size) order n _ _
-    (turned ∙ ap (λ (k : ℕ). swapped order k n) (sym is)) fits refl in
-    (turned, encoded.value_is)
+    let m = turned_in order (swapped BigEndian size) n in
+    let written : number order (little_digits size m) ≡ n =
+    ap (λ (k : ℕ). number order (little_digits size k)) turned ∙ number-swapped_digits order size n l in
+    let digits_of : byte_len (width_of size) ≡ size → to_le_bytes (width_of size) m ≡ little_digits size m =
+    λ is. to_le_bytes-little_digits (width_of size) m ∙ ap (λ (k : ℕ). little_digits k m) is in
+    (turned, written, λ is. ap (number order) (digits_of is) ∙ written)
 
 -- what is written in an order rests on it
 pub ruleset written = (turned-writes)

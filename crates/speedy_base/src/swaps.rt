@@ -94,29 +94,35 @@ pub fn turned<T: Swap>(order: Endianness, number: T) -> T
     }
 }
 
-fn swap_one<T: Swap>(order: Endianness, value: &mut T)
-    ensures { value.new ≡ turned_in order T.reversed value.old }
-{
-    *value = turned(order, *value);
-}
+impl Endianness {
+    /// Reverses the bytes of a number where the order is big, and leaves it as it is where it is little.
+    ///
+    /// It takes a number of any width, as [`swap_slice`](Self::swap_slice) does; the others have the original's names.
+    #[inline]
+    pub fn swap<T: Swap>(self, value: &mut T)
+        ensures { value.new ≡ turned_in self T.reversed value.old }
+    {
+        *value = turned(self, *value);
+    }
 
-fn swap_each<T: Swap>(order: Endianness, slice: &mut [T])
-    ensures { slice.new ≡ map (turned_in order T.reversed) slice.old }
-{
-    if order.conversion_necessary() {
-        for value in slice.iter_mut() {
-            *value = value.reversed();
+    /// Reverses the bytes of each number where the order is big, and leaves them as they are where it is little.
+    #[inline]
+    pub fn swap_slice<T: Swap>(self, slice: &mut [T])
+        ensures { slice.new ≡ map (turned_in self T.reversed) slice.old }
+    {
+        if self.conversion_necessary() {
+            for value in slice.iter_mut() {
+                *value = value.reversed();
+            }
         }
     }
-}
 
-impl Endianness {
     /// Reverses the bytes of a number where the order is big, and leaves it as it is where it is little.
     #[inline]
     pub fn swap_u16(self, value: &mut u16)
         ensures { value.new ≡ swapped self 2 value.old }
     {
-        swap_one(self, value);
+        self.swap(value);
     }
 
     /// Reverses the bytes of a number where the order is big, and leaves it as it is where it is little.
@@ -124,7 +130,7 @@ impl Endianness {
     pub fn swap_u32(self, value: &mut u32)
         ensures { value.new ≡ swapped self 4 value.old }
     {
-        swap_one(self, value);
+        self.swap(value);
     }
 
     /// Reverses the bytes of a number where the order is big, and leaves it as it is where it is little.
@@ -132,7 +138,7 @@ impl Endianness {
     pub fn swap_u64(self, value: &mut u64)
         ensures { value.new ≡ swapped self 8 value.old }
     {
-        swap_one(self, value);
+        self.swap(value);
     }
 
     /// Reverses the bytes of a number where the order is big, and leaves it as it is where it is little.
@@ -140,7 +146,7 @@ impl Endianness {
     pub fn swap_u128(self, value: &mut u128)
         ensures { value.new ≡ swapped self 16 value.old }
     {
-        swap_one(self, value);
+        self.swap(value);
     }
 
     /// Reverses the bytes of a number where the order is big, and leaves it as it is where it is little.
@@ -148,7 +154,7 @@ impl Endianness {
     pub fn swap_i16(self, value: &mut i16)
         ensures { value.new ≡ swapped_signed self w16 value.old }
     {
-        swap_one(self, value);
+        self.swap(value);
     }
 
     /// Reverses the bytes of a number where the order is big, and leaves it as it is where it is little.
@@ -156,7 +162,7 @@ impl Endianness {
     pub fn swap_i32(self, value: &mut i32)
         ensures { value.new ≡ swapped_signed self w32 value.old }
     {
-        swap_one(self, value);
+        self.swap(value);
     }
 
     /// Reverses the bytes of a number where the order is big, and leaves it as it is where it is little.
@@ -164,7 +170,7 @@ impl Endianness {
     pub fn swap_i64(self, value: &mut i64)
         ensures { value.new ≡ swapped_signed self w64 value.old }
     {
-        swap_one(self, value);
+        self.swap(value);
     }
 
     /// Reverses the bytes of a number where the order is big, and leaves it as it is where it is little.
@@ -172,7 +178,7 @@ impl Endianness {
     pub fn swap_i128(self, value: &mut i128)
         ensures { value.new ≡ swapped_signed self w128 value.old }
     {
-        swap_one(self, value);
+        self.swap(value);
     }
 
     /// Does nothing: a number of one byte lies the same in both orders.
@@ -192,7 +198,7 @@ impl Endianness {
     pub fn swap_slice_u16(self, slice: &mut [u16])
         ensures { slice.new ≡ map (swapped self 2) slice.old }
     {
-        swap_each(self, slice);
+        self.swap_slice(slice);
     }
 
     /// Reverses the bytes of each number where the order is big, and leaves them as they are where it is little.
@@ -200,7 +206,7 @@ impl Endianness {
     pub fn swap_slice_u32(self, slice: &mut [u32])
         ensures { slice.new ≡ map (swapped self 4) slice.old }
     {
-        swap_each(self, slice);
+        self.swap_slice(slice);
     }
 
     /// Reverses the bytes of each number where the order is big, and leaves them as they are where it is little.
@@ -208,7 +214,7 @@ impl Endianness {
     pub fn swap_slice_u64(self, slice: &mut [u64])
         ensures { slice.new ≡ map (swapped self 8) slice.old }
     {
-        swap_each(self, slice);
+        self.swap_slice(slice);
     }
 
     /// Reverses the bytes of each number where the order is big, and leaves them as they are where it is little.
@@ -216,7 +222,7 @@ impl Endianness {
     pub fn swap_slice_u128(self, slice: &mut [u128])
         ensures { slice.new ≡ map (swapped self 16) slice.old }
     {
-        swap_each(self, slice);
+        self.swap_slice(slice);
     }
 
     /// Reverses the bytes of each number where the order is big, and leaves them as they are where it is little.
@@ -224,7 +230,7 @@ impl Endianness {
     pub fn swap_slice_i16(self, slice: &mut [i16])
         ensures { slice.new ≡ map (swapped_signed self w16) slice.old }
     {
-        swap_each(self, slice);
+        self.swap_slice(slice);
     }
 
     /// Reverses the bytes of each number where the order is big, and leaves them as they are where it is little.
@@ -232,7 +238,7 @@ impl Endianness {
     pub fn swap_slice_i32(self, slice: &mut [i32])
         ensures { slice.new ≡ map (swapped_signed self w32) slice.old }
     {
-        swap_each(self, slice);
+        self.swap_slice(slice);
     }
 
     /// Reverses the bytes of each number where the order is big, and leaves them as they are where it is little.
@@ -240,7 +246,7 @@ impl Endianness {
     pub fn swap_slice_i64(self, slice: &mut [i64])
         ensures { slice.new ≡ map (swapped_signed self w64) slice.old }
     {
-        swap_each(self, slice);
+        self.swap_slice(slice);
     }
 
     /// Reverses the bytes of each number where the order is big, and leaves them as they are where it is little.
@@ -248,6 +254,6 @@ impl Endianness {
     pub fn swap_slice_i128(self, slice: &mut [i128])
         ensures { slice.new ≡ map (swapped_signed self w128) slice.old }
     {
-        swap_each(self, slice);
+        self.swap_slice(slice);
     }
 }

@@ -1,8 +1,8 @@
 -- Numbers of a fixed number of bytes, as what is read and written in bulk asks of them.
-use Rattle.std.specs.Prelude.{◌≡◌, ℕ, ◌*◌, ◌^◌, ◌<◌, ◌≤◌, List, [], ◌∷◌, length, refl}
+use Rattle.std.specs.Prelude.{◌≡◌, ℕ, ◌*◌, ◌^◌, ◌<◌, ◌≤◌, true, List, [], ◌∷◌, length, refl}
 use Rattle.std.proofs.Common.{◌∙◌, ap, arith}
 use Rattle.std.proofs.lemmas.List.{length-append}
-use Rattle.std.specs.Int.{Width, w8, w16, w32, w64, w128, byte_len, cast_signed}
+use Rattle.std.specs.Int.{Width, w8, w16, w32, w64, w128, byte_len, cast_signed, is_in_range}
 use Rattle.speedy_base.specs.declared.endianness.Endianness.{Endianness}
 use Rattle.speedy_base.specs.Digits.{AreBytes, number}
 use Rattle.speedy_base.specs.Mode.{Mode, plain_mode}
@@ -66,22 +66,24 @@ byte_len-at_most w32 = omega arith
 byte_len-at_most w64 = omega arith
 byte_len-at_most w128 = omega arith
 
--- ---- the numbers of each width
+-- ---- unsigned numbers of any size, and the signed ones of each width
 
-pub unsigned_fixed : (w : Width) → AreFixed (byte_len w) (unsigned_codec (byte_len w)) number
+pub unsigned_fixed : (size : ℕ) → is_in_range 1 16 size ≡ true → AreFixed size (unsigned_codec size) number
 unfolding unsigned_number
-unsigned_fixed w = record {
-  least_is = refl;
-  is_fixed = record {
-    has_bytes = let l = byte_len-above w in omega arith;
-    at_most = byte_len-at_most w;
-    encodes = λ mode v bytes h. h;
-    writes = λ mode v bytes h. h;
-    length_is = λ order v bytes h. h.width_is;
-    none_malformed = λ _ _ h. h;
-  };
-  decodes = λ order bytes l are. record { width_is = l; are_bytes = are; value_is = refl };
-}
+unsigned_fixed size few =
+    let within : (1 ≤ size) × (size ≤ 16) = grind arith in
+    record {
+      least_is = refl;
+      is_fixed = record {
+        has_bytes = omega (arith, within.0);
+        at_most = within.1;
+        encodes = λ mode v bytes h. h;
+        writes = λ mode v bytes h. h;
+        length_is = λ order v bytes h. h.width_is;
+        none_malformed = λ _ _ h. h;
+      };
+      decodes = λ order bytes l are. record { width_is = l; are_bytes = are; value_is = refl };
+    }
 
 pub signed_fixed : (w : Width)
     → AreFixed (byte_len w) (signed_codec w) (λ order bytes. cast_signed w (number order bytes))

@@ -1,8 +1,7 @@
 //! Floats, held as their bits: what was read is written again bit for bit, NaNs too.
-ghost use Rattle.std.specs.Prelude.{◌≡◌, ℕ, false, is_nan, to_bits, SomeIff};
+ghost use Rattle.std.specs.Prelude.{◌≡◌, ℕ, false, is_nan, to_bits, SomeIff, refl};
 ghost use Rattle.std.specs.Cmp.{unsigned_Decides};
 ghost use Rattle.std.specs.Float.{binary32, binary64};
-ghost use Rattle.std.specs.Int.{w32, w64};
 ghost use Rattle.speedy_base.specs.Digits.{number};
 ghost use Rattle.speedy_layout.specs.Codecs.{unsigned_codec};
 ghost use Rattle.speedy_layout.specs.FixedNumbers.{unsigned_fixed};
@@ -101,7 +100,7 @@ impl FixedNumber for F32 {
         u32::encode(self.0, order, output);
     }
 
-    ghost fixed = { unsigned_fixed w32 };
+    ghost fixed = { unsigned_fixed 4 refl };
 }
 
 impl ZeroCopyable<LittleEndian> for F32 {
@@ -193,7 +192,7 @@ impl FixedNumber for F64 {
         u64::encode(self.0, order, output);
     }
 
-    ghost fixed = { unsigned_fixed w64 };
+    ghost fixed = { unsigned_fixed 8 refl };
 }
 
 impl ZeroCopyable<LittleEndian> for F64 {

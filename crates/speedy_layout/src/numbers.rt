@@ -3,6 +3,7 @@
 //! Their layout is their digits in the order of the encoding. What is said of a width is said here.
 #![tactic(auto, using(speedy_base::specs::DigitsLemmas::written))]
 
+ghost use Rattle.std.specs.Prelude.{refl};
 ghost use Rattle.std.specs.Cmp.{unsigned_Decides, signed_Decides};
 ghost use Rattle.std.specs.Int.{w8, w16, w32, w64, w128, cast_signed};
 ghost use Rattle.speedy_base.specs.Digits.{number};
@@ -44,7 +45,7 @@ impl FixedNumber for u8 {
         output[0] = self;
     }
 
-    ghost fixed = { unsigned_fixed w8 };
+    ghost fixed = { unsigned_fixed 1 refl };
 }
 
 impl<C: Context> ZeroCopyable<C> for u8 {
@@ -80,7 +81,7 @@ impl FixedNumber for u16 {
         output.copy_from_slice(&turned(order, self).to_le_bytes());
     }
 
-    ghost fixed = { unsigned_fixed w16 };
+    ghost fixed = { unsigned_fixed 2 refl };
 }
 
 impl ZeroCopyable<LittleEndian> for u16 {
@@ -116,7 +117,7 @@ impl FixedNumber for u32 {
         output.copy_from_slice(&turned(order, self).to_le_bytes());
     }
 
-    ghost fixed = { unsigned_fixed w32 };
+    ghost fixed = { unsigned_fixed 4 refl };
 }
 
 impl ZeroCopyable<LittleEndian> for u32 {
@@ -152,7 +153,7 @@ impl FixedNumber for u64 {
         output.copy_from_slice(&turned(order, self).to_le_bytes());
     }
 
-    ghost fixed = { unsigned_fixed w64 };
+    ghost fixed = { unsigned_fixed 8 refl };
 }
 
 impl ZeroCopyable<LittleEndian> for u64 {
@@ -201,7 +202,7 @@ impl FixedNumber for u128 {
         }
     }
 
-    ghost fixed = { unsigned_fixed w128 };
+    ghost fixed = { unsigned_fixed 16 refl };
 }
 
 impl ZeroCopyable<LittleEndian> for u128 {

@@ -21,7 +21,7 @@ use Rattle.speedy_layout.specs.Numbers.{length_number, length_codec, unsigned_co
 use Rattle.speedy_layout.specs.Varint.{varint, prefixed_written}
 use Rattle.speedy_write.specs.Codes.{encoded_written}
 use Rattle.speedy_write.specs.Lengths.{WritesLength}
-use Rattle.speedy_write.specs.Writing.{WriterState, IsOutOfRange, Writes, WritesNumber, RefusesFull}
+use Rattle.speedy_write.specs.Writing.{WriterState, IsOutOfRange, Writes, WritesNumber}
 use Rattle.speedy_write.specs.Sequences.{Kept-same}
 
 module _ {E : Type 0} {gives : Error → E → Type 0} {result : Result (Unit {0}) E} {old new : WriterState}
@@ -84,11 +84,11 @@ module _ {E S : Type 0} {gives : Error → E → Type 0} {state : S → WriterSt
 
   -- which is written as the number is
   pub within_greatest_written : (width greatest : ℕ) {result : Result (Unit {0}) E} {new : S} → bound ≡ greatest + 1
-      → n < bound → WritesNumber gives state appends width n result old new → RefusesFull gives state result old new
+      → n < bound → WritesNumber gives state appends width n result old new
       → WritesLength gives state appends (length_number width greatest) bound n result old new
-  within_greatest_written width greatest is within w full = record {
-    writes = encoded_written (subset_encoded _ _ tt (unsigned_codec width) refl (omega arith)) w;
-    full = λ _. full;
+  within_greatest_written width greatest is within w = record {
+    writes = encoded_written (subset_encoded _ _ tt (unsigned_codec width) refl (omega arith)) w.writes;
+    full = λ _. w.full;
     too_long = λ past. absurd (omega arith);
   }
 

@@ -150,12 +150,18 @@ module _ {E S : Type 0} (gives : Error → E → Type 0) (state : S → WriterSt
     WritesSlice bytes result old new =
         WritesBytes gives bytes result (state old) (state new) (λ b. appends old b new)
 
+    -- the write of a value whose bytes go to the writer together
+    pub record WritesAtOnce {A V : Type 0} (seen : A → V) (codec : Codec V) (value : A) (result : Result (Unit {0}) E)
+        (old new : S) : Type 0 where
+      pub writes : WritesValue seen codec value result old new
+      pub full : RefusesFull result old new
+
     -- the write of a number of n bytes, and of a signed one of a width
     abbrev pub WritesNumber : ℕ → ℕ → Result (Unit {0}) E → S → S → Type 0
-    WritesNumber width = WritesValue (λ n. n) (unsigned_codec width)
+    WritesNumber width = WritesAtOnce (λ n. n) (unsigned_codec width)
 
     abbrev pub WritesSigned : Width → ℤ → Result (Unit {0}) E → S → S → Type 0
-    WritesSigned w = WritesValue (λ z. z) (signed_codec w)
+    WritesSigned w = WritesAtOnce (λ z. z) (signed_codec w)
 
     -- What a writer answers that counts bytes and keeps none: as it would the write of any `size` bytes. Or it
     -- answers nothing, and stays as it was.

@@ -3,7 +3,7 @@ ghost use Rattle.std.specs.Prelude.{◌≡◌, ◌<◌, ◌≤◌, ◌+◌, ◌*
 ghost use Rattle.speedy_base.specs.Mode.{Mode};
 ghost use Rattle.speedy_layout.specs.Format.{Each};
 ghost use Rattle.speedy_write.specs.FixedBytes.{PutsAt};
-ghost use Rattle.speedy_write.specs.Writing.{RefusesFull, WritesValue, WritesValues};
+ghost use Rattle.speedy_write.specs.Writing.{WritesAtOnce, WritesValues};
 
 use crate::writer::Writer;
 use speedy_base::context::Context;
@@ -104,9 +104,8 @@ pub(crate) fn write_number<T: FixedNumber, C: Context, W: Writer<C>>(
     number: T,
     writer: &mut W,
 ) -> Result<(), C::Error>
-    ensures writes { WritesValue C.Error.from_gives W.state W.appends T.seen T.layout number
+    ensures { WritesAtOnce C.Error.from_gives W.state W.appends T.seen T.layout number
         result writer.old writer.new }
-    ensures full { RefusesFull C.Error.from_gives W.state result writer.old writer.new }
 {
     let mut bytes = [0; MOST_DIGITS];
     let digits = &mut bytes[..T::SIZE];

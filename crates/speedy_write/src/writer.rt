@@ -6,7 +6,7 @@ ghost use Rattle.std.specs.Int.{w8, w16, w32, w64, w128};
 ghost use Rattle.speedy_layout.specs.Codecs.{varint_codec};
 ghost use Rattle.speedy_write.specs.Collections.{WritesItems};
 ghost use Rattle.speedy_write.specs.Writing.{WriterState, WritesValue, WritesValues, WritesSlice, WritesNumber};
-ghost use Rattle.speedy_write.specs.Writing.{WritesSigned, RefusesFull, CountsBytes, IsRight};
+ghost use Rattle.speedy_write.specs.Writing.{WritesSigned, WritesAtOnce, RefusesFull, CountsBytes, IsRight};
 
 use crate::each::{write_item, write_items};
 use crate::filling::FillsFront;
@@ -144,8 +144,7 @@ pub trait Writer<C: Context> {
     /// Writes a byte.
     #[inline]
     final fn write_u8(&mut self, value: u8) -> Result<(), C::Error>
-        ensures writes { WritesNumber C.Error.from_gives state appends 1 value result self.old self.new }
-        ensures full { RefusesFull C.Error.from_gives state result self.old self.new }
+        ensures { WritesNumber C.Error.from_gives state appends 1 value result self.old self.new }
     {
         write_number::<u8, C, Self>(value, self)
     }
@@ -153,8 +152,7 @@ pub trait Writer<C: Context> {
     /// Writes two bytes, in the context's order.
     #[inline]
     final fn write_u16(&mut self, value: u16) -> Result<(), C::Error>
-        ensures writes { WritesNumber C.Error.from_gives state appends 2 value result self.old self.new }
-        ensures full { RefusesFull C.Error.from_gives state result self.old self.new }
+        ensures { WritesNumber C.Error.from_gives state appends 2 value result self.old self.new }
     {
         write_number::<u16, C, Self>(value, self)
     }
@@ -162,8 +160,7 @@ pub trait Writer<C: Context> {
     /// Writes four bytes, in the context's order.
     #[inline]
     final fn write_u32(&mut self, value: u32) -> Result<(), C::Error>
-        ensures writes { WritesNumber C.Error.from_gives state appends 4 value result self.old self.new }
-        ensures full { RefusesFull C.Error.from_gives state result self.old self.new }
+        ensures { WritesNumber C.Error.from_gives state appends 4 value result self.old self.new }
     {
         write_number::<u32, C, Self>(value, self)
     }
@@ -171,9 +168,8 @@ pub trait Writer<C: Context> {
     /// Writes an integer of variable length, in one to nine bytes: as few as hold it.
     #[inline]
     final fn write_u64_varint(&mut self, value: u64) -> Result<(), C::Error>
-        ensures writes { WritesValue C.Error.from_gives state appends (λ n. n) varint_codec value
+        ensures { WritesAtOnce C.Error.from_gives state appends (λ n. n) varint_codec value
             result self.old self.new }
-        ensures full { RefusesFull C.Error.from_gives state result self.old self.new }
     {
         // To count is faster without a branch.
         if !Self::COUNTS && value < 128 {
@@ -186,8 +182,7 @@ pub trait Writer<C: Context> {
     /// Writes eight bytes, in the context's order.
     #[inline]
     final fn write_u64(&mut self, value: u64) -> Result<(), C::Error>
-        ensures writes { WritesNumber C.Error.from_gives state appends 8 value result self.old self.new }
-        ensures full { RefusesFull C.Error.from_gives state result self.old self.new }
+        ensures { WritesNumber C.Error.from_gives state appends 8 value result self.old self.new }
     {
         write_number::<u64, C, Self>(value, self)
     }
@@ -195,8 +190,7 @@ pub trait Writer<C: Context> {
     /// Writes sixteen bytes, in the context's order.
     #[inline]
     final fn write_u128(&mut self, value: u128) -> Result<(), C::Error>
-        ensures writes { WritesNumber C.Error.from_gives state appends 16 value result self.old self.new }
-        ensures full { RefusesFull C.Error.from_gives state result self.old self.new }
+        ensures { WritesNumber C.Error.from_gives state appends 16 value result self.old self.new }
     {
         write_number::<u128, C, Self>(value, self)
     }
@@ -204,8 +198,7 @@ pub trait Writer<C: Context> {
     /// Writes a signed number as a byte.
     #[inline]
     final fn write_i8(&mut self, value: i8) -> Result<(), C::Error>
-        ensures writes { WritesSigned C.Error.from_gives state appends w8 value result self.old self.new }
-        ensures full { RefusesFull C.Error.from_gives state result self.old self.new }
+        ensures { WritesSigned C.Error.from_gives state appends w8 value result self.old self.new }
     {
         write_number::<i8, C, Self>(value, self)
     }
@@ -213,8 +206,7 @@ pub trait Writer<C: Context> {
     /// Writes a signed number as two bytes, in the context's order.
     #[inline]
     final fn write_i16(&mut self, value: i16) -> Result<(), C::Error>
-        ensures writes { WritesSigned C.Error.from_gives state appends w16 value result self.old self.new }
-        ensures full { RefusesFull C.Error.from_gives state result self.old self.new }
+        ensures { WritesSigned C.Error.from_gives state appends w16 value result self.old self.new }
     {
         write_number::<i16, C, Self>(value, self)
     }
@@ -222,8 +214,7 @@ pub trait Writer<C: Context> {
     /// Writes a signed number as four bytes, in the context's order.
     #[inline]
     final fn write_i32(&mut self, value: i32) -> Result<(), C::Error>
-        ensures writes { WritesSigned C.Error.from_gives state appends w32 value result self.old self.new }
-        ensures full { RefusesFull C.Error.from_gives state result self.old self.new }
+        ensures { WritesSigned C.Error.from_gives state appends w32 value result self.old self.new }
     {
         write_number::<i32, C, Self>(value, self)
     }
@@ -231,8 +222,7 @@ pub trait Writer<C: Context> {
     /// Writes a signed number as eight bytes, in the context's order.
     #[inline]
     final fn write_i64(&mut self, value: i64) -> Result<(), C::Error>
-        ensures writes { WritesSigned C.Error.from_gives state appends w64 value result self.old self.new }
-        ensures full { RefusesFull C.Error.from_gives state result self.old self.new }
+        ensures { WritesSigned C.Error.from_gives state appends w64 value result self.old self.new }
     {
         write_number::<i64, C, Self>(value, self)
     }
@@ -240,8 +230,7 @@ pub trait Writer<C: Context> {
     /// Writes a signed number as sixteen bytes, in the context's order.
     #[inline]
     final fn write_i128(&mut self, value: i128) -> Result<(), C::Error>
-        ensures writes { WritesSigned C.Error.from_gives state appends w128 value result self.old self.new }
-        ensures full { RefusesFull C.Error.from_gives state result self.old self.new }
+        ensures { WritesSigned C.Error.from_gives state appends w128 value result self.old self.new }
     {
         write_number::<i128, C, Self>(value, self)
     }

@@ -9,4 +9,4 @@ returns-then-length-gt-U7_MAX g c =
 pub returns : goal.returns
 returns g c =
     let within = c.if-length-gt-U7_MAX.false in
-    within_greatest_written 1 127 refl (omega arith) c.write_u8.ensures.writes c.write_u8.ensures.full
+    within_greatest_written 1 127 refl (omega arith) c.write_u8.ensures

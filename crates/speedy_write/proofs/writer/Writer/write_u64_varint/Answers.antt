@@ -9,10 +9,15 @@ renamed : (mode : Mode) (m n : ℕ) (bytes : List ℕ) → m ≡ n → (varint m
     → (varint mode).writes n bytes
 renamed mode m n bytes same h = subst (λ (i : ℕ). (varint mode).writes i bytes) same h
 
-pub returns-then-value-lt128-clause-writes : goal.returns-then-value-lt128-clause-writes
-returns-then-value-lt128-clause-writes g c =
-    form_written varint_laws (small_written _ _ c.if-value-lt128.true) c.write_bytes.ensures.writes
+pub returns-then-value-lt128 : goal.returns-then-value-lt128
+returns-then-value-lt128 g c = record {
+  writes = form_written varint_laws (small_written _ _ c.if-value-lt128.true) c.write_bytes.ensures.writes;
+  full = c.write_bytes.ensures.full;
+}
 
-pub returns-clause-writes : goal.returns-clause-writes
-returns-clause-writes g c = form_written varint_laws (renamed _ _ _ _ c.from.ensures (c.encode-count.ensures.written _))
-    c.write_bytes-2.ensures.writes
+pub returns : goal.returns
+returns g c = record {
+  writes = form_written varint_laws (renamed _ _ _ _ c.from.ensures (c.encode-count.ensures.written _))
+      c.write_bytes-2.ensures.writes;
+  full = c.write_bytes-2.ensures.full;
+}
