@@ -62,16 +62,6 @@ map-turned_signed order w [] = refl
 map-turned_signed order w (z ∷ zs) =
     ap₂ ◌∷◌ (turned-swapped_signed order w z) (map-turned_signed order w zs)
 
--- what swaps reverse and turn
-pub ruleset reversals = (
-  swapped-swap_bytes_of,
-  turned-swapped,
-  map-turned,
-  swapped_signed-answered,
-  turned-swapped_signed,
-  map-turned_signed,
-)
-
 -- ---- what is read and written
 
 -- what std reads from an array that was copied
@@ -87,5 +77,13 @@ unfolding number swapped digits
 number-swapped LittleEndian bytes are = refl
 number-swapped BigEndian bytes are = ap (λ bs. little_number (reverse bs)) (sym (little_digits-little_number bytes are))
 
--- what reads in an order rest on
-pub ruleset conversions = (turned-swapped, number-swapped)
+-- what is reversed and turned, and what is read in an order
+pub ruleset reversals = (
+  swapped-swap_bytes_of,
+  number-swapped,
+  turned-swapped,
+  map-turned,
+  swapped_signed-answered,
+  turned-swapped_signed,
+  map-turned_signed,
+)

@@ -7,4 +7,4 @@ pub mod context;
 pub mod device;
 pub mod endianness;
 pub mod error;
-pub mod swaps;
+pub mod numbers;

@@ -13,31 +13,48 @@ use std::alloc::AllocError;
 /// The number of bytes of the widest number.
 pub const MOST_DIGITS: usize = 16;
 
+/// An array of bytes. It stands apart from `FixedSize`, of which a caller's proof finds one impl alone.
+pub trait ByteArray {
+    /// The number of its bytes.
+    const LENGTH: usize;
+
+    ghost LENGTH: { ℕ };
+}
+
+impl<const N: usize> ByteArray for [u8; N] {
+    const LENGTH: usize = N;
+
+    ghost LENGTH = { N };
+}
+
 /// A number of a fixed size, whose bytes are its digits.
-pub trait FixedNumber: FixedSize + Layout + Copy + Default + Drop {
+pub trait FixedNumber: Layout + Copy + Default + Drop {
+    /// An array of as many bytes as the number has.
+    type Digits: ByteArray;
+
     /// The number that `SIZE` bytes encode in an order.
     ghost decoded: { Order → List ℕ → Self };
 
     /// Decodes the number from `SIZE` bytes in the order.
     fn decode(order: Endianness, bytes: &[u8]) -> Self
-        requires { length bytes.now ≡ Self.SIZE }
+        requires { length bytes.now ≡ Self.Digits.LENGTH }
         ensures { result ≡ decoded order bytes.now };
 
     /// Encodes the number in the order, which fills the output.
     fn encode(self, order: Endianness, output: &mut [u8])
-        requires { length output.old ≡ Self.SIZE }
+        requires { length output.old ≡ Self.Digits.LENGTH }
         ensures bytes { AreBytes output.new }
         ensures number { decoded order output.new ≡ self };
 
     /// The least size is `SIZE`, which each encoding has. The order alone decides its bytes, and any bytes encode the
     /// number that is decoded from them.
-    ghost fixed: { AreFixed Self.SIZE Self.layout (λ order bytes. Self.seen (decoded order bytes)) };
+    ghost fixed: { AreFixed Self.Digits.LENGTH Self.layout (λ order bytes. Self.seen (decoded order bytes)) };
 }
 
 /// The number that the bytes encode, of which there are `SIZE`.
 #[inline(always)]
 pub fn number_of<T: FixedNumber>(order: Endianness, bytes: &[u8]) -> T
-    requires { length bytes.now ≡ T.SIZE }
+    requires { length bytes.now ≡ T.Digits.LENGTH }
     ensures { encoded_in T.layout.format order (T.seen result) bytes.now }
 {
     T::decode(order, bytes)
@@ -49,7 +66,8 @@ pub fn number_of<T: FixedNumber>(order: Endianness, bytes: &[u8]) -> T
 /// The vector goes in and out by value, so that the loop keeps its place and length in registers.
 #[inline]
 pub fn append_each<T: FixedNumber>(numbers: Vec<T>, order: Endianness, bytes: &[u8]) -> Vec<T>
-    requires { (count : ℕ) × (length bytes.now ≡ count * T.SIZE) × (vec_len numbers + count ≤ vec_capacity numbers) }
+    requires { (count : ℕ) × (length bytes.now ≡ count * T.Digits.LENGTH)
+        × (vec_len numbers + count ≤ vec_capacity numbers) }
     ensures { (more : List T) × (result.items ≡ numbers.items ++ more)
         × Each (encoded_in T.layout.format order) (map T.seen more) bytes.now }
 {
@@ -63,7 +81,7 @@ pub fn append_each<T: FixedNumber>(numbers: Vec<T>, order: Endianness, bytes: &[
 /// Fills the places with the numbers that the bytes encode one after another. The bytes are those of as many numbers.
 #[inline]
 pub fn take_each<T: FixedNumber>(places: &mut [T], order: Endianness, bytes: &[u8])
-    requires { length bytes.now ≡ length places.old * T.SIZE }
+    requires { length bytes.now ≡ length places.old * T.Digits.LENGTH }
     ensures { Each (encoded_in T.layout.format order) (map T.seen places.new) bytes.now }
 {
     let mut at = 0;

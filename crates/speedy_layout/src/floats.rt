@@ -10,7 +10,7 @@ ghost use Rattle.speedy_layout.specs.Floats.{f32_bits, f32_value, f64_bits, f64_
 use crate::fixed_numbers::FixedNumber;
 use crate::layout::Layout;
 use crate::same_key::SameKey;
-use crate::view_items::{FixedSize, ZeroCopyable};
+use crate::view_items::ZeroCopyable;
 use speedy_base::context::LittleEndian;
 use speedy_base::endianness::Endianness;
 use std::fmt;
@@ -81,13 +81,9 @@ impl Layout for F32 {
     ghost layout = { unsigned_codec 4 };
 }
 
-impl FixedSize for F32 {
-    const SIZE: usize = 4;
-
-    ghost SIZE = { 4 };
-}
-
 impl FixedNumber for F32 {
+    type Digits = [u8; 4];
+
     ghost decoded = { λ order bytes. record { 0 = number order bytes } };
 
     #[inline(always)]
@@ -173,13 +169,9 @@ impl Layout for F64 {
     ghost layout = { unsigned_codec 8 };
 }
 
-impl FixedSize for F64 {
-    const SIZE: usize = 8;
-
-    ghost SIZE = { 8 };
-}
-
 impl FixedNumber for F64 {
+    type Digits = [u8; 8];
+
     ghost decoded = { λ order bytes. record { 0 = number order bytes } };
 
     #[inline(always)]

@@ -15,10 +15,10 @@ use crate::codes::Encode;
 use crate::fixed_numbers::FixedNumber;
 use crate::layout::Layout;
 use crate::same_key::SameKey;
-use crate::view_items::{FixedSize, ZeroCopyable};
+use crate::view_items::ZeroCopyable;
 use speedy_base::context::{Context, LittleEndian};
 use speedy_base::endianness::Endianness;
-use speedy_base::swaps::turned;
+use speedy_base::numbers::turned;
 
 impl Layout for u8 {
     ghost seen = { λ x. x };
@@ -26,13 +26,9 @@ impl Layout for u8 {
     ghost layout = { unsigned_codec 1 };
 }
 
-impl FixedSize for u8 {
-    const SIZE: usize = 1;
-
-    ghost SIZE = { 1 };
-}
-
 impl FixedNumber for u8 {
+    type Digits = [u8; 1];
+
     ghost decoded = { number };
 
     #[inline(always)]
@@ -62,13 +58,9 @@ impl Layout for u16 {
     ghost layout = { unsigned_codec 2 };
 }
 
-impl FixedSize for u16 {
-    const SIZE: usize = 2;
-
-    ghost SIZE = { 2 };
-}
-
 impl FixedNumber for u16 {
+    type Digits = [u8; 2];
+
     ghost decoded = { number };
 
     #[inline(always)]
@@ -98,13 +90,9 @@ impl Layout for u32 {
     ghost layout = { unsigned_codec 4 };
 }
 
-impl FixedSize for u32 {
-    const SIZE: usize = 4;
-
-    ghost SIZE = { 4 };
-}
-
 impl FixedNumber for u32 {
+    type Digits = [u8; 4];
+
     ghost decoded = { number };
 
     #[inline(always)]
@@ -134,13 +122,9 @@ impl Layout for u64 {
     ghost layout = { unsigned_codec 8 };
 }
 
-impl FixedSize for u64 {
-    const SIZE: usize = 8;
-
-    ghost SIZE = { 8 };
-}
-
 impl FixedNumber for u64 {
+    type Digits = [u8; 8];
+
     ghost decoded = { number };
 
     #[inline(always)]
@@ -170,13 +154,9 @@ impl Layout for u128 {
     ghost layout = { unsigned_codec 16 };
 }
 
-impl FixedSize for u128 {
-    const SIZE: usize = 16;
-
-    ghost SIZE = { 16 };
-}
-
 impl FixedNumber for u128 {
+    type Digits = [u8; 16];
+
     ghost decoded = { number };
 
     #[inline(always)]
@@ -219,13 +199,9 @@ impl Layout for i8 {
     ghost layout = { signed_codec w8 };
 }
 
-impl FixedSize for i8 {
-    const SIZE: usize = 1;
-
-    ghost SIZE = { 1 };
-}
-
 impl FixedNumber for i8 {
+    type Digits = [u8; 1];
+
     ghost decoded = { λ order bytes. cast_signed w8 (number order bytes) };
 
     #[inline(always)]
@@ -255,13 +231,9 @@ impl Layout for i16 {
     ghost layout = { signed_codec w16 };
 }
 
-impl FixedSize for i16 {
-    const SIZE: usize = 2;
-
-    ghost SIZE = { 2 };
-}
-
 impl FixedNumber for i16 {
+    type Digits = [u8; 2];
+
     ghost decoded = { λ order bytes. cast_signed w16 (number order bytes) };
 
     #[inline(always)]
@@ -291,13 +263,9 @@ impl Layout for i32 {
     ghost layout = { signed_codec w32 };
 }
 
-impl FixedSize for i32 {
-    const SIZE: usize = 4;
-
-    ghost SIZE = { 4 };
-}
-
 impl FixedNumber for i32 {
+    type Digits = [u8; 4];
+
     ghost decoded = { λ order bytes. cast_signed w32 (number order bytes) };
 
     #[inline(always)]
@@ -327,13 +295,9 @@ impl Layout for i64 {
     ghost layout = { signed_codec w64 };
 }
 
-impl FixedSize for i64 {
-    const SIZE: usize = 8;
-
-    ghost SIZE = { 8 };
-}
-
 impl FixedNumber for i64 {
+    type Digits = [u8; 8];
+
     ghost decoded = { λ order bytes. cast_signed w64 (number order bytes) };
 
     #[inline(always)]
@@ -363,13 +327,9 @@ impl Layout for i128 {
     ghost layout = { signed_codec w128 };
 }
 
-impl FixedSize for i128 {
-    const SIZE: usize = 16;
-
-    ghost SIZE = { 16 };
-}
-
 impl FixedNumber for i128 {
+    type Digits = [u8; 16];
+
     ghost decoded = { λ order bytes. cast_signed w128 (number order bytes) };
 
     #[inline(always)]

@@ -5,7 +5,7 @@ ghost use Rattle.speedy_base.specs.Mode.{Mode, plain_mode};
 ghost use Rattle.speedy_base.specs.declared.endianness.Endianness.TheVariants.{LittleEndian as LittleOrder};
 ghost use Rattle.speedy_layout.specs.FixedNumbers.{few_bytes, size_of_fixed};
 
-use crate::fixed_numbers::FixedNumber;
+use crate::fixed_numbers::{ByteArray, FixedNumber};
 use crate::layout::Layout;
 use speedy_base::context::{Context, LittleEndian};
 use speedy_base::endianness::Endianness;
@@ -53,6 +53,13 @@ pub trait ZeroCopyable<C: Context>: ViewItem {
     ghost as_little: { (context : C) (v : Self.Seen) (bytes : List ℕ) →
         (Self.layout.format (plain_mode LittleOrder)).encodes v bytes →
         (Self.layout.format (C.mode context)).encodes v bytes };
+}
+
+// A number has as many bytes as digits.
+impl<T: FixedNumber> FixedSize for T {
+    const SIZE: usize = <T::Digits as ByteArray>::LENGTH;
+
+    ghost SIZE = { T.Digits.LENGTH };
 }
 
 // Any bytes of a number's width encode one.

@@ -15,6 +15,7 @@ use speedy_base::context::Context;
 use speedy_base::endianness::Endianness;
 use speedy_base::error::{ErrorKind, error_end_of_input, error_out_of_memory};
 use speedy_layout::fixed_numbers::{FixedNumber, take_each};
+use speedy_layout::view_items::FixedSize;
 use std::alloc::{AllocError, Global};
 use std::convert::AsSlice;
 use std::marker::PhantomData;
@@ -63,7 +64,7 @@ impl<L: AsSlice<u8> + Drop, C: Context, A: ReadArrays<L, C>> Strategy<L, C, A> f
 }
 
 impl<T: FixedNumber> Takes<T> for Numbers {
-    ghost size = { T.SIZE };
+    ghost size = { T.Digits.LENGTH };
 
     #[inline(always)]
     fn take(places: &mut [T], order: Endianness, bytes: &[u8]) {
@@ -111,7 +112,7 @@ fn places_of<
     count: usize,
     width: usize,
 ) -> Result<Vec<P>, AllocError>
-    requires { (width ≡ P.count * T.SIZE) × (count_of digits.now ≡ count * width) }
+    requires { (width ≡ P.count * T.Digits.LENGTH) × (count_of digits.now ≡ count * width) }
     ensures whole { IfOk result (λ v. count_of v.items ≡ count) }
     ensures taken { IfOk result (λ v. Each (encoded_in (λ e. vector P.count (T.layout.format e)) order)
         (map (λ p. map T.seen (P.shown p)) v.items) digits.now) }

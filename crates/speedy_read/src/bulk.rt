@@ -22,6 +22,7 @@ use speedy_base::endianness::Endianness;
 use speedy_base::error::{Error, ErrorKind, error_end_of_input, error_out_of_memory};
 use speedy_layout::fixed_numbers::{FixedNumber, append_each, take_each};
 use speedy_layout::layout::Layout;
+use speedy_layout::view_items::FixedSize;
 use std::alloc::{AllocError, Global};
 use std::convert::AsSlice;
 
@@ -250,7 +251,7 @@ fn fill_chunks<T: FixedNumber, L: AsSlice<u8> + Drop, C: Context, R: LendingRead
     places: &mut [T],
     chunk: &mut [u8],
 ) -> Result<(), C::Error>
-    requires { T.SIZE ≤ length chunk.old }
+    requires { T.Digits.LENGTH ≤ length chunk.old }
     ensures { ReadsValue C.Error.IsEof R.state (λ _. map T.seen places.new)
         (vector_codec (length places.old) T.layout) result reader.old reader.new }
 {
@@ -273,7 +274,7 @@ fn numbers_of<T: FixedNumber>(
     digits: &[u8],
     count: usize,
 ) -> Result<Vec<T>, AllocError>
-    requires { length digits.now ≡ count * T.SIZE }
+    requires { length digits.now ≡ count * T.Digits.LENGTH }
     ensures { IfOk result (λ v. Each (encoded_in T.layout.format order) (map T.seen v.items) digits.now) }
 {
     Ok(append_each(Vec::with_capacity(alloc, count)?, order, digits))
@@ -286,7 +287,7 @@ fn read_number_chunks<T: FixedNumber, L: AsSlice<u8> + Drop, C: Context, R: Lend
     count: usize,
     chunk: &mut [u8],
 ) -> Result<Vec<T>, C::Error>
-    requires { T.SIZE ≤ length chunk.old }
+    requires { T.Digits.LENGTH ≤ length chunk.old }
     ensures { ReadsValue C.Error.IsEof R.state (λ v. map T.seen v.items)
         (vector_codec count T.layout) result reader.old reader.new }
 {

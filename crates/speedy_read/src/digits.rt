@@ -4,6 +4,7 @@ ghost use Rattle.speedy_read.specs.Reading.{ReadsValue, PeeksValue};
 use crate::reader::LendingReader;
 use speedy_base::context::Context;
 use speedy_layout::fixed_numbers::{FixedNumber, MOST_DIGITS, number_of};
+use speedy_layout::view_items::FixedSize;
 use std::convert::AsSlice;
 
 // The next number.

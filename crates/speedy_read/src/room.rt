@@ -12,6 +12,7 @@ use speedy_base::context::Context;
 use speedy_base::endianness::Endianness;
 use speedy_base::error::{ErrorKind, error_out_of_memory};
 use speedy_layout::fixed_numbers::{FixedNumber, append_each};
+use speedy_layout::view_items::FixedSize;
 use std::alloc::AllocError;
 use std::convert::AsSlice;
 
@@ -157,7 +158,7 @@ pub(crate) fn append_in_steps<T: FixedNumber>(
     digits: &[u8],
     left: usize,
 ) -> Result<Vec<T>, AllocError>
-    requires { (count : ℕ) × (count_of digits.now ≡ count * T.SIZE) }
+    requires { (count : ℕ) × (count_of digits.now ≡ count * T.Digits.LENGTH) }
     ensures { IfOk result (λ v. (more : List T) × (v.items ≡ numbers.items ++ more)
         × Each (encoded_in T.layout.format order) (map T.seen more) digits.now) }
 {

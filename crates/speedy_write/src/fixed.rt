@@ -37,7 +37,7 @@ pub(crate) struct Digits {}
 impl<T: FixedNumber> FixedBytes<T> for Digits {
     const BYTES: usize = T::SIZE;
 
-    ghost BYTES = { T.SIZE };
+    ghost BYTES = { T.Digits.LENGTH };
 
     #[inline(always)]
     fn has_few_bytes() {}
@@ -57,7 +57,7 @@ where
 {
     const BYTES: usize = <T::Code as FixedSize>::SIZE;
 
-    ghost BYTES = { T.Code.SIZE };
+    ghost BYTES = { T.Code.Digits.LENGTH };
 
     #[inline(always)]
     fn has_few_bytes() {}
@@ -91,7 +91,7 @@ impl FixedBytes<Duration> for Durations {
 // Puts the bytes of a number.
 #[inline(always)]
 pub(crate) fn put_number<T: FixedNumber>(number: T, order: Endianness, output: &mut [u8])
-    requires { length output.old ≡ T.SIZE }
+    requires { length output.old ≡ T.Digits.LENGTH }
     ensures { (mode : Mode) → order ≡ mode.order →
         (T.layout.format mode).writes (T.seen number) output.new }
 {

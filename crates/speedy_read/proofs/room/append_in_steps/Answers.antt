@@ -8,7 +8,7 @@ use Rattle.speedy_read.proofs.room.append_in_steps.Goals as goal
 
 pub loop-at-init : goal.loop-at-init
 loop-at-init g c =
-    let none : 0 * g.T.FixedSize.SIZE ≡ 0 = omega arith in
+    let none : 0 * g.T.Digits.ByteArray.LENGTH ≡ 0 = omega arith in
     (omega arith, ([], sym (append-nil _), ap (λ n. take n c.args.digits.now) none))
 
 pub slice_bounds-append_each-end : goal.slice_bounds-append_each-end

@@ -8,7 +8,7 @@ abbrev pub invariant-loop-at : goal.invariant-loop-at
 invariant-loop-at g l =
     (l.at ≤ l.count) × ((more : List g.row.T.Denot) × (l.numbers.items ≡ l.initial.numbers.items ++ more)
     × Each (encoded_in g.T.Layout.layout.format l.order) (map g.T.Layout.seen more)
-    (take (l.at * g.T.FixedSize.SIZE) l.digits))
+    (take (l.at * g.T.Digits.ByteArray.LENGTH) l.digits))
 
 abbrev pub decreases-loop-at : goal.decreases-loop-at
 decreases-loop-at g l = l.count - l.at

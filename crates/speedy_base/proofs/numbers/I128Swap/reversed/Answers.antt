@@ -1,6 +1,6 @@
 use Rattle.std.specs.Int.{w128}
 use Rattle.speedy_base.proofs.Reversals.{swapped_signed-answered}
-use Rattle.speedy_base.proofs.swaps.I128Swap.reversed.Goals as goal
+use Rattle.speedy_base.proofs.numbers.I128Swap.reversed.Goals as goal
 
 pub returns : goal.returns
 returns c =

@@ -1,6 +1,6 @@
 use Rattle.speedy_base.specs.DigitsLemmas.{AreBytes-slice}
 use Rattle.speedy_base.proofs.Reversals.{copied-reads}
-use Rattle.speedy_base.proofs.endianness.array_of.Goals as goal
+use Rattle.speedy_base.proofs.numbers.array_of.Goals as goal
 
 pub returns : goal.returns
 returns g c = record {

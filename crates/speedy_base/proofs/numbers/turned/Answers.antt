@@ -1,7 +1,7 @@
 use Rattle.std.proofs.Common.{◌∙◌, sym}
 use Rattle.speedy_base.proofs.Conversions.{little_from_not_big}
 use Rattle.speedy_base.proofs.Reversals.{turned-big, turned-little}
-use Rattle.speedy_base.proofs.swaps.turned.Goals as goal
+use Rattle.speedy_base.proofs.numbers.turned.Goals as goal
 
 pub returns-then-conversion_necessary : goal.returns-then-conversion_necessary
 returns-then-conversion_necessary g c = c.reversed.ensures
