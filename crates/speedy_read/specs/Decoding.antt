@@ -6,7 +6,7 @@ use Rattle.speedy_base.specs.declared.error.ErrorKind.TheVariants as kinds
 use Rattle.speedy_base.specs.Error.{Errors, IsNamed, IsNamed-more, error_of}
 use Rattle.speedy_base.specs.Mode.{Mode}
 use Rattle.speedy_layout.specs.Codes.{Code, IsCode, ReadsWider, IsDemand, coding, coding_codec, exact_code, Accepts}
-use Rattle.speedy_layout.specs.Codes.{Accepts-is, Accepts-means, Accepts-demanded, subset_codec, subset_code}
+use Rattle.speedy_layout.specs.Codes.{Accepts-is, Accepts-means, Accepts-demanded, subset_codec}
 use Rattle.speedy_layout.specs.Codes.{subset_is_code}
 use Rattle.speedy_layout.specs.Format.{IsOwnKind}
 use Rattle.speedy_layout.specs.Laws.{Codec}

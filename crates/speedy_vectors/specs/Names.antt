@@ -5,7 +5,7 @@ use Rattle.std.specs.String.{string_bytes, string_cmp}
 use Rattle.std.specs.declared.alloc.Global.{Global}
 use Rattle.std.specs.Int.{w8, w16, w32, w64, w128}
 use Rattle.speedy.specs.Choices.{Choices, unit_case, one_case, either_case, tagged}
-use Rattle.speedy.specs.Codecs.{unit_codec, pair_codec, unsigned_codec}
+use Rattle.speedy.specs.Codecs.{pair_codec, unsigned_codec}
 use Rattle.speedy.specs.Mode.{Mode}
 use Rattle.speedy.specs.Format.{Format}
 use Rattle.speedy.specs.Numbers.{unsigned_number, signed_number, usize_number}

@@ -1,5 +1,5 @@
 -- What the writing of numbers and lengths cites.
-use Rattle.std.specs.Prelude.{◌≡◌, ℕ, ℤ, ◌+◌, ◌^◌, ◌/◌, ◌%◌, ◌≤◌, ◌<◌, List, [], ◌∷◌, Bool, true, false, Result}
+use Rattle.std.specs.Prelude.{◌≡◌, ℕ, ℤ, ◌+◌, ◌^◌, ◌≤◌, ◌<◌, List, [], ◌∷◌, Bool, Result}
 use Rattle.std.specs.Prelude.{Err, refl}
 use Rattle.std.proofs.Common.{subst, arith, inr, inl}
 use mir.ValLaws.{to_z-of_z}

@@ -1,7 +1,6 @@
-use Rattle.std.proofs.Common.{◌∙◌, ◌*◌, length, refl, sym, ap, arith}
+use Rattle.std.proofs.Common.{◌∙◌, ◌*◌, length, refl, ap, arith}
 use Rattle.std.proofs.lemmas.List.{length-append, length-map, length-take-le}
 use Rattle.speedy_read.specs.ReadingLemmas.{Kept-same, Kept-after}
-use Rattle.speedy_read.proofs.ByteLemmas.{from_ok}
 use Rattle.speedy_read.proofs.ListLemmas.{got_items, refused_room}
 use Rattle.speedy_read.proofs.ChunkLemmas.{more_numbers, numbers_refused, count_of_digits, chunk_fits}
 use Rattle.speedy_read.proofs.bulk.read_number_chunks.Goals as goal
