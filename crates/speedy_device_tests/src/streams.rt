@@ -303,6 +303,34 @@ fn a_long_list_that_ends_early_is_refused_by_its_last_read(rt: HostRuntime) {
     }
 }
 
+/// Asserts that the items of a collection, of which the last byte lacks, end as items that are read one by one: as
+/// `UnexpectedEndOfInput`, however many they are.
+fn assert_collection_ends_early(rt: &impl Abort, alloc: Global, count: u16) {
+    let numbers: Vec<u16> = (0..count).collect(alloc).expect(rt, "numbers");
+    let mut bytes = numbers
+        .write_to_vec_with_ctx(alloc, LittleEndian {})
+        .expect(rt, "their bytes");
+    bytes.pop();
+    let mut source = make_pieces(&bytes, usize::MAX);
+    let mut reader = make_reader(rt, alloc, &mut source, true);
+    let outcome = reader.read_value::<BTreeSet<u16>>();
+    let error = outcome.err().expect(rt, "a byte is missing");
+    assert_kind(rt, alloc, &error, "UnexpectedEndOfInput");
+    let mut source = make_pieces(&bytes, usize::MAX);
+    let mut reader = make_reader(rt, alloc, &mut source, true);
+    let size = bytes.len();
+    let outcome = reader.read_collection::<Vec<u8>, u8>(size + 1);
+    let error = outcome.err().expect(rt, "there are fewer bytes");
+    assert_kind(rt, alloc, &error, "UnexpectedEndOfInput");
+}
+
+#[test]
+fn a_collection_of_numbers_ends_early_as_one_item_does(rt: HostRuntime) {
+    for count in [1, 1_024, 4_096, 8_192, 16_384] {
+        assert_collection_ends_early(&rt, rt.alloc(), count);
+    }
+}
+
 /// Ways to read or to see the next three bytes.
 #[derive(Clone, Copy, Debug)]
 enum Way {

@@ -35,7 +35,7 @@ impl<L: AsSlice<u8> + Drop, C: Context, T: FixedNumber + ReadFrom<L, C>> Strateg
         reader: &mut R,
         length: usize,
     ) -> Result<Many<W, T>, C::Error> {
-        read_numbers::<W, T, L, C, R>(reader, length)
+        read_numbers::<W, T, L, C, R>(reader, length, W::SHORT_READS)
     }
 
     fn read_places<P: Places<L, C, T>, R: LendingReader<L, C>>(
@@ -86,7 +86,7 @@ impl<L: AsSlice<u8> + Drop, C: Context> Strategy<L, C, u8> for Bytes {
                 }
             }
             Some(Err(error)) => Err(error),
-            None => Ok(Many::Owned(read_byte_chunks::<L, C, R>(reader, length)?)),
+            None => Ok(Many::Owned(read_byte_chunks::<L, C, R>(reader, length, W::SHORT_READS)?)),
         }
     }
 
@@ -133,7 +133,7 @@ impl<L: AsSlice<u8> + Drop, C: Context> Strategy<L, C, bool> for Flags {
         if reader.demands_written_form() {
             read_each::<W, bool, L, C, R>(reader, length)
         } else {
-            Ok(Many::Owned(read_flags::<L, C, R>(reader, length)?))
+            Ok(Many::Owned(read_flags::<L, C, R>(reader, length, W::SHORT_READS)?))
         }
     }
 }
@@ -142,6 +142,7 @@ impl<L: AsSlice<u8> + Drop, C: Context> Strategy<L, C, bool> for Flags {
 fn read_flags<L: AsSlice<u8> + Drop, C: Context, R: LendingReader<L, C>>(
     reader: &mut R,
     length: usize,
+    short: bool,
 ) -> Result<Vec<bool>, C::Error>
     requires { (R.state reader.old).mode.strict ≡ false }
     ensures { ReadsValue C.Error.IsEof R.state (λ v. v.items) (vector_codec length flag_codec)
@@ -152,7 +153,7 @@ fn read_flags<L: AsSlice<u8> + Drop, C: Context, R: LendingReader<L, C>>(
         Some(Ok(bytes)) => flags_of(alloc, bytes),
         Some(Err(EndOfInput {})) => Err(error_end_of_input()),
         None => {
-            let bytes = read_byte_chunks::<L, C, R>(reader, length)?;
+            let bytes = read_byte_chunks::<L, C, R>(reader, length, short)?;
             flags_of(alloc, &bytes)
         }
     }
@@ -181,7 +182,7 @@ pub(crate) fn read_numbers<
     L: AsSlice<u8> + Drop,
     C: Context,
     R: LendingReader<L, C>,
->(reader: &mut R, count: usize) -> Result<Many<W, T>, C::Error>
+>(reader: &mut R, count: usize, short: bool) -> Result<Many<W, T>, C::Error>
     ensures { (shown : W → List T) → ReadsValue C.Error.IsEof R.state
         (λ many. map T.seen (many_items shown many)) (vector_codec count T.layout)
         result reader.old reader.new }
@@ -203,7 +204,7 @@ pub(crate) fn read_numbers<
     // A few numbers need no long chunk, which costs more to make than they cost to read.
     let numbers = if size <= SHORT_CHUNK {
         read_number_chunks(reader, count, &mut [0; SHORT_CHUNK])?
-    } else if size <= MIDDLE_CHUNK {
+    } else if short || size <= MIDDLE_CHUNK {
         read_number_chunks(reader, count, &mut [0; MIDDLE_CHUNK])?
     } else {
         read_number_chunks(reader, count, &mut [0; CHUNK])?
@@ -307,11 +308,21 @@ fn read_number_chunks<T: FixedNumber, L: AsSlice<u8> + Drop, C: Context, R: Lend
     Ok(numbers)
 }
 
+// How many of the bytes that are left are read at once, at most.
+#[inline]
+fn read_at_once(left: usize, short: bool) -> usize
+    ensures some { 0 < left → 0 < result }
+    ensures most { result ≤ left }
+{
+    if short { left.min(MIDDLE_CHUNK) } else { left }
+}
+
 // Reads `length` bytes. The count may be any, so no more room is asked for than a step ahead of what was read, but
 // where the reader says that they are there.
 pub(crate) fn read_byte_chunks<L: AsSlice<u8> + Drop, C: Context, R: LendingReader<L, C>>(
     reader: &mut R,
     length: usize,
+    short: bool,
 ) -> Result<Vec<u8>, C::Error>
     ensures { ReadsValue C.Error.IsEof R.state (λ v. v.items)
         (vector_codec length (unsigned_codec 1)) result reader.old reader.new }
@@ -320,7 +331,7 @@ pub(crate) fn read_byte_chunks<L: AsSlice<u8> + Drop, C: Context, R: LendingRead
     let mut left = length;
     while left > 0 {
         let start = length - left;
-        let Ok(size) = open_chunk(&mut bytes, left) else {
+        let Ok(size) = open_chunk(&mut bytes, read_at_once(left, short)) else {
             return Err(error_out_of_memory());
         };
         reader.read_bytes(&mut bytes.as_mut_slice()[start..])?;

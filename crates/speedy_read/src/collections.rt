@@ -10,6 +10,7 @@ ghost use Rattle.speedy_layout.specs.GathersTo.{IsTreeSetOf, IsHashSetOf, IsInde
 ghost use Rattle.speedy_layout.specs.OneMoreItem.{ascending_first, distinct_first, distinct_keys_first};
 ghost use Rattle.speedy_read.specs.Collections.{gatherer, CollectsValues};
 
+use crate::many::Items;
 use crate::readable::{ReadFrom, ReadMany};
 use crate::reader::LendingReader;
 use indexmap::{IndexMap, IndexSet};
@@ -317,8 +318,8 @@ pub(crate) fn collect_items<
     if reader.demands_written_form() {
         return collect_written::<F, T, L, C, R>(reader, length);
     }
-    let items = T::read_many(reader, length)?;
-    match F::gather(reader.alloc(), items) {
+    let items: Items<T> = T::read_many_cow(reader, length)?;
+    match F::gather(reader.alloc(), items.values) {
         Ok(whole) => Ok(whole),
         Err(_) => Err(error_out_of_memory()),
     }

@@ -226,6 +226,10 @@ pub trait FromLent<L: AsSlice<u8> + Drop, T: Drop>: Sized + Drop {
     /// The values that it shows.
     ghost shown: { Self → List T };
 
+    /// Whether each chunk that is read is shorter than the ring of a buffered reader, so that the ring meets the end of
+    /// the input, as when values are read one by one.
+    const SHORT_READS: bool;
+
     /// It owns the values.
     fn from_values(values: Vec<T>) -> Self
         ensures { shown result ≡ values.items };
@@ -237,6 +241,8 @@ pub trait FromLent<L: AsSlice<u8> + Drop, T: Drop>: Sized + Drop {
 
 impl<L: AsSlice<u8> + Drop, T: Drop> FromLent<L, T> for Vec<T> {
     ghost shown = { λ v. v.items };
+
+    const SHORT_READS: bool = false;
 
     #[inline]
     fn from_values(values: Vec<T>) -> Vec<T>
@@ -256,6 +262,8 @@ impl<L: AsSlice<u8> + Drop, T: Drop> FromLent<L, T> for Vec<T> {
 impl<'a, T: Drop> FromLent<&'a [u8], T> for CowSlice<'a, T> {
     ghost shown = { cow_slice_items };
 
+    const SHORT_READS: bool = false;
+
     #[inline]
     fn from_values(values: Vec<T>) -> CowSlice<'a, T>
         ensures { cow_slice_items result ≡ values.items }
@@ -269,6 +277,34 @@ impl<'a, T: Drop> FromLent<&'a [u8], T> for CowSlice<'a, T> {
         ensures made { IsSome result }
     {
         Some(CowSlice::Borrowed(B::values_of(lent)))
+    }
+}
+
+/// Values that a collection is gathered of. The end of the input is met as when they are read one by one, which is how
+/// the Rust crate reads them.
+#[derive(Drop)]
+pub(crate) struct Items<T> {
+    pub(crate) values: Vec<T>,
+}
+
+impl<L: AsSlice<u8> + Drop, T: Drop> FromLent<L, T> for Items<T> {
+    ghost shown = { λ items. items.values.items };
+
+    const SHORT_READS: bool = true;
+
+    #[inline]
+    fn from_values(values: Vec<T>) -> Items<T>
+        ensures { result.values.items ≡ values.items }
+    {
+        Items { values }
+    }
+
+    #[inline]
+    fn from_lent<B: BytesAs<T>>(lent: L, alloc: Global) -> Option<Items<T>>
+        ensures { MatchOption result ⊤ (λ items. items.values.items ≡ B.values (L.items lent)) }
+    {
+        let values = <Vec<T> as FromLent<L, T>>::from_lent::<B>(lent, alloc)?;
+        Some(Items { values })
     }
 }
 

@@ -17,14 +17,15 @@ loop-left-preserved g c =
     let start = c.args.length - c.loop-left.left in
     let at : start ≡ length bytes = sym c.loop-left.invariant.1 in
     let room = c.in-Ok.ensures.zeros in
+    let most = c.read_at_once.ensures.most in
     let sized : length c.read_bytes.new.output ≡ length zeros =
     c.read_bytes.auto.output ∙ behind bytes zeros slice start (c.as_mut_slice.ensures.value ∙ room.2) at in
     let filled = filled_behind bytes zeros c.open_chunk.new.bytes.items slice c.read_bytes.new.output start _ room.2
     c.as_mut_slice.ensures.value at c.as_mut_slice.ensures.len sized in (
-      omega arith,
+      omega (arith, room.0, room.1, most, c.loop-left.invariant.0),
       ap length filled
           ∙ (length-append bytes c.read_bytes.new.output
-          ∙ omega (arith, at, sized, length-replicate {A = ℕ} c.in-Ok.size 0, c.loop-left.invariant.0, room.1)),
+          ∙ omega (arith, at, most, sized, length-replicate {A = ℕ} c.in-Ok.size 0, c.loop-left.invariant.0, room.1)),
       more_bytes _ _ _ c.loop-left.invariant.2 c.in_ok-read_bytes.ensures filled,
     )
 
@@ -44,8 +45,16 @@ returns-in_default g c =
 pub returns-in_err-read_bytes : goal.returns-in_err-read_bytes
 returns-in_err-read_bytes g c =
     bytes_refused _ _ _ _ c.loop-left.invariant.1
-    (let size = behind c.loop-left.bytes.items (replicate c.in-Ok.size 0) c.as_mut_slice.result.now _
+    (let most = c.read_at_once.ensures.most in
+    let size = behind c.loop-left.bytes.items (replicate c.in-Ok.size 0) c.as_mut_slice.result.now _
     (c.as_mut_slice.ensures.value ∙ c.in-Ok.ensures.zeros.2) (sym c.loop-left.invariant.1) in
-    omega (arith, size, length-replicate {A = ℕ} c.in-Ok.size 0, c.in-Ok.ensures.zeros.1, c.loop-left.invariant.0))
+    omega (
+      arith,
+      size,
+      most,
+      length-replicate {A = ℕ} c.in-Ok.size 0,
+      c.in-Ok.ensures.zeros.1,
+      c.loop-left.invariant.0,
+    ))
     c.loop-left.invariant.2 c.from_residual-in_err-read_bytes.ensures.1
     c.in_err-read_bytes.ensures
