@@ -1,6 +1,7 @@
 //! Lists and arrays. `SmallVec` is tested by lines of `stdin` in `speedy_vectors`.
 use crate::asserting::{
-    assert_bytes, assert_encoding, assert_ok, assert_ok_items, make_text, make_vec, row,
+    assert_bytes, assert_encoding, assert_ok, assert_ok_items, assert_refused, make_text, make_vec,
+    row,
 };
 use crate::device::VecSink;
 use crate::endianness::Endianness;
@@ -20,6 +21,20 @@ fn arrays_of_texts_lie_text_after_text(rt: HostRuntime) {
     let mut reader = BufferReader::new(alloc, order, &bytes);
     let read: [String; 2] = reader.read_value().expect(&rt, "two texts");
     assert!(rt; read == texts);
+}
+
+/// Two characters, of which the first is none and the second lacks two bytes.
+const NO_CHARACTERS: [u8; 6] = [0, 0xD8, 0, 0, 65, 0];
+
+#[test]
+fn an_invalid_item_of_an_array_is_refused_though_others_lack(rt: HostRuntime) {
+    let alloc = rt.alloc();
+    let mut reader = BufferReader::new(alloc, Endianness::LittleEndian, &NO_CHARACTERS);
+    let outcome = reader.read_value::<[char; 2]>();
+    assert_refused(&rt, alloc, outcome, "InvalidChar");
+    let mut reader = BufferReader::new(alloc, Endianness::LittleEndian, &NO_CHARACTERS);
+    let outcome = reader.read_vec_until_eof::<[char; 2]>(8);
+    assert_refused(&rt, alloc, outcome, "InvalidChar");
 }
 
 #[test]

@@ -13,11 +13,11 @@ use crate::lent::read_lent;
 use crate::many::{Fills, ItemByItem, Places, Strategy, Takes};
 use crate::prefixed::{ReadPrefix, ReadTold};
 use crate::readable::{ReadFrom, ReadMany};
-use crate::reader::{LendingReader, ends_before};
+use crate::reader::LendingReader;
 use smallvec::SmallVec;
 use speedy_base::context::Context;
 use speedy_base::endianness::Endianness;
-use speedy_base::error::{ErrorKind, error_end_of_input};
+use speedy_base::error::ErrorKind;
 use speedy_layout::layout::Layout;
 use speedy_layout::prefixed::Told;
 use std::alloc::Global;
@@ -112,9 +112,6 @@ impl<L: AsSlice<u8> + Drop, C: Context, T: ReadMany<L, C>, const N: usize> ReadF
 
     #[inline]
     fn read_from<R: LendingReader<L, C>>(reader: &mut R) -> Result<[T; N], C::Error> {
-        if ends_before::<L, C, R>(reader, T::minimum_bytes_needed(), N) {
-            return Err(error_end_of_input());
-        }
         if let Some(array) = <T::Way as Strategy<L, C, T>>::read_places::<[T; N], R>(reader) {
             return array;
         }
