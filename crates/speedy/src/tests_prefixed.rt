@@ -9,7 +9,8 @@ use crate::prefixed::{Prefixed, ReadPrefix, U7, WritePrefix};
 use crate::readable::{BufferReader, CopyingBufferReader};
 use crate::reader::LendingReader;
 use crate::varint::VarInt64;
-use crate::writable::Writable;
+use crate::writable::{BufferCollector, Writable};
+use crate::writer::Writer;
 use std::alloc::Global;
 use std::process::Abort;
 
@@ -67,6 +68,18 @@ fn a_length_past_its_type_is_refused(rt: HostRuntime) {
     let mut reader = BufferReader::new(alloc, LittleEndian {}, &[128, 97]);
     let outcome = reader.read_value::<Prefixed<U7, String>>();
     assert_refused(&rt, alloc, outcome, "OutOfRangeLength");
+}
+
+#[test]
+fn a_refused_length_writes_nothing(rt: HostRuntime) {
+    let alloc = rt.alloc();
+    let long: Prefixed<u8, String> = Prefixed::new(text_of(&rt, alloc, 256));
+    let mut context = LittleEndian {};
+    let mut buffer = [9; 300];
+    let mut writer = BufferCollector::new(&mut context, &mut buffer);
+    assert_refused(&rt, alloc, writer.write_value(&long), "OutOfRangeLength");
+    assert_same(&rt, writer.finish(), 0);
+    assert_same(&rt, buffer[0], 9);
 }
 
 #[test]

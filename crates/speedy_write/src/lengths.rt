@@ -217,8 +217,7 @@ impl<C: Context, B: WriteHolds<C>, K: Length<B::Numbers>, T: WriteOfLength<C>> W
 
 impl<C: Context, B: WriteHolds<C>, K: Length<B::Numbers>, T: WriteOfLength<C>> Writable<C>
     for WithLength<K, B, T> {
-    /// A value of another length than the parts tell is `LengthIsNotTheSameAsLengthAttribute`, before anything is
-    /// written.
+    /// A value of another length than the parts tell is `LengthIsNotTheSameAsLengthAttribute`.
     #[inline]
     fn write_to<W: Writer<C>>(&self, writer: &mut W) -> Result<(), C::Error> {
         let Some(told) = K::length(self.before.numbers()) else {

@@ -15,7 +15,7 @@ use speedy_layout::varint::VarInt64;
 
 /// How the numbers of a type are written.
 pub trait WritePrefix: Prefix {
-    /// Writes a number. One that is too great is the error `OutOfRangeLength`, before anything is written.
+    /// Writes a number. One that is too great is the error `OutOfRangeLength`.
     fn write_number<C: Context, W: Writer<C>>(number: usize, writer: &mut W) -> Result<(), C::Error>
         ensures { WritesValue C.Error.from_gives W.state W.appends (λ n. n) Self.numbers.codec
             number result writer.old writer.new };
@@ -85,7 +85,7 @@ impl WritePrefix for U7 {
 pub trait WriteTold<C: Context>: Told {
     /// Writes the number that tells of the value, as the type `N`, and then the value.
     ///
-    /// A length that is past `N` is the error `OutOfRangeLength`, before anything is written.
+    /// A length that is past `N` is the error `OutOfRangeLength`.
     fn write_behind<N: WritePrefix, W: Writer<C>>(&self, writer: &mut W) -> Result<(), C::Error>
         ensures { WritesValue C.Error.from_gives W.state W.appends Self.seen
             (prefixed_codec (Self.behind N.numbers)) self.now result writer.old writer.new };
