@@ -4,10 +4,11 @@ use crate::context::{BigEndian, LittleEndian};
 use crate::endianness::Endianness;
 use crate::error::Error;
 use crate::private::vec_to_string;
-use crate::readable::{BufferReader, ReadFrom, ReadMany, Readable};
+use crate::readable::{BufferReader, ReadFrom, ReadMany, Readable, ReadableOwned};
 use crate::reader::{LendingReader, Reader};
 use std::alloc::Global;
 use std::process::Abort;
+use std::time::Duration;
 
 /// What the tests of one reader read, one helper after another.
 const BYTES: [u8; 25] = [
@@ -113,6 +114,30 @@ fn a_buffer_below_the_least_size_is_refused(rt: HostRuntime) {
     let kind = "InputBufferIsTooSmall { actual_size: 1, expected_size: 2 }";
     assert_refused(&rt, alloc, outcome, kind);
     assert_same(&rt, count, 0);
+}
+
+/// The count beside an error is what was taken before it: of a `Duration` nothing, which is one read of 12 bytes.
+#[test]
+fn a_count_beside_an_error_is_of_the_bytes_before_it(rt: HostRuntime) {
+    let alloc = rt.alloc();
+    let context = LittleEndian {};
+    let cut = [1, 2, 0, 0, 0, 0, 0, 0, 0, 3, 0];
+    let end = "UnexpectedEndOfInput";
+    let (outcome, count) = Option::<Duration>::read_with_length_from_buffer_with_ctx(
+        alloc, context, &cut,
+    );
+    assert_refused(&rt, alloc, outcome, end);
+    assert_same(&rt, count, 1);
+    let (outcome, count) = Option::<Duration>::read_with_length_from_buffer_copying_data_with_ctx(
+        alloc, context, &cut,
+    );
+    assert_refused(&rt, alloc, outcome, end);
+    assert_same(&rt, count, 1);
+    let (outcome, count) = Option::<Duration>::read_owned_with_length_with_ctx(
+        alloc, context, &cut,
+    );
+    assert_refused(&rt, alloc, outcome, end);
+    assert_same(&rt, count, 1);
 }
 
 #[test]

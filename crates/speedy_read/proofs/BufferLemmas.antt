@@ -147,6 +147,7 @@ module _ {E : Type 0} {gives : Error → E → Type 0} {eof : E → Bool} {A V :
       → AnswersBufferIf gives eof (L.asks.lending ≡ false)
       (refusing_kinds L false) seen least L result (length bytes - length rest) bytes
   copied_answered (Ok x) enough are fit r = record {
+    within = omega arith;
     too_small = λ few. absurd (omega arith);
     value = record {
       prefix = r.answer.prefix;
@@ -158,7 +159,12 @@ module _ {E : Type 0} {gives : Error → E → Type 0} {eof : E → Bool} {A V :
     refused = λ _. tt;
   }
   copied_answered (Err e) enough are fit r =
-      record { too_small = λ few. absurd (omega arith); value = tt; refused = λ _. why r.answer } where
+      record {
+        within = omega arith;
+        too_small = λ few. absurd (omega arith);
+        value = tt;
+        refused = λ _. why r.answer;
+      } where
         why : Excused gives L.asks.memory e (copied_state name bytes mode) (copied_state after rest encoding')
             ⊎ Refused gives eof L e (copied_state name bytes mode) (copied_state after rest encoding')
             → (gives (error_of kinds.OutOfMemory) e × IsTrue L.asks.memory)

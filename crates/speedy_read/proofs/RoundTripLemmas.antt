@@ -190,8 +190,10 @@ pub copied_alike : {E A V : Type 0} {gives : Error → E → Type 0} {eof : E �
     {L : Format V} {result : Result A E} {count : ℕ} {bytes : List ℕ} → L.asks.lending ≡ false
     → AnswersBufferIf gives eof (L.asks.lending ≡ false) (refusing_kinds L false) seen least L result count bytes
     → AnswersBufferIf gives eof (Unit {0}) L.names seen least L result count bytes
-copied_alike {result = Ok x} none a = record { too_small = a.too_small; value = a.value; refused = λ _. tt }
+copied_alike {result = Ok x} none a =
+    record { within = a.within; too_small = a.too_small; value = a.value; refused = λ _. tt }
 copied_alike {gives = gives} {L = L} {result = Err e} none a = record {
+  within = a.within;
   too_small = a.too_small;
   value = tt;
   refused = λ l. elim (a.refused l) [

@@ -53,10 +53,11 @@ module _ {E : Type 0} (gives : Error → E → Type 0) (eof : E → Bool) where
 
   -- What a function that reads from a buffer answers: a buffer that is shorter than the least size is refused with both
   -- sizes; else a value is answered exactly when a prefix of the bytes encodes it, where this holds, and the count is
-  -- the length of that prefix.
+  -- the length of that prefix. Whatever is answered, the count is at most the number of the bytes.
   pub record AnswersBufferIf {A V : Type 0} (holds : Type 0) (names : ErrorKind → Type 0)
       (seen : A → V) (least : ℕ) (L : Format V)
       (result : Result A E) (count : ℕ) (bytes : List ℕ) : Type 0 where
+    pub within : count ≤ length bytes
     pub too_small : length bytes < least
         → IsErrAnd result (λ e. gives (error_of (kinds.InputBufferIsTooSmall (length bytes) least)) e) × (count ≡ 0)
     pub value : IfOk result (λ x. Counts (L.encodes (seen x)) count bytes)

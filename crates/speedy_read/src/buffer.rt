@@ -16,7 +16,8 @@ use std::convert::AsSlice;
 pub trait Buffer<C: Context>: AsSlice<u8> + Drop + Sized {
     /// Decodes a value from a prefix of the bytes, under the context, and says how many bytes that prefix has.
     ///
-    /// Fewer bytes than the type's least size are the error `InputBufferIsTooSmall`, with the count 0.
+    /// Fewer bytes than the type's least size are the error `InputBufferIsTooSmall`, with the count 0. Beside another
+    /// error the count is how many bytes were taken before it, at most all, and tells of no value.
     fn read_with_length<T: ReadFrom<Self, C>>(
         self,
         alloc: Global,

@@ -61,6 +61,7 @@ pub trait Readable<'a, C: Context>: ReadMany<&'a [u8], C> {
     /// Decodes a value from a prefix of the buffer, in little endian, and says how many bytes that prefix has.
     ///
     /// A buffer that is shorter than the type's least size is the error `InputBufferIsTooSmall`, with the count 0.
+    /// Beside another error the count is how many bytes were taken before it, at most all, and tells of no value.
     final fn read_with_length_from_buffer(
         alloc: Global,
         buffer: &'a [u8],
@@ -90,6 +91,7 @@ pub trait Readable<'a, C: Context>: ReadMany<&'a [u8], C> {
     /// Decodes a value from a prefix of the buffer, under the context, and says how many bytes that prefix has.
     ///
     /// A buffer that is shorter than the type's least size is the error `InputBufferIsTooSmall`, with the count 0.
+    /// Beside another error the count is how many bytes were taken before it, at most all, and tells of no value.
     final fn read_with_length_from_buffer_with_ctx(
         alloc: Global,
         context: C,
@@ -114,6 +116,8 @@ pub trait Readable<'a, C: Context>: ReadMany<&'a [u8], C> {
 
     /// As [`read_with_length_from_buffer`](Self::read_with_length_from_buffer), but nothing of the buffer is
     /// borrowed: a type that borrows is the error `Unsized`.
+    ///
+    /// Beside an error the count says what it says there, and is at most the number of bytes of the buffer.
     final fn read_with_length_from_buffer_copying_data(
         alloc: Global,
         buffer: &[u8],
@@ -141,6 +145,8 @@ pub trait Readable<'a, C: Context>: ReadMany<&'a [u8], C> {
 
     /// As [`read_with_length_from_buffer_with_ctx`](Self::read_with_length_from_buffer_with_ctx), but nothing
     /// of the buffer is borrowed: a type that borrows is the error `Unsized`.
+    ///
+    /// Beside an error the count says what it says there, and is at most the number of bytes of the buffer.
     final fn read_with_length_from_buffer_copying_data_with_ctx(
         alloc: Global,
         context: C,
@@ -157,6 +163,7 @@ pub trait Readable<'a, C: Context>: ReadMany<&'a [u8], C> {
     /// is borrowed: a type that borrows is the error `Unsized`.
     ///
     /// A buffer that is shorter than the type's least size is the error `InputBufferIsTooSmall`, with the count 0.
+    /// Beside another error the count is how many bytes were taken before it, at most all, and tells of no value.
     final fn read_with_length_from_buffer_copying_data_with_ctx_mut(
         alloc: Global,
         context: &mut C,
@@ -301,6 +308,7 @@ pub trait ReadableOwned<C: Context>: ReadMany<NothingLent, C> {
     /// Decodes a value from a prefix of the buffer, under the context, and says how many bytes that prefix has.
     ///
     /// A buffer that is shorter than the type's least size is the error `InputBufferIsTooSmall`, with the count 0.
+    /// Beside another error the count is how many bytes were taken before it, at most all, and tells of no value.
     final fn read_owned_with_length_with_ctx(
         alloc: Global,
         context: C,
