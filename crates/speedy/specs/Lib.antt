@@ -56,10 +56,9 @@ pub use Rattle.speedy_read.specs.Buffers
 pub use Rattle.speedy_read.specs.Codes as ReadCodes
 pub use Rattle.speedy_read.specs.Collections as ReadCollections
 pub use Rattle.speedy_read.specs.Counted as ReadCounted
-pub use Rattle.speedy_read.specs.CopyingModel
+pub use Rattle.speedy_read.specs.BytesModel
 pub mod Decoding
 pub use Rattle.speedy_read.specs.Flags as ReadFlags
-pub use Rattle.speedy_read.specs.FrameModel
 pub use Rattle.speedy_read.specs.Frames as ReadFrames
 pub use Rattle.speedy_read.specs.Lending
 pub use Rattle.speedy_read.specs.OwnedModel

@@ -13,3 +13,7 @@ many_items shown (many.Owned values) = values.items
 -- the lifetime that a reader's type names, in the signature of a call that lends of it
 abbrev pub readers_lifetime : NamedLft
 readers_lifetime = record { mir = named 1; lft = [] }
+
+-- and the one of a context that it borrows, where its type names both
+abbrev pub contexts_lifetime : NamedLft
+contexts_lifetime = record { mir = named 2; lft = [] }

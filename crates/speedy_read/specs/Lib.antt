@@ -7,9 +7,8 @@ pub mod Codes
 pub mod Flags
 pub mod Cases
 pub mod Frames
-pub mod FrameModel
 pub mod Buffers
-pub mod CopyingModel
+pub mod BytesModel
 pub mod OwnedModel
 pub mod StreamModel
 pub mod Streams

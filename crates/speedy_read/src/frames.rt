@@ -3,8 +3,7 @@ ghost use Rattle.std.specs.Prelude.{◌≡◌, true, false};
 ghost use Rattle.speedy_read.specs.Frames.{filling, Fills, FillsIfNoneLeft};
 ghost use Rattle.speedy_read.specs.Reading.{Reads};
 
-use crate::copying_reader::CopyingBufferReader;
-use crate::frame_reader::FrameReader;
+use crate::bytes_reader::{CopyingBufferReader, FrameReader};
 use crate::lent::NothingLent;
 use crate::owned_reader::OwnedReader;
 use crate::prefixed::{ReadPrefix, ReadTold};

@@ -2,7 +2,7 @@
 //!
 //! Which way the modules lean: a reader reads any type, and a type reads from any reader, so `reader` and `readable`
 //! name each other; the modules with the bodies of a reader's methods name both (`digits`, `lent`, `many`,
-//! `collections`, `until_end`, `room`). The five readers lean on `reader`, and the functions of `readable` make them.
+//! `collections`, `until_end`, `room`). The four readers lean on `reader`, and the functions of `readable` make them.
 //! Reading in bulk (`bulk`, and `arrays` beside it) and `prefixed` lean on all of these. A family of types leans on
 //! these two and on no other family. `utf8` leans on none.
 #![tactic(auto)]
@@ -12,15 +12,14 @@ mod arrays;
 pub mod buffer;
 pub mod buffer_reader;
 mod bulk;
+pub mod bytes_reader;
 pub mod cases;
 pub mod codes;
 pub mod collections;
-pub mod copying_reader;
 pub mod cows;
 mod digits;
 pub mod flags;
 pub mod floats;
-mod frame_reader;
 pub mod frames;
 pub mod laws;
 pub mod leaves;

@@ -6,7 +6,7 @@ ghost use Rattle.speedy_read.specs.WaysOfReading.{AnswersBuffer, AnswersCopied, 
 
 use crate::buffer::Buffer;
 pub use crate::buffer_reader::BufferReader;
-pub use crate::copying_reader::CopyingBufferReader;
+pub use crate::bytes_reader::CopyingBufferReader;
 use crate::lent::NothingLent;
 pub use crate::many::ReadMany;
 pub use crate::owned_reader::OwnedReader;

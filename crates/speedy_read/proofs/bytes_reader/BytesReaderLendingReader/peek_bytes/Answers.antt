@@ -1,6 +1,6 @@
 use Rattle.speedy_read.specs.ReadingLemmas.{ends_input}
 use Rattle.speedy_read.proofs.BufferLemmas.{bytes_not_peeked, cut_peeked}
-use Rattle.speedy_read.proofs.copying_reader.CopyingBufferReaderLendingReaderRefSliceU8.peek_bytes.Goals as goal
+use Rattle.speedy_read.proofs.bytes_reader.BytesReaderLendingReader.peek_bytes.Goals as goal
 
 pub returns-in-Some-clause-peeks : goal.returns-in-Some-clause-peeks
 returns-in-Some-clause-peeks g c = cut_peeked c.in-Some.ensures.cases c.copy_from_slice.ensures.after

@@ -1,6 +1,6 @@
 use Rattle.speedy_read.specs.ReadingLemmas.{ends_input}
 use Rattle.speedy_read.proofs.BufferLemmas.{bytes_not_skipped, cut_skipped}
-use Rattle.speedy_read.proofs.copying_reader.CopyingBufferReaderLendingReaderRefSliceU8.skip_bytes.Goals as goal
+use Rattle.speedy_read.proofs.bytes_reader.BytesReaderLendingReader.skip_bytes.Goals as goal
 
 pub returns-in-Some-clause-skips : goal.returns-in-Some-clause-skips
 returns-in-Some-clause-skips g c = cut_skipped {seen = λ x. x} c.in-Some.ensures.cases

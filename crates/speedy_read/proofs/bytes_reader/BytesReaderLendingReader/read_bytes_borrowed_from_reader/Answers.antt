@@ -1,7 +1,7 @@
 use Rattle.std.proofs.Common.{refl}
 use Rattle.speedy_read.proofs.BufferLemmas.{bytes_not_lent, cut_read}
-use Rattle.speedy_read.proofs.copying_reader.CopyingBufferReaderLendingReaderRefSliceU8
-use CopyingBufferReaderLendingReaderRefSliceU8.read_bytes_borrowed_from_reader.Goals as goal
+use Rattle.speedy_read.proofs.bytes_reader.BytesReaderLendingReader.read_bytes_borrowed_from_reader.Goals
+    as goal
 
 pub returns-in-Some : goal.returns-in-Some
 returns-in-Some g c = ((refl, λ _. tt, cut_read c.in-Some.ensures.cases refl), record { after = tt; is_lent = refl })

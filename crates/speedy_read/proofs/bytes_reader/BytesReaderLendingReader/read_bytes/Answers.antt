@@ -1,6 +1,6 @@
 use Rattle.speedy_read.specs.ReadingLemmas.{ends_input}
 use Rattle.speedy_read.proofs.BufferLemmas.{bytes_missed, cut_read}
-use Rattle.speedy_read.proofs.copying_reader.CopyingBufferReaderLendingReaderRefSliceU8.read_bytes.Goals as goal
+use Rattle.speedy_read.proofs.bytes_reader.BytesReaderLendingReader.read_bytes.Goals as goal
 
 pub returns-in-Some-clause-reads : goal.returns-in-Some-clause-reads
 returns-in-Some-clause-reads g c = cut_read c.in-Some.ensures.cases c.copy_from_slice.ensures.after
