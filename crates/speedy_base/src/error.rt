@@ -3,6 +3,7 @@ ghost use Rattle.std.specs.Prelude.{◌≡◌, Bool, true};
 ghost use Rattle.std.specs.IoError.{error_kind};
 ghost use Rattle.speedy_base.specs.ErrorKind.{text_of, BecomesIo, EndsInput};
 ghost use Rattle.speedy_base.specs.Error.{kind_of, error_of, is_eof_error, IsCustomOf, IsIoErrorOf, IsNamed};
+ghost use Rattle.speedy_base.specs.FailedCalls.{IsErrorOf};
 ghost use Rattle.speedy_base.specs.declared.error.ErrorKind.TheVariants.{OutOfMemory};
 
 use std::alloc::{AllocError, AllocFailed, Global};
@@ -291,6 +292,16 @@ pub fn error_end_of_input<T: From<Error>>() -> T
     ensures { T.from_gives (error_of ErrorKind.UnexpectedEndOfInput) result }
 {
     T::from(Error::new(ErrorKind::UnexpectedEndOfInput))
+}
+
+/// A call of a source or a sink that failed: an `IoError` of its error, or `OutOfMemory` where the box for that found
+/// no memory.
+#[cold]
+#[inline(never)]
+pub fn error_of_failed_call<T: From<Error>>(alloc: Global, error: io::Error) -> T
+    ensures { IsErrorOf T.from_gives error result }
+{
+    T::from(Error::from_io_error(alloc, error))
 }
 
 /// A source that ended too soon: an `IoError` of kind `UnexpectedEof`, or `UnexpectedEndOfInput` where its box found

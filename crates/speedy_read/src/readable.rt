@@ -16,7 +16,7 @@ use crate::stream_reader::read_stream;
 use speedy_base::context::{Context, PlainContext};
 use speedy_base::device::{Counted, Source};
 use speedy_base::endianness::Endianness;
-use speedy_base::error::{Error, error_input_buffer_is_too_small};
+use speedy_base::error::{error_input_buffer_is_too_small, error_of_failed_call};
 use speedy_layout::layout::Layout;
 use std::alloc::Global;
 use std::convert::AsSlice;
@@ -271,7 +271,7 @@ pub trait Readable<'a, C: Context>: ReadMany<&'a [u8], C> {
                 let mut source = Counted::new(file);
                 Self::read_from_stream_buffered_with_ctx(alloc, context, &mut source)
             }
-            Err(error) => Err(Error::from_io_error(alloc, error).into()),
+            Err(error) => Err(error_of_failed_call(alloc, error)),
         }
     }
 }

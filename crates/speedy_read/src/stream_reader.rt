@@ -5,7 +5,6 @@ ghost use Rattle.std.specs.Borrow.{sem, Lends};
 ghost use Rattle.std.specs.Io.BufRead.{Rests};
 ghost use Rattle.speedy_base.specs.Error.{IsNamed};
 ghost use Rattle.speedy_base.specs.ErrorKind.{EndsInput};
-ghost use Rattle.speedy_base.specs.FailedCalls.{IsErrorOf};
 ghost use Rattle.speedy_read.specs.Lending.{readers_lifetime};
 ghost use Rattle.speedy_read.specs.Reading.{IsRight, Expects, LendsUntilUsed, ReadsInto, PeeksInto};
 ghost use Rattle.speedy_read.specs.contracts.stream_reader.StreamReader.{the_row as reader_row};
@@ -18,7 +17,9 @@ use crate::reader::{EndOfInput, LendingReader};
 use speedy_base::circular_buffer::CircularBuffer;
 use speedy_base::context::Context;
 use speedy_base::device::Source;
-use speedy_base::error::{Error, error_end_of_input, error_end_of_stream, error_out_of_memory};
+use speedy_base::error::{
+    Error, error_end_of_input, error_end_of_stream, error_of_failed_call, error_out_of_memory,
+};
 use speedy_layout::fixed_numbers::MOST_DIGITS;
 use std::alloc::{AllocError, Global};
 use std::io;
@@ -161,15 +162,7 @@ fn most_ahead<S: Source>(source: &S, lacking: usize) -> usize
     usize::MAX
 }
 
-// What a read answers where a call of the source failed, and where the source ended.
-#[cold]
-#[inline(never)]
-fn failed_call<E: From<Error>>(alloc: Global, error: io::Error) -> E
-    ensures { IsErrorOf E.from_gives error result }
-{
-    Error::from_io_error(alloc, error).into()
-}
-
+// What a read answers where the source ended.
 #[cold]
 #[inline(never)]
 fn ended<E: From<Error>>(alloc: Global) -> E
@@ -211,7 +204,7 @@ impl<'s, S: Source, C: Context> StreamReader<'s, S, C> {
         match fill_ring(&mut self.ring, self.source, count, self.is_buffering) {
             Ok(true) => Ok(()),
             Ok(false) => Err(error_end_of_input()),
-            Err(error) => Err(failed_call(self.alloc, error)),
+            Err(error) => Err(error_of_failed_call(self.alloc, error)),
         }
     }
 
@@ -242,7 +235,7 @@ impl<'s, S: Source, C: Context> StreamReader<'s, S, C> {
         match fill_list(self.source, &mut output[held..]) {
             Ok(true) => Ok(()),
             Ok(false) => Err(ended(self.alloc)),
-            Err(error) => Err(failed_call(self.alloc, error)),
+            Err(error) => Err(error_of_failed_call(self.alloc, error)),
         }
     }
 
@@ -294,7 +287,7 @@ impl<'s, S: Source, C: Context> StreamReader<'s, S, C> {
                 }
                 by_parts(self.read_past_ring(&mut output[first..]))
             }
-            Err(error) => Err(failed_call(self.alloc, error)),
+            Err(error) => Err(error_of_failed_call(self.alloc, error)),
         }
     }
 }

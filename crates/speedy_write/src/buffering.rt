@@ -12,14 +12,14 @@ ghost use Rattle.speedy_write.specs.Buffering.{Buffers, PushesWaiting, WaitsBehi
 ghost use Rattle.speedy_write.specs.Buffering.{buffers_additive};
 ghost use Rattle.speedy_layout.specs.Format.{Each};
 
-use crate::collectors::{error_of_failed_call, push_all};
+use crate::collectors::push_all;
 use crate::filling::FillsFront;
 use crate::fixed::{FixedBytes, put_values_at};
 use crate::writer::Writer;
 use speedy_base::context::Context;
 use speedy_base::device::Sink;
 use speedy_base::endianness::Endianness;
-use speedy_base::error::Error;
+use speedy_base::error::{Error, error_of_failed_call};
 use speedy_layout::Layout;
 use std::alloc::Global;
 

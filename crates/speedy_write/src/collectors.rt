@@ -1,7 +1,7 @@
 //! The writers of the ways of writing: into a buffer, into a vector, into a sink, and one that only counts.
 ghost use Rattle.std.specs.Prelude.{◌≡◌, ◌+◌, ◌-◌, ◌*◌, ◌^◌, ◌≤◌, ℕ, [], ◌∷◌, ◌++◌, length, vec_len, vec_capacity};
 ghost use Rattle.std.specs.Prelude.{Some, None, Ok, IsOk, IfErr, OnErr, IsSome, IsTrue, false, take, nat_le, refl};
-ghost use Rattle.speedy_base.specs.FailedCalls.{IsErrorOf, IsOfFailedCall};
+ghost use Rattle.speedy_base.specs.FailedCalls.{IsOfFailedCall};
 ghost use Rattle.speedy_write.specs.Writing.{RefusesFull, CountsBytes, Fits, WritesValues, WritesSlice};
 ghost use Rattle.speedy_write.specs.Pushing.{PushesAll};
 ghost use Rattle.speedy_write.specs.Collectors.{buffer_state, BufferAppends, size_state, SizeAppends, sink_state};
@@ -14,10 +14,11 @@ use crate::fixed::{FixedBytes, put_values_at};
 use crate::writer::Writer;
 use speedy_base::context::Context;
 use speedy_base::device::Sink;
-use speedy_base::error::{Error, error_end_of_output_buffer, error_out_of_range_length};
+use speedy_base::error::{
+    Error, error_end_of_output_buffer, error_of_failed_call, error_out_of_range_length,
+};
 use speedy_layout::Layout;
 use std::alloc::Global;
-use std::io;
 use std::marker::PhantomData;
 
 /// A writer to the beginning of a buffer.
@@ -464,14 +465,6 @@ impl<'s, S: Sink, C: Context> Writer<C> for WritingCollector<'s, S, C> {
     fn can_write_at_least(&self, _size: usize) -> Option<bool> {
         None
     }
-}
-
-// What the error of a failed call is answered as.
-#[cold]
-pub(crate) fn error_of_failed_call<E: From<Error>>(alloc: Global, error: io::Error) -> E
-    ensures { IsErrorOf E.from_gives error result }
-{
-    E::from(Error::from_io_error(alloc, error))
 }
 
 // Pushes all the bytes, in as many calls as it takes.

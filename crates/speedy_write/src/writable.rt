@@ -7,7 +7,7 @@ ghost use Rattle.speedy_write.specs.WaysOfWriting.{Needs, IsShortest, Stands, Wr
 ghost use Rattle.speedy_write.specs.WaysOfWriting.{WritesToStream, WritesAndFlushes, WritesToFile};
 
 use crate::buffering::BufferingCollector;
-use crate::collectors::{VecCollector, error_of_failed_call, push_all};
+use crate::collectors::{VecCollector, push_all};
 pub use crate::collectors::{BufferCollector, SizeCalculatorCollector, WritingCollector};
 use crate::counting::CountingCollector;
 use crate::filling::{Whole, fill_prefix};
@@ -16,7 +16,7 @@ use speedy_base::context::{Context, PlainContext};
 use speedy_base::device::{Counted, Sink};
 use speedy_base::endianness::Endianness;
 use speedy_base::error::{
-    Error, ErrorKind, error_out_of_memory, error_out_of_range_length,
+    Error, ErrorKind, error_of_failed_call, error_out_of_memory, error_out_of_range_length,
     error_output_buffer_is_too_small,
 };
 use speedy_layout::Layout;

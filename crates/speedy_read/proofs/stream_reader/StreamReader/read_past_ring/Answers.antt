@@ -84,4 +84,4 @@ returns-in-Err g c =
     let ring = c.args.self.now.ring in
     let left = ring_left ring c.consume_into.new.self _ c.consume_into.ensures.rest
     (nothing_left c.args.output.now ring.bytes _ c.len-held.ensures.value c.requires) in
-    past_failed ring c.consume_into.new.self left.0 left.1 _ c.in-Err.ensures c.failed_call.ensures
+    past_failed ring c.consume_into.new.self left.0 left.1 _ c.in-Err.ensures c.error_of_failed_call.ensures
