@@ -248,12 +248,6 @@ EncodesNumber-to_le_bytes w order n bytes is l e =
     (sym (e ∙ to_le_bytes-little_digits w n))
     (EncodesNumber-digits (byte_len w) LittleEndian n (subst (λ (m : ℕ). n < m) (pow-byte_len w) l))
 
--- ---- std's reversal of a number's bytes
-
-pub swapped-little : (order : Endianness) (width n : ℕ) → order ≡ LittleEndian → swapped order width n ≡ n
-unfolding swapped
-swapped-little order width n is = ap (λ (o : Endianness). swapped o width n) is
-
 -- ---- one byte
 
 -- a byte is a number of one digit

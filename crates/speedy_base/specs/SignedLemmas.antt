@@ -1,15 +1,14 @@
 -- What holds of the digits of signed numbers, at each width and in both orders.
 use Rattle.std.specs.Prelude.{◌≡◌, ℕ, ℤ, ◌<◌, List}
-use Rattle.std.proofs.Common.{refl, sym, ◌∙◌, ap, subst}
+use Rattle.std.proofs.Common.{sym, ◌∙◌, ap, subst}
 use mir.Val.{Fits}
 use mir.ValLaws.{to_z-of_z, of_z-to_z, to_z-Fits}
 use Rattle.std.specs.Int.{Width, byte_len, cast_unsigned, cast_signed}
 use Rattle.std.specs.Int.RustNames.{FitsSigned}
 use Rattle.speedy_base.specs.declared.endianness.Endianness.{Endianness}
-use Rattle.speedy_base.specs.declared.endianness.Endianness.TheVariants.{LittleEndian}
 use Rattle.speedy_base.specs.Digits.{EncodesNumber}
 use Rattle.speedy_base.specs.DigitsLemmas.{EncodesNumber-below, EncodesNumber-same_value, pow-byte_len}
-use Rattle.speedy_base.specs.Signed.{EncodesSigned, swapped_signed}
+use Rattle.speedy_base.specs.Signed.{EncodesSigned}
 
 -- a number that has an encoding fits the width
 fits : (w : Width) (order : Endianness) (n : ℕ) (bytes : List ℕ) → EncodesNumber (byte_len w) order n bytes → Fits w n
@@ -25,14 +24,6 @@ EncodesSigned-cast_signed w order n bytes s = record {
   digits = subst (λ (m : ℕ). EncodesNumber (byte_len w) order m bytes) (sym (of_z-to_z w n (fits w order n bytes s))) s;
 }
 
--- and so where a function answers it
-pub EncodesSigned-answered : (w : Width) (order : Endianness) (n : ℕ) (z : ℤ) (bytes : List ℕ) → z ≡ cast_signed w n
-    → EncodesNumber (byte_len w) order n bytes → EncodesSigned w order (cast_signed w (cast_unsigned w z)) bytes
-EncodesSigned-answered w order n z bytes e s =
-    let same : cast_unsigned w z ≡ n = ap (cast_unsigned w) e ∙ of_z-to_z w n (fits w order n bytes s) in
-    subst (λ (m : ℕ). EncodesSigned w order (cast_signed w m) bytes) (sym same)
-    (EncodesSigned-cast_signed w order n bytes s)
-
 -- signed numbers of the same bits are the same
 pub cast_unsigned-same : (w : Width) (y z : ℤ) → FitsSigned w y → FitsSigned w z
     → cast_unsigned w y ≡ cast_unsigned w z → y ≡ z
@@ -44,9 +35,3 @@ pub EncodesSigned-same_value : (w : Width) (order : Endianness) (y z : ℤ) (byt
     → EncodesSigned w order z bytes → y ≡ z
 EncodesSigned-same_value w order y z bytes s t = cast_unsigned-same w y z s.range t.range
     (EncodesNumber-same_value (byte_len w) order (cast_unsigned w y) (cast_unsigned w z) bytes s.digits t.digits)
-
--- ---- std's reversal of a signed number's bytes
-
-pub swapped_signed-little : (w : Width) (z : ℤ) → swapped_signed LittleEndian w z ≡ z
-unfolding swapped_signed
-swapped_signed-little w z = refl

@@ -24,8 +24,5 @@ signed_non_zero_codec w = subset_codec (λ z. z ≢ pos 0) kinds.ZeroNonZero tt 
 abbrev pub signed_non_zero_number : Width → Mode → Format ℤ
 signed_non_zero_number w = (signed_non_zero_codec w).format
 
-pub not_zero : (n : ℕ) → 0 < n → n ≢ 0
-not_zero n l e = absurd (omega arith)
-
 pub signed_not_zero : (z : ℤ) → 0 < unsigned_abs z → z ≢ pos 0
 signed_not_zero z l e = let is = ap unsigned_abs e in absurd (omega arith)

@@ -8,7 +8,7 @@ use Rattle.std.specs.Map.{keys_of, lookup}
 use Rattle.std.specs.declared.cmp.Ordering.{Ordering}
 use Rattle.std.specs.declared.cmp.Ordering.TheVariants.{Less, Equal, Greater}
 use Rattle.std.specs.Ordering.{eq_by_cmp, is_lt, is_le, ordering_reverse}
-use Rattle.std.specs.Cmp.{IsEquivalence, IsTotalOrder, both_ways}
+use Rattle.std.specs.Cmp.{IsTotalOrder}
 use Rattle.std.specs.BTreeMap.Comparable.{le_lt_trans}
 use Rattle.std.specs.BTreeMap as tree_map
 use Rattle.std.specs.HashMap as hash_map
@@ -74,17 +74,6 @@ module _ {X : Type 0} where
 -- ---- keys that are found
 
 module _ {K A : Type 0} {seen : K → A} {eq : K → K → Bool} (same_key : TellsApart eq seen) where
-  -- an equality that tells apart what is seen apart is an equivalence
-  pub seen_equivalence : IsEquivalence eq
-  seen_equivalence = record {
-    refl = λ x. (same_key x x).1 refl;
-    symm = λ x y. both_ways (eq x y) (eq y x) (λ h. (same_key y x).1 (sym ((same_key x y).0 h)))
-        (λ h. (same_key x y).1 (sym ((same_key y x).0 h)));
-    congr =
-        λ x y z e. both_ways (eq x z) (eq y z) (λ h. (same_key y z).1 (sym ((same_key x y).0 e) ∙ (same_key x z).0 h))
-        (λ h. (same_key x z).1 ((same_key x y).0 e ∙ (same_key y z).0 h));
-  }
-
   module _ {V B : Type 0} (value : V → B) where
     -- a key has a value exactly where it is the key of a pair
     found_in : (xs : List (K × V)) (find : K → Option V) → HasLastValues eq xs find → (q : K)

@@ -1,22 +1,16 @@
 -- Reads from bytes in memory.
-use Rattle.std.specs.Prelude.{◌≡◌, ℕ, ◌-◌, ◌^◌, ◌<◌, ◌≤◌, List, [], ◌++◌, length, take, drop, Bool, true, false, IsTrue}
-use Rattle.std.specs.Prelude.{◌⊎◌, Result, Ok, Err, refl}
+use Rattle.std.specs.Prelude.{◌≡◌, ℕ, ◌-◌, ◌<◌, ◌≤◌, List, [], ◌++◌, length, take, drop, Bool, true, false}
+use Rattle.std.specs.Prelude.{Ok, Err, refl}
 use Rattle.std.specs.List.{IsSplitAt}
 use Rattle.std.specs.Borrow.{GName}
-use Rattle.std.proofs.Common.{sym, ◌∙◌, ap, arith, inl, inr}
-use Rattle.std.proofs.lemmas.Bool.{true≢false}
-use Rattle.std.proofs.lemmas.List.{length-append, take-append-drop, length-take-le}
+use Rattle.std.proofs.Common.{sym, ◌∙◌, ap, arith, inr}
+use Rattle.std.proofs.lemmas.List.{take-append-drop, length-take-le}
 use Rattle.speedy_base.specs.declared.error.Error.{Error}
-use Rattle.speedy_base.specs.declared.error.ErrorKind.TheVariants as kinds
-use Rattle.speedy_base.specs.Digits.{AreBytes}
-use Rattle.speedy_base.specs.Error.{error_of}
 use Rattle.speedy_base.specs.Mode.{Mode}
-use Rattle.speedy_layout.specs.Format.{Format}
 use Rattle.speedy_layout.specs.Texts.{raw_bytes, any_bytes}
-use Rattle.speedy_read.specs.Reading.{Kept, refusing_kinds, Excused, Refused, Reads, Peeks, IsEnd, ends_alone}
+use Rattle.speedy_read.specs.Reading.{Kept, Reads, Peeks, IsEnd, ends_alone}
 use Rattle.speedy_read.specs.ReadingLemmas.{Kept-same, KeptByPeek-same, ends_early, input_ended}
-use Rattle.speedy_read.specs.Buffers.{memory_state, copied_state}
-use Rattle.speedy_read.specs.WaysOfReading.{RefusesBufferIf, AnswersBufferIf}
+use Rattle.speedy_read.specs.Buffers.{memory_state}
 
 -- a prefix was taken
 pub Kept-rest : {lends : Bool} {targets : List GName} {bytes rest : List ℕ} {mode : Mode} (prefix : List ℕ)
@@ -135,55 +129,3 @@ pub bytes_not_lent : {A E : Type 0} {n : ℕ} {lends : Bool} {targets : List GNa
     → Reads ends_alone (λ _. true) seen (raw_bytes n) (Err e) (memory_state lends targets bytes mode)
     (memory_state lends targets bytes mode)
 bytes_not_lent {E = E} {e = e} l = bytes_missed l (input_ended (ends_alone {E = E}) (λ _. true) false e refl refl)
-
--- ---- forms
-
-module _ {E : Type 0} {gives : Error → E → Type 0} {eof : E → Bool} {A V : Type 0}
-    {seen : A → V} (least : ℕ) {L : Format V} {name after : GName}
-    {bytes rest : List ℕ} {mode encoding' : Mode} where
-  -- what a form answers that reads a value from a new reader of bytes that it copies
-  pub copied_answered : (result : Result A E) → least ≤ length bytes → AreBytes bytes → length bytes < 2 ^ 64 - 1
-      → Reads gives eof seen L result (copied_state name bytes mode) (copied_state after rest encoding')
-      → AnswersBufferIf gives eof (L.asks.lending ≡ false)
-      (refusing_kinds L false) seen least L result (length bytes - length rest) bytes
-  copied_answered (Ok x) enough are fit r = record {
-    within = omega arith;
-    too_small = λ few. absurd (omega arith);
-    value = record {
-      prefix = r.answer.prefix;
-      rest = rest;
-      whole_is = r.answer.taken refl;
-      prefix_is = r.answer.prefix_is;
-      count_is = omega (arith, ap length (r.answer.taken refl), length-append r.answer.prefix rest);
-    };
-    refused = λ _. tt;
-  }
-  copied_answered (Err e) enough are fit r =
-      record {
-        within = omega arith;
-        too_small = λ few. absurd (omega arith);
-        value = tt;
-        refused = λ _. why r.answer;
-      } where
-        why : Excused gives L.asks.memory e (copied_state name bytes mode) (copied_state after rest encoding')
-            ⊎ Refused gives eof L e (copied_state name bytes mode) (copied_state after rest encoding')
-            → (gives (error_of kinds.OutOfMemory) e × IsTrue L.asks.memory)
-            ⊎ RefusesBufferIf gives eof (L.asks.lending ≡ false) (refusing_kinds L false) L e bytes
-        why (inl (inl want)) = inl (
-          want.0,
-          elim want.1 [
-            | inl takes ↦ takes
-            | inr never ↦ absurd (true≢false (sym never))
-          ],
-        )
-        why (inl (inr fault)) = absurd (elim fault.0 [ inl more ↦ omega arith | inr most ↦ omega arith ])
-        why (inr h) = inr (record {
-          kind = h.kind;
-          because = λ none.
-              h.because (record {
-                tells = refl;
-                are_bytes = are;
-                fit = fit;
-                lends = λ need. absurd (true≢false (sym need ∙ none));
-              });
-        })

@@ -1,6 +1,6 @@
 -- Bytes that are read or skipped a chunk at a time.
-use Rattle.std.specs.Prelude.{◌≡◌, ℕ, ◌+◌, ◌-◌, ◌<◌, ◌≤◌, List, [], ◌++◌, length, take, drop, replicate, Bool, false}
-use Rattle.std.specs.Prelude.{Ok, Err, Result, IsErrAnd, OnOk, is_err, refl}
+use Rattle.std.specs.Prelude.{◌≡◌, ℕ, ◌+◌, ◌-◌, ◌<◌, ◌≤◌, List, [], ◌++◌, length, take, drop, replicate, Bool}
+use Rattle.std.specs.Prelude.{Ok, Err, Result, IsErrAnd, refl}
 use Rattle.std.proofs.Common.{sym, ◌∙◌, ap, ap₂, subst, arith, inl, inr}
 use Rattle.std.proofs.lemmas.Bool.{cases_lt}
 use Rattle.std.proofs.lemmas.List.{append-nil, drop_all, length-append, length-drop, length-take-le, length-replicate}
@@ -49,11 +49,6 @@ filled_behind bytes zeros items slice output start len is same at all sized =
     let long : length put ≡ len = ap length put_is ∙ (length-append bytes output ∙ omega (arith, sized, whole, all)) in
     let rest : drop (length put) items ≡ [] = drop_all (length put) items (omega (arith, long, all, ap length same)) in
     ap (take len) (ap (λ l. put ++ l) rest ∙ append-nil put) ∙ (take_all len put (omega (arith, long)) ∙ put_is)
-
--- what holds where a call succeeded
-pub from_ok : {A E T : Type 0} (r : Result A E) → is_err r ≡ false → OnOk r T → T
-from_ok (Ok x) e h = h
-from_ok (Err x) e h = absurd (cc)
 
 -- n bytes were taken so far
 abbrev pub SkippedSoFar : ℕ → ReaderState → ReaderState → Type 0

@@ -27,7 +27,7 @@ use Rattle.speedy_read.specs.declared.stream_reader.StreamReader.{StreamReader}
 use Rattle.speedy_read.specs.StreamModel.{StreamModel, stream_model, first_capacity, most_held, is_tidy, stream_kind}
 use Rattle.speedy_read.specs.StreamModel.{ring_state, stream_state}
 use Rattle.speedy_read.specs.Streams.{FillsList, FillsRing, Fills}
-use Rattle.speedy_read.specs.WaysOfReading.{WantsMemory, TookPrefix, RefusesStream, AnswersStreamIn, AnswersFileIn}
+use Rattle.speedy_read.specs.WaysOfReading.{WantsMemory, TookPrefix, RefusesStream, AnswersStreamIn}
 
 -- ---- tidiness
 
@@ -422,17 +422,6 @@ module _ {E : Type 0} {gives : Error → E → Type 0} {eof : E → Bool} {A V :
       last.ring first.source.ghost_name last.source.ghost_name (asks first.context) (asks last.context)
       (source first.source.now) new (ap (λ (r : Ring). r.bytes) ring)
       (ap (λ (r : Ring). r.capacity) ring ∙ ap (λ (b : Bool). first_capacity b) (sym same_way)) result r))))
-
-  -- and of a file
-  pub file_answered : {L : Format V} {b : Bool} {old new : SourceState} (result : Result A E)
-      → AnswersStreamIn gives eof seen L b result old new → AnswersFileIn gives eof seen L result
-  file_answered (Ok x) a = (a.value.prefix, a.value.prefix_is)
-  file_answered (Err e) a =
-      elim a.refused [
-        | inl want ↦ inr (inl want.given)
-        | inr (inl failed) ↦ inl (failed.0, failed.2)
-        | inr (inr h) ↦ inr (inr h.kind)
-      ]
 
 -- what a call that succeeded ensures
 pub succeeded : {T F : Type 0} (r : Result T F) {P : Type 0} → is_err r ≡ false → OnOk r P → P
