@@ -49,14 +49,15 @@ impl Faults {
 /// A source counts its failed calls, and keeps the error of the last one. It is the caller who decides whether to go
 /// on after one.
 pub trait Source {
+    /// What contracts see of the source: the bytes that remain, if it tells them, and its failed calls.
     ghost source: { Self → SourceState };
 
     /// Moves bytes to the front of the output, and says how many. What lies behind them in the output may change too.
     fn pull(&mut self, output: &mut [u8]) -> Result<usize, io::Error>
         ensures { Pulls result (source self.old) (source self.new) output.new };
 
-    /// Whether at least `size` bytes remain, as only a source may say that tells its bytes to the contracts. A
-    /// reader then makes room for a long list at once. This body says nothing of the kind.
+    /// Whether it is known that at least `size` bytes remain. Only a source that tells its bytes to the contracts may
+    /// answer `true`. A reader then makes room for a long list at once. This body answers `false`.
     #[inline(always)]
     fn can_pull_at_least(&self, _size: usize) -> bool
         ensures { IsTrue result → Holds (source self.now) _size }
@@ -70,6 +71,8 @@ pub trait Source {
 /// A sink counts its failed calls, and keeps the error of the last one. It is the caller who decides whether to go on
 /// after one. A push passes nothing on that waited before: that is what a flush is for.
 pub trait Sink {
+    /// What contracts see of the sink: the bytes that it took, if it tells them, its failed calls, and whether some
+    /// bytes may still wait.
     ghost sink: { Self → SinkState };
 
     /// Takes bytes from the front of `bytes`, and says how many.
@@ -80,7 +83,7 @@ pub trait Sink {
     fn flush(&mut self) -> Result<(), io::Error>
         ensures { Flushes result (sink self.old) (sink self.new) };
 
-    /// Tells the sink how many bytes are pushed next, for which it may make room at once. It takes none here, and does
+    /// Tells the sink how many bytes are pushed next, for which it may make room at once. It takes no bytes, and does
     /// not say whether there is room. This body does nothing.
     #[inline(always)]
     fn reserve(&mut self, _additional: usize)

@@ -26,7 +26,7 @@ pub enum ErrorKind {
     ZeroNonZero,
     /// A length or a size that does not fit.
     OutOfRangeLength,
-    /// A number past `usize::MAX` where a `usize` is read.
+    /// A number past `usize::MAX` where a `usize` is read. A `usize` has 64 bits here, so this never comes.
     OutOfRangeUsize,
     /// The bytes to read ended too soon.
     UnexpectedEndOfInput,

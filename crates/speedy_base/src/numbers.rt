@@ -11,6 +11,7 @@ use crate::endianness::Endianness;
 
 /// Numbers whose bytes can be reversed.
 pub trait Swap: Copy {
+    /// The number with its bytes reversed, as contracts see it.
     ghost reversed: { Self → Self };
 
     /// The number with its bytes reversed.

@@ -8,12 +8,12 @@ ghost use Rattle.speedy_layout.specs.Format.{Each};
 use crate::layout::Layout;
 use crate::view_items::FixedSize;
 use speedy_base::endianness::Endianness;
-use std::alloc::AllocError;
 
 /// The number of bytes of the widest number.
 pub const MOST_DIGITS: usize = 16;
 
-/// An array of bytes. It stands apart from `FixedSize`, of which a caller's proof finds one impl alone.
+/// Arrays of bytes, with their length. `FixedSize` cannot say it: a proof in a caller finds only one impl of that, the
+/// one of numbers.
 pub trait ByteArray {
     /// The number of its bytes.
     const LENGTH: usize;
@@ -32,10 +32,10 @@ pub trait FixedNumber: Layout + Copy + Default + Drop {
     /// An array of as many bytes as the number has.
     type Digits: ByteArray;
 
-    /// The number that `SIZE` bytes encode in an order.
+    /// The number that `Digits::LENGTH` bytes encode in an order.
     ghost decoded: { Order → List ℕ → Self };
 
-    /// Decodes the number from `SIZE` bytes in the order.
+    /// Decodes the number from `Digits::LENGTH` bytes in the order.
     fn decode(order: Endianness, bytes: &[u8]) -> Self
         requires { length bytes.now ≡ Self.Digits.LENGTH }
         ensures { result ≡ decoded order bytes.now };
@@ -46,12 +46,12 @@ pub trait FixedNumber: Layout + Copy + Default + Drop {
         ensures bytes { AreBytes output.new }
         ensures number { decoded order output.new ≡ self };
 
-    /// The least size is `SIZE`, which each encoding has. The order alone decides its bytes, and any bytes encode the
-    /// number that is decoded from them.
+    /// The least size is `Digits::LENGTH`, which each encoding has. The order alone decides its bytes, and any bytes
+    /// encode the number that is decoded from them.
     ghost fixed: { AreFixed Self.Digits.LENGTH Self.layout (λ order bytes. Self.seen (decoded order bytes)) };
 }
 
-/// The number that the bytes encode, of which there are `SIZE`.
+/// The number that the bytes encode, of which there are `Digits::LENGTH`.
 #[inline(always)]
 pub fn number_of<T: FixedNumber>(order: Endianness, bytes: &[u8]) -> T
     requires { length bytes.now ≡ T.Digits.LENGTH }

@@ -120,8 +120,10 @@ pub trait Holds {
     /// The layout of the parts.
     ghost layout: { Codec Seen };
 
+    /// The numbers that parts hold of which this is seen.
     ghost numbers: { Seen → Self.Numbers };
 
+    /// The numbers that the parts hold.
     fn numbers(&self) -> Self::Numbers
         ensures { result ≡ numbers (seen self.now) };
 }
@@ -249,11 +251,15 @@ impl<A: Holds, B: Holds> Holds for (A, B) {
 
 /// Parts that hold numbers, and behind them a text or a list of the length that the numbers tell, as `K` says.
 ///
-/// One of another length has no encoding: that is `LengthIsNotTheSameAsLengthAttribute`.
+/// One of another length has no encoding: that is `LengthIsNotTheSameAsLengthAttribute`. Numbers that tell no length
+/// are `OutOfRangeLength`, in reading too.
 #[derive(Debug, PartialEq, Drop)]
 pub struct WithLength<K, B, T> {
+    /// The parts that hold the numbers.
     pub before: B,
+    /// The text or the list.
     pub value: T,
+    /// Names how the numbers tell the length, and holds nothing.
     pub length: PhantomData<K>,
 }
 

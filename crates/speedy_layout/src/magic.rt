@@ -7,8 +7,10 @@ use std::marker::PhantomData;
 
 /// Constant bytes, as those that a file begins with.
 pub trait Constant {
+    /// The bytes, as contracts see them.
     ghost bytes: { List ℕ };
 
+    /// The bytes.
     fn bytes() -> &'static [u8]
         ensures { result.now ≡ bytes };
 }
@@ -16,10 +18,12 @@ pub trait Constant {
 /// A part that is always the same bytes. Others are the error `ExpectedConstant`.
 #[derive(Debug, PartialEq, Drop)]
 pub struct Magic<K> {
+    /// Names the constant, and holds nothing.
     pub constant: PhantomData<K>,
 }
 
 impl<K> Magic<K> {
+    /// The part, of which there is one.
     #[inline]
     pub fn new() -> Magic<K> {
         Magic {

@@ -9,6 +9,7 @@ use std::marker::PhantomData;
 
 /// A type of numbers that lengths and tags are encoded as: `u8`, `u16`, `u32`, `u64`, `VarInt64` or [`U7`].
 pub trait Prefix {
+    /// Which numbers there are, and how each is encoded.
     ghost numbers: { Numbers };
 }
 
@@ -54,14 +55,17 @@ pub trait Told {
 /// A value behind a number of the type `N` that tells of it: a text, a list, a map or a set behind its length, a case
 /// behind its tag.
 ///
-/// What has a length needs it not behind a `u32`: that is how it is encoded by itself.
+/// A text or a collection needs no `Prefixed<u32, _>`: a length that is a `u32` is how it is encoded by itself.
 #[derive(Debug, PartialEq, Drop)]
 pub struct Prefixed<N, T> {
+    /// The value.
     pub value: T,
+    /// Names the type of the number, and holds nothing: the number is computed from the value.
     pub number: PhantomData<N>,
 }
 
 impl<N, T> Prefixed<N, T> {
+    /// The value behind such a number.
     #[inline]
     pub fn new(value: T) -> Prefixed<N, T>
         ensures { result.value ≡ value }

@@ -268,7 +268,7 @@ fn fill_chunks<T: FixedNumber, L: AsSlice<u8> + Drop, C: Context, R: LendingRead
     Ok(())
 }
 
-// The `length` numbers that these bytes encode.
+// The `count` numbers that these bytes encode.
 fn numbers_of<T: FixedNumber>(
     alloc: Global,
     order: Endianness,

@@ -1,10 +1,10 @@
 //! Reading: readers, and the types that are read.
 //!
 //! Which way the modules lean: a reader reads any type, and a type reads from any reader, so `reader` and `readable`
-//! name each other; the modules with the bodies of a reader's methods name both (`digits`, `lent`, `many`,
-//! `collections`, `until_end`, `room`). The four readers lean on `reader`, and the functions of `readable` make them.
-//! Reading in bulk (`bulk`, and `arrays` beside it) and `prefixed` lean on all of these. A family of types leans on
-//! these two and on no other family. `utf8` leans on none.
+//! name each other; the modules with the bodies of a reader's methods name the reader (`digits`, `lent`, `room`) or
+//! both (`many`, `collections`, `until_end`). The four readers lean on `reader`, and the functions of `readable` make
+//! them. Reading in bulk (`bulk`, and `arrays` beside it), `prefixed`, `lengths` and `codes` lean on these. A family of
+//! types leans on those four and on no other family. `utf8` leans on none.
 #![tactic(auto)]
 
 pub mod addresses;

@@ -90,7 +90,7 @@ pub trait Places<L: AsSlice<u8> + Drop, C: Context, T: ReadFrom<L, C>>: Sized + 
     fn count() -> usize
         ensures { result ≡ Self.count };
 
-    /// Places that all have the type's default value.
+    /// Places with some values.
     fn begun() -> Self
     where
         T: Default,

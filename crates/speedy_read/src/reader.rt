@@ -37,9 +37,10 @@ use std::convert::AsSlice;
 /// That is `&'a [u8]` for one that hands out parts of a buffer. Users name readers by [`Reader`]; a reader of your own
 /// implements this trait.
 pub trait LendingReader<L: AsSlice<u8> + Drop, C: Context> {
-    /// The context that the reader holds, and the reader with another one.
+    /// The context that the reader holds.
     ghost at: { Self → C };
 
+    /// The reader with another context.
     ghost with_context: { Self → C → Self };
 
     /// What reads see of the reader.
@@ -296,8 +297,8 @@ pub trait LendingReader<L: AsSlice<u8> + Drop, C: Context> {
         peek_number::<i128, L, C, Self>(self)
     }
 
-    /// The next integer of variable length, which is encoded alike in both orders. More bytes than the number needs are
-    /// read too, unless the context reads only canonical encodings.
+    /// The next integer of variable length, which is encoded alike in both orders. An encoding in more bytes than the
+    /// number needs is taken too; under a context that reads only canonical encodings it is the error `NotWrittenForm`.
     #[inline]
     final fn read_u64_varint(&mut self) -> Result<u64, C::Error>
         ensures { ReadsValue C.Error.IsEof state (λ x. x) varint_codec result self.old self.new }
@@ -359,8 +360,8 @@ pub trait LendingReader<L: AsSlice<u8> + Drop, C: Context> {
 
     /// The next `length` values, into a vector.
     ///
-    /// It is an error before any item where fewer bytes remain than `length` items have at least, if the reader
-    /// says so, and where that many bytes are past `usize::MAX`.
+    /// It is `UnexpectedEndOfInput` before any item, and the reader stays as it was, where fewer bytes remain than
+    /// `length` items have at least, if the reader says so, and where that many bytes are past `usize::MAX`.
     #[inline(always)]
     final fn read_vec<T: ReadMany<L, C>>(&mut self, length: usize) -> Result<Vec<T>, C::Error>
     where
@@ -381,7 +382,7 @@ pub trait LendingReader<L: AsSlice<u8> + Drop, C: Context> {
     /// The next `length` values, into a cow or what else they go into: bytes are borrowed where the reader lends, and
     /// all else is owned.
     ///
-    /// It is an error before any item where [`read_vec`](Self::read_vec) is.
+    /// It is `UnexpectedEndOfInput` before any item where [`read_vec`](Self::read_vec) is.
     #[inline]
     final fn read_cow<W: FromLent<L, T>, T: ReadMany<L, C>>(
         &mut self,

@@ -84,7 +84,7 @@ fn encoded_as_little<T: ZeroCopyable<C>, L: AsSlice<u8> + Drop, C: Context, R: L
         → (T.layout.format (R.state _reader.now).mode).encodes v bytes }
 {}
 
-// How many bytes `count` items have.
+// How many bytes `length` items have.
 #[inline]
 fn size_of_items<T: ViewItem>(length: u32) -> usize
     ensures { result ≡ length * T.SIZE }

@@ -21,7 +21,7 @@ use speedy_layout::Layout;
 use std::alloc::Global;
 use std::marker::PhantomData;
 
-/// A writer to the beginning of a buffer.
+/// A writer to the beginning of a buffer. Bytes that do not fit are the error `UnexpectedEndOfOutputBuffer`.
 ///
 /// `U` says what it is used for. Code for each use is compiled apart, so that it can stand inline where it is used.
 #[derive(Drop)]
@@ -102,7 +102,7 @@ impl<'a, C: Context, U> Writer<C> for BufferCollector<'a, C, U> {
 
     ghost appends_with = { λ a b s c h. (h, h) };
 
-    /// Writes all the bytes, or none where they do not fit.
+    /// Writes all the bytes, or none where they do not fit, which is the error `UnexpectedEndOfOutputBuffer`.
     #[inline]
     fn write_bytes(&mut self, slice: &[u8]) -> Result<(), C::Error>
         ensures writes { let writer = ⟦<BufferCollector<'a, C, U> as Writer<C>>⟧ in
@@ -487,7 +487,7 @@ pub(crate) fn push_all<S: Sink, E: From<Error>>(
     Ok(())
 }
 
-/// A writer that only counts bytes. A sum past `usize::MAX` is an error.
+/// A writer that only counts bytes. A sum past `usize::MAX` is the error `OutOfRangeLength`.
 #[derive(Drop)]
 pub struct SizeCalculatorCollector<'a, C> {
     context: &'a mut C,

@@ -29,9 +29,9 @@ use std::rt::Files;
 ///
 /// A type of your own gives `write_to` alone, from the writing of its parts.
 pub trait Writable<C: Context>: Layout {
-    /// Writes the value. It takes no memory.
+    /// Writes the value. It takes no memory of its own; a writer to a sink takes some for the error of a failed push.
     ///
-    /// After an error some first bytes of an encoding may have been written.
+    /// After an error the first bytes of an encoding may have been written, and of a value that has none some bytes.
     fn write_to<W: Writer<C>>(&self, writer: &mut W) -> Result<(), C::Error>
         ensures { WritesValue C.Error.from_gives W.state W.appends Self.seen Self.layout self.now
             result writer.old writer.new };
