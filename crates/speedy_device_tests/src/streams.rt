@@ -19,6 +19,7 @@ use std::convert::AsSlice;
 use std::fmt::Debug;
 use std::process::Abort;
 use std::rt::Files;
+use std::time::Duration;
 use std::{fs, io};
 
 #[test]
@@ -233,6 +234,25 @@ fn values_without_bytes_are_streamed_without_a_pull(rt: HostRuntime) {
     assert_not_pulled(&rt, alloc, &());
     assert_not_pulled::<[u16; 0]>(&rt, alloc, &[]);
     assert_not_pulled::<((), [u16; 0])>(&rt, alloc, &((), []));
+}
+
+/// Asserts that the value is read from these bytes of an unbuffered source by one pull.
+fn assert_pulled_once<'a, T: Readable<'a, LittleEndian> + PartialEq + Debug>(
+    rt: &impl Abort,
+    alloc: Global,
+    bytes: &[u8],
+    value: &T,
+) {
+    let mut source = make_pieces(bytes, usize::MAX);
+    let read = T::read_from_stream_unbuffered(alloc, &mut source).expect(rt, "a value");
+    assert_same(rt, &read, value);
+    assert_same(rt, source.calls(), 1);
+}
+
+#[test]
+fn a_duration_is_one_pull(rt: HostRuntime) {
+    let bytes = [3, 0, 0, 0, 0, 0, 0, 0, 0, 0, 0, 0];
+    assert_pulled_once(&rt, rt.alloc(), &bytes, &Duration::from_secs(3));
 }
 
 /// Asserts that a read of `count` bytes is refused as an end of the input, where the source lacks one of them: with the
