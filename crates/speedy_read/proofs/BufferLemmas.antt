@@ -1,5 +1,5 @@
 -- Reads from bytes in memory.
-use Rattle.std.specs.Prelude.{◌≡◌, ℕ, ◌-◌, ◌<◌, ◌≤◌, List, [], ◌++◌, length, take, drop, Bool, true, false}
+use Rattle.std.specs.Prelude.{◌≡◌, ℕ, ◌<◌, ◌≤◌, List, [], ◌++◌, length, take, drop, Bool, true, false}
 use Rattle.std.specs.Prelude.{Ok, Err, refl}
 use Rattle.std.specs.List.{IsSplitAt}
 use Rattle.std.specs.Borrow.{GName}

@@ -4,7 +4,7 @@ ghost use Rattle.std.specs.Prelude.{Some, None, OnErr, IsSome, MatchOption, refl
 ghost use Rattle.std.specs.Borrow.{sem};
 ghost use Rattle.std.specs.Io.BufRead.{Rests};
 ghost use Rattle.speedy_read.specs.Lending.{readers_lifetime, contexts_lifetime};
-ghost use Rattle.speedy_read.specs.Reading.{ReadsInto, PeeksInto, Skips, LendsBytes, LendsUntilUsed};
+ghost use Rattle.speedy_read.specs.Reading.{ReadsInto, PeeksInto, Skips, LendsBytes, LendsUntilUsed, LendsAll};
 ghost use Rattle.speedy_read.specs.contracts.bytes_reader.BytesReader.{the_row as reader_row};
 ghost use Rattle.speedy_read.specs.Buffers.{memory_state};
 
@@ -201,7 +201,11 @@ impl<'a, 'c, L: AsSlice<u8> + Drop, U: MayLend<'a, L>, C: Context> LendingReader
     }
 
     #[inline(always)]
-    fn read_bytes_borrowed_until_eof(&mut self) -> Option<L> {
+    fn read_bytes_borrowed_until_eof(&mut self) -> Option<L>
+        ensures lends { let reader = ⟦<BytesReader<'a, 'c, U, C> as LendingReader<L, C>>⟧ in
+            LendsAll L.items result (reader.state self.old) (reader.state self.new) }
+        ensures is_lent { IsTrue U.lends → IsSome result }
+    {
         let Some(lent) = U::lend(self.rest) else {
             return None;
         };
