@@ -1,4 +1,4 @@
-//! Enums with tags of each width, without parts and with them.
+//! Enums with tags of several widths, without parts and with them.
 use speedy::{Readable, Writable};
 
 #[derive(Readable, Writable)]
@@ -22,31 +22,6 @@ pub enum TagU7 {
 pub enum TagU8 {
     A,
     B = 0xab,
-    C,
-}
-
-#[derive(Readable, Writable)]
-#[speedy(tag_type = u16)]
-pub enum TagU16 {
-    A,
-    B = 0xabcd,
-    C,
-}
-
-#[derive(Readable, Writable)]
-#[speedy(tag_type = u32)]
-pub enum TagU32 {
-    A,
-    B = 0xabcd_ef01,
-    C,
-}
-
-#[derive(Readable, Writable)]
-#[speedy(tag_type = u64)]
-#[repr(u64)]
-pub enum TagU64 {
-    A,
-    B = 0xabcd_ef01_2345_6789_u64,
     C,
 }
 

@@ -11,8 +11,10 @@ WIDTHS = ("u7", "u8", "u16", "u32", "u64", "u64_varint")
 # What only the compiler of the original reads, and means nothing here.
 LINTS = ("allow", "warn", "deny", "forbid", "expect", "must_use")
 OF_FIELDS = ("length", "length_type", "varint", "constant_prefix", "skip", "default_on_eof")
-OF_ITEMS = ("tag_type", "peek_tag")
+OF_ENUMS = ("tag_type", "peek_tag")
 OF_VARIANTS = ("tag",)
+# The traits of std that a type may derive.
+DERIVED = ("Debug", "Clone", "Copy", "PartialEq", "Eq", "PartialOrd", "Ord", "Hash", "Default")
 UNTIL_END = ("its encoding begins longer ones, so it is not known where it ends. In the code that calls a reader, "
              "peek, or read items until the end by `read_vec_until_eof`")
 
@@ -22,8 +24,6 @@ class Options:
     """What `#[speedy(..)]` says of a field."""
     length: object = None
     length_type: object = None
-    # Whether what stands behind the length is in an option.
-    of_option: bool = False
     varint: bool = False
     constant: object = None
     skip: bool = False
@@ -85,9 +85,10 @@ def setting(parser, name, line):
     return line, expressions.expression(parser)
 
 
-def of_field(field):
+def of_field(field, notes):
     """What is set of a field."""
-    others(field.attributes, "a field")
+    field.attributes = opened(field.attributes)
+    others(field.attributes, notes)
     found = settings(field.attributes, OF_FIELDS, "a field")
     if "default_on_eof" in found:
         raise Refusal(found["default_on_eof"][0], "`default_on_eof` reads to the end of the input: " + UNTIL_END)
@@ -100,6 +101,8 @@ def of_field(field):
         line, options.length_type = found["length_type"]
         if options.length is not None:
             raise Refusal(line, "a field with `length` writes no length, and so has no `length_type`")
+    if options.varint and (options.length_type or options.length is not None):
+        raise Refusal(found["varint"][0], "a number has no length: leave that out")
     if "constant_prefix" in found:
         options.constant = constant(*found["constant_prefix"])
     return options
@@ -144,51 +147,107 @@ def one_byte(line, value, suffix):
     return bytes([value % 256])
 
 
-def others(attributes, place):
-    """Refuses what is not read here."""
+def others(attributes, notes):
+    """Notes what is not read here."""
     for attribute in attributes:
-        if attribute.name in ("speedy",) or attribute.name in LINTS:
+        if attribute.name in ("speedy", "doc", "default") or attribute.name in LINTS:
             continue
-        raise Refusal(attribute.line, f"the attribute `{attribute.name}` of {place} is not taken: leave it out, or "
-                                      "write the impls of this type by hand")
+        if attribute.name == "cfg":
+            notes.append((attribute.line, "what stands behind `cfg(..)` is made as if that holds"))
+        else:
+            notes.append((attribute.line, f"the attribute `{attribute.name}` is left out: it changes no bytes"))
 
 
-def of_item(item, notes):
+def is_ours(attribute):
+    """Whether an attribute derives `Readable` or `Writable`, by whatever name, or sets something of ours."""
+    return attribute.name == "speedy" \
+        or attribute.name in ("derive", "cfg_attr") and any(it.text in ("Readable", "Writable", "speedy")
+                                                            for it in attribute.tokens)
+
+
+def is_skipped(field):
+    """Whether a field has no bytes."""
+    return any(it.name in ("speedy", "cfg_attr") and any(token.text == "skip" for token in it.tokens)
+               for it in field.attributes)
+
+
+def opened(attributes):
+    """The attributes, where `cfg_attr(..)` with a derive or settings of ours stands for these."""
+    found = []
+    for attribute in attributes:
+        inner = inside_cfg_attr(attribute) if attribute.name == "cfg_attr" else []
+        found += [it for it in inner if it.name in ("derive", "speedy")] or [attribute]
+    return found
+
+
+def inside_cfg_attr(attribute):
+    """The attributes in `cfg_attr(condition, ..)`."""
+    parser = inner_parser(attribute)
+    condition, found = True, []
+    while parser.token.kind != "end":
+        line = parser.line
+        if condition:
+            while parser.token.kind != "end" and not parser.is_mark(","):
+                opening = parser.advance().text
+                if opening == "(":
+                    parser.balanced(")")
+                    parser.advance()
+            condition = False
+        else:
+            name = parser.name("an attribute")
+            tokens = []
+            while parser.token.kind != "end" and not parser.is_mark(","):
+                token = parser.advance()
+                tokens.append(token)
+                if token.text == "(":
+                    tokens += [*parser.balanced(")"), parser.advance()]
+            found.append(syntax.Attribute(line, name, tuple(tokens)))
+        parser.take_mark(",")
+    return found
+
+
+def of_item(item, scope):
     """Sorts the attributes of a struct or an enum."""
-    is_enum = isinstance(item, syntax.Enum)
+    is_enum, rest = isinstance(item, syntax.Enum), []
+    item.attributes = opened(item.attributes)
     for attribute in item.attributes:
         if attribute.name == "derive":
-            derive(item, attribute)
+            derive(item, attribute, scope)
         elif attribute.name == "repr":
-            representation(item, attribute, is_enum, notes)
+            representation(item, attribute, is_enum, scope.notes)
         elif attribute.name == "non_exhaustive" and not attribute.tokens:
             item.kept.append("#[non_exhaustive]")
-        elif attribute.name != "speedy" and attribute.name not in LINTS:
-            others([attribute], "an item")
-    if not is_enum:
-        settings(item.attributes, (), "a struct")
+        else:
+            rest.append(attribute)
+    if not item.readable and not item.writable:
         return
-    found = settings(item.attributes, OF_ITEMS, "an enum")
+    others(rest, scope.notes)
+    found = settings(item.attributes, OF_ENUMS if is_enum else (), "an enum" if is_enum else "a struct")
     if "peek_tag" in found:
         raise Refusal(found["peek_tag"][0], "an enum with `peek_tag` leaves its tag to be read again, so it has no "
-                                            "encoding of its own: peek in the code that calls a reader")
+                      "encoding of its own: leave `peek_tag` out, and in the code that calls a reader take the tag by "
+                      "`let tag = reader.peek_u8()?;` before `reader.read_value()?`")
     if "tag_type" in found:
         item.tag_type = found["tag_type"][1]
 
 
-def derive(item, attribute):
+def derive(item, attribute, scope):
     """Takes a `derive` apart."""
     parser = inner_parser(attribute)
     while parser.token.kind != "end":
-        line, name = parser.line, parser.named_type().path[-1]
+        line = parser.line
+        path = scope.full_path(parser.named_type().path)
+        name = path[-1]
         if name in item.derives or (name == "Readable" and item.readable) or (name == "Writable" and item.writable):
             raise Refusal(line, f"`{name}` is derived twice")
         if name == "Readable":
             item.readable = True
         elif name == "Writable":
             item.writable = True
-        else:
+        elif name in DERIVED and path[0] in (name, "std", "derive_more"):
             item.derives.append(name)
+        else:
+            item.left_out.append((line, name))
         if not parser.take_mark(","):
             break
     if parser.token.kind != "end":
@@ -206,8 +265,9 @@ def representation(item, attribute, is_enum, notes):
                                   "bytes are the same"))
 
 
-def of_variant(variant):
+def of_variant(variant, notes):
     """The tag that is set of a variant, as an expression, or None."""
-    others(variant.attributes, "a variant")
+    variant.attributes = opened(variant.attributes)
+    others(variant.attributes, notes)
     found = settings(variant.attributes, OF_VARIANTS, "a variant")
     return found["tag"][1] if "tag" in found else None

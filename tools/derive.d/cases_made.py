@@ -52,7 +52,7 @@ pub struct Contact {
     ("a field that is skipped, and one of few bytes", DERIVES
      + "struct A { #[speedy(varint)] n: u64, #[speedy(skip)] cache: Vec<u8>, last: bool }\n",
      ["type AParts = (Varint, bool);", "ghost seen = { λ it. (it.n, ⟦<bool as Layout>⟧.seen it.last) };",
-      "match reader.read_value::<AParts>() {", "n: n.0,", "cache: Default::default(),",
+      "match reader.read_value::<AParts>() {", "n: n.0,", "cache: Vec::new(reader.alloc()),",
       "writer.write_value(&(Varint(self.n), self.last))"]),
     ("constants and aliases", "pub const SIZE: usize = 4 * (1 + 1);\ntype Name = [u8; SIZE];\n" + DERIVES
      + "struct A { name: Name, id: uuid::Uuid }\n",
@@ -65,7 +65,7 @@ pub struct Contact {
     ("what is written alone", "#[derive(Writable)]\nstruct A<'a, T>(&'a [T], &'a T, &'static str);\n",
      ["impl<'a, T: Layout> Layout for A<'a, T> {", "impl<'a, C: Context, T: Writable<C>> Writable<C> for A<'a, T> {"]),
     ("parameters named as those of the impls", DERIVES + "struct A<L, C>(L, C);\n",
-     ["impl<L0: AsSlice<u8> + Drop, C0: Context, L: ReadFrom<L0, C0>, C: ReadFrom<L0, C0>> ReadFrom<L0, C0>"]),
+     ["impl<L2: AsSlice<u8> + Drop, C2: Context, L: ReadFrom<L2, C2>, C: ReadFrom<L2, C2>> ReadFrom<L2, C2>"]),
     ("a number that an array is generic in", DERIVES + "struct A<T, const N: usize>([T; N]);\n",
      ["impl<T: Layout, const N: usize> Layout for A<T, N> {"]),
 ]
@@ -113,8 +113,8 @@ pub enum Message {
       "            Kind::C => 20,"]),
     ("tags of other widths", "#[derive(Readable)]\n#[speedy(tag_type = u7)]\nenum A { B }\n#[derive(Writable)]\n"
      "#[speedy(tag_type = u64_varint)]\nenum C { D }\n",
-     ["use speedy::prefixed::{Prefixed, U7};", "type ACases = UnitCase<0>;", "read_tagged::<U7, Self, L, C0, R>",
-      "write_tagged::<VarInt64, Self, C0, W>"]),
+     ["use speedy::prefixed::{Prefixed, U7};", "type ACases = UnitCase<0>;", "read_tagged::<U7, Self, L, C2, R>",
+      "write_tagged::<VarInt64, Self, C2, W>"]),
     ("an enum that borrows", "#[derive(Readable, Writable)]\nenum A<'a> { B(&'a str), C(Vec<u8>) }\n",
      ["type ACases<'a> = ", "impl<'a> Cases for A<'a> {", "ReadFrom<&'a [u8], C> for A<'a> {",
       "read_tagged::<u32, Self, &'a [u8], C, R>(reader)", "            A::B(t0) => writer.write_value(t0),"]),
@@ -131,7 +131,7 @@ struct Frame {
       "ghost bytes = { 255 ∷ 0 ∷ [] };", 'b"\\xff\\x00"',
       "    Magic<BeforeFrameParts>,\n    Prefixed<VarInt64, Vec<u16>>,\n"
       "    Prefixed<u8, String>,\n    Magic<BeforeFrameEnd>,",
-      "⟦<BeforeFrameParts as Constant>⟧.bytes,", "Ok((_, parts, note, _, end)) => Ok(Frame {", "parts: parts.value,",
+      "⟦<BeforeFrameParts as Constant>⟧.bytes,", "Ok((_, parts_, note, _, end)) => Ok(Frame {", "parts: parts_.value,",
       "let note: Prefixed<u8, _> = Prefixed {\n            value: Part(&self.note),",
       "Magic::<BeforeFrameParts>::new(),"]),
     ("lengths of maps and sets", """use std::collections::{BTreeMap, HashSet};
@@ -208,6 +208,36 @@ struct Index<K, V> {
       "| Choice.A t0 t1 ↦ inl (t0, ⟦<Vec<u16> as Layout>⟧.seen t1)",
       "let (before2, t2) = before;\n                    let (t0, t1) = before2;\n"
       "                    Ok(Choice::B(t0, t1, t2.0, t3))", "before: ((*t0, *t1), Other(Part(t2))),"]),
+    ("a length by a choice, and by bits", DERIVES + """struct A {
+    a: u8,
+    b: u16,
+    #[speedy(length = if a < 0x80 { (a & 7) as usize } else { b.min(9) as usize << 1 })]
+    items: Vec<u8>,
+    #[speedy(length = 0x10 - a % 4)]
+    rest: Vec<u8>,
+}
+""", ["ghost told = { λ it. if nat_lt it.0 128 then (bit_and it.0 7) else (min it.1 9 * 2 ^ 1 % 2 ^ 64) };",
+      "(a & 7) as usize", "(b.min(9) as usize) << 1", "16_u8.checked_sub(a % 4)?"]),
+    ("arrays beside other parts", DERIVES + "struct A { id: u16, hash: [u8; 2 * 2] }\n" + DERIVES
+     + "struct B<const N: usize> { id: u16, bytes: [u8; N] }\n",
+     ["    hash: [u8; 4],",
+      "Ok(parts) => {\n                let (id, hash) = parts;\n                Ok(A { id, hash })",
+      "type BParts<const N: usize> = (u16, [u8; N]);",
+      "2_usize.saturating_add(<[u8; N] as ReadFrom<L, C>>::minimum_bytes_needed())"]),
+    ("names of what is made", DERIVES + "enum Result { Ok(u8), Err }\n" + DERIVES + "struct Context { r#type: u8 }\n"
+     + DERIVES + "struct ContextParts(u8, u8);\n" + DERIVES + "struct Layout<Writer> { writer: Writer, ghost: u8 }\n"
+     + "const reader: u8 = 1;\n" + DERIVES + "enum E { A { reader: u8, error: u8 } }\n",
+     ["Context as SpeedyContext,", "Layout as SpeedyLayout,", "Writer as SpeedyWriter,",
+      "use std::result::Result as StdResult;", "enum Result {", "0 => match reader.read_value() {", "    type_: u8,",
+      "type ContextPartsParts = (u8, u8);", "    ghost_: u8,", "reader: reader_,"]),
+    ("keys of one's own", "use std::collections::BTreeMap;\n"
+     "#[derive(PartialEq, Eq, PartialOrd, Ord, Readable, Writable)]\nstruct Key { a: u8, b: String }\n"
+     "#[derive(PartialEq, Eq, Hash, Readable, Writable)]\nenum Kind { A, B }\n"
+     + DERIVES + "struct Table(BTreeMap<Key, u8>);\n",
+     ["{ λ x y. part_then", "(unsigned_Decides x.a y.a)", "(bytes_decides (string_bytes x.b) (string_bytes y.b)) };",
+      "contracts.messages.Kind.{the_type};", "unit_cases_tell the_type tt told", "          | Kind.B ↦ refl"]),
+    ("a module, and what is no type", "mod inner { use speedy::*;\n" + DERIVES + "pub enum A { B, C(u8) } }\n",
+     ["mod inner {", "ghost use Rattle.my_crate.specs.declared.messages.inner.A.{A};"]),
     ("constants of each kind", DERIVES + "struct A(" + ", ".join(
         f"#[speedy(constant_prefix = {it})] ()" for it in ("'é'", "-1_i8", "true", "b'x'", "7u8")) + ");\n",
      ["{ 195 ∷ 169 ∷ [] }", "{ 255 ∷ [] }", "{ 1 ∷ [] }", "{ 120 ∷ [] }", "{ 7 ∷ [] }"]),
@@ -215,6 +245,17 @@ struct Index<K, V> {
 
 # Each has a line of the source that is noted, words of the note, and lines of what is made.
 NOTED = [
+    ("a derive that the kit has not",
+     "#[derive(serde::Serialize, Readable, Writable)]\n#[serde(default)]\nstruct A(u8);\n", 2,
+     "`Serialize` of `A` is left out", ["#[derive(Drop)]\nstruct A(u8);"]),
+    ("a derive that a part has not", "#[derive(Default, Copy, Clone, Readable, Writable)]\nstruct A(String);\n", 3,
+     "`Default` of `A` is left out: in Rattle `String` has it not", ["#[derive(Clone, Drop)]\nstruct A("]),
+    ("a function", "fn f() { g(); }\nimpl A { fn g() {} }\n" + DERIVES + "struct A(u8);\n", 3, "an impl is left out",
+     ["struct A(u8);"]),
+    ("a field that a feature has", DERIVES + "struct A {\n    #[cfg(feature = \"b\")]\n    b: u8 }\n", 4, "cfg",
+     ["b: u8"]),
+    ("a type that derives neither", "struct B(u8);\n" + DERIVES + "struct A(u8);\n", 2, "derives neither",
+     ["struct A("]),
     ("a layout in memory", "\n#[repr(packed)]\n" + DERIVES + "struct A(u16);\n", 3, "left out", ["struct A(u16);"]),
     ("floats", "use std::collections::BTreeMap;\nconst HALF: f64 = 0.5;\ntype Real = f64;\n" + DERIVES
      + "struct A<T> {\n    one: f32,\n    all: Vec<f64>,\n    some: (Option<[Real; 2]>, BTreeMap<u8, f32>),\n"

@@ -1,31 +1,29 @@
 """The impls of an enum: it has the layout of its cases, each behind its tag, and is read and written case by case."""
+import attributes
 import expressions
+import keys
 import syntax
-from generics import Generics, impl_lines
-from layout import call, lines, pattern, pattern_braces
+from answers import answers
+from impls import Shape
+from parts import (NUMBERS, PartMaker, accesses_of_variant, built, number_of, read_arm, seen_of_parts,
+                   write_statements, written)
+from rattle import Block, Build, Call, Listed, Match, clause_lines, names_in, type_text
 from refusal import Refusal
-from scope import names_in, text
-from structs import (NUMBERS, Access, arm_lines, asked_of, built, clause_lines, fold, function_lines, layout_lines,
-                     least_function, lent_of, number_of, parts_of, read_head, seen_of_parts, split, taken_arm,
-                     type_node, write_head, written)
+from scope import member
+
+# Rattle has no enum of more variants.
+MOST_VARIANTS = 256
 
 
 class Case:
-    """A variant with its parts."""
+    """A variant with its parts. `path` says where it stands in the tree of the cases: `0` for left, `1` for right."""
 
-    def __init__(self, variant, parts, accesses, path):
+    def __init__(self, variant, taken, path):
         self.variant = variant
-        self.parts = parts
-        self.accesses = accesses
+        self.taken = taken
         self.path = path
-        self.tree = split(parts)
-        self.kind = None
-        if parts:
-            self.kind = fold(self.tree, lambda part: part.type, lambda its: syntax.Tuple(variant.line, tuple(its)))
-
-    def is_told(self):
-        """Whether the variant tells the types of its parts, so that a read of them need not."""
-        return not any(part.seen_alone for part in self.parts)
+        # The type of the parts, as reading and clauses name it.
+        self.parts_type = type_text(taken.type())
 
 
 def halved(items):
@@ -43,13 +41,13 @@ def leaves(tree):
     return [(side + path, leaf) for side, half in zip("01", tree) for path, leaf in leaves(half)]
 
 
-def tags_of(item, constants, of_variant):
+def tags_of(item, scope):
     """Sets the tag of each variant: as it is set, or as the discriminant says, or one more than the last."""
     used, following = {}, 0
     for variant in item.variants:
-        set_tag = of_variant(variant)
+        set_tag = attributes.of_variant(variant, scope.notes)
         value = set_tag if set_tag is not None else variant.discriminant
-        variant.tag = following if value is None else expressions.number(value, constants)
+        variant.tag = following if value is None else expressions.number(value, scope.constants)
         following = variant.tag + 1
         past = NUMBERS[item.tag_type][1]
         if not 0 <= variant.tag < past:
@@ -60,246 +58,161 @@ def tags_of(item, constants, of_variant):
         used[variant.tag] = variant.name
 
 
-def accesses_of(fields):
-    """How the fields of a variant are named: in a clause by their place, since clauses have words of their own."""
-    found = []
-    for place, field in enumerate(fields):
-        name = field.name or f"t{place}"
-        found.append(Access(name, f"t{place}", name, f"*{name}"))
-    return found
+class EnumShape(Shape):
+    """What the impls of an enum are made of. `place` is the path of the module that holds it."""
 
-
-class Shape:
-    """What the impls of an enum are made of."""
-
-    def __init__(self, item, scope, of_field):
-        self.item = item
-        self.scope = scope
-        self.cases, skipped = [], []
+    def __init__(self, item, scope, place):
+        self.place = place
+        self.cases = []
         for path, variant in leaves(halved(item.variants)):
-            accesses = accesses_of(variant.fields)
-            parts, left_out = parts_of(item, scope, variant.fields, accesses, of_field, f"{item.name}::{variant.name}")
-            self.cases.append(Case(variant, parts, accesses, path))
-            skipped += left_out
-        every = [part for case in self.cases for part in case.parts]
-        self.generics = Generics(item, scope, [part.type for part in every] + skipped)
-        self.asked = asked_of(item, scope, every, skipped)
-        self.self_type = item.name + self.generics.arguments()
-        for alias in [self.cases_name(), *(self.parts_name(case) for case in self.cases if not case.is_told())]:
-            if alias in scope.items or alias in scope.uses:
-                raise Refusal(item.line, f"the made module names the cases `{alias}`: give that item another name")
-        self.number = number_of(scope, item.tag_type, item.line)
-        self.cases_type = self.cases_name() + self.generics.used(used_by(self.cases))
-        self.parts_type = f"Prefixed<{self.number}, {self.self_type}>"
-        self.imports()
+            maker = PartMaker(item, scope, f"{item.name}::{variant.name}")
+            taken = maker.taken(variant.fields, accesses_of_variant(variant.fields, scope))
+            self.cases.append(Case(variant, taken, path))
+        super().__init__(item, scope, [case.taken for case in self.cases])
+        scope.least[item.name] = NUMBERS[item.tag_type][2]
+        for case in self.cases:
+            if not case.taken.is_told():
+                names = set().union(*(names_in(part.type) for part in case.taken.parts))
+                case.parts_type = self.alias(f"{item.name}{case.variant.name}Parts",
+                                             f"The parts of [`{item.name}::{case.variant.name}`].", case.taken.type(),
+                                             names)
+        self.number = type_text(number_of(scope, item.tag_type, item.line))
+        self.cases_type = self.alias(f"{item.name}Cases", f"The cases of [`{item.name}`], each with its tag.",
+                                     self.kinds_of(halved(self.cases)), self.names())
+        self.parts_type = f"{scope.need('speedy::prefixed', 'Prefixed')}<{self.number}, {self.self_type}>"
 
-    def cases_name(self):
-        """The alias of the tree of the cases."""
-        return f"{self.item.name}Cases"
-
-    def parts_name(self, case):
-        """The alias of the parts of a case."""
-        return f"{self.item.name}{case.variant.name}Parts"
-
-    def parts_of_case(self, case):
-        """The type of the parts of a case, by its alias where it has one."""
-        if case.is_told():
-            return case.kind
-        return syntax.Mention(case.variant.line, (self.parts_name(case) + self.generics.used(used_by([case])),))
-
-    def imports(self):
-        """Imports what cases are made of."""
-        line = self.item.line
-        names = ["CaseTree", "Cases"] + ["Either"] * (len(self.cases) > 1)
-        names += [name for name, has in (("Case", any(case.parts for case in self.cases)),
-                                         ("UnitCase", any(not case.parts for case in self.cases))) if has]
-        for name in names:
-            self.scope.need("speedy::cases", name, line)
-        self.scope.need("speedy::prefixed", "Prefixed", line)
-
-    def kinds(self, tree):
+    def kinds_of(self, tree):
         """A tree of cases as a type."""
         line = self.item.line
         if isinstance(tree, tuple):
-            return syntax.Named(line, ("Either",), tuple(self.kinds(it) for it in tree))
-        tag = syntax.Mention(line, (str(tree.variant.tag),))
-        if not tree.parts:
-            return syntax.Named(line, ("UnitCase",), (tag,))
-        return syntax.Named(line, ("Case",), (tag, self.parts_of_case(tree)))
+            return Listed(line, "Either", tuple(self.kinds_of(it) for it in tree), self.of_cases("Either"))
+        tag = str(tree.variant.tag)
+        if not tree.taken.parts:
+            return Listed(line, "UnitCase", (tag,), self.of_cases("UnitCase"))
+        return Listed(line, "Case", (tag, tree.parts_type), self.of_cases("Case"))
+
+    def of_cases(self, name):
+        """A name of the module of cases."""
+        return self.scope.need("speedy::cases", name)
+
+    def lines(self):
+        """The impls."""
+        found = self.cases_impl()
+        found += self.layout([f"    ghost seen = {{ {self.quoted(self.self_type, 'Cases', 'speedy::cases')}.seen }};"])
+        found += keys.add_enum(self, halved([it.name for it in self.item.variants]))
+        if self.item.readable:
+            found += self.read_impls()
+        if self.item.writable:
+            found += self.write_impls()
+        return found
+
+    def cases_impl(self):
+        """`impl Cases`, whose clauses name the variants by the module that holds the enum."""
+        quoted = self.quoted(self.cases_type, "CaseTree", "speedy::cases")
+        crate, *modules = self.place
+        path = ".".join(["Rattle", crate, "specs.declared", *modules, self.item.name])
+        return self.laying_out(self.of_cases("Cases"), [
+            f"    ghost use {path}.{{{self.item.name}}};", "", f"    ghost Seen = {{ {quoted}.Seen }};", "",
+            *self.seen(), "", f"    ghost choices = {{ {quoted}.choices }};"])
+
+    def seen(self):
+        """What is seen of an enum: what is of the parts of its case."""
+        for side in set("".join(case.path for case in self.cases)):
+            name = "inl" if side == "0" else "inr"
+            self.scope.ghost_paths.add(f"Rattle.std.proofs.Common.{name}")
+        found = ["    ghost seen = { λ it. elim it ["]
+        for case in self.cases:
+            names = "".join(f" {access.seen}" for access in case.taken.accesses)
+            before, tree, behind = self.injected(case)
+            head = f"| {self.item.name}.{case.variant.name}{names} ↦ {before}"
+            found += clause_lines(6, head, tree, behind)
+        return found + ["    ] };"]
+
+    def injected(self, case):
+        """What is seen of a case, at its place in the tree: a tuple of clauses, and what stands before and behind."""
+        quoted, tree = "", "tt"
+        if case.taken.parts:
+            quoted, tree = seen_of_parts(case.taken, case.parts_type, self.scope)
+        sides = ["inl" if side == "0" else "inr" for side in case.path]
+        if not sides:
+            return quoted, tree, ""
+        closed = 0 if not quoted and (isinstance(tree, list) or " " not in tree) else 1
+        before = "".join(f"{side} (" for side in sides[:-1]) + sides[-1] + (" (" if closed else " ")
+        return before + quoted, tree, ")" * (len(sides) - 1 + closed)
+
+    # The impls of reading.
+
+    def read_impls(self):
+        """`impl ReadCases` and `impl ReadFrom`."""
+        err, generics = self.scope.variant("Err"), self.generics
+        refused = self.scope.need("speedy::private", "error_invalid_enum_variant")
+        arms = [self.read_arm(case) for case in self.cases] + [("_", f"{err}({refused}())")]
+        found = self.reading("speedy::cases", "ReadCases",
+                             self.reader("read_case", "tag: usize, ", str(Match("tag", tuple(arms)))))
+        arguments = f"{self.number}, Self, {self.lent()}, {generics.context}, {generics.reader}"
+        return found + self.read_from(f"{self.of_cases('read_tagged')}::<{arguments}>(reader)")
+
+    def read_arm(self, case):
+        """An arm of it. An error is passed on by a `match`, as of a struct."""
+        variant, ok, err = case.variant, self.scope.variant("Ok"), self.scope.variant("Err")
+
+        def value():
+            return Call(ok, (built(f"{self.item.name}::{variant.name}", variant.shape, case.taken),))
+
+        if not case.taken.parts:
+            return str(variant.tag), value()
+        kind = "" if case.taken.is_told() else f"::<{case.parts_type}>"
+        pattern, made = read_arm(case.taken, value, self.scope)
+        arms = ((Call(ok, (pattern,)), made), (f"{err}(error)", f"{err}(error)"))
+        return str(variant.tag), Match(f"reader.read_value{kind}()", arms)
+
+    # The impls of writing.
+
+    def write_impls(self):
+        """`impl WriteCases` and `impl Writable`."""
+        generics = self.generics
+        tags = Match("self", tuple((self.pattern(case, True), str(case.variant.tag)) for case in self.cases))
+        arms = Match("self", tuple((self.pattern(case), self.write_value(case)) for case in self.cases))
+        found = self.writing("speedy::cases", "WriteCases", [f"    fn tag(&self) -> usize {{ {tags} }}", "",
+                                                             *self.writer("write_case", str(arms))])
+        arguments = f"{self.number}, Self, {generics.context}, {generics.writer}"
+        body = f"{self.of_cases('write_tagged')}::<{arguments}>(self, writer)"
+        return found + self.writing("speedy", "Writable", self.writer("write_to", body))
+
+    def write_value(self, case):
+        """What an arm of it does."""
+        if not case.taken.parts:
+            return f"{self.scope.variant('Ok')}(())"
+        return Block(write_statements(case.taken), f"writer.write_value({written(case.taken, self.scope)})")
+
+    def pattern(self, case, is_bare=False):
+        """The pattern of a variant, with its fields bound, or with none."""
+        variant, name = case.variant, f"{self.item.name}::{case.variant.name}"
+        if variant.shape == "unit":
+            return name
+        if is_bare and variant.shape == "tuple":
+            return f"{name}(..)" if variant.fields else f"{name}()"
+        if is_bare:
+            return Build(name, (), bool(variant.fields))
+        pairs = list(zip(variant.fields, case.taken.accesses))
+        if variant.shape == "tuple":
+            return Call(name, tuple("_" if it.options.skip else access.bound for it, access in pairs))
+        kept = tuple((member(it, 0), access.bound) for it, access in pairs if not it.options.skip)
+        return Build(name, kept, len(kept) < len(pairs))
 
 
-def used_by(cases):
-    """The names that the parts of cases name."""
-    return set().union(*(names_in(part.type) for case in cases for part in case.parts))
-
-
-def enum_lines(item, scope, of_field, of_variant, place):
-    """The aliases and the impls of an enum."""
+def enum_lines(item, scope, place):
+    """The impls of an enum."""
     if not item.variants:
         raise Refusal(item.line, f"`{item.name}` has no variant, and so no value that is read or written")
-    tags_of(item, scope.constants, of_variant)
-    shape = Shape(item, scope, of_field)
-    scope.least[item.name] = NUMBERS[item.tag_type][2]
-    found = []
-    for case in shape.cases:
-        if not case.is_told():
-            alias = text(shape.parts_of_case(case))
-            found += [f"/// The parts of [`{item.name}::{case.variant.name}`]."]
-            found += lines(type_node(case.kind), 0, f"type {alias} = ", ";") + [""]
-    found += [f"/// The cases of [`{item.name}`], each with its tag."]
-    found += lines(type_node(shape.kinds(halved(shape.cases))), 0, f"type {shape.cases_type} = ", ";") + [""]
-    found += with_import(cases_lines(shape), item, place)
-    found += [""] + layout_lines(shape, [f"    ghost seen = {{ ⟦<{shape.self_type} as Cases>⟧.seen }};"])
-    if item.readable:
-        found += [""] + read_lines(shape)
-    if item.writable:
-        found += [""] + write_lines(shape)
-    return found
-
-
-def with_import(found, item, place):
-    """`impl Cases` of an enum, whose clauses name its variants."""
+    if len(item.variants) > MOST_VARIANTS:
+        raise Refusal(item.line, f"Rattle has no enum of more than {MOST_VARIANTS} variants, and `{item.name}` has "
+                                 f"{len(item.variants)}: put some into an enum of their own")
     if place is None:
         raise Refusal(item.line, "clauses name an enum by the module that holds it: put this file into the folder of "
                                  "the crate, or say `--module my_crate::messages`")
-    at = next(place_of for place_of, line in enumerate(found) if line.endswith("{"))
-    path = ".".join(place + [item.name])
-    crate, _, rest = path.partition(".")
-    line = f"    ghost use Rattle.{crate}.specs.declared.{rest}.{{{item.name}}};"
-    return found[:at + 1] + [line, ""] + found[at + 1:]
-
-
-def cases_lines(shape):
-    """`impl Cases`."""
-    generics, quoted = shape.generics, f"⟦<{shape.cases_type} as CaseTree>⟧"
-    head = impl_lines(generics.of_impl(shape.asked, generics.laying_out()), "Cases", shape.self_type,
-                      generics.where_lines())
-    return head + [f"    ghost Seen = {{ {quoted}.Seen }};", "", *seen_lines(shape), "",
-                   f"    ghost choices = {{ {quoted}.choices }};", "}"]
-
-
-def seen_lines(shape):
-    """What is seen of an enum: what is of the parts of its case."""
-    for side in sorted(set("".join(case.path for case in shape.cases))):
-        shape.scope.sides.add("inl" if side == "0" else "inr")
-    found = ["    ghost seen = { λ it. elim it ["]
-    for case in shape.cases:
-        names = "".join(f" {access.seen}" for access in case.accesses)
-        before, tree, behind = injected(case)
-        found += clause_lines(6, f"| {shape.item.name}.{case.variant.name}{names} ↦ {before}", tree, behind)
-    return found + ["    ] };"]
-
-
-def injected(case):
-    """What is seen of a case, at its place in the tree: a tuple of clauses, and what stands before and behind it."""
-    quoted, tree = "", "tt"
-    if case.parts:
-        quoted, tree = seen_of_parts(case.tree, case.parts, text(case.kind))
-    sides = ["inl" if side == "0" else "inr" for side in case.path]
-    if not sides:
-        return quoted, tree, ""
-    closed = 0 if not quoted and (isinstance(tree, list) or " " not in tree) else 1
-    before = "".join(f"{side} (" for side in sides[:-1]) + sides[-1] + (" (" if closed else " ")
-    return before + quoted, tree, ")" * (len(sides) - 1 + closed)
-
-
-# The impls of reading.
-
-def read_lines(shape):
-    """`impl ReadCases` and `impl ReadFrom`."""
-    generics, scope, line = shape.generics, shape.scope, shape.item.line
-    for name in ("ReadCases", "read_tagged"):
-        scope.need("speedy::cases", name, line)
-    scope.need("speedy::private", "error_invalid_enum_variant", line)
-    head, trait = read_head(shape)
-    lent, front = lent_of(shape)
-    found = impl_lines(generics.of_impl(shape.asked, generics.reading(), front),
-                       f"ReadCases<{lent}, {generics.context}>", shape.self_type, generics.where_lines())
-    found += function_lines(f"fn read_case<{generics.reader}: LendingReader<{lent}, {generics.context}>>",
-                            f"tag: usize, reader: &mut {generics.reader}",
-                            f"Result<{shape.self_type}, {generics.context}::Error>")
-    found.append("        match tag {")
-    for case in shape.cases:
-        found += read_arm(shape, case)
-    found += ["            _ => Err(error_invalid_enum_variant()),", "        }", "    }", "}", ""]
-    body = f"        read_tagged::<{shape.number}, Self, {lent}, {generics.context}, {generics.reader}>(reader)"
-    return found + head + [body, "    }", ""] + least_lines(shape) + ["}"]
-
-
-def read_arm(shape, case):
-    """An arm of it. An error is passed on by a `match`, as of a struct."""
-    variant = case.variant
-
-    def value():
-        return call("Ok(", [built(f"{shape.item.name}::{variant.name}", variant.shape, variant.fields, case.accesses)])
-
-    if not case.parts:
-        return arm_lines(str(variant.tag), value())
-    kind = "" if case.is_told() else f"::<{text(shape.parts_of_case(case))}>"
-    arm = taken_arm(lambda bound: pattern("Ok(", [bound]), case, case.accesses, value, 16)
-    return [f"            {variant.tag} => match reader.read_value{kind}() {{", *arm,
-            "                Err(error) => Err(error),", "            },"]
-
-
-def least_lines(shape):
-    """The least size: that of the tag."""
-    return least_function(shape, [f"        {shape.scope.least[shape.item.name]}"])
-
-
-# The impls of writing.
-
-def write_lines(shape):
-    """`impl WriteCases` and `impl Writable`."""
-    generics = shape.generics
-    for name in ("WriteCases", "write_tagged"):
-        shape.scope.need("speedy::cases", name, shape.item.line)
-    head = write_head(shape)
-    found = impl_lines(generics.of_impl(shape.asked, generics.writing(), [f"{generics.context}: Context"]),
-                       f"WriteCases<{generics.context}>", shape.self_type, generics.where_lines())
-    found += ["    fn tag(&self) -> usize {", "        match self {"]
-    for case in shape.cases:
-        found += arm_lines(variant_pattern(shape.item, case, True), str(case.variant.tag))
-    found += ["        }", "    }", ""]
-    found += function_lines(f"fn write_case<{generics.writer}: Writer<{generics.context}>>",
-                            f"&self, writer: &mut {generics.writer}", f"Result<(), {generics.context}::Error>")
-    found.append("        match self {")
-    for case in shape.cases:
-        found += write_arm(shape, case)
-    found += ["        }", "    }", "}", ""]
-    body = f"        write_tagged::<{shape.number}, Self, {generics.context}, {generics.writer}>(self, writer)"
-    return found + head + [body, "    }", "}"]
-
-
-def write_arm(shape, case):
-    """An arm of it."""
-    bound = variant_pattern(shape.item, case)
-    if not case.parts:
-        return arm_lines(bound, "Ok(())")
-    before = []
-    for part in case.parts:
-        for name, kind, value in part.statements():
-            before += lines(value, 16, f"let {name}: {kind} = ", ";")
-            part.written = name
-            shape.scope.need("speedy", "Part", shape.item.line)
-            shape.scope.need("std::marker", "PhantomData", shape.item.line)
-    value = call("writer.write_value(", [written(shape, case.tree, case.parts)])
-    if not before:
-        return arm_lines(bound, value)
-    return lines(bound, 12, "", " => {") + before + lines(value, 16) + ["            }"]
-
-
-def variant_pattern(item, case, is_bare=False):
-    """The pattern of a variant, with its fields bound, or with none."""
-    variant, name = case.variant, f"{item.name}::{case.variant.name}"
-    if variant.shape == "unit":
-        return name
-    if is_bare:
-        empty = "" if not variant.fields else ".."
-        return f"{name}({empty})" if variant.shape == "tuple" else f"{name} {{ {empty} }}".replace("{  }", "{}")
-    bound = [access.bound if not field.options.skip else "_" for field, access in zip(variant.fields, case.accesses)]
-    if variant.shape == "tuple":
-        return pattern(f"{name}(", bound)
-    kept = [field.name for field in variant.fields if not field.options.skip]
-    if len(kept) < len(variant.fields):
-        kept.append("..")
-    return pattern_braces(name, kept) if kept else f"{name} {{}}"
+    tags_of(item, scope)
+    shape = EnumShape(item, scope, place)
+    found = shape.lines()
+    scope.answers.update(answers(shape, place))
+    return found

@@ -2,17 +2,29 @@
 import syntax
 from refusal import Refusal
 
-# How tightly a sign binds.
-STRENGTH = {"|": 1, "^": 2, "&": 3, "<<": 4, ">>": 4, "+": 5, "-": 5, "*": 6, "/": 6, "%": 6}
-CAST = 7
+# How tightly a sign binds. Comparisons stand in no row.
+COMPARED = ("==", "!=", "<", ">", "<=", ">=")
+STRENGTH = {"||": 1, "&&": 2, **dict.fromkeys(COMPARED, 3), "|": 4, "^": 5, "&": 6, "<<": 7, ">>": 7, "+": 8, "-": 8,
+            "*": 9, "/": 9, "%": 9}
+CAST = 10
+# So many signs may stand in one row.
+MOST_TERMS = 200
+# A number of more bits is past each type.
+MOST_BITS = 256
 
 
 def expression(parser, least=1):
     """An expression whose signs bind at least so tightly."""
+    with parser.deeper():
+        return row(parser, least)
+
+
+def row(parser, least):
+    """The same, within what counts how deep it stands."""
     if parser.is_mark("..") or parser.is_mark("..="):
         return syntax.Open(parser.advance().line)
     left = unary(parser)
-    while True:
+    for _ in range(MOST_TERMS):
         line = parser.line
         if parser.is_word("as"):
             parser.advance()
@@ -21,15 +33,16 @@ def expression(parser, least=1):
         sign = sign_here(parser)
         if sign is None or STRENGTH[sign] < least:
             return left
-        for _ in range(2 if sign == ">>" else 1):
+        for _ in range(len(sign) if sign[0] == ">" else 1):
             parser.advance()
         left = syntax.Binary(line, sign, left, expression(parser, STRENGTH[sign] + 1))
+    raise parser.refuse(f"an expression of more than {MOST_TERMS} parts is not taken: name its parts by constants")
 
 
 def sign_here(parser):
-    """The sign between two expressions that stands here."""
-    if parser.is_mark(">") and parser.ahead().text == ">":
-        return ">>"
+    """The sign between two expressions that stands here. A `>` is a token of its own."""
+    if parser.is_mark(">"):
+        return {">": ">>", "=": ">="}.get(parser.ahead().text, ">")
     token = parser.token
     return token.text if token.kind == "mark" and token.text in STRENGTH else None
 
@@ -39,23 +52,61 @@ def unary(parser):
     line = parser.line
     if parser.is_mark("-") or parser.is_mark("!"):
         sign = parser.advance().text
-        return syntax.Unary(line, sign, unary_cast_free(parser))
-    return unary_cast_free(parser)
+        with parser.deeper():
+            return syntax.Unary(line, sign, unary(parser))
+    if parser.is_mark("&") or parser.is_mark("*"):
+        parser.advance()
+        with parser.deeper():
+            return unary(parser)
+    found = single(parser)
+    while parser.take_mark("."):
+        found = inner(parser, found)
+    if parser.is_mark("[") or parser.is_mark("?"):
+        raise parser.refuse(f"`{parser.token.text}` is not taken here: write numbers, constants, earlier fields and "
+                            "their sums")
+    return found
 
 
-def unary_cast_free(parser):
-    """The part behind a sign."""
+def inner(parser, value):
+    """What stands behind a point: a field, or a call of a method."""
+    line = parser.line
+    if parser.token.kind == "integer":
+        return syntax.Inner(line, value, parser.advance().text)
+    name = parser.name("a field")
+    if not parser.is_mark("("):
+        return syntax.Inner(line, value, name)
+    return syntax.Apply(line, (name,), (value, *call_arguments(parser)), True)
+
+
+def call_arguments(parser):
+    """`(a, b)`."""
+    parser.expect("(")
+    found = []
+    while not parser.is_mark(")"):
+        found.append(expression(parser))
+        if not parser.take_mark(","):
+            break
+    parser.expect(")")
+    return tuple(found)
+
+
+def single(parser):
+    """A literal, a name, a call, a choice or an expression in brackets."""
     token, line = parser.token, parser.line
     if token.kind in ("integer", "float", "text", "bytes", "char", "byte"):
         return syntax.Literal(parser.advance())
-    if parser.is_mark("-") or parser.is_mark("!"):
-        return unary(parser)
     if parser.take_mark("("):
-        inner = expression(parser)
+        found = expression(parser)
         parser.expect(")")
-        return inner
+        return found
     if parser.take_mark("["):
-        return listed(parser, line)
+        return items(parser, line)
+    if parser.take_mark("{"):
+        found = expression(parser)
+        parser.expect("}")
+        return found
+    if parser.take_word("if"):
+        return choice(parser, line)
     if token.kind == "name" and token.text in ("true", "false"):
         return syntax.Literal(parser.advance())
     if token.kind == "name":
@@ -63,49 +114,79 @@ def unary_cast_free(parser):
     raise parser.refuse(f"here a value is missing, before `{token.text}`")
 
 
-def listed(parser, line):
+def choice(parser, line):
+    """What stands behind `if`."""
+    condition = expression(parser)
+    parser.expect("{")
+    yes = expression(parser)
+    parser.expect("}")
+    if not parser.take_word("else"):
+        raise parser.refuse("here `else` is missing: an `if` without it has no value")
+    if parser.take_word("if"):
+        with parser.deeper():
+            return syntax.Choice(line, condition, yes, choice(parser, line))
+    parser.expect("{")
+    no = expression(parser)
+    parser.expect("}")
+    return syntax.Choice(line, condition, yes, no)
+
+
+def items(parser, line):
     """What stands behind `[`."""
-    items = []
+    found = []
     while not parser.is_mark("]"):
-        items.append(expression(parser))
+        found.append(expression(parser))
         if parser.is_mark(";"):
             raise parser.refuse("`[a; n]` is not taken: write out the items")
         if not parser.take_mark(","):
             break
     parser.expect("]")
-    return syntax.Listed(line, tuple(items))
+    return syntax.Items(line, tuple(found))
 
 
 def mention(parser, line):
-    """A name, with its path."""
+    """A name with its path, or a call by it."""
     path = [parser.advance().text]
     while parser.take_mark("::"):
         path.append(parser.name("a constant"))
-    for mark, what in (("(", "a call"), ("!", "a macro"), ("{", "a struct"), (".", "a method or a field of a field"),
-                       ("[", "an item of a list"), ("?", "`?`")):
-        if parser.is_mark(mark):
-            raise parser.refuse(f"{what} is not taken here: write numbers, constants, earlier fields and their sums")
+    if parser.is_mark("("):
+        return syntax.Apply(line, tuple(path), call_arguments(parser))
+    if parser.is_mark("!"):
+        raise parser.refuse("a macro is not taken here: write numbers, constants, earlier fields and their sums")
     return syntax.Mention(line, tuple(path))
 
 
-def number(value, constants):
+def number(value, constants, seen=()):
     """The number that an expression stands for, by the constants of the file."""
     if isinstance(value, syntax.Literal) and value.token.kind in ("integer", "byte"):
         return value.token.value
     if isinstance(value, syntax.Mention) and value.path[-1] in constants and len(value.path) == 1:
-        return number(constants[value.path[0]], constants)
+        name = value.path[0]
+        if name in seen:
+            raise Refusal(value.line, f"the constant `{name}` is told by itself")
+        return number(constants[name], constants, (*seen, name))
     if isinstance(value, syntax.Unary) and value.sign == "-":
-        return -number(value.inner, constants)
+        return -number(value.inner, constants, seen)
     if isinstance(value, syntax.Cast):
-        return number(value.inner, constants)
-    if isinstance(value, syntax.Binary):
-        return binary_number(value, constants)
+        return cast_number(value, number(value.inner, constants, seen))
+    if isinstance(value, syntax.Binary) and value.sign not in COMPARED and value.sign not in ("&&", "||"):
+        return binary_number(value, *(number(it, constants, seen) for it in (value.left, value.right)))
     raise Refusal(value.line, "here stands no number that this file tells: write the number itself")
 
 
-def binary_number(value, constants):
+def cast_number(value, inner):
+    """`inner as target`, which keeps as many bits as the type has."""
+    name = value.target.path[-1] if isinstance(value.target, syntax.Named) else ""
+    sizes = {"size": 64} | {str(bits): bits for bits in (8, 16, 32, 64, 128)}
+    if name[:1] not in ("u", "i") or name[1:] not in sizes:
+        raise Refusal(value.line, "here stands no number that this file tells: write the number itself")
+    bits = sizes[name[1:]]
+    kept = inner % (1 << bits)
+    return kept - (1 << bits) if name[0] == "i" and kept >= 1 << (bits - 1) else kept
+
+
+def binary_number(value, left, right):
     """The number that a sum, a product or the like stands for."""
-    left, right = number(value.left, constants), number(value.right, constants)
     if value.sign in ("/", "%") and (right == 0 or left < 0 or right < 0):
         raise Refusal(value.line, "this division has no result that is told: write the number itself")
     if value.sign in ("<<", ">>") and not 0 <= right < 128:
@@ -114,7 +195,10 @@ def binary_number(value, constants):
                "/": lambda: left // right, "%": lambda: left % right, "<<": lambda: left << right,
                ">>": lambda: left >> right, "&": lambda: left & right, "|": lambda: left | right,
                "^": lambda: left ^ right}
-    return compute[value.sign]()
+    found = compute[value.sign]()
+    if found.bit_length() > MOST_BITS:
+        raise Refusal(value.line, "this number is past each type")
+    return found
 
 
 def written(value, of_type, names=lambda path: "::".join(path), outer=0):
@@ -125,7 +209,7 @@ def written(value, of_type, names=lambda path: "::".join(path), outer=0):
         return names(value.path)
     if isinstance(value, syntax.Unary):
         return value.sign + written(value.inner, of_type, names, CAST + 1)
-    if isinstance(value, syntax.Listed):
+    if isinstance(value, syntax.Items):
         return "[" + ", ".join(written(item, of_type, names) for item in value.items) + "]"
     if isinstance(value, syntax.Cast):
         text = written(value.inner, of_type, names, CAST) + " as " + of_type(value.target)
@@ -136,4 +220,4 @@ def written(value, of_type, names=lambda path: "::".join(path), outer=0):
         right = written(value.right, of_type, names, strength + 1)
         text = f"{left} {value.sign} {right}"
         return f"({text})" if outer > strength else text
-    raise Refusal(value.line, "`..` is no value here")
+    raise Refusal(value.line, "this expression is not taken in a constant: write out its value")

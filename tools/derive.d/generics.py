@@ -1,15 +1,72 @@
 """The parameters of a type, and what its impls ask of them."""
+import rattle
 import syntax
-from known import HASHED, HASHER, ITEM, ORDERED, PART
-from layout import WIDTH
+from known import HASHED, HASHER, ITEM, KNOWN, ORDERED, PART
+from names import Fresh
+from rattle import Foreign, Listed, Own, Variable, is_listed, names_in, type_text
 from refusal import Refusal
-from scope import names_in, text
+
+# What is asked of a parameter in a field that is skipped: to be let go, and a default.
+HELD, DEFAULTED = "held", "defaulted"
+
+
+# What types ask of the parameters in them.
+
+def asks(kind, scope, roles=(PART,)):
+    """What a type asks of each parameter in it: pairs of a name and what it has to be."""
+    if isinstance(kind, Variable):
+        return [(kind.name, role) for role in roles]
+    if isinstance(kind, syntax.Tuple):
+        return [it for part in kind.parts for it in asks(part, scope, roles)]
+    if isinstance(kind, (syntax.Array, syntax.Slice)):
+        return asks(kind.item, scope, (ITEM,) + keys_of(roles))
+    if isinstance(kind, syntax.Reference):
+        return asks(kind.target, scope, roles)
+    if not isinstance(kind, (Listed, Own, Foreign)):
+        return []
+    inner = scope.asked.get(kind.name, ()) if isinstance(kind, Own) else arguments_of(kind.name)
+    lifetimes = tuple(it.name for it in kind.arguments if isinstance(it, syntax.Lifetime)) \
+        if is_listed(kind, "CowSlice") else ()
+    found, types = [], [it for it in kind.arguments if not isinstance(it, (syntax.Lifetime, str))]
+    for place, argument in enumerate(types):
+        asked = inner[place] if place < len(inner) else (PART,)
+        found.extend(asks(argument, scope, tuple(asked) + keys_of(roles) + lifetimes))
+    return found
+
+
+def keys_of(roles):
+    """What is asked of the parts of a key, too."""
+    return tuple(role for role in roles if role in (ORDERED, HASHED))
+
+
+def arguments_of(name):
+    """What a listed type asks of its arguments."""
+    if name in ("CowSlice", "BoxedSlice", "SmallVec"):
+        return ((ITEM,),)
+    return next((known.arguments for known in KNOWN.values() if known.name == name), ())
+
+
+def asked_of(item, scope, parts, skipped):
+    """What is asked of each parameter, by its name. `skipped` has the types of fields that are skipped, each with the
+    parameters that need a default."""
+    found = {it.name: [] for it in item.parameters if it.kind == "type"}
+    asked = [it for part in parts for it in asks(part.type, scope)]
+    for kind, defaulted in skipped:
+        asked += [(name, HELD) for name in names_in(kind)] + [(name, DEFAULTED) for name in defaulted]
+    for name, role in asked:
+        if name in found and role not in found[name]:
+            found[name].append(role)
+    unused = [name for name, roles in found.items() if not roles]
+    if unused:
+        raise Refusal(item.line, f"the parameter `{unused[0]}` stands in no part: leave it out")
+    scope.asked[item.name] = tuple(tuple(found[it.name]) for it in item.parameters if it.kind == "type")
+    return found
 
 
 class Generics:
     """What a type is generic in."""
 
-    def __init__(self, item, scope, parts):
+    def __init__(self, item, scope, kinds):
         self.item = item
         self.scope = scope
         self.parameters = item.parameters
@@ -17,74 +74,70 @@ class Generics:
         if len(self.lifetimes) > 1 and item.readable:
             raise Refusal(item.line, f"`{item.name}` has {len(self.lifetimes)} lifetimes, and is read from one input: "
                                      "name one")
-        self.bounds = {it.name: [scope.bound(bound, item.parameters) for bound in it.bounds]
-                       for it in item.parameters}
-        self.wheres = [(self.subject(it), [scope.bound(bound, item.parameters) for bound in it.bounds])
-                       for it in item.wheres]
-        taken = {item.name} | {it.name for it in item.parameters} | set().union(*(names_in(it) for it in parts))
-        self.lent = self.fresh("L", taken)
-        self.context = self.fresh("C", taken)
-        self.reader = self.fresh("R", taken)
-        self.writer = self.fresh("W", taken)
+        self.bounds = {it.name: [scope.bound(bound) for bound in it.bounds] for it in item.parameters}
+        self.wheres = [(self.subject(it), [scope.bound(bound) for bound in it.bounds]) for it in item.wheres]
+        fresh = Fresh(scope.fresh.taken)
+        fresh.take(*set().union(*(names_in(it) for it in kinds)))
+        self.lent, self.context, self.reader, self.writer = (fresh.name(it) for it in "LCRW")
 
     def subject(self, where):
         """What a line of a `where` is about."""
         if isinstance(where.subject, syntax.Lifetime):
             return where.subject.name
-        return text(self.scope.convert(where.subject, self.item.parameters, True))
-
-    def fresh(self, wanted, taken):
-        """A name that the type does not use itself."""
-        name, count = wanted, 0
-        while name in taken or name in self.scope.items or name in self.scope.uses:
-            name, count = f"{wanted}{count}", count + 1
-        taken.add(name)
-        return name
+        return type_text(self.scope.convert(where.subject, self.item.parameters, True))
 
     # Lists of parameters and arguments.
+
+    def constant(self, parameter):
+        """A parameter that is a number."""
+        return f"const {parameter.name}: {type_text(self.scope.convert(parameter.constant_type))}"
 
     def declared(self):
         """The parameters as the type declares them."""
         found = []
         for it in self.parameters:
             if it.kind == "const":
-                found.append(f"const {it.name}: {text(self.scope.convert(it.constant_type))}")
+                found.append(self.constant(it))
                 continue
-            bounds = self.bounds[it.name]
-            bound = f": {' + '.join(bounds)}" if bounds else ""
-            default = f" = {text(self.scope.convert(it.default, self.parameters))}" if it.default else ""
+            bound = f": {' + '.join(self.bounds[it.name])}" if self.bounds[it.name] else ""
+            default = f" = {type_text(self.scope.convert(it.default, self.parameters))}" if it.default else ""
             found.append(it.name + bound + default)
-        return found
+        return rattle.listed(found)
 
-    def arguments(self):
-        """`<'a, T, N>`, or nothing."""
-        return f"<{', '.join(it.name for it in self.parameters)}>" if self.parameters else ""
+    def arguments(self, names=None):
+        """`<'a, T, N>`, or nothing; those of an alias that names some alone."""
+        return rattle.listed([it.name for it in self.parameters if names is None or it.name in names])
 
-    def used(self, names):
-        """The arguments of an alias that names these alone."""
-        found = [it.name for it in self.parameters if it.name in names]
-        return f"<{', '.join(found)}>" if found else ""
+    def of_alias(self, names):
+        """The parameters of an alias that names these alone."""
+        return rattle.listed([self.constant(it) if it.kind == "const" else it.name
+                              for it in self.parameters if it.name in names])
 
     def of_impl(self, asked, base, front=()):
         """The parameters of an impl: `base` says what each role asks, `front` stands behind the lifetimes."""
         found = [self.with_bounds(it.name, []) for it in self.parameters if it.kind == "lifetime"] + list(front)
         for it in self.parameters:
             if it.kind == "const":
-                found.append(f"const {it.name}: {text(self.scope.convert(it.constant_type))}")
+                found.append(self.constant(it))
             elif it.kind == "type":
-                found.append(self.with_bounds(it.name, bounds_of(asked.get(it.name, ()), base, self.need)))
+                found.append(self.with_bounds(it.name, self.bounds_of(asked.get(it.name, ()), base)))
         return found
 
-    def need(self, module, name):
-        """Imports what a bound names."""
-        self.scope.need(module, name, self.item.line)
+    def of_keys(self, bounds):
+        """The parameters of an impl that compares: with these bounds alone, and those of the declaration."""
+        found = [self.with_bounds(it.name, []) for it in self.parameters if it.kind == "lifetime"]
+        for it in self.parameters:
+            if it.kind == "const":
+                found.append(self.constant(it))
+            elif it.kind == "type":
+                found.append(self.with_bounds(it.name, bounds[it.name]))
+        return found
 
     def with_bounds(self, name, more):
         """A parameter with the bounds of its declaration and others."""
-        bounds = list(more)
-        covered = {"Eq": "SameKey", "PartialEq": "SameKey"}
+        bounds, key = list(more), self.scope.locals.get(("speedy", "SameKey"))
         for bound in self.bounds[name]:
-            if bound not in bounds and covered.get(bound) not in bounds:
+            if bound not in bounds and not (bound in ("Eq", "PartialEq") and key in bounds):
                 bounds.append(bound)
         return f"{name}: {' + '.join(bounds)}" if bounds else name
 
@@ -93,65 +146,42 @@ class Generics:
     def reading(self):
         """What bounds ask of parameters in reading: of a part, of an item, and whether a lifetime is asked for."""
         lent = f"&{self.lifetimes[0]} [u8]" if self.lifetimes else self.lent
-        return {PART: f"ReadFrom<{lent}, {self.context}>", ITEM: f"ReadMany<{lent}, {self.context}>",
-                HASHER: ("BuildHasher", "Default", "Drop"), "skip": ("Default", "Drop"), "outlives": True}
+        return {PART: ("ReadFrom", f"<{lent}, {self.context}>"), ITEM: ("ReadMany", f"<{lent}, {self.context}>"),
+                HASHER: ("BuildHasher", "Default", "Drop"), DEFAULTED: "Default", HELD: "Drop", "outlives": True}
 
     def writing(self):
         """What bounds ask of parameters in writing."""
-        return {PART: f"Writable<{self.context}>", ITEM: f"Writable<{self.context}>", HASHER: ("BuildHasher",)}
+        writable = ("Writable", f"<{self.context}>")
+        return {PART: writable, ITEM: writable, HASHER: ("BuildHasher",)}
 
     @staticmethod
     def laying_out():
         """What bounds ask of parameters in the layout."""
-        return {PART: "Layout", ITEM: "Layout", HASHER: ("BuildHasher",)}
+        return {PART: ("Layout", ""), ITEM: ("Layout", ""), HASHER: ("BuildHasher",)}
 
-    def where_lines(self):
-        """The lines of the `where`, for the declaration and each impl."""
-        if not self.wheres:
-            return []
-        return ["where"] + [f"    {subject}: {' + '.join(bounds)}," for subject, bounds in self.wheres]
+    def bounds_of(self, roles, base):
+        """The bounds of a parameter that has these roles."""
+        need, prelude = self.scope.need, self.scope.prelude
+        keys = [name for role, name in ((ORDERED, "Ord"), (HASHED, "Hash")) if role in roles]
+        found = []
+        if ITEM in roles or PART in roles:
+            trait, arguments = base[ITEM if ITEM in roles else PART]
+            if not (keys and trait == "Layout"):
+                found.append(need("speedy", trait) + arguments)
+        if keys:
+            found.append(need("speedy", "SameKey"))
+            found += [need("std::hash", it) if it == "Hash" else prelude(it) for it in keys]
+        if HASHER in roles:
+            found += [need("std::hash", it) if it == "BuildHasher" else prelude(it) for it in base[HASHER]]
+        if DEFAULTED in roles and base.get(DEFAULTED) and prelude("Default") not in found:
+            found.append(prelude("Default"))
+        if HELD in roles and base.get(HELD) and not (ITEM in roles or PART in roles or HASHER in roles):
+            found.append(prelude("Drop"))
+        if base.get("outlives"):
+            found.extend(sorted(role for role in roles if role.startswith("'")))
+        return found
 
-
-def bounds_of(roles, base, need):
-    """The bounds of a parameter that has these roles."""
-    keys = [name for role, name in ((ORDERED, "Ord"), (HASHED, "Hash")) if role in roles]
-    found = []
-    if ITEM in roles or PART in roles:
-        plain = base[ITEM if ITEM in roles else PART]
-        if not (keys and plain == "Layout"):
-            found.append(plain)
-    if keys:
-        need("speedy", "SameKey")
-        found.append("SameKey")
-        if "Hash" in keys:
-            need("std::hash", "Hash")
-        found.extend(keys)
-    if HASHER in roles:
-        need("std::hash", "BuildHasher")
-        found.extend(base[HASHER])
-    if "skip" in roles:
-        found.extend(it for it in base.get("skip", ()) if it not in found and not (it == "Drop" and found))
-    if base.get("outlives"):
-        found.extend(sorted(role for role in roles if role.startswith("'")))
-    if any("ReadMany" in it for it in found):
-        need("speedy", "ReadMany")
-    return found
-
-
-def impl_lines(parameters, trait, kind, wheres):
-    """The head of an impl, up to its `{`: on one line, or with the type on its own, or with a parameter a line."""
-    listed = f"<{', '.join(parameters)}>" if parameters else ""
-    behind = "" if wheres else " {"
-    ends = wheres + ["{"] if wheres else []
-    one = f"impl{listed} {trait} for {kind}{behind}" if trait else f"impl{listed} {kind}{behind}"
-    if len(one) <= WIDTH:
-        return [one] + ends
-    if trait is None:
-        return ["impl<"] + [f"    {it}," for it in parameters] + [f"> {kind}{behind}"] + ends
-    if len(f"impl{listed} {trait}") <= WIDTH:
-        return [f"impl{listed} {trait}", f"    for {kind}{behind}"] + ends
-    name, _, inner = trait[:-1].partition("<")
-    if inner and len(f"impl{listed} {name}<") <= WIDTH:
-        arguments = [f"    {it}," for it in inner.split(", ")]
-        return [f"impl{listed} {name}<", *arguments, f"> for {kind}{behind}"] + ends
-    return ["impl<"] + [f"    {it}," for it in parameters] + [f"> {trait} for {kind}{behind}"] + ends
+    def wheres_text(self):
+        """The `where`, for the declaration and each impl, or nothing."""
+        lines = ", ".join(f"{subject}: {' + '.join(bounds)}" for subject, bounds in self.wheres)
+        return f" where {lines}" if lines else ""

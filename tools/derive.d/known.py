@@ -66,6 +66,11 @@ BOUNDS = {
     "std::clone::Clone": ("Clone", None), "std::hash::BuildHasher": ("BuildHasher", "std::hash"),
     "std::default::Default": ("Default", None),
 }
+# Where the names of the prelude stand.
+PRELUDE_MODULES = {"String": "std::string", "Vec": "std::vec", "Option": "std::option", "Result": "std::result",
+                   "Box": "std::boxed", "Drop": "std::ops", "Default": "std::default", "Clone": "std::clone",
+                   "Copy": "std::marker", "PartialEq": "std::cmp", "Eq": "std::cmp", "PartialOrd": "std::cmp",
+                   "Ord": "std::cmp"}
 PRELUDE_BOUNDS = {"Eq": "std::cmp::Eq", "PartialEq": "std::cmp::PartialEq", "Ord": "std::cmp::Ord",
                   "PartialOrd": "std::cmp::PartialOrd", "Copy": "std::marker::Copy",
                   "Default": "std::default::Default", "Clone": "std::clone::Clone"}

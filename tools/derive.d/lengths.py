@@ -3,42 +3,51 @@ from dataclasses import dataclass
 
 import expressions
 import syntax
-from arithmetic import BITS, TAKEN, Computed, Term, number
-from layout import GHOST_WIDTH, WIDTH, Node, binding, braces, call, flat, generic, lines, pattern, pattern_braces
+from arithmetic import TAKEN, UNSIGNED, Computed, Term, number
+from names import Fresh, camel, parameter
+from rattle import Build, Call, Let, Listed, is_listed, tuple_of, type_text
 from refusal import Refusal
-from scope import text
 
 OF_LENGTH = ("String", "Vec", "BoxedStr", "BoxedSlice", "CowStr", "CowSlice")
 # So many parts stand in one tuple.
 MOST_OTHERS = 6
+# The types of numbers that tell a length.
+HELD = tuple(UNSIGNED)
 MAPS = ("BTreeMap", "HashMap", "IndexMap", "BTreeSet", "HashSet", "IndexSet")
 
 
 @dataclass
 class Item:
-    """A part, and the field that it is of, or None where it is a constant before one."""
+    """A part, and the field that it is of, or None where it is a constant before one; its place among the values of
+    the fields, and its value."""
     part: object
     field: object = None
     access: object = None
+    place: int = 0
+    value: object = None
 
     def has_length(self):
         """Whether a length is told of it."""
         return self.field is not None and self.field.options.length is not None
 
+    def source(self):
+        """The name that an expression of the source has for it."""
+        return self.field.name or f"t{self.access.label}"
+
 
 def check_type(field, kind):
     """Refuses a length of what is no text and no list."""
-    name = kind.path[-1] if isinstance(kind, syntax.Named) else ""
-    lent = kind.target if isinstance(kind, syntax.Reference) else None
-    if name in MAPS:
+    if is_listed(kind, *MAPS):
         raise Refusal(field.line, "`length` is not taken of maps and sets: where a key came twice, fewer are left than "
                                   "the length says, and could not be written again. Set `length_type`, or take a `Vec`")
-    if name not in OF_LENGTH and not isinstance(lent, syntax.Slice) and (lent is None or text(lent) != "str"):
+    lent = kind.target if isinstance(kind, syntax.Reference) else None
+    if not is_listed(kind, *OF_LENGTH) and not isinstance(lent, syntax.Slice) and not is_listed(lent, "str"):
         raise Refusal(field.line, "`length` is taken of `String`, `Vec<T>`, `Box<str>`, `Box<[T]>`, `&str`, `&[u8]`, "
                                   "`Cow<str>` and `Cow<[T]>`")
 
 
-# What stands in one `WithLength` is a tree: of numbers, other parts, pairs, and what has a length.
+# What stands in one `WithLength` is a tree: of numbers, other parts, pairs, and what has a length. `taken` gives the
+# statements that take apart what was read, where it is bound to a name, and sets the values of the fields in it.
 
 class Number:
     """A number, which may tell lengths."""
@@ -49,13 +58,9 @@ class Number:
         self.bound = item.access.bound
         self.type = item.part.type
 
-    def written(self):
-        """What is written of it."""
-        return self.item.part.written if self.item.field.options.varint else self.item.access.value
-
     def stated(self):
         """The variables that it is written by, and what is written of it then."""
-        return [], self.written()
+        return [], self.item.part.written
 
     def seen(self, alone):
         """What is seen of it."""
@@ -67,51 +72,40 @@ class Number:
 
     def places(self, path):
         """Where the numbers stand, by their names."""
-        return {self.bound: (path, self.kind)}
+        return {self.item.source(): (path, self.kind, parameter(self.bound))}
 
     def pattern(self, used):
         """The pattern of the numbers, which names those that are used."""
-        return self.bound if self.bound in used else "_"
+        return parameter(self.bound) if self.item.source() in used else "_"
 
-    def taken(self, name, names, indent):
-        """The lines that take apart what was read, where it is bound to a name."""
-        self.item.access.read = name
+    def taken(self, name, names, values):
+        """No statement."""
+        values[self.item.place] = f"{name}.0" if self.item.field.options.varint else name
         return []
 
 
-class Other:
+class Others:
     """Parts that hold no number."""
 
-    def __init__(self, items, line):
+    def __init__(self, items, scope, line):
         self.items = items
         self.line = line
+        self.scope = scope
         self.bound = bound_of(items[0]) if len(items) == 1 else None
-        self.type = self.of(item.part.type for item in items)
-
-    def of(self, kinds):
-        """The type `Other` of these."""
-        kinds = tuple(kinds)
-        kind = kinds[0] if len(kinds) == 1 else syntax.Tuple(self.line, kinds)
-        return syntax.Named(self.line, ("Other",), (kind,))
-
-    def written(self):
-        """What is written of them."""
-        return self.node([item.part.node() for item in self.items])
-
-    def node(self, nodes):
-        """What is written of them, each of which is written as one of these."""
-        return call("Other(", nodes if len(nodes) == 1 else [call("(", nodes)])
+        kinds = tuple(item.part.type for item in items)
+        inner = kinds[0] if len(kinds) == 1 else syntax.Tuple(line, kinds)
+        self.type = Listed(line, "Other", (inner,), scope.need("speedy::lengths", "Other"))
 
     def stated(self):
         """The variables that they are written by, and what is written of them then."""
         for item in self.items:
-            if item.part.of_option:
+            if item.part.is_option:
                 raise Refusal(item.field.line, "an option with `length_type` that stands between a number and what has "
                                                "the length that it tells finds no proof: put this field into a struct "
                                                "of its own")
-        made = [item.part.statements() for item in self.items]
-        nodes = [it[-1][0] if it else item.part.node() for it, item in zip(made, self.items)]
-        return [statement for it in made for statement in it], self.node(nodes)
+        statements = [it for item in self.items for it in item.part.statements()]
+        written = [item.part.among(self.scope) for item in self.items]
+        return statements, Call(self.type.local, (tuple_of(written) if written else "()",))
 
     def seen(self, alone):
         """What is seen of them."""
@@ -129,14 +123,22 @@ class Other:
         """The pattern of no numbers."""
         return "_"
 
-    def taken(self, name, names, indent):
-        """The lines that take apart what was read, where it is bound to a name."""
-        for item in self.items:
-            if item.field is not None:
-                item.access.read = f"{name}.0" if self.bound else item.access.bound
-        if self.bound or not self.items:
+    def taken(self, name, names, values):
+        """A tuple is taken apart; an array is bound, since it is not moved out of a field."""
+        if not self.items:
             return []
-        return binding(pattern("(", [bound_of(item) for item in self.items]), f"{name}.0", indent)
+        found = [Let(tuple_of([bound_of(item) for item in self.items]), f"{name}.0")]
+        is_alone = len(self.items) == 1 and not isinstance(self.items[0].part.type, syntax.Array)
+        for item in self.items:
+            if item.field is not None and is_alone:
+                values[item.place] = renamed(item, f"{name}.0")
+        return [] if is_alone else found
+
+
+def renamed(item, name):
+    """The value of a field that is bound to another name than its own."""
+    value, bound = str(item.value), item.access.bound
+    return name + value[len(bound):] if value.startswith(bound) else item.value
 
 
 def bound_of(item):
@@ -161,14 +163,10 @@ class Pair:
         self.bound = None
         self.type = syntax.Tuple(first.type.line, (first.type, second.type))
 
-    def written(self):
-        """What is written of them."""
-        return call("(", [self.first.written(), self.second.written()])
-
     def stated(self):
         """The variables that they are written by, and what is written of them then."""
         (first, before), (second, behind) = self.first.stated(), self.second.stated()
-        return first + second, call("(", [before, behind])
+        return first + second, Call("", (before, behind))
 
     def seen(self, alone):
         """What is seen of them."""
@@ -176,7 +174,7 @@ class Pair:
 
     def numbers(self):
         """The type of the numbers that they hold."""
-        return generic("(", [self.first.numbers(), self.second.numbers()])
+        return f"({self.first.numbers()}, {self.second.numbers()})"
 
     def places(self, path):
         """Where the numbers stand, by their names."""
@@ -187,46 +185,32 @@ class Pair:
         first, second = self.first.pattern(used), self.second.pattern(used)
         return "_" if (first, second) == ("_", "_") else f"({first}, {second})"
 
-    def taken(self, name, names, indent):
-        """The lines that take apart what was read, where it is bound to a name."""
+    def taken(self, name, names, values):
+        """The two parts, each by its name."""
         first, second = (it.bound or names.fresh() for it in (self.first, self.second))
-        found = binding(f"({first}, {second})", name, indent)
-        return found + self.first.taken(first, names, indent) + self.second.taken(second, names, indent)
+        found = [Let(Call("", (first, second)), name)]
+        return found + self.first.taken(first, names, values) + self.second.taken(second, names, values)
 
 
 class Behind:
     """Parts, and behind them a text or a list of the length that their numbers tell, as the type `length` says."""
 
-    def __init__(self, before, item, length):
+    def __init__(self, before, item, length, scope):
         self.before = before
         self.item = item
+        self.scope = scope
         self.length = length
         self.bound = None
-        self.type = self.of(before.type, item.part.type)
-
-    def of(self, before, value):
-        """The type `WithLength` of these."""
-        line = self.item.field.line
-        return syntax.Named(line, ("WithLength",), (syntax.Named(line, (self.length,)), before, value))
-
-    def written(self):
-        """What is written of it, where its type is known. It is no call, as of `Prefixed`."""
-        return self.node(self.before.written())
-
-    def node(self, before):
-        """What is written of it, behind these parts."""
-        if isinstance(before, Node):
-            labelled = Node(f"before: {before.head}", before.items, before.tail, before.limit, before.pad, before.last)
-        else:
-            labelled = f"before: {before}"
-        return braces("WithLength", [labelled, f"value: {self.item.part.written}", "length: PhantomData"])
+        line, name = item.field.line, scope.need("speedy::lengths", "WithLength")
+        self.type = Listed(line, "WithLength", (Listed(line, length), before.type, item.part.type), name)
 
     def stated(self):
         """The variables that it is written by, each a name, a type and a value, and the name of the last."""
         found, before = self.before.stated()
-        name = self.item.access.bound
-        name += "_" * (name == "writer")
-        return found + [(name, f"WithLength<{self.length}, _, _>", self.node(before))], name
+        name, phantom = self.item.access.bound, self.scope.need("std::marker", "PhantomData")
+        value = self.item.part.among(self.scope)
+        made = Build(self.type.local, (("before", before), ("value", value), ("length", phantom)))
+        return found + [(name, f"{self.type.local}<{self.length}, _, _>", made)], name
 
     def seen(self, alone):
         """What is seen of it."""
@@ -244,34 +228,28 @@ class Behind:
         """The pattern of the numbers, which names those that are used."""
         return self.before.pattern(used)
 
-    def taken(self, name, names, indent):
-        """The lines that take apart what was read, where it is bound to a name."""
-        if isinstance(self.before, (Number, Other)):
+    def taken(self, name, names, values):
+        """The parts before it, and the value."""
+        bound = self.item.access.bound
+        if isinstance(self.before, Number) or (isinstance(self.before, Others) and not self.before.items):
             # A path to a field of a field is moved out of where no tuple is on it.
-            self.item.access.read = f"{name}.value"
-            return self.before.taken(f"{name}.before", names, indent)
-        value = self.item.access.read = self.item.access.bound
+            values[self.item.place] = renamed(self.item, f"{name}.value")
+            return self.before.taken(f"{name}.before", names, values)
+        values[self.item.place] = self.item.value
         before = names.fresh()
-        fields = [f"before: {before}" if before != "before" else before,
-                  f"value: {value}" if value != "value" else value, "length: _"]
-        found = lines(pattern_braces("WithLength", fields), indent, "let ", f" = {name};")
-        return found + self.before.taken(before, names, indent)
+        found = [Let(Build(self.type.local, (("before", before), ("value", bound), ("length", "_"))), name)]
+        return found + self.before.taken(before, names, values)
 
 
 class Names:
-    """Names that no field has."""
+    """Names that no field is bound to."""
 
     def __init__(self, taken):
-        self.taken = set(taken)
+        self.names = Fresh(taken)
 
     def fresh(self):
         """A new one."""
-        name, count = "before", 1
-        while name in self.taken:
-            count += 1
-            name = f"before{count}"
-        self.taken.add(name)
-        return name
+        return self.names.name("before")
 
 
 # Which fields are joined.
@@ -300,7 +278,7 @@ def spans_of(spans):
 
 def numbers_of(items, place, scope):
     """The places of the numbers that tell the length of an item."""
-    by_name = {item.access.bound: at for at, item in enumerate(items) if item.field is not None}
+    by_name = {item.source(): at for at, item in enumerate(items) if item.field is not None}
     found = set()
     for mention in mentions(items[place].field.options.length):
         name = "::".join(mention.path)
@@ -322,6 +300,12 @@ def mentions(value):
         return [value]
     if isinstance(value, syntax.Binary):
         return mentions(value.left) + mentions(value.right)
+    if isinstance(value, syntax.Choice):
+        return mentions(value.condition) + mentions(value.yes) + mentions(value.no)
+    if isinstance(value, syntax.Apply):
+        return [it for argument in value.arguments for it in mentions(argument)]
+    if isinstance(value, syntax.Inner):
+        return mentions(value.value)
     return mentions(value.inner) if isinstance(value, (syntax.Cast, syntax.Unary)) else []
 
 
@@ -329,95 +313,83 @@ def kind_of(item):
     """The type of a number, or None where an item is none."""
     if item.field is None:
         return None
-    kind = "u64" if item.field.options.varint else text(item.part.type)
-    return kind if kind in BITS else None
+    kind = "u64" if item.field.options.varint else type_text(item.part.type)
+    return kind if kind in HELD else None
 
 
 def tree(items, scope, owner):
     """The tree of some items, of which the last one has a length, with the types that say its lengths."""
     line = items[-1].field.line
-    for name in ("Length", "WithLength"):
-        scope.need("speedy::lengths", name, line)
     used = set().union(*(numbers_of(items, place, scope) for place, item in enumerate(items) if item.has_length()))
     found, others = None, []
     for place, item in enumerate(items):
         if place not in used and not item.has_length():
             others.append(item)
             continue
-        found, others = beside(found, others, line), []
+        found, others = beside(found, others, scope, line), []
         if item.has_length():
-            before = found or Other([], line)
-            found = Behind(before, item, length_type(item, before, scope, owner))
+            before = found or Others([], scope, line)
+            found = Behind(before, item, LengthType(item, before, scope, owner).name, scope)
         else:
             number_part = Number(item, kind_of(item))
             found = number_part if found is None else Pair(found, number_part)
-    if "Other<" in text(found.type):
-        scope.need("speedy::lengths", "Other", line)
     return found
 
 
-def beside(found, others, line):
+def beside(found, others, scope, line):
     """A tree, and behind it parts that hold no number."""
     for at in range(0, len(others), MOST_OTHERS):
-        found = Pair(found, Other(others[at:at + MOST_OTHERS], line))
+        found = Pair(found, Others(others[at:at + MOST_OTHERS], scope, line))
     return found
 
 
-# The type that says a length.
+class LengthType:
+    """The type that says a length: makes it beside the type that is made now."""
 
-def length_type(item, before, scope, owner):
-    """Makes it, and answers its name."""
-    field, bound = item.field, item.access.bound
-    name = owner.replace("::", "") + "".join(it.capitalize() for it in bound.split("_")) + "Length"
-    if name in scope.items or name in scope.uses:
-        raise Refusal(field.line, f"the made module names the length of this field `{name}`: give that item another "
-                                  "name")
-    variable = "n" if isinstance(before, Number) else "it"
-    places = before.places(variable)
+    def __init__(self, item, before, scope, owner):
+        self.scope = scope
+        self.item = item
+        self.before = before
+        self.label = item.access.label
+        wanted = owner.replace("::", "") + camel(item.field.name or item.access.bound) + "Length"
+        self.name = scope.fresh.name(wanted)
+        self.variable = "n" if isinstance(before, Number) else "it"
+        self.places = before.places(self.variable)
+        self.length = Computed(item.field.options.length, self.named, {it[2] for it in self.places.values()})
+        scope.ghosts |= {"codes"} | self.length.ghosts
+        scope.ghost_paths |= self.length.ghost_paths
+        scope.beside += [f"/// The length of [`{owner}::{self.label}`].", f"struct {self.name} {{}}", *self.lines()]
 
-    def named(mention):
+    def named(self, mention):
         """The term of a name."""
-        found = places.get("::".join(mention.path))
+        found = self.places.get("::".join(mention.path))
         if found is not None:
-            return Term(mention.path[0], found[0], found[1])
-        constant = scope.items[mention.path[0]]
-        kind = text(scope.of_constant(constant.type))
-        return number(mention.line, constant.name, expressions.number(constant.value, scope.constants), kind)
+            return Term(found[2], found[0], found[1])
+        constant = self.scope.items[mention.path[0]]
+        kind = type_text(self.scope.of_constant(constant.type))
+        return number(mention.line, constant.name, expressions.number(constant.value, self.scope.constants), kind)
 
-    length = Computed(field.options.length, named, places)
-    scope.ghosts |= {"codes"} | {f"◌{sign}◌" for sign in length.signs}
-    label = field.name or bound[1:]
-    used = {"::".join(it.path) for it in mentions(field.options.length)} & set(places)
-    scope.made_beside += ["", f"/// The length of [`{owner}::{label}`].", f"struct {name} {{}}", "",
-                          *impl_lines(name, before, length, variable, label, before.pattern(used), field.line)]
-    return name
-
-
-def impl_lines(name, before, length, variable, label, bound, line):
-    """`impl Length`."""
-    numbers, alias = before.numbers(), []
-    if len(f"    fn length({bound}: {flat(numbers)}) -> Option<usize> {{") > WIDTH:
-        alias = lines(numbers, 0, f"type {name}Numbers = ", ";") + [""]
-        numbers = f"{name}Numbers"
-    passed = f"{bound if bound != '_' else '_numbers'}: {flat(numbers)}"
-    head = [f"    fn length({passed}) -> Option<usize> {{"]
-    if len(head[0]) > WIDTH:
-        head = ["    fn length(", f"        {passed},", "    ) -> Option<usize> {"]
-    if len(head[0]) > WIDTH or len(passed) > WIDTH - 9:
-        raise Refusal(line, "too many fields stand between this one and those that tell its length: write the impls of "
-                            "this type by hand")
-    return [*alias, f"impl Length<{flat(numbers)}> for {name} {{",
-            *is_told_lines(variable, length), "",
-            f"    ghost told = {{ {function(variable, length.told)} }};", "",
-            f"    ghost field = {{ codes \"{label}\" }};", "",
-            *head, *(f"        {it}" for it in length.code), "    }", "",
-            "    fn field() -> &'static str {", f"        \"{label}\"", "    }", "}"]
+    def lines(self):
+        """`impl Length`."""
+        trait, option = self.scope.need("speedy::lengths", "Length"), self.scope.prelude("Option")
+        used = {"::".join(it.path) for it in mentions(self.item.field.options.length)}
+        pattern, numbers, alias = self.before.pattern(used), self.before.numbers(), []
+        if len(numbers) > 60:
+            alias = [f"type {self.scope.fresh.name(self.name + 'Numbers')} = {numbers};"]
+            numbers = alias[0].split()[1]
+        pattern = "_numbers" if pattern == "_" else pattern
+        body = " ".join(self.length.code)
+        return [*alias, f"impl {trait}<{numbers}> for {self.name} {{", *is_told_lines(self.variable, self.length), "",
+                f"    ghost told = {{ {function(self.variable, self.length.told)} }};", "",
+                f"    ghost field = {{ codes \"{self.label}\" }};", "",
+                f"    fn length({pattern}: {numbers}) -> {option}<usize> {{ {body} }}", "",
+                f"    fn field() -> &'static str {{ \"{self.label}\" }}", "}", ""]
 
 
 def is_told_lines(variable, length):
     """The clause under which there is a length, with a condition a line where they do not fit."""
     one = f"    ghost is_told = {{ {function(variable, length.is_told())} }};"
-    return [one] if len(one) <= GHOST_WIDTH else one.replace(" × ", "\n        × ").split("\n")
+    return [one] if len(one) <= 118 else one.replace(" × ", "\n        × ").split("\n")
 
 
 def function(variable, clause):

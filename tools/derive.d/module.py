@@ -1,18 +1,16 @@
 """Makes the module: the types as Rattle has them, and their impls."""
 import attributes
-import enums
 import expressions
-import structs
+import rattle
 import syntax
+from enums import enum_lines
 from generics import Generics
-from layout import CALL_WIDTH, WIDTH, generic, imports, lines
+from names import field_name
 from parse import parse
+from rattle import type_text
 from refusal import Refusal
-from scope import Scope, text
-
-
-# So wide may the fields of a variant be on one line.
-VARIANT_WIDTH = 35
+from scope import Scope
+from structs import struct_lines
 
 
 class Made:
@@ -20,215 +18,246 @@ class Made:
 
     def __init__(self, source, name, place):
         self.notes = []
-        self.place = place
-        file = parse(source)
-        self.scope = Scope(file)
-        self.scope.notes = self.notes
-        # What clauses import from `Prelude` and from `Common`, and the constants before fields.
-        self.scope.ghosts = set()
-        self.scope.sides = set()
-        self.scope.made_beside = []
+        try:
+            self.raw = self.made(parse(source), name, place)
+        except RecursionError as error:
+            raise Refusal(1, "a name of this file leads to others on and on: write out what it stands for") from error
+
+    def made(self, file, name, place):
+        """The text, as it is before it is laid out."""
+        made = f"Made from `{name}` by `tools/derive`: change that, and make this again."
+        docs = [f"//!{line}".rstrip() for line in file.docs]
+        # Proofs by hand, by their paths below the crate's folder.
+        self.answers = {}
+        # What clauses import: from `Prelude`, and by the paths of others. No module in the file imports it itself.
+        self.ghosts = set()
+        self.ghost_paths = set()
+        body = ModuleMaker(file, self, place).lines()
+        if not any(isinstance(item, (syntax.Declared, syntax.Module)) for item in file.items):
+            raise Refusal(1, "this file declares no type that derives `Readable` or `Writable`")
+        docs += ["//!"] if docs else []
+        return "\n".join([*docs, f"//! {made}", *self.ghost_lines(), *body]) + "\n"
+
+    def ghost_lines(self):
+        """The imports of clauses."""
+        by_module = {}
+        for path in sorted(self.ghost_paths | {f"Rattle.std.specs.Prelude.{name}" for name in self.ghosts}):
+            module, _, name = path.rpartition(".")
+            by_module.setdefault(module, []).append(name)
+        ordered = sorted(by_module.items(), key=lambda it: not it[0].endswith(".Prelude"))
+        return [f"ghost use {module}.{{{', '.join(some)}}};" for module, names in ordered
+                for some in in_lines(names, rattle.CLAUSE_WIDTH - len(module))]
+
+    @property
+    def text(self):
+        """The whole text, as the kit's formatter lays it out."""
+        found = rattle.formatted(self.raw)
+        if found is None:
+            raise Refusal(1, "what is made of this file is no module of Rattle: please report it, with this file")
+        return found
+
+
+class ModuleMaker:
+    """Makes the items of a file, or of a module in it, whose path `place` is. `made` has the notes and the answers."""
+
+    def __init__(self, file, made, place):
         self.file = file
-        self.sort_attributes()
-        self.refuse_cycles()
-        self.text = self.module(name)
+        self.made = made
+        self.notes = made.notes
+        self.place = place
+        self.notes.extend(file.notes)
+        self.scope = Scope(file, made)
+        for item in file.items:
+            if isinstance(item, syntax.Declared):
+                attributes.of_item(item, self.scope)
+        file.items = [item for item in file.items if self.is_made(item)]
+        self.scope.take_names()
+        self.ordered = in_order(file.items)
 
-    def sort_attributes(self):
-        """Reads the attributes of each item."""
-        for item in self.file.items:
-            if not isinstance(item, syntax.Declared):
-                continue
-            attributes.of_item(item, self.notes)
-            if not item.readable and not item.writable:
-                raise Refusal(item.line, f"`{item.name}` derives neither `Readable` nor `Writable`: declare it in a "
-                                         "`.rt` file by hand, and import it here")
+    def is_made(self, item):
+        """Whether an item is made. What is not stays in the source, with a note."""
+        if isinstance(item, syntax.Module):
+            is_test = any(it.name == "cfg" and any(token.text == "test" for token in it.tokens)
+                          for it in item.attributes)
+            if is_test or not has_types(item.file):
+                self.notes.append((item.line, f"the module `{item.name}` is left out of what is made"))
+                del self.scope.items[item.name]
+                return False
+        if isinstance(item, syntax.Declared) and not item.readable and not item.writable:
+            self.notes.append((item.line, f"`{item.name}` derives neither `Readable` nor `Writable`, and is left out "
+                                          "of what is made: it stays in this file"))
+            return False
+        return True
 
-    def refuse_cycles(self):
-        """Refuses types that hold themselves."""
-        held = {item.name: held_by(item) & set(self.scope.items) for item in self.file.items}
-        for item in self.file.items:
-            seen, waiting = set(), [item.name]
-            while waiting:
-                for name in held[waiting.pop()]:
-                    if name == item.name:
-                        raise Refusal(item.line, f"`{item.name}` holds itself, so its values need a bound on their "
-                                                 "depth: write its impls by hand, with `Levels`, as `Tree` has them")
-                    if name not in seen:
-                        seen.add(name)
-                        waiting.append(name)
-
-    def module(self, name):
-        """The whole text."""
-        ordered = self.in_order()
-        bodies = {id(item): self.item_lines(item) for item in ordered}
-        body = []
-        for item in self.file.items:
-            body += [""] + bodies[id(item)]
-        made = f"//! Made from `{name}` by `tools/derive`: change that, and make this again."
-        head = [f"//!{line}".rstrip() for line in self.file.docs]
-        head += ["//!", made] if head else [made]
-        ghosts = []
-        if self.scope.ghosts:
-            ghosts.append(f"ghost use Rattle.std.specs.Prelude.{{{', '.join(sorted(self.scope.ghosts))}}};")
-        if self.scope.sides:
-            ghosts.append(f"ghost use Rattle.std.proofs.Common.{{{', '.join(sorted(self.scope.sides))}}};")
-        head += ghosts + [""] if ghosts else []
-        return "\n".join(head + imports(self.scope.imports) + body) + "\n"
-
-    def in_order(self):
-        """The items, each behind those that it holds."""
-        found, ordered = set(), []
-
-        def visit(item):
-            if item.name in found:
-                return
-            found.add(item.name)
-            for name in sorted(held_by(item)):
-                if name in self.scope.items:
-                    visit(self.scope.items[name])
-            ordered.append(item)
-
-        for item in self.file.items:
-            visit(item)
-        return ordered
+    def lines(self):
+        """The imports and the items."""
+        made = {id(item): self.item_lines(item) for item in self.ordered}
+        head = []
+        for (visibility, module), names in self.scope.imports.items():
+            front = f"{module}::" if module else ""
+            head.append(f"{visibility}use {front}{{{', '.join(sorted(names))}}};")
+        return head + [""] + [line for item in self.file.items for line in made[id(item)]]
 
     def item_lines(self, item):
         """An item and its impls."""
+        if isinstance(item, syntax.Module):
+            place = None if self.place is None else [*self.place, item.name]
+            inner = ModuleMaker(item.file, self.made, place).lines()
+            head = [f"//!{line}".rstrip() for line in item.file.docs]
+            return [*docs(item), f"{item.visibility}mod {item.name} {{", *head, *inner, "}", ""]
         if isinstance(item, syntax.Constant):
-            kind = text(self.scope.of_constant(item.type))
-            value = expressions.written(item.value, text)
-            return docs(item, "") + [f"{item.visibility}const {item.name}: {kind} = {value};"]
+            kind = type_text(self.scope.of_constant(item.type))
+            value = expressions.written(item.value, self.of_cast)
+            return [*docs(item), f"{item.visibility}const {item.name}: {kind} = {value};", ""]
         if isinstance(item, syntax.Alias):
-            kind = self.scope.convert(item.type, (), True)
-            return docs(item, "") + lines(structs.type_node(kind), 0, f"{item.visibility}type {item.name} = ", ";")
-        self.scope.made_beside = []
+            kind = self.scope.convert(item.type, item.parameters, True)
+            head = f"{item.visibility}type {item.name}{rattle.listed([self.parameter(it) for it in item.parameters])}"
+            return [*docs(item), f"{head} = {type_text(kind)};", ""]
+        self.scope.beside = []
+        self.set_options(item)
+        declared = Declaration(item, self.scope, self.of_cast).lines()
         if isinstance(item, syntax.Enum):
-            made = enums.enum_lines(item, self.scope, attributes.of_field, attributes.of_variant, self.place)
+            made = enum_lines(item, self.scope, self.place)
         else:
-            made = structs.struct_lines(item, self.scope, attributes.of_field)
-        return declaration(item, self.scope) + self.scope.made_beside + [""] + made
+            made = struct_lines(item, self.scope)
+        return declared + [""] + self.scope.beside + made
+
+    def parameter(self, parameter):
+        """A parameter of an alias."""
+        if parameter.kind != "const":
+            return parameter.name
+        return f"const {parameter.name}: {type_text(self.scope.convert(parameter.constant_type))}"
+
+    def of_cast(self, kind):
+        """The type that a constant is cast to."""
+        return "isize" if names_of(kind) == {"isize"} else type_text(self.scope.of_constant(kind))
+
+    def set_options(self, item):
+        """Reads the attributes of the fields."""
+        variants = item.variants if isinstance(item, syntax.Enum) else [item]
+        for field in (field for variant in variants for field in variant.fields):
+            field.options = attributes.of_field(field, self.notes)
 
 
-def docs(item, indent):
+def in_lines(names, room):
+    """Names in lists that each have room on a line."""
+    found, length = [[]], 0
+    for name in names:
+        length += len(name) + 2
+        if length > room - len("ghost use .{};"):
+            found.append([])
+            length = len(name) + 2
+        found[-1].append(name)
+    return found
+
+
+def is_default(variant):
+    """Whether a variant is the default one."""
+    return any(it.name == "default" for it in variant.attributes)
+
+
+def in_order(items):
+    """The items, each behind those that it holds. Refuses types that hold themselves."""
+    by_name = {item.name: item for item in items}
+    ordered, open_names = {}, set()
+    for first in items:
+        waiting = [first] if first.name not in ordered else []
+        while waiting:
+            item = waiting[-1]
+            held = [by_name[it] for it in sorted(held_by(item)) if it in by_name and it not in ordered]
+            if item.name in ordered or not held:
+                waiting.pop()
+                ordered[item.name] = item
+                continue
+            open_names.add(item.name)
+            for it in held:
+                if it.name in open_names:
+                    raise Refusal(it.line, f"`{it.name}` holds itself, so its values need a bound on their depth: "
+                                           "write its impls by hand, with `Levels`, as `Tree` has them")
+            waiting.append(held[0])
+    return list(ordered.values())
+
+
+def has_types(file):
+    """Whether a module holds a type that derives one of the two, or a module that does."""
+    return any(has_types(item.file) if isinstance(item, syntax.Module)
+               else isinstance(item, syntax.Declared) and any(attributes.is_ours(it) for it in item.attributes)
+               for item in file.items)
+
+
+def docs(item):
     """The documentation of an item or a field."""
-    return [f"{indent}///{line}".rstrip() for line in item.docs]
+    return [f"///{line}".rstrip() for line in item.docs]
 
 
-def declaration(item, scope):
-    """A struct as Rattle has it."""
-    derives = list(item.derives)
-    if "Copy" not in derives:
-        derives.append("Drop")
-    found = docs(item, "") + lines(generic("#[derive(", derives), 0, "", "]") + item.kept
-    generics = Generics(item, scope, [])
-    declared, wheres = generics.declared(), generics.where_lines()
-    kind = "enum" if isinstance(item, syntax.Enum) else "struct"
-    head = generic(f"{item.visibility}{kind} {item.name}<", declared) if declared else \
-        f"{item.visibility}{kind} {item.name}"
-    if kind == "enum":
-        return found + enum_body(item, scope, head, wheres)
-    return found + shape_lines(item, scope, head, wheres)
+class Declaration:
+    """A struct or an enum as Rattle has it."""
 
+    def __init__(self, item, scope, of_cast):
+        self.item = item
+        self.scope = scope
+        self.of_cast = of_cast
+        self.derived = []
 
-def enum_body(item, scope, head, wheres):
-    """The head of an enum and its variants."""
-    found = lines(head, 0) + wheres + ["{"] if wheres else lines(head, 0, "", " {")
-    # Where one variant needs lines of its own, each of named fields has them.
-    wide = any(len(variant_lines(variant, scope, item, not is_narrow(variant, scope, item))) > 1
-               for variant in item.variants)
-    for variant in item.variants:
-        found += docs(variant, "    ") + variant_lines(variant, scope, item, wide)
-    return found + ["}"]
+    def lines(self):
+        """Its lines."""
+        item = self.item
+        generics = Generics(item, self.scope, [])
+        kind = "enum" if isinstance(item, syntax.Enum) else "struct"
+        head = f"{item.visibility}{kind} {item.name}{generics.declared()}"
+        wheres = generics.wheres_text()
+        self.derived = self.derives()
+        found = [*docs(item), f"#[derive({', '.join(self.derived)})]", *item.kept]
+        if kind == "enum":
+            return found + [f"{head}{wheres} {{", *(line for it in item.variants for line in self.variant(it)), "}"]
+        if item.shape == "named":
+            return found + [f"{head}{wheres} {{", *(line for it in item.fields for line in self.field(it)), "}"]
+        fields = [] if item.shape == "unit" else ["(", *(line for it in item.fields for line in self.field(it)), ")"]
+        return found + [head, *fields, f"{wheres};"]
 
+    def derives(self):
+        """The derives that the kit has for a type of these fields."""
+        item = self.item
+        variants = item.variants if isinstance(item, syntax.Enum) else [item]
+        if "Default" in item.derives and isinstance(item, syntax.Enum) and not any(is_default(it) for it in variants):
+            raise Refusal(item.line, f"`{item.name}` derives `Default`, and no variant has `#[default]`")
+        kept = self.scope.derives.keep(item, [self.field_type(it) for variant in variants for it in variant.fields])
+        return kept if "Copy" in kept else [*kept, "Drop"]
 
-def one_line(variant, scope, item):
-    """A variant of named fields on one line."""
-    fields = ", ".join(f"{it.name}: {text(field_type(it, scope, item))}" for it in variant.fields)
-    return f"{variant.name} {{ {fields} }}" if fields else f"{variant.name} {{}}"
+    def field_type(self, field):
+        """The type of a field."""
+        return self.scope.convert(field.type, self.item.parameters, not self.item.readable, field.options.skip)
 
+    def field(self, field):
+        """The lines of a field."""
+        name = f"{field_name(field.name)}: " if field.name else ""
+        return [*docs(field), f"{field.visibility}{name}{type_text(self.field_type(field))},"]
 
-def is_narrow(variant, scope, item):
-    """Whether the fields of a variant, if they have names, have room on one line."""
-    if variant.shape != "named":
-        return True
-    inner = one_line(variant, scope, item)[len(variant.name) + 3:-2]
-    return len(inner) <= VARIANT_WIDTH and not any(it.docs for it in variant.fields)
+    def variant(self, variant):
+        """The lines of a variant."""
+        inner = [line for it in variant.fields for line in self.field(it)]
+        opening, closing = {"unit": ("", ""), "named": (" {", "}"), "tuple": ("(", ")")}[variant.shape]
+        default = ["#[default]"] if "Default" in self.derived and is_default(variant) else []
+        return [*docs(variant), *default, f"{variant.name}{opening}", *inner, f"{closing}{self.discriminant(variant)},"]
 
-
-def discriminant(variant, item):
-    """The number of a variant as `as` gives it, where Rattle has it as Rust does."""
-    is_plain = all(it.shape == "unit" for it in item.variants) and not any(it.name == "repr" for it in item.attributes)
-    if variant.discriminant is None or not is_plain:
-        return ""
-    return " = " + expressions.written(variant.discriminant, text)
-
-
-def variant_lines(variant, scope, item, wide):
-    """A variant."""
-    if variant.shape == "unit":
-        return [f"    {variant.name}{discriminant(variant, item)},"]
-    if variant.shape == "named":
-        if not wide or not variant.fields:
-            return [f"    {one_line(variant, scope, item)},"]
-        inner = [line for field in variant.fields for line in field_lines(field, scope, item, 8)]
-        return [f"    {variant.name} {{", *inner, "    },"]
-    kinds = [structs.type_node(field_type(it, scope, item)) for it in variant.fields]
-    if not any(it.docs for it in variant.fields):
-        return lines(generic(f"{variant.name}(", kinds, True), 4, "", ",")
-    found = [f"    {variant.name}("]
-    for field, kind in zip(variant.fields, kinds):
-        found += docs(field, "        ") + lines(kind, 8, "", ",")
-    return found + ["    ),"]
-
-
-def shape_lines(item, scope, head, wheres):
-    """The head of a struct and its fields."""
-    if item.shape == "named":
-        opening = lines(head, 0) + wheres + ["{"] if wheres else lines(head, 0, "", " {")
-        if not item.fields and not wheres:
-            return lines(head, 0, "", " {}")
-        return opening + [line for field in item.fields for line in field_lines(field, scope, item)] + ["}"]
-    behind = "" if wheres else ";"
-    ends = [wheres[0], *wheres[1:-1], wheres[-1].rstrip(",") + ";"] if wheres else []
-    if item.shape == "unit":
-        return lines(head, 0, "", behind) + ends
-    return tuple_lines(item, scope, lines(head, 0), behind) + ends
-
-
-def tuple_lines(item, scope, head, behind):
-    """The fields of a tuple struct."""
-    kinds = [f"{field.visibility}{text(field_type(field, scope, item))}" for field in item.fields]
-    inner = ", ".join(kinds)
-    one = f"{head[-1]}({inner}){behind}"
-    is_short = len(one) <= WIDTH and len(inner) <= CALL_WIDTH
-    if is_short and not any(field.docs for field in item.fields):
-        return head[:-1] + [one]
-    found = head[:-1] + [head[-1] + "("]
-    for field in item.fields:
-        found += docs(field, "    ")
-        found += lines(structs.type_node(field_type(field, scope, item)), 4, field.visibility, ",")
-    return found + [")" + behind]
-
-
-def field_lines(field, scope, item, indent=4):
-    """A named field."""
-    return docs(field, " " * indent) + lines(structs.type_node(field_type(field, scope, item)), indent,
-                                             f"{field.visibility}{field.name}: ", ",")
-
-
-def field_type(field, scope, item):
-    """The type of a field."""
-    return scope.convert(field.type, item.parameters, not item.readable)
+    def discriminant(self, variant):
+        """The number of a variant as `as` gives it, where Rattle has it as Rust does."""
+        is_plain = all(it.shape == "unit" for it in self.item.variants) \
+            and not any(it.name == "repr" for it in self.item.attributes)
+        if variant.discriminant is None or not is_plain:
+            return ""
+        return " = " + expressions.written(variant.discriminant, self.of_cast)
 
 
 def held_by(item):
-    """The names of types that an item holds."""
+    """The names of types that an item holds. Of a field that is skipped none has to be made before."""
     if isinstance(item, syntax.Alias):
         return names_of(item.type)
     if isinstance(item, syntax.Struct):
-        return set().union(*(names_of(field.type) for field in item.fields))
+        return set().union(*(names_of(field.type) for field in item.fields if not attributes.is_skipped(field)))
     if isinstance(item, syntax.Enum):
-        return set().union(*(names_of(field.type) for variant in item.variants for field in variant.fields))
+        return set().union(*(names_of(field.type) for variant in item.variants for field in variant.fields
+                             if not attributes.is_skipped(field)))
     return set()
 
 

@@ -3,15 +3,33 @@ import expressions
 import syntax
 from refusal import Refusal
 from tokens import cut
+from words import KEYWORDS, OURS
 
-KEYWORDS = set("as break const continue crate else enum extern false fn for if impl in let loop match mod move mut "
-               "pub ref return self Self static struct super trait true type unsafe use where while async await dyn "
-               "abstract become box do final macro override priv try typeof unsized virtual yield gen".split())
-# What else a file may hold, and what to do with it.
+# What else a file may hold.
 OTHER_ITEMS = {
     "fn": "a function", "impl": "an impl", "trait": "a trait", "static": "a static", "mod": "a module",
-    "union": "a union", "extern": "an `extern`", "macro_rules": "a macro", "unsafe": "`unsafe`", "async": "`async`",
+    "union": "a union", "extern": "an `extern`", "macro_rules": "a macro", "unsafe": "`unsafe` code",
+    "async": "an `async` function", "macro": "a macro", "auto": "a trait",
 }
+
+
+# So deep may types, expressions and modules nest.
+MOST_DEEP = 60
+
+
+class Deeper:
+    """Counts how deep a parser stands, which has a limit."""
+
+    def __init__(self, parser):
+        self.parser = parser
+
+    def __enter__(self):
+        self.parser.depth += 1
+        if self.parser.depth > MOST_DEEP:
+            raise self.parser.refuse(f"this nests more than {MOST_DEEP} deep: declare types of its parts")
+
+    def __exit__(self, *_):
+        self.parser.depth -= 1
 
 
 class Parser:
@@ -20,6 +38,7 @@ class Parser:
     def __init__(self, tokens):
         self.tokens = tokens
         self.at = 0
+        self.depth = 0
 
     # Tokens.
 
@@ -54,7 +73,7 @@ class Parser:
 
     def is_word(self, text):
         """Whether this keyword stands here."""
-        return self.token.kind == "name" and self.token.text == text
+        return self.token.kind == "name" and self.token.text == text and self.token.suffix != "raw"
 
     def take_mark(self, text):
         """Takes this mark if it is here."""
@@ -76,8 +95,9 @@ class Parser:
             raise self.refuse(f"here `{text}` is missing, before `{self.token.text}`")
 
     def name(self, what):
-        """Takes a name that is no keyword."""
-        if self.token.kind != "name" or self.token.text in KEYWORDS:
+        """Takes a name that is no keyword, or a raw one."""
+        is_keyword = self.token.text in KEYWORDS - OURS and self.token.suffix != "raw"
+        if self.token.kind != "name" or is_keyword:
             raise self.refuse(f"here the name of {what} is missing, before `{self.token.text}`")
         return self.advance().text
 
@@ -85,66 +105,101 @@ class Parser:
 
     def file(self):
         """All of it."""
-        found = syntax.File([], [], [])
+        found = syntax.File()
         while self.token.kind != "end":
-            if self.token.kind == "inner_doc":
-                if found.uses or found.items:
-                    raise self.refuse("`//!` stands at the head of the file")
-                found.docs.append(self.advance().value)
-                continue
-            self.item(found)
+            self.item_or_docs(found)
         return found
 
+    def item_or_docs(self, found):
+        """One item, or documentation or an attribute of what holds the items."""
+        if self.token.kind == "inner_doc":
+            if found.uses or found.items:
+                raise self.refuse("`//!` stands at the head of the file")
+            found.docs.extend(self.advance().value)
+        elif self.is_mark("#") and self.ahead().text == "!":
+            line = self.advance().line
+            self.advance()
+            self.expect("[")
+            self.balanced("]")
+            self.expect("]")
+            found.notes.append((line, "this attribute of the file is left out"))
+        else:
+            self.item(found)
+
     def item(self, found):
-        """One item."""
-        if self.is_mark("#") and self.ahead().text == "!":
-            raise self.refuse("an attribute of the whole file is not taken: leave it out")
+        """One item. What is no type, constant, alias or import is passed by with a note."""
         docs, attributes = self.attributes()
         line, visibility = self.line, self.visibility()
         if self.is_word("use"):
-            self.no_docs(docs, attributes, "a `use`")
             found.uses.extend(self.use(line, visibility))
-        elif self.is_word("const"):
-            self.no_docs([], attributes, "a constant")
-            found.items.append(self.constant(line, docs, visibility))
+        elif self.is_word("const") and self.ahead().text not in ("fn", "unsafe", "_", "async", "extern"):
+            self.constant(found, line, docs, visibility)
         elif self.is_word("type"):
-            self.no_docs([], attributes, "an alias")
             found.items.append(self.alias(line, docs, visibility))
         elif self.is_word("struct"):
             found.items.append(self.struct(line, docs, attributes, visibility))
         elif self.is_word("enum"):
             found.items.append(self.enum(line, docs, attributes, visibility))
+        elif self.is_word("mod") and self.ahead(2).text == "{":
+            found.items.append(self.module(line, docs, attributes, visibility))
         else:
-            raise self.other_item()
+            self.other_item(found, line)
 
-    def no_docs(self, docs, attributes, what):
-        """Refuses what stands before an item that cannot have it."""
-        if attributes:
-            raise self.refuse(f"an attribute of {what} is not taken: leave it out", attributes[0].line)
-        if docs:
-            raise self.refuse(f"documentation of {what} is not taken: leave it out")
+    def module(self, line, docs, attributes, visibility):
+        """`mod name { .. }`."""
+        self.advance()
+        name = self.name("a module")
+        self.expect("{")
+        inner = syntax.File()
+        with self.deeper():
+            while not self.is_mark("}"):
+                if self.token.kind == "end":
+                    raise self.refuse("here `}` is missing")
+                self.item_or_docs(inner)
+        self.expect("}")
+        return syntax.Module(line, docs, attributes, visibility, name, inner)
 
-    def other_item(self):
-        """The error that the item here is not taken."""
+    def other_item(self, found, line):
+        """Passes by what is no type, with a note."""
         text = self.token.text
         if self.token.kind == "end":
-            return self.refuse("behind these attributes an item is missing")
-        if text == "macro_rules" or self.ahead().text == "!":
-            return self.refuse("a macro is not taken: write out what it makes")
-        if text in OTHER_ITEMS:
-            where = "a file of its own" if text == "mod" else "a `.rt` file by hand, beside the made one"
-            return self.refuse(f"{OTHER_ITEMS[text]} is not taken: put it into {where}")
-        return self.refuse(f"`{text}` begins no item")
+            raise self.refuse("behind these attributes an item is missing")
+        what = OTHER_ITEMS.get(text, "this constant" if text == "const" else None)
+        if self.ahead().text in ("!", "::"):
+            what = "a macro"
+        if what is None:
+            raise self.refuse(f"`{text}` begins no item")
+        self.skip_item()
+        found.notes.append((line, f"{what} is left out of what is made: it stays in this file"))
+
+    def skip_item(self):
+        """Takes the tokens of an item, up to its `;` or the end of its braces."""
+        pairs = {"(": ")", "[": "]", "{": "}"}
+        self.advance()
+        while not self.take_mark(";"):
+            if self.token.kind == "end" or self.is_mark("}"):
+                raise self.refuse("this item has no end")
+            opening = self.token.text if self.token.kind == "mark" else ""
+            self.advance()
+            if opening in pairs:
+                self.balanced(pairs[opening])
+                self.advance()
+                if opening == "{" and not self.is_mark(";"):
+                    return
+
+    def deeper(self):
+        """Counts how deep what is read nests, which has a limit."""
+        return Deeper(self)
 
     def visibility(self):
         """`pub`, `pub(crate)` and the like, with a blank behind it; or nothing."""
         if not self.take_word("pub"):
             return ""
-        if self.is_mark("(") and self.ahead().text in ("crate", "super", "self"):
+        if self.is_mark("(") and self.ahead().text in ("crate", "super", "self") and self.ahead(2).text == ")":
             self.advance()
             inner = self.advance().text
             self.expect(")")
-            return f"pub({inner}) "
+            return "" if inner == "self" else f"pub({inner}) "
         if self.is_mark("(") and self.ahead().text == "in":
             raise self.refuse("`pub(in ..)` is not taken: write `pub(crate)` or `pub(super)`")
         return "pub "
@@ -154,7 +209,7 @@ class Parser:
         docs, found = [], []
         while True:
             if self.token.kind == "doc":
-                docs.append(self.advance().value)
+                docs.extend(self.advance().value)
             elif self.token.kind == "inner_doc":
                 raise self.refuse("`//!` stands at the head of the file")
             elif self.is_mark("#"):
@@ -204,14 +259,15 @@ class Parser:
         """What a path brings, with all in its braces."""
         if self.take_mark("{"):
             found = []
-            while not self.is_mark("}"):
-                found.extend(self.use_tree(self.line, visibility, path))
-                if not self.take_mark(","):
-                    break
+            with self.deeper():
+                while not self.is_mark("}"):
+                    found.extend(self.use_tree(self.line, visibility, path))
+                    if not self.take_mark(","):
+                        break
             self.expect("}")
             return found
-        if self.is_mark("*"):
-            raise self.refuse("`*` is not taken: name what it brings")
+        if self.take_mark("*"):
+            return [syntax.Use(line, visibility, path, "*")]
         if self.token.kind != "name":
             raise self.refuse(f"here a name is missing, before `{self.token.text}`")
         part = self.advance().text
@@ -223,32 +279,37 @@ class Parser:
             return self.use_tree(line, visibility, part_path)
         name = part_path[-1]
         if self.take_word("as"):
-            name = self.name("an import")
-        return [syntax.Use(line, visibility, part_path, name)]
+            name = "_" if self.is_word("_") else None
+            name = self.advance().text if name else self.name("an import")
+        return [syntax.Use(line, visibility, part_path, name)] if name != "_" else []
 
-    def constant(self, line, docs, visibility):
-        """`const NAME: TYPE = VALUE;`."""
+    def constant(self, found, line, docs, visibility):
+        """`const NAME: TYPE = VALUE;`. One whose value is no sum of numbers is passed by with a note."""
         self.advance()
-        if self.is_word("fn"):
-            raise self.other_item()
         name = self.name("a constant")
         self.expect(":")
-        kind = self.type()
-        self.expect("=")
-        value = expressions.expression(self)
-        self.expect(";")
-        return syntax.Constant(line, docs, visibility, name, kind, value)
+        start = self.at
+        try:
+            kind = self.type()
+            self.expect("=")
+            value = expressions.expression(self)
+            self.expect(";")
+        except Refusal:
+            self.at = start
+            self.skip_item()
+            found.notes.append((line, f"the constant `{name}` is left out of what is made: it stays in this file"))
+            return
+        found.items.append(syntax.Constant(line, docs, visibility, name, kind, value))
 
     def alias(self, line, docs, visibility):
-        """`type NAME = TYPE;`."""
+        """`type NAME<..> = TYPE;`."""
         self.advance()
         name = self.name("an alias")
-        if self.is_mark("<"):
-            raise self.refuse("a generic alias is not taken: write out what it stands for")
+        parameters = self.parameters()
         self.expect("=")
         target = self.type()
         self.expect(";")
-        return syntax.Alias(line, docs, visibility, name, target)
+        return syntax.Alias(line, docs, visibility, name, target, parameters)
 
     def struct(self, line, docs, attributes, visibility):
         """A struct of any shape."""
@@ -398,6 +459,11 @@ class Parser:
 
     def type(self):
         """A type."""
+        with self.deeper():
+            return self.inner_type()
+
+    def inner_type(self):
+        """The same, within what counts how deep it stands."""
         line = self.line
         if self.is_mark("&") or self.is_mark("&&"):
             return self.reference()

@@ -48,10 +48,36 @@ class Cast:
 
 
 @dataclass(frozen=True)
-class Listed:
+class Items:
     """`[a, b, c]`."""
     line: int
     items: tuple
+
+
+@dataclass(frozen=True)
+class Apply:
+    """A call of a function by its path, or of a method, whose receiver is then the first of the arguments."""
+    line: int
+    name: tuple
+    arguments: tuple
+    is_method: bool = False
+
+
+@dataclass(frozen=True)
+class Inner:
+    """`value.name`."""
+    line: int
+    value: object
+    name: str
+
+
+@dataclass(frozen=True)
+class Choice:
+    """`if condition { yes } else { no }`."""
+    line: int
+    condition: object
+    yes: object
+    no: object
 
 
 @dataclass(frozen=True)
@@ -181,6 +207,8 @@ class Declared:
     parameters: list
     wheres: list
     derives: list = field(default_factory=list)
+    # Derives that are not of std, each with its line.
+    left_out: list = field(default_factory=list)
     kept: list = field(default_factory=list)
     readable: bool = False
     writable: bool = False
@@ -222,17 +250,30 @@ class Constant:
 
 @dataclass
 class Alias:
-    """`type NAME = TYPE;`."""
+    """`type NAME<..> = TYPE;`."""
     line: int
     docs: list
     visibility: str
     name: str
     type: object
+    parameters: list
+
+
+@dataclass
+class Module:
+    """`mod NAME { .. }`."""
+    line: int
+    docs: list
+    attributes: list
+    visibility: str
+    name: str
+    file: object
 
 
 @dataclass
 class File:
-    """A file of types."""
-    docs: list
-    uses: list
-    items: list
+    """The items of a file or of a module in it, and notes on what is passed by, each with its line."""
+    docs: list = field(default_factory=list)
+    uses: list = field(default_factory=list)
+    items: list = field(default_factory=list)
+    notes: list = field(default_factory=list)

@@ -1,5 +1,6 @@
 """Cuts the text of a Rust file into tokens, each with its line."""
 import re
+import unicodedata
 from dataclasses import dataclass
 
 from refusal import Refusal
@@ -8,6 +9,9 @@ from refusal import Refusal
 MARKS = ["..=", "...", "<<=", "::", "->", "=>", "==", "!=", "<=", "&&", "||", "..", "<<",
          "+=", "-=", "*=", "/=", "%=", "^=", "&=", "|="]
 NAME = re.compile(r"[A-Za-z_][A-Za-z0-9_]*")
+DIGITS = "0123456789"
+# A number of more digits is past each type.
+MOST_DIGITS = 130
 NUMBER = re.compile(r"0x[0-9a-fA-F_]+|0o[0-7_]+|0b[01_]+|[0-9][0-9_]*")
 FLOAT = re.compile(r"[0-9][0-9_]*(?:\.[0-9][0-9_]*(?:[eE][+-]?[0-9_]+)?|[eE][+-]?[0-9_]+)(?:f32|f64)?|"
                    r"[0-9][0-9_]*(?:f32|f64)")
@@ -29,7 +33,7 @@ class Cutter:
     """Goes through a text once."""
 
     def __init__(self, text):
-        self.text = text
+        self.text = text.removeprefix("\ufeff")
         self.at = 0
         self.line = 1
 
@@ -69,14 +73,14 @@ class Cutter:
         if RAW.match(self.text, self.at):
             return self.raw_text()
         if self.peek("r#"):
-            raise self.refuse("Rattle has no raw names, as `r#type`: give it another name")
+            return self.raw_name()
         if self.peek('b"') or sign == '"':
             return self.text_literal()
         if self.peek("b'"):
             return self.character(2)
         if sign == "'":
             return self.quote()
-        if sign.isdigit():
+        if sign in DIGITS:
             return self.number()
         return self.name_or_mark()
 
@@ -87,14 +91,14 @@ class Cutter:
             end = self.text.find("\n", self.at)
             text = self.take(len(self.text) if end < 0 else end).rstrip()
             if text.startswith("//!"):
-                return Token("inner_doc", text, line, text[3:])
+                return Token("inner_doc", text, line, [clean(text[3:])])
             if text.startswith("///") and not text.startswith("////"):
-                return Token("doc", text, line, text[3:])
+                return Token("doc", text, line, [clean(text[3:])])
             return None
         text = self.block_comment()
         for start, kind in (("/*!", "inner_doc"), ("/**", "doc")):
             if text.startswith(start) and not text.startswith("/***") and len(text) > 4:
-                raise Refusal(line, f"documentation in `{start} */` is not taken: write it as lines of `///` or `//!`")
+                return Token(kind, text, line, block_lines(text[3:-2]))
         return None
 
     def block_comment(self):
@@ -110,6 +114,15 @@ class Cutter:
                 depth, at = depth - 1, closed + 2
             if depth == 0:
                 return self.take(at)
+
+    def raw_name(self):
+        """A name that may be a keyword, as `r#type`."""
+        line = self.line
+        name = NAME.match(self.text, self.at + 2)
+        if not name:
+            raise self.refuse("behind `r#` a name is missing")
+        self.take(name.end())
+        return Token("name", name.group(), line, suffix="raw")
 
     def raw_text(self):
         """A text or byte string without escapes."""
@@ -169,7 +182,7 @@ class Cutter:
             if number > 0x10FFFF or 0xD800 <= number <= 0xDFFF:
                 raise self.refuse("this escape is no character")
             return chr(number)
-        skipped = re.compile(r"\\\n\s*").match(self.text, self.at)
+        skipped = re.compile(r"\\\r?\n\s*").match(self.text, self.at)
         if skipped and in_text:
             self.take(skipped.end())
             return ""
@@ -212,6 +225,8 @@ class Cutter:
         if suffix not in ("", "u8", "u16", "u32", "u64", "u128", "usize", "i8", "i16", "i32", "i64", "i128", "isize"):
             raise self.refuse(f"`{digits.group()}{suffix}` is no number")
         cleaned = digits.group().replace("_", "")
+        if len(cleaned) > MOST_DIGITS:
+            raise self.refuse("this number is past each type")
         if cleaned in ("0x", "0b", "0o"):
             raise self.refuse(f"`{digits.group()}` is no number")
         value = int(cleaned, 0) if cleaned[:2] in ("0x", "0b", "0o") else int(cleaned)
@@ -227,9 +242,28 @@ class Cutter:
             if self.peek(mark):
                 return Token("mark", self.take(self.at + len(mark)), line)
         sign = self.text[self.at]
+        if sign.isidentifier():
+            raise self.refuse("Rattle's names have ASCII letters alone: give this another name")
         if sign not in "#![](){}<>,;:=&|+-*/%^.?@$~":
             raise self.refuse(f"`{sign}` is no token of Rust")
         return Token("mark", self.take(self.at + 1), line)
+
+
+def clean(text):
+    """A line of documentation, with blanks for tabs and without what else no line holds."""
+    shown = (sign for sign in text.rstrip().expandtabs(4) if not unicodedata.category(sign) in ("Cc", "Cf", "Zl", "Zp"))
+    return "".join(shown).rstrip()
+
+
+def block_lines(text):
+    """The lines of documentation between `/**` and `*/`, without the stars before them."""
+    lines = [line.strip() for line in text.splitlines()]
+    found = [line[1:] if place and line.startswith("*") else f" {line}" for place, line in enumerate(lines)]
+    while found and not found[-1].strip():
+        found.pop()
+    while found and not found[0].strip():
+        found.pop(0)
+    return [clean(line) for line in found]
 
 
 def cut(text):

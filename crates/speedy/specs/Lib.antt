@@ -30,6 +30,7 @@ pub use Rattle.speedy_layout.specs.Frames
 pub use Rattle.speedy_layout.specs.GatheredLemmas
 pub use Rattle.speedy_layout.specs.Gathering
 pub use Rattle.speedy_layout.specs.Equality
+pub mod Keys
 pub use Rattle.speedy_layout.specs.Laws
 pub use Rattle.speedy_layout.specs.Leaves
 pub use Rattle.speedy_layout.specs.Lengths as LayoutLengths
