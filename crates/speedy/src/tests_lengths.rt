@@ -1,5 +1,5 @@
 //! Lists of a length that a number before them tells: bytes that come from outside.
-ghost use Rattle.std.specs.Prelude.{codes, ◌*◌, ◌<◌, ◌^◌};
+ghost use Rattle.std.specs.Prelude.{codes, ◌*◌, ◌<◌, ◌^◌, pos, ◌≤ℤ◌, unsigned_abs};
 
 use crate::asserting::{assert_bytes, assert_refused};
 use crate::context::BigEndian;
@@ -75,5 +75,45 @@ fn another_length_is_refused(rt: HostRuntime) {
     assert_refused(&rt, alloc, outcome, "OutOfRangeLength");
     let mut reader = BufferReader::new(alloc, BigEndian {}, &[0x80, 0]);
     let outcome = reader.read_value::<Items>();
+    assert_refused(&rt, alloc, outcome, "OutOfRangeLength");
+}
+
+/// The length of a text, which a signed number is.
+struct TextLength {}
+
+impl Length<i16> for TextLength {
+    ghost is_told = { λ n. pos 0 ≤ℤ n };
+
+    ghost told = { λ n. unsigned_abs n };
+
+    ghost field = { codes "text" };
+
+    fn length(count: i16) -> Option<usize> {
+        usize::try_from(count).ok()
+    }
+
+    fn field() -> &'static str {
+        "text"
+    }
+}
+
+type Text<'a> = WithLength<TextLength, i16, &'a str>;
+
+#[test]
+fn a_signed_number_tells_a_length_unless_it_is_below_zero(rt: HostRuntime) {
+    let alloc = rt.alloc();
+    let mut reader = BufferReader::new(alloc, BigEndian {}, &[0, 2, b'h', b'i']);
+    let read: Text = reader.read_value().expect(&rt, "a text");
+    assert!(rt; read.before == 2);
+    assert!(rt; read.value == "hi");
+    let mut reader = BufferReader::new(alloc, BigEndian {}, &[0xff, 0xfe, b'h', b'i']);
+    let outcome = reader.read_value::<Text>();
+    assert_refused(&rt, alloc, outcome, "OutOfRangeLength");
+    let below: Text = WithLength {
+        before: -2,
+        value: "hi",
+        length: PhantomData,
+    };
+    let outcome = below.write_to_vec_with_ctx(alloc, BigEndian {});
     assert_refused(&rt, alloc, outcome, "OutOfRangeLength");
 }

@@ -1,5 +1,5 @@
 //! Texts and lists of a length that the parts before them tell.
-ghost use Rattle.std.specs.Prelude.{◌≡◌, ℕ, List, SomeIff};
+ghost use Rattle.std.specs.Prelude.{◌≡◌, ℕ, ℤ, List, SomeIff};
 ghost use Rattle.speedy_layout.specs.Codecs.{Codec, pair_codec};
 ghost use Rattle.speedy_layout.specs.Lengths.{Counting, with_length_codec, list_counting, text_counting};
 ghost use Rattle.speedy_layout.specs.Lengths.{borrowed_counting};
@@ -209,6 +209,74 @@ impl Holds for usize {
 
     #[inline]
     fn numbers(&self) -> usize {
+        *self
+    }
+}
+
+impl Holds for i8 {
+    type Numbers = i8;
+
+    ghost Seen = { ℤ };
+
+    ghost seen = { λ n. n };
+
+    ghost layout = { ⟦<i8 as Layout>⟧.layout };
+
+    ghost numbers = { λ n. n };
+
+    #[inline]
+    fn numbers(&self) -> i8 {
+        *self
+    }
+}
+
+impl Holds for i16 {
+    type Numbers = i16;
+
+    ghost Seen = { ℤ };
+
+    ghost seen = { λ n. n };
+
+    ghost layout = { ⟦<i16 as Layout>⟧.layout };
+
+    ghost numbers = { λ n. n };
+
+    #[inline]
+    fn numbers(&self) -> i16 {
+        *self
+    }
+}
+
+impl Holds for i32 {
+    type Numbers = i32;
+
+    ghost Seen = { ℤ };
+
+    ghost seen = { λ n. n };
+
+    ghost layout = { ⟦<i32 as Layout>⟧.layout };
+
+    ghost numbers = { λ n. n };
+
+    #[inline]
+    fn numbers(&self) -> i32 {
+        *self
+    }
+}
+
+impl Holds for i64 {
+    type Numbers = i64;
+
+    ghost Seen = { ℤ };
+
+    ghost seen = { λ n. n };
+
+    ghost layout = { ⟦<i64 as Layout>⟧.layout };
+
+    ghost numbers = { λ n. n };
+
+    #[inline]
+    fn numbers(&self) -> i64 {
         *self
     }
 }

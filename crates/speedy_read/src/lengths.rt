@@ -213,6 +213,54 @@ impl<L: AsSlice<u8> + Drop, C: Context> ReadHolds<L, C> for usize {
     }
 }
 
+impl<L: AsSlice<u8> + Drop, C: Context> ReadHolds<L, C> for i8 {
+    #[inline]
+    fn read_parts<R: LendingReader<L, C>>(reader: &mut R) -> Result<i8, C::Error> {
+        reader.read_value()
+    }
+
+    #[inline]
+    fn least_size() -> usize {
+        1
+    }
+}
+
+impl<L: AsSlice<u8> + Drop, C: Context> ReadHolds<L, C> for i16 {
+    #[inline]
+    fn read_parts<R: LendingReader<L, C>>(reader: &mut R) -> Result<i16, C::Error> {
+        reader.read_value()
+    }
+
+    #[inline]
+    fn least_size() -> usize {
+        2
+    }
+}
+
+impl<L: AsSlice<u8> + Drop, C: Context> ReadHolds<L, C> for i32 {
+    #[inline]
+    fn read_parts<R: LendingReader<L, C>>(reader: &mut R) -> Result<i32, C::Error> {
+        reader.read_value()
+    }
+
+    #[inline]
+    fn least_size() -> usize {
+        4
+    }
+}
+
+impl<L: AsSlice<u8> + Drop, C: Context> ReadHolds<L, C> for i64 {
+    #[inline]
+    fn read_parts<R: LendingReader<L, C>>(reader: &mut R) -> Result<i64, C::Error> {
+        reader.read_value()
+    }
+
+    #[inline]
+    fn least_size() -> usize {
+        8
+    }
+}
+
 impl<L: AsSlice<u8> + Drop, C: Context, T: ReadFrom<L, C>> ReadHolds<L, C> for Other<T> {
     #[inline]
     fn read_parts<R: LendingReader<L, C>>(reader: &mut R) -> Result<Other<T>, C::Error> {

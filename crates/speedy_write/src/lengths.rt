@@ -192,6 +192,34 @@ impl<C: Context> WriteHolds<C> for usize {
     }
 }
 
+impl<C: Context> WriteHolds<C> for i8 {
+    #[inline]
+    fn write_parts<W: Writer<C>>(&self, writer: &mut W) -> Result<(), C::Error> {
+        writer.write_value(self)
+    }
+}
+
+impl<C: Context> WriteHolds<C> for i16 {
+    #[inline]
+    fn write_parts<W: Writer<C>>(&self, writer: &mut W) -> Result<(), C::Error> {
+        writer.write_value(self)
+    }
+}
+
+impl<C: Context> WriteHolds<C> for i32 {
+    #[inline]
+    fn write_parts<W: Writer<C>>(&self, writer: &mut W) -> Result<(), C::Error> {
+        writer.write_value(self)
+    }
+}
+
+impl<C: Context> WriteHolds<C> for i64 {
+    #[inline]
+    fn write_parts<W: Writer<C>>(&self, writer: &mut W) -> Result<(), C::Error> {
+        writer.write_value(self)
+    }
+}
+
 impl<C: Context, T: Writable<C>> WriteHolds<C> for Other<T> {
     #[inline]
     fn write_parts<W: Writer<C>>(&self, writer: &mut W) -> Result<(), C::Error> {

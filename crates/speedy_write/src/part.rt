@@ -1,5 +1,5 @@
 //! How parts are written: where they lie.
-use crate::lengths::WriteOfLength;
+use crate::lengths::{WriteHolds, WriteOfLength};
 use crate::prefixed::{WritePrefix, WriteTold};
 use crate::writable::Writable;
 use crate::writer::Writer;
@@ -29,5 +29,12 @@ impl<'t, C: Context, T: WriteOfLength<C>> WriteOfLength<C> for Part<'t, T> {
     #[inline]
     fn write_of_length<W: Writer<C>>(&self, writer: &mut W) -> Result<(), C::Error> {
         self.0.write_of_length(writer)
+    }
+}
+
+impl<'t, C: Context, T: WriteHolds<C>> WriteHolds<C> for Part<'t, T> {
+    #[inline]
+    fn write_parts<W: Writer<C>>(&self, writer: &mut W) -> Result<(), C::Error> {
+        self.0.write_parts(writer)
     }
 }
