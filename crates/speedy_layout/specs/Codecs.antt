@@ -13,3 +13,4 @@ pub use Rattle.speedy_layout.specs.Flags.{flag_codec, option_codec, alternative_
 pub use Rattle.speedy_layout.specs.Lists.{vector_codec, list_codec, prefixed_list_codec}
 pub use Rattle.speedy_layout.specs.Maps.{tree_map_codec, hash_map_codec, index_map_codec}
 pub use Rattle.speedy_layout.specs.Sets.{tree_set_codec, hash_set_codec, index_set_codec}
+pub use Rattle.speedy_layout.specs.Wholes.{WholeCodec, whole_codec, followed_codec}

@@ -6,7 +6,6 @@ use Rattle.std.proofs.lemmas.List.{length-append}
 use Rattle.speedy_base.specs.declared.error.ErrorKind.{ErrorKind}
 use Rattle.speedy_base.specs.declared.error.ErrorKind.TheVariants as kinds
 use Rattle.speedy_base.specs.Mode.{Mode}
-use Rattle.speedy_layout.specs.Codecs.{Codec}
 use Rattle.speedy_layout.specs.Codes.{Code, IsCode, coding, coding_laws}
 use Rattle.speedy_layout.specs.Format.{Asks, Format, IsOwnKind, Parts-joined}
 use Rattle.speedy_layout.specs.Laws.{Laws, Laws-less, Laws-refusing}
@@ -14,6 +13,7 @@ use Rattle.speedy_layout.specs.Numbers.{WritesSmaller}
 use Rattle.speedy_layout.specs.Prefixed.{Numbers, Behind}
 use Rattle.speedy_layout.specs.Sequences.{AsksAtMost, asks_nothing_more, counted_parts, sequence, sequence_laws}
 use Rattle.speedy_layout.specs.Texts.{raw_bytes, raw_bytes_laws}
+use Rattle.speedy_layout.specs.Wholes.{WholeLaws, WholeCodec}
 
 -- a number of bytes, which is encoded as a format of numbers says, and then the bytes
 abbrev pub prefixed_bytes : Format ℕ → Asks → Format (List ℕ)
@@ -96,11 +96,11 @@ written_frame asks laws smaller u w b d fewer h k =
     let second = other.2 in
     omega arith
 
-module _ {V : Type 0} {strict : Bool} {least more : ℕ} {number : Format ℕ} {F : Format V}
-    (numbers : Laws strict least number) (smaller : WritesSmaller number) (laws : Laws strict more F) where
+module _ {V : Type 0} {strict : Bool} {least : ℕ} {number : Format ℕ} {F : Format V}
+    (numbers : Laws strict least number) (smaller : WritesSmaller number) (laws : WholeLaws strict F) where
   pub frame_is_code : IsCode (frame_code F) (prefixed_bytes number (frame_asks F.asks))
   frame_is_code = record {
-    one_meaning = λ u v w h k. (laws.decodes v w u u [] [] h.0 k.0 refl).0;
+    one_meaning = λ u v w h k. laws.one_value v w u h.0 k.0;
     one_chosen = λ none u w v h k. laws.one_written (counted_unhashed number (frame_asks F.asks) none) v u w h.0 k.0;
     tells = λ _ decided v w s t h k. laws.tells v w h.code k.code h.stands.0 k.stands.0;
     chosen_means = λ u v h. (laws.written_encodes v u h.0, h.1);
@@ -121,14 +121,14 @@ module _ {V : Type 0} {strict : Bool} {least more : ℕ} {number : Format ℕ} {
         ];
   }
 
-refused_own : {V : Type 0} {strict : Bool} {least more : ℕ} {number : Format ℕ} {F : Format V}
-    → Laws strict least number → Laws strict more F → (kind : ErrorKind)
+refused_own : {V : Type 0} {strict : Bool} {least : ℕ} {number : Format ℕ} {F : Format V}
+    → Laws strict least number → WholeLaws strict F → (kind : ErrorKind)
     → number.refuses_writing kind ⊎ F.refuses_writing kind → IsOwnKind kind
 refused_own numbers laws kind (inl h) = numbers.refuses_own kind h
 refused_own numbers laws kind (inr h) = laws.refuses_own kind h
 
-pub frame_laws : {V : Type 0} (f : Mode) {least more : ℕ} {number : Format ℕ} {F : Format V}
-    → Laws f.strict least number → WritesSmaller number → Laws f.strict more F
+pub frame_laws : {V : Type 0} (f : Mode) {least : ℕ} {number : Format ℕ} {F : Format V}
+    → Laws f.strict least number → WritesSmaller number → WholeLaws f.strict F
     → Laws f.strict least (frame f number F)
 unfolding frame
 frame_laws f {number = number} {F = F} numbers smaller laws =
@@ -136,7 +136,7 @@ frame_laws f {number = number} {F = F} numbers smaller laws =
     (coding_laws f (prefixed_bytes_laws (frame_asks F.asks) numbers) (frame_is_code numbers smaller laws))
 
 -- a value behind the number of its bytes
-abbrev pub frame_behind : {V : Type 0} → Codec V → (numbers : Numbers) → Behind numbers V
+abbrev pub frame_behind : {V : Type 0} → WholeCodec V → (numbers : Numbers) → Behind numbers V
 frame_behind value numbers = record {
   format = λ f. frame f (numbers.codec.format f) (value.format f);
   laws = λ f. frame_laws f (numbers.codec.laws f) (numbers.smaller f) (value.laws f);

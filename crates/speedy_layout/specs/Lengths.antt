@@ -1,5 +1,5 @@
 -- Parts that tell the length of what stands behind them: of a text its number of bytes, of a list that of its items.
-use Rattle.std.specs.Prelude.{◌≡◌, ℕ, ◌+◌, List, Bool, ◌⊎◌, length, true, false}
+use Rattle.std.specs.Prelude.{◌≡◌, ℕ, ◌+◌, List, [], Bool, ◌⊎◌, length, true, false}
 use Rattle.std.proofs.Common.{ap, arith, inl, inr, sym, ◌∙◌}
 use Rattle.speedy_base.specs.Mode.{Mode}
 use Rattle.speedy_base.specs.declared.error.ErrorKind.{ErrorKind}
@@ -8,7 +8,7 @@ use Rattle.speedy_layout.specs.Codecs.{Codec, borrowed_codec, subset_codec, vect
 use Rattle.speedy_layout.specs.Codes.{coding, Accepts-exact_means}
 use Rattle.speedy_layout.specs.Format.{Asks, asks_nothing, Format, IsOwnKind}
 use Rattle.speedy_layout.specs.Laws.{Laws, Laws-less, Laws-refusing}
-use Rattle.speedy_layout.specs.Lists.{vector_asks, vector_length}
+use Rattle.speedy_layout.specs.Lists.{vector_asks, vector_ends, vector_length}
 use Rattle.speedy_layout.specs.Owned.{borrowed_content, owned_content}
 use Rattle.speedy_layout.specs.Sequences.{AsksAtMost, sequence, sequence_laws}
 use Rattle.speedy_layout.specs.Texts.{raw_bytes, text_of_length, text_of_length_laws, text_asks}
@@ -24,6 +24,9 @@ pub record Counting (V : Type 0) : Type 1 where
   pub within : (f : Mode) (n : ℕ) → AsksAtMost ((of_length n).format f).asks (asks f)
   -- values of another length are not among them
   pub is_count : (f : Mode) (n : ℕ) (v : V) (s : List ℕ) → ((of_length n).format f).encodes v s → count v ≡ n
+  -- bytes, of which there are some, are those of values of one length
+  pub ends : (f : Mode) (n m : ℕ) (v w : V) (s : List ℕ) → ((of_length n).format f).encodes v s
+      → ((of_length m).format f).encodes w s → (s ≡ [] → ⊥) → n ≡ m
 
 -- the refusal of another length than is told, which names the field
 abbrev pub IsOtherLength : List ℕ → ErrorKind → Type 0
@@ -69,6 +72,7 @@ list_counting item = record {
   asks = λ f. record (item.format f).asks { memory = true };
   within = λ f n. vector_asks (item.format f) n;
   is_count = λ f n v s h. vector_length n (item.format f) v s h;
+  ends = λ f n m v w s h k some. vector_ends (item.laws f) n m v w s h k some;
 }
 
 pub borrowed_asks : {V : Type 0} (F : Format V) {asks : Asks} → AsksAtMost F.asks asks
@@ -82,12 +86,25 @@ pub borrowed_count : {V : Type 0} (F : Format V) {count : V → ℕ} {n : ℕ}
 unfolding borrowed_content
 borrowed_count F h = h
 
+pub borrowed_ends : {V : Type 0} (F G : Format V) {n m : ℕ}
+    → ((v w : V) (s : List ℕ) → F.encodes v s → G.encodes w s → (s ≡ [] → ⊥) → n ≡ m)
+    → (v w : V) (s : List ℕ) → (borrowed_content F).encodes v s → (borrowed_content G).encodes w s → (s ≡ [] → ⊥)
+    → n ≡ m
+unfolding borrowed_content
+borrowed_ends F G h = h
+
 -- a text of n bytes has n
 pub text_length : (mode : Mode) (n : ℕ) (t s : List ℕ) → (text_of_length mode n).encodes t s → length t ≡ n
 unfolding text_of_length owned_content coding raw_bytes
 text_length mode n t s h =
     let is = Accepts-exact_means mode.strict _ _ _ _ h.stands in
     ap length (sym is.0 ∙ h.code_is.0) ∙ h.code_is.1
+
+-- and is all of them
+pub text_ends : (mode : Mode) (n m : ℕ) (t u s : List ℕ) → (text_of_length mode n).encodes t s
+    → (text_of_length mode m).encodes u s → n ≡ m
+unfolding text_of_length owned_content coding raw_bytes
+text_ends mode n m t u s h k = sym h.code_is.1 ∙ k.code_is.1
 
 -- texts of n bytes
 abbrev pub text_counting : Counting (List ℕ)
@@ -97,6 +114,7 @@ text_counting = record {
   asks = λ _. record asks_nothing { memory = true };
   within = text_asks;
   is_count = text_length;
+  ends = λ f n m v w s h k _. text_ends f n m v w s h k;
 }
 
 -- those that borrow their content
@@ -107,6 +125,8 @@ borrowed_counting counting = record {
   asks = λ f. record (counting.asks f) { lending = true; memory = false };
   within = λ f n. borrowed_asks ((counting.of_length n).format f) (counting.within f n);
   is_count = λ f n. borrowed_count ((counting.of_length n).format f) (λ v s. counting.is_count f n v s);
+  ends = λ f n m. borrowed_ends ((counting.of_length n).format f) ((counting.of_length m).format f)
+      (λ v w s. counting.ends f n m v w s);
 }
 
 -- ---- a value for which no length is told, and one of another length than is told, have no encoding

@@ -35,7 +35,9 @@ pub mod Zigzag
 pub mod Codecs
 pub mod Prefixed
 pub mod Choices
+pub mod Wholes
 pub mod Frames
 pub mod Lengths
+pub mod Rests
 pub mod Views
 pub mod ViewIters

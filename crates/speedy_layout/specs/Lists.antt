@@ -1,5 +1,6 @@
 -- Lists: n items one after the other, and counted lists.
-use Rattle.std.specs.Prelude.{◌≡◌, ℕ, zero, suc, ◌+◌, ◌*◌, ◌≤◌, List, [], ◌∷◌, ◌++◌, length, Bool, true, false, refl}
+use Rattle.std.specs.Prelude.{◌≡◌, ℕ, zero, suc, ◌+◌, ◌*◌, ◌≤◌, List, [], ◌∷◌, ◌++◌, length, Bool, true, false, ◌⊎◌}
+use Rattle.std.specs.Prelude.{refl}
 use Rattle.std.proofs.Common.{sym, ◌∙◌, ap, ap₂, subst, inl, inr, arith}
 use Rattle.std.proofs.lemmas.List.{append_assoc, append-nil, length-append}
 use Rattle.speedy_base.specs.Mode.{Mode}
@@ -62,6 +63,16 @@ pub each_as : {V : Type 0} {R S : V → List ℕ → Type 0} → ((v : V) (b : L
 each_as f [] b h = h
 each_as f (v ∷ vs) b h = Parts-as (f v) (λ s k. each_as f vs s k) h
 
+-- of two lists that make none, both are
+both_none : (s t : List ℕ) → s ++ t ≡ [] → (s ≡ []) × (t ≡ [])
+both_none [] t e = (refl, e)
+both_none (b ∷ s) t e = absurd (cc)
+
+-- there are bytes or none
+none_or_some : (b : List ℕ) → (b ≡ []) ⊎ (b ≡ [] → ⊥)
+none_or_some [] = inl refl
+none_or_some (x ∷ b) = inr (λ e. absurd (cc))
+
 module _ {V : Type 0} {strict : Bool} {least : ℕ} {F : Format V} (laws : Laws strict least F) where
   -- lists of one length decode item by item
   pub each_decodes : (vs ws : List V) (s t r q : List ℕ) → length vs ≡ length ws → Each F.encodes vs s
@@ -81,6 +92,33 @@ module _ {V : Type 0} {strict : Bool} {least : ℕ} {F : Format V} (laws : Laws 
         h.whole_is ∙ (let a = first.1 in let b = more.1 in (cc)) ∙ sym k.whole_is,
         more.2,
       )
+
+  -- where an item takes bytes, each does
+  none_empty : (v : V) (b : List ℕ) → F.encodes v b → (b ≡ [] → ⊥) → (vs : List V) → Each F.encodes vs [] → vs ≡ []
+  none_empty v b h some [] k = refl
+  none_empty v b h some (w ∷ ws) k =
+      let none = (both_none k.prefix k.suffix (sym k.whole_is)).0 in
+      let same =
+      laws.decodes w v k.prefix b b [] k.first_is h (ap (λ s. s ++ b) none ∙ sym (append-nil b)) in
+      absurd (some (sym same.1 ∙ none))
+
+  -- lists of the same bytes, of which there are some, have as many items
+  pub each_ends : (vs ws : List V) (b : List ℕ) → (b ≡ [] → ⊥) → Each F.encodes vs b → Each F.encodes ws b
+      → length vs ≡ length ws
+  each_ends [] ws b some h k = absurd (some h)
+  each_ends (v ∷ vs) [] b some h k = absurd (some k)
+  each_ends (v ∷ vs) (w ∷ ws) b some h k =
+      let first = laws.decodes v w h.prefix k.prefix h.suffix k.suffix h.first_is k.first_is
+      (sym h.whole_is ∙ k.whole_is) in
+      let tail = subst (Each F.encodes ws) (sym first.2) k.second_is in
+      elim (none_or_some h.suffix) [
+        | inl none ↦
+            let own : h.prefix ≡ [] → ⊥ = λ e. some (h.whole_is ∙ (ap (λ s. s ++ h.suffix) e ∙ none)) in
+            let left = none_empty v h.prefix h.first_is own vs (subst (Each F.encodes vs) none h.second_is) in
+            let right = none_empty v h.prefix h.first_is own ws (subst (Each F.encodes ws) none tail) in
+            ap (λ (x : List V). suc (length x)) (left ∙ sym right)
+        | inr more ↦ ap suc (each_ends vs ws h.suffix more h.second_is tail)
+      ]
 
   -- and whether they are the same is decided
   pub each_tells : (vs ws : List V) (s t : List ℕ) → Each F.encodes vs s → Each F.encodes ws t → Decided (vs ≡ ws)
@@ -193,3 +231,10 @@ pub vector_length : {V : Type 0} (n : ℕ) (F : Format V) (vs : List V) (bytes :
     → length vs ≡ n
 unfolding vector owned_content repeat
 vector_length n F vs bytes h = h.0
+
+-- and as many, where the bytes end with them and there are some
+pub vector_ends : {V : Type 0} {strict : Bool} {least : ℕ} {F : Format V} → Laws strict least F → (n m : ℕ)
+    (vs ws : List V) (bytes : List ℕ) → (vector n F).encodes vs bytes → (vector m F).encodes ws bytes
+    → (bytes ≡ [] → ⊥) → n ≡ m
+unfolding vector owned_content repeat
+vector_ends laws n m vs ws bytes h k some = sym h.0 ∙ (each_ends laws vs ws bytes some h.1 k.1 ∙ k.0)

@@ -65,11 +65,11 @@ asks_after h k = record {
   memory = λ t. k.memory (h.memory t);
 }
 
-neither : (a b : Bool) → (a || b) ≡ false → (a ≡ false) × (b ≡ false)
+pub neither : (a b : Bool) → (a || b) ≡ false → (a ≡ false) × (b ≡ false)
 neither true b h = absurd (cc)
 neither false b h = (refl, h)
 
-not_asked : (a b : Bool) → (IsTrue a → IsTrue b) → b ≡ false → a ≡ false
+pub not_asked : (a b : Bool) → (IsTrue a → IsTrue b) → b ≡ false → a ≡ false
 not_asked true b f h = absurd (let t = f refl in (cc))
 not_asked false b f h = refl
 

@@ -29,6 +29,7 @@ pub mod tuples;
 pub mod varint;
 pub mod view_items;
 pub mod views;
+pub mod whole;
 
 pub use codes::Encode;
 pub use floats::{F32, F64};
@@ -37,3 +38,4 @@ pub use same_key::SameKey;
 pub use varint::VarInt64;
 pub use view_items::{FixedSize, ViewItem, ZeroCopyable};
 pub use views::{ArrayView, SliceView};
+pub use whole::Whole;
