@@ -17,19 +17,20 @@ use Rattle.speedy_base.specs.Error.{error_of, is_eof_error, IsNamed, IsNamed-mor
 use Rattle.speedy_layout.specs.Codes.{coding, IsDemand, Accepts-is, Accepts-means}
 use Rattle.speedy_layout.specs.Format.{Format}
 use Rattle.speedy_layout.specs.Frames.{frame, frame_code, frame_asks, raw_asks, AreCounted}
-use Rattle.speedy_layout.specs.Laws.{Laws}
 use Rattle.speedy_layout.specs.Lists.{repeat, vector}
 use Rattle.speedy_layout.specs.Numbers.{unsigned_number}
 use Rattle.speedy_layout.specs.Owned.{owned_content}
 use Rattle.speedy_layout.specs.Sequences.{asks_right, asks_nothing_more, sequence}
 use Rattle.speedy_layout.specs.Texts.{raw_bytes, raw_bytes_laws, each_byte, each_byte_is}
+use Rattle.speedy_layout.specs.Wholes.{WholeLaws}
 use Rattle.speedy_read.specs.Buffers.{memory_state}
 use Rattle.speedy_read.specs.Counted.{counted_code_composes}
 use Rattle.speedy_read.specs.Codes.{Covers, got_covered, unaccepted}
-use Rattle.speedy_read.specs.Frames.{filling, Unfilled, Fills, FillsIfNoneLeft}
-use Rattle.speedy_read.specs.Reading.{ReaderState, Got, IsTold, refusing_kinds, Excused, Refused, Undecodable, Reads}
+use Rattle.speedy_read.specs.Frames.{filling, Unfilled, Fills, FillsUnlessEnd}
+use Rattle.speedy_read.specs.Reading.{ReaderState, Got, IsTold, refusing_kinds, IsEnd, Undecodable, Reads}
 use Rattle.speedy_read.specs.ReadingLemmas.{IsTold-part, Reads-passed, part_refused}
 use Rattle.speedy_read.specs.Sequences.{Composes}
+use Rattle.speedy_read.specs.Wholes.{NotWhole, ReadsWhole}
 
 -- the number of bytes is read, and then a value that fills these
 pub frame_composes : {V : Type 0} (f : Mode) (number : Format ℕ) (F : Format V)
@@ -58,70 +59,39 @@ bytes_cover_filling f F n = record {
   asks = asks_nothing_more;
 }
 
--- no call of a device fails in a read of bytes in memory, so what excuses it is want of memory
-memory_excused : {E : Type 0} (gives : Error → E → Type 0) (takes : Bool) (e : E) (old new : ReaderState)
-    → old.fixed.asks_memory ≡ false → old.faults ≡ no_faults → new.faults ≡ no_faults
-    → Excused gives takes e old new → gives (error_of kinds.OutOfMemory) e × IsTrue takes
-memory_excused gives takes e old new never before since (inl (h, inl t, _)) = (h, t)
-memory_excused gives takes e old new never before since (inl (h, inr t, _)) = absurd (true≢false (sym t ∙ never))
-memory_excused gives takes e old new never before since (inr fault) =
-    let a = ap (λ (f : Faults). f.count) before in
-    let b = ap (λ (f : Faults). f.count) since in
-    absurd (elim fault.0 [ inl more ↦ omega arith | inr most ↦ omega arith ])
-
 module _ {E V : Type 0} {gives : Error → E → Type 0} {eof : E → Bool} {F : Format V} {lends : Bool}
-    {targets after : List GName} {bytes rest : List ℕ} {f g : Mode} where
-  undecodable : {e : E} → Refused gives eof F e (memory_state lends targets bytes f) (memory_state lends after rest g)
-      → AreBytes bytes → AreCounted bytes → (IsTrue F.asks.lending → IsTrue lends) → (v : V)
-      → F.encodes v bytes → ⊥
-  undecodable refused are fit lent v h =
-      (refused.because (record { tells = refl; are_bytes = are; fit = fit; lends = lent })).no_prefix v bytes []
-      (sym (append-nil bytes)) h
-
-  -- a read from the bytes of a frame that is refused
-  refused_filling : (keeps_eof : (error : Error) (e : E) → gives error e → eof e ≡ is_eof_error error) (e x : E)
+    {targets : List GName} {bytes : List ℕ} {f : Mode} where
+  -- a refusal of the bytes of a frame, in which an end of them became a length that is wrong
+  unfilled_as : ((error : Error) (e : E) → gives error e → eof e ≡ is_eof_error error) → (e x : E)
       → ((x ≡ e) × (eof e ≡ false)) ⊎ (gives (error_of kinds.OutOfRangeLength) x × (eof e ≡ true))
-      → Excused gives F.asks.memory e (memory_state lends targets bytes f) (memory_state lends after rest g)
-      ⊎ Refused gives eof F e (memory_state lends targets bytes f) (memory_state lends after rest g)
+      → (gives (error_of kinds.OutOfMemory) e × IsTrue F.asks.memory)
+      ⊎ NotWhole gives eof F e (memory_state lends targets bytes f)
       → (gives (error_of kinds.OutOfMemory) x × IsTrue F.asks.memory) ⊎ Unfilled gives F lends x bytes
-  refused_filling keeps_eof e x (inl same) (inl excused) =
-      let want = memory_excused gives F.asks.memory e (memory_state lends targets bytes f)
-      (memory_state lends after rest g) refl refl refl excused in
+  unfilled_as keeps_eof e x (inl same) (inl want) =
       inl (subst (gives (error_of kinds.OutOfMemory)) (sym same.0) want.0, want.1)
-  refused_filling keeps_eof e x (inr ended) (inl excused) =
-      let want = memory_excused gives F.asks.memory e (memory_state lends targets bytes f)
-      (memory_state lends after rest g) refl refl refl excused in
-      absurd (true≢false (sym ended.1 ∙ keeps_eof _ e want.0))
-  refused_filling keeps_eof e x (inl same) (inr refused) = inr (record {
-    kind = elim refused.kind [
-      | inl ended ↦ absurd (true≢false (sym ended.1 ∙ same.1))
-      | inr named ↦ (named.0, inl named.1, subst (gives (error_of named.0)) (sym same.0) named.2)
-    ];
-    because = undecodable refused;
-  })
-  refused_filling keeps_eof e x (inr ended) (inr refused) =
-      inr (record { kind = (kinds.OutOfRangeLength, inr refl, ended.0); because = undecodable refused })
+  unfilled_as keeps_eof e x (inr ended) (inl want) = absurd (true≢false (sym ended.1 ∙ keeps_eof _ e want.0))
+  unfilled_as keeps_eof e x judged (inr refused) = inr (record {
+    kind = named judged refused.kind;
+    because = λ are fit lent.
+        refused.because (record { tells = refl; are_bytes = are; fit = fit; lends = lent });
+  }) where
+    named : ((x ≡ e) × (eof e ≡ false)) ⊎ (gives (error_of kinds.OutOfRangeLength) x × (eof e ≡ true))
+        → IsEnd gives eof false e
+        ⊎ IsNamed gives (λ kind. refusing_kinds F lends kind ⊎ (kind ≡ kinds.OutOfRangeLength)) e
+        → IsNamed gives (λ kind. refusing_kinds F lends kind ⊎ (kind ≡ kinds.OutOfRangeLength)) x
+    named (inr ended) _ = (kinds.OutOfRangeLength, inr refl, ended.0)
+    named (inl same) (inl end) = absurd (true≢false (sym end.1 ∙ same.1))
+    named (inl same) (inr kind) = (kind.0, kind.1, subst (gives (error_of kind.0)) (sym same.0) kind.2)
 
-  -- what is answered where none of the frame's bytes may be left
-  pub filled : {A : Type 0} {seen : A → V} {strict : Bool} {least : ℕ} → Laws strict least F
+  -- what is answered of the bytes of a frame
+  pub filled : {A : Type 0} {seen : A → V} {new : ReaderState}
       → ((error : Error) (e : E) → gives error e → eof e ≡ is_eof_error error) → AreCounted bytes
-      → (read result : Result A E) {left : ℕ} → left ≡ length rest → FillsIfNoneLeft gives eof read left result
-      → Reads gives eof seen F read (memory_state lends targets bytes f) (memory_state lends after rest g)
-      → Fills gives seen F lends result bytes
-  filled {seen = seen} laws keeps_eof fit (Ok x) (Ok y) is judged r =
-      let none : rest ≡ [] = nil_from_length rest (sym is ∙ judged.1) in
-      let prefix = r.answer.prefix in
-      let whole : bytes ≡ prefix = r.answer.taken refl ∙ (ap (λ s. prefix ++ s) none ∙ append-nil prefix) in
-      (rw (whole, judged.0) r.answer.prefix_is, fit)
-  filled {seen = seen} laws keeps_eof fit (Ok x) (Err e) is judged r = inr (record {
-    kind = (kinds.OutOfRangeLength, inr refl, judged.0);
-    because = λ are fit lent v h.
-        let same = laws.decodes v (seen x) bytes r.answer.prefix [] rest h r.answer.prefix_is
-        (append-nil bytes ∙ r.answer.taken refl) in
-        judged.1 (is ∙ sym (ap length same.2));
-  })
-  filled laws keeps_eof fit (Err e) (Ok y) is judged r = absurd judged
-  filled laws keeps_eof fit (Err e) (Err x) is judged r = refused_filling keeps_eof e x judged r.answer
+      → (read result : Result A E) → FillsUnlessEnd gives eof read result
+      → ReadsWhole gives eof seen F read (memory_state lends targets bytes f) new → Fills gives seen F lends result bytes
+  filled keeps_eof fit (Ok x) (Ok y) judged r = (rw judged r.answer, fit)
+  filled keeps_eof fit (Ok x) (Err e) judged r = absurd judged
+  filled keeps_eof fit (Err e) (Ok y) judged r = absurd judged
+  filled keeps_eof fit (Err e) (Err x) judged r = unfilled_as keeps_eof e x judged r.answer
 
 -- ---- a frame that is read
 
@@ -148,8 +118,8 @@ lends_too true outer same h = refl
 lends_too false outer same h = absurd (true≢false (sym h ∙ same refl))
 
 -- the bytes of the frame were read, and no value fills them
-unfilled_read : {E V : Type 0} {gives : Error → E → Type 0} {eof : E → Bool} (f : Mode) {F : Format V} {least : ℕ}
-    → Laws f.strict least F → (n : ℕ) {lends : Bool} {old new : ReaderState}
+unfilled_read : {E V : Type 0} {gives : Error → E → Type 0} {eof : E → Bool} (f : Mode) {F : Format V}
+    → WholeLaws f.strict F → (n : ℕ) {lends : Bool} {old new : ReaderState}
     → (lends ≡ false → old.fixed.lends ≡ false) → {e : E} {bytes : List ℕ} → Got ((raw_bytes n).encodes bytes) old new
     → Unfilled gives F lends e bytes → IsTold (filling f F n) old
     → Undecodable gives eof (filling f F n) e old.remaining
@@ -173,7 +143,7 @@ unfilled_read {gives = gives} {eof = eof} f {F = F} laws n {lends = lends} {old 
     record { no_prefix = un.no_prefix; too_short = un.too_short; malformed = un.malformed }
 
 module _ {E A B V : Type 0} {gives : Error → E → Type 0} {eof : E → Bool} {shown : A → List ℕ} {x : A} {seen : B → V}
-    (f : Mode) {F : Format V} {least : ℕ} (laws : Laws f.strict least F) (n : ℕ) {lends : Bool}
+    (f : Mode) {F : Format V} (laws : WholeLaws f.strict F) (n : ℕ) {lends : Bool}
     {old new : ReaderState} (same : lends ≡ false → old.fixed.lends ≡ false) where
   -- the bytes of the frame were read, and then a value that fills them or none
   pub filling_read : (result : Result B E) → Reads gives eof shown (raw_bytes n) (Ok x) old new
@@ -201,7 +171,7 @@ module _ {E A B V : Type 0} {gives : Error → E → Type 0} {eof : E → Bool} 
 
 -- a value is read from the bytes of a frame, under the context of the reader that they were read from
 pub frame_filled : {E A B V : Type 0} {gives : Error → E → Type 0} {eof : E → Bool} {shown : A → List ℕ} {x : A}
-    {seen : B → V} (F : Mode → Format V) {least : ℕ} → ((f : Mode) → Laws f.strict least (F f)) → (n : ℕ)
+    {seen : B → V} (F : Mode → Format V) → ((f : Mode) → WholeLaws f.strict (F f)) → (n : ℕ)
     {lends : Bool} {result : Result B E} {old mid new : ReaderState} {lent : Mode}
     → (lends ≡ false → old.fixed.lends ≡ false) → Reads gives eof shown (raw_bytes n) (Ok x) old mid
     → lent ≡ mid.mode → new ≡ mid → Fills gives seen (F lent) lends result (shown x)

@@ -23,3 +23,4 @@ pub mod UntilEndLemmas
 pub mod UntilEndLaws
 pub mod ConstantLemmas
 pub mod CaseLemmas
+pub mod WholeLemmas

@@ -7,6 +7,7 @@ use Rattle.speedy_layout.specs.Format.{Format}
 use Rattle.speedy_read.specs.Reading.{ReaderKind, ReaderState, Kept, KeptByPeek, Got, Refused, Reads, Peeks}
 use Rattle.speedy_read.specs.Reading.{LendsUntilUsed}
 use Rattle.speedy_read.specs.Buffers.{held_kind, held_state}
+use Rattle.speedy_read.specs.Wholes.{ReadsWhole}
 
 module _ (name : GName) {old new : ReaderState} where
   held_kept : Kept old new → Kept (held_state name old) (held_state name new)
@@ -110,6 +111,24 @@ module _ {name after : GName} {old new : ReaderState} where
             | inl x ↦ inl x
             | inr k ↦ inr (record {
               no_fault = k.no_fault;
+              kind = k.kind;
+              because = λ told. k.because
+                  (record { tells = told.tells; are_bytes = told.are_bytes; fit = told.fit; lends = told.lends });
+            })
+          ];
+    }
+
+    -- a value that has all of the bytes too
+    pub unheld_whole : {result : Result A E}
+        → ReadsWhole gives eof seen L result (held_state name old) (held_state after new)
+        → ReadsWhole gives eof seen L result old new
+    unheld_whole {result = Ok x} r = record { kept = unheld_kept r.kept; answer = r.answer }
+    unheld_whole {result = Err e} r = record {
+      kept = unheld_kept r.kept;
+      answer =
+          elim r.answer [
+            | inl x ↦ inl x
+            | inr k ↦ inr (record {
               kind = k.kind;
               because = λ told. k.because
                   (record { tells = told.tells; are_bytes = told.are_bytes; fit = told.fit; lends = told.lends });

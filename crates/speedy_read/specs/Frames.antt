@@ -1,5 +1,5 @@
 -- How a value is read that fills its frame.
-use Rattle.std.specs.Prelude.{◌≡◌, ◌≢◌, ℕ, List, Bool, true, false, IsTrue, ◌⊎◌}
+use Rattle.std.specs.Prelude.{◌≡◌, ℕ, List, Bool, true, false, IsTrue, ◌⊎◌}
 use Rattle.std.specs.Prelude.{Result, MatchResult}
 use Rattle.speedy_base.specs.declared.error.ErrorKind.TheVariants as kinds
 use Rattle.speedy_base.specs.declared.error.Error.{Error}
@@ -31,14 +31,11 @@ module _ {E : Type 0} (gives : Error → E → Type 0) where
       (λ x. F.encodes (seen x) bytes × AreCounted bytes)
       (λ e. (gives (error_of kinds.OutOfMemory) e × IsTrue F.asks.memory) ⊎ Unfilled F lends e bytes)
 
-  -- what is made of a read of which n bytes are left: an answer that left some, and an end of the frame's bytes,
-  -- are refused as a length
-  abbrev pub FillsIfNoneLeft : {A : Type 0} → (E → Bool) → Result A E → ℕ → Result A E → Type 0
-  FillsIfNoneLeft eof read left result =
+  -- what is made of a read of all bytes of a frame: an end of them is refused as a length
+  abbrev pub FillsUnlessEnd : {A : Type 0} → (E → Bool) → Result A E → Result A E → Type 0
+  FillsUnlessEnd eof read result =
       MatchResult read
-      (λ x. MatchResult result
-      (λ y. (y ≡ x) × (left ≡ 0))
-      (λ e. gives (error_of kinds.OutOfRangeLength) e × (left ≢ 0)))
+      (λ x. MatchResult result (λ y. y ≡ x) (λ _. ⊥))
       (λ e. MatchResult result
       (λ _. ⊥)
       (λ x. ((x ≡ e) × (eof e ≡ false)) ⊎ (gives (error_of kinds.OutOfRangeLength) x × (eof e ≡ true))))

@@ -17,3 +17,4 @@ pub mod RoundTrip
 pub mod Collections
 pub mod WaysOfReading
 pub mod UntilEnd
+pub mod Wholes

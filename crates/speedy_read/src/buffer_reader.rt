@@ -6,7 +6,9 @@ ghost use Rattle.speedy_read.specs.Lending.{readers_lifetime};
 ghost use Rattle.speedy_read.specs.Reading.{LendsBytes, LendsAll, LendsUntilUsed, ReadsInto, PeeksInto, Skips};
 ghost use Rattle.speedy_read.specs.contracts.buffer_reader.BufferReader.{the_row as reader_row};
 ghost use Rattle.speedy_read.specs.Buffers.{bytes_state};
+ghost use Rattle.speedy_read.specs.Wholes.{bytes_in_memory};
 
+use crate::memory_reader::MemoryReader;
 use crate::reader::{EndOfInput, LendingReader};
 use speedy_base::context::Context;
 use speedy_base::error::error_end_of_input;
@@ -182,4 +184,13 @@ impl<'a, C: Context> LendingReader<&'a [u8], C> for BufferReader<'a, C> {
     ghost mode_at = { λ r. refl };
 
     ghost state_with = { λ r c. refl };
+}
+
+impl<'a, C: Context> MemoryReader<&'a [u8], C> for BufferReader<'a, C> {
+    #[inline(always)]
+    fn left(&self) -> usize {
+        self.len()
+    }
+
+    ghost in_memory = { λ r. bytes_in_memory };
 }

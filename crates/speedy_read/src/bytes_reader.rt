@@ -7,7 +7,9 @@ ghost use Rattle.speedy_read.specs.Lending.{readers_lifetime, contexts_lifetime}
 ghost use Rattle.speedy_read.specs.Reading.{ReadsInto, PeeksInto, Skips, LendsBytes, LendsUntilUsed, LendsAll};
 ghost use Rattle.speedy_read.specs.contracts.bytes_reader.BytesReader.{the_row as reader_row};
 ghost use Rattle.speedy_read.specs.Buffers.{memory_state};
+ghost use Rattle.speedy_read.specs.Wholes.{bytes_in_memory};
 
+use crate::memory_reader::MemoryReader;
 use crate::reader::{EndOfInput, LendingReader};
 use speedy_base::context::Context;
 use speedy_base::error::error_end_of_input;
@@ -231,4 +233,14 @@ impl<'a, 'c, L: AsSlice<u8> + Drop, U: MayLend<'a, L>, C: Context> LendingReader
     ghost mode_at = { λ r. refl };
 
     ghost state_with = { λ r c. refl };
+}
+
+impl<'a, 'c, L: AsSlice<u8> + Drop, U: MayLend<'a, L>, C: Context> MemoryReader<L, C>
+    for BytesReader<'a, 'c, U, C> {
+    #[inline(always)]
+    fn left(&self) -> usize {
+        self.rest.len()
+    }
+
+    ghost in_memory = { λ r. bytes_in_memory };
 }

@@ -1,14 +1,14 @@
 //! How frames are read: the number of a value's bytes, and then the value from just these.
 ghost use Rattle.std.specs.Prelude.{◌≡◌, true, false};
-ghost use Rattle.speedy_read.specs.Frames.{filling, Fills, FillsIfNoneLeft};
+ghost use Rattle.speedy_read.specs.Frames.{filling, Fills, FillsUnlessEnd};
 ghost use Rattle.speedy_read.specs.Reading.{Reads};
 
 use crate::bytes_reader::{CopyingBufferReader, FrameReader};
 use crate::lent::NothingLent;
-use crate::owned_reader::OwnedReader;
+use crate::memory_reader::MemoryReader;
 use crate::prefixed::{ReadPrefix, ReadTold};
-use crate::readable::ReadFrom;
 use crate::reader::LendingReader;
+use crate::whole::ReadWhole;
 use speedy_base::context::Context;
 use speedy_base::error::{Error, IsEof, error_out_of_range_length};
 use speedy_layout::frames::Framed;
@@ -16,11 +16,11 @@ use std::alloc::Global;
 use std::convert::AsSlice;
 
 /// How a value is read that fills the next bytes. Each type that is read from borrowed bytes or from a stream has it.
-pub trait ReadFramed<L: AsSlice<u8> + Drop, C: Context>: ReadFrom<L, C> {
+pub trait ReadFramed<L: AsSlice<u8> + Drop, C: Context>: ReadWhole<L, C> {
     /// Reads the value that fills the next `length` bytes, from which it may borrow.
     fn read_framed<R: LendingReader<L, C>>(reader: &mut R, length: usize) -> Result<Self, C::Error>
         ensures { let mode = (R.state reader.old).mode in
-            Reads C.Error.from_gives C.Error.eof Self.seen (filling mode (Self.layout.format mode) length) result
+            Reads C.Error.from_gives C.Error.eof Self.seen (filling mode (Self.whole.format mode) length) result
             (R.state reader.old) (R.state reader.new) };
 }
 
@@ -36,7 +36,7 @@ impl<L: AsSlice<u8> + Drop, C: Context, T: ReadFramed<L, C>> ReadTold<L, C> for 
 }
 
 // Out of the bytes that the reader lends, or out of a vector that grows as they come.
-impl<'a, C: Context, T: ReadFrom<&'a [u8], C>> ReadFramed<&'a [u8], C> for T {
+impl<'a, C: Context, T: ReadWhole<&'a [u8], C>> ReadFramed<&'a [u8], C> for T {
     fn read_framed<R: LendingReader<&'a [u8], C>>(
         reader: &mut R,
         length: usize,
@@ -57,7 +57,7 @@ impl<'a, C: Context, T: ReadFrom<&'a [u8], C>> ReadFramed<&'a [u8], C> for T {
 }
 
 // What is read so borrows nothing.
-impl<C: Context, T: ReadFrom<NothingLent, C>> ReadFramed<NothingLent, C> for T {
+impl<C: Context, T: ReadWhole<NothingLent, C>> ReadFramed<NothingLent, C> for T {
     fn read_framed<R: LendingReader<NothingLent, C>>(
         reader: &mut R,
         length: usize,
@@ -78,64 +78,59 @@ fn keeps_context<L: AsSlice<u8> + Drop, C: Context, R: LendingReader<L, C>>(_rea
 
 // The value that fills the bytes, and may borrow from them.
 #[inline]
-fn fill_lent<'a, T: ReadFrom<&'a [u8], C>, C: Context>(
+fn fill_lent<'a, T: ReadWhole<&'a [u8], C>, C: Context>(
     alloc: Global,
     context: &mut C,
     bytes: &'a [u8],
 ) -> Result<T, C::Error>
     ensures mode { C.mode context.new ≡ C.mode context.old }
-    ensures fills { Fills C.Error.from_gives T.seen (T.layout.format (C.mode context.old)) true result bytes.now }
+    ensures fills { Fills C.Error.from_gives T.seen (T.whole.format (C.mode context.old)) true result bytes.now }
 {
     let mut reader = FrameReader::new(alloc, context, bytes);
-    let read = T::read_from(&mut reader);
-    let left = reader.finish();
-    unless_left(read, left)
+    let read = T::read_whole(&mut reader);
+    reader.finish();
+    unless_ended(read)
 }
 
 // The value that fills the bytes. Nothing of them is lent for as long as what a reader lends.
 #[inline]
-fn fill_copied<'a, T: ReadFrom<&'a [u8], C>, C: Context>(
+fn fill_copied<'a, T: ReadWhole<&'a [u8], C>, C: Context>(
     alloc: Global,
     context: &mut C,
     bytes: &[u8],
 ) -> Result<T, C::Error>
     ensures mode { C.mode context.new ≡ C.mode context.old }
-    ensures fills { Fills C.Error.from_gives T.seen (T.layout.format (C.mode context.old)) false result bytes.now }
+    ensures fills { Fills C.Error.from_gives T.seen (T.whole.format (C.mode context.old)) false result bytes.now }
 {
     let mut reader = CopyingBufferReader::new(alloc, context, bytes);
-    let read = T::read_from(&mut reader);
-    let left = reader.finish();
-    unless_left(read, left)
+    let read = T::read_whole(&mut reader);
+    reader.finish();
+    unless_ended(read)
 }
 
 // The value that fills the bytes, and borrows nothing.
 #[inline]
-fn fill_owned<T: ReadFrom<NothingLent, C>, C: Context>(
+fn fill_owned<T: ReadWhole<NothingLent, C>, C: Context>(
     alloc: Global,
     context: &mut C,
     bytes: &[u8],
 ) -> Result<T, C::Error>
     ensures mode { C.mode context.new ≡ C.mode context.old }
-    ensures fills { Fills C.Error.from_gives T.seen (T.layout.format (C.mode context.old)) true result bytes.now }
+    ensures fills { Fills C.Error.from_gives T.seen (T.whole.format (C.mode context.old)) true result bytes.now }
 {
     let mut reader = FrameReader::new(alloc, context, bytes);
-    let read = reader.read_owned_value();
-    let left = reader.finish();
-    unless_left(read, left)
+    let read = reader.read_owned_whole();
+    reader.finish();
+    unless_ended(read)
 }
 
-// What was read, if nothing is left behind it. Bytes that are left or that lack are a length that is wrong: within the
-// frame no more remain.
+// What was read, where an end of the bytes is a length that is wrong: within the frame no more remain.
 #[inline]
-fn unless_left<T: Drop, E: From<Error> + IsEof + Drop>(
-    read: Result<T, E>,
-    left: usize,
-) -> Result<T, E>
-    ensures { FillsIfNoneLeft E.from_gives E.eof read left result }
+fn unless_ended<T: Drop, E: From<Error> + IsEof + Drop>(read: Result<T, E>) -> Result<T, E>
+    ensures { FillsUnlessEnd E.from_gives E.eof read result }
 {
     match read {
-        Ok(value) if left == 0 => Ok(value),
-        Ok(_) => Err(error_out_of_range_length()),
+        Ok(value) => Ok(value),
         Err(error) if error.is_eof() => Err(error_out_of_range_length()),
         Err(error) => Err(error),
     }

@@ -2,8 +2,10 @@
 ghost use Rattle.std.specs.Prelude.{◌≡◌, length};
 ghost use Rattle.std.proofs.Common.{ap};
 ghost use Rattle.speedy_read.specs.Buffers.{held_state};
+ghost use Rattle.speedy_read.specs.Wholes.{held_in_memory};
 
 use crate::lent::NothingLent;
+use crate::memory_reader::MemoryReader;
 use crate::reader::{EndOfInput, LendingReader};
 use speedy_base::context::Context;
 use std::alloc::Global;
@@ -110,4 +112,14 @@ impl<'a, L: AsSlice<u8> + Drop, C: Context, R: LendingReader<L, C>> LendingReade
     ghost mode_at = { λ r. R.mode_at r.reader.now };
 
     ghost state_with = { λ r c. ap (λ s. held_state r.reader.ghost_name s) (R.state_with r.reader.now c) };
+}
+
+impl<'a, L: AsSlice<u8> + Drop, C: Context, R: MemoryReader<L, C>> MemoryReader<NothingLent, C>
+    for OwnedReader<'a, L, R> {
+    #[inline(always)]
+    fn left(&self) -> usize {
+        self.reader.left()
+    }
+
+    ghost in_memory = { λ r. held_in_memory (R.in_memory r.reader.now) };
 }

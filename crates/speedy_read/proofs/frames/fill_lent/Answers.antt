@@ -5,5 +5,4 @@ use Rattle.speedy_read.proofs.frames.fill_lent.Goals as goal
 pub returns-clause-fills : goal.returns-clause-fills
 returns-clause-fills g c =
     rw (← c.new-reader.ensures.rest, ← c.new-reader.ensures.context)
-    (filled (g.T.Layout.layout.laws _) g.met.C.Context.keeps_eof (search rules) _ _ c.finish-left.ensures.rest
-    c.unless_left.ensures c.read_from-read.ensures)
+    (filled g.met.C.Context.keeps_eof (search rules) _ _ c.unless_ended.ensures c.read_whole-read.ensures)
