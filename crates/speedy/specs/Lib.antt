@@ -52,6 +52,8 @@ pub use Rattle.speedy_layout.specs.Utf8Lemmas
 pub use Rattle.speedy_layout.specs.Varint
 pub use Rattle.speedy_layout.specs.ViewIters
 pub use Rattle.speedy_layout.specs.Views
+pub use Rattle.speedy_layout.specs.Wholes
+pub use Rattle.speedy_layout.specs.Rests
 pub use Rattle.speedy_layout.specs.Zigzag
 pub use Rattle.speedy_read.specs.Buffers
 pub use Rattle.speedy_read.specs.Codes as ReadCodes
@@ -72,6 +74,7 @@ pub use Rattle.speedy_read.specs.StreamModel
 pub use Rattle.speedy_read.specs.Streams
 pub use Rattle.speedy_read.specs.UntilEnd
 pub use Rattle.speedy_read.specs.WaysOfReading
+pub use Rattle.speedy_read.specs.Wholes as ReadWholes
 pub use Rattle.speedy_read.proofs.ListLemmas as ReadItems
 pub use Rattle.speedy_write.specs.Buffering
 pub use Rattle.speedy_write.specs.Codes as WriteCodes
@@ -87,6 +90,7 @@ pub use Rattle.speedy_write.specs.Cases as WriteCases
 pub use Rattle.speedy_write.specs.Pushing
 pub use Rattle.speedy_write.specs.Sequences as WriteSequences
 pub use Rattle.speedy_write.specs.WaysOfWriting
+pub use Rattle.speedy_write.specs.Wholes as WriteWholes
 pub use Rattle.speedy_write.specs.Writing
 pub use Rattle.speedy_write.proofs.ListLemmas as WriteItems
 pub mod Levels

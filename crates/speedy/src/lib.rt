@@ -61,8 +61,11 @@ mod tests_varint;
 #[cfg(test)]
 mod tests_views;
 #[cfg(test)]
+mod tests_whole;
+#[cfg(test)]
 mod tests_writers;
 pub mod varints;
+pub mod whole;
 pub mod writable_impl;
 
 pub use buffer::Buffer;

@@ -59,7 +59,7 @@ module _ {V : Type 0} (f : Mode) (counting : Counting V) where
           (
             w.1,
             λ none. h.1 (sym ((laws.decodes v v w.0 b b [] (laws.written_encodes v w.0 w.1) h.0
-            (ap (λ s. s ++ b) none ∙ sym (append-nil b))).1) ∙ none),
+                (ap (λ s. s ++ b) none ∙ sym (append-nil b))).1) ∙ none),
           ),
         );
     one_written = λ unhashed v b c h k.

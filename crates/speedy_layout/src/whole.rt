@@ -71,3 +71,17 @@ impl<A: Layout, W: Whole> Whole for Followed<A, W> {
 
     ghost whole = { followed_codec A.layout W.whole };
 }
+
+/// A whole value behind a reference, which is written as the value itself.
+#[derive(Drop)]
+pub struct WholePart<'t, T>(pub &'t T);
+
+impl<'t, T: Whole> Whole for WholePart<'t, T> {
+    type Ends = EndsWithInput;
+
+    ghost Seen = { T.Seen };
+
+    ghost seen = { λ part. T.seen part.0.now };
+
+    ghost whole = { T.whole };
+}

@@ -14,13 +14,16 @@ use Rattle.speedy_base.specs.declared.device.Faults.{Faults}
 use Rattle.speedy_base.specs.MemoryDevices.{no_faults}
 use Rattle.speedy_base.specs.Mode.{Mode}
 use Rattle.speedy_base.specs.Error.{error_of, IsNamed-more, passed_on}
+use Rattle.speedy_layout.specs.Codes.{coding}
 use Rattle.speedy_layout.specs.Format.{Format, Each, Parts, Parts-joined}
 use Rattle.speedy_layout.specs.Laws.{Laws}
 use Rattle.speedy_layout.specs.Lengths.{Counting, list_counting}
 use Rattle.speedy_layout.specs.Lists.{repeat, vector}
-use Rattle.speedy_layout.specs.Owned.{owned_content}
+use Rattle.speedy_layout.specs.Numbers.{unsigned_number}
+use Rattle.speedy_layout.specs.Owned.{borrowed_content, owned_content}
 use Rattle.speedy_layout.specs.Rests.{rest}
 use Rattle.speedy_layout.specs.Sequences.{asks_left, asks_right, sequence}
+use Rattle.speedy_layout.specs.Texts.{each_byte_is, raw_bytes, text_of_length}
 use Rattle.speedy_layout.specs.Tuples.{pair}
 use Rattle.speedy_layout.specs.Codecs.{Codec}
 use Rattle.speedy_read.specs.Reading.{ReaderKind, ReaderState, Kept, IsTold, refusing_kinds, IsEnd, Excused}
@@ -205,6 +208,21 @@ module _ {E : Type 0} {gives : Error → E → Type 0} {eof : E → Bool} {V A :
       un.no_prefix v old.remaining [] (sym (append-nil old.remaining))
       (subst (λ m. ((counting.of_length m).format f).encodes v old.remaining) (sym count ∙ sym is) h.0)) r
 
+-- a text, and bytes, are as long as the bytes that encode them
+pub text_bytewise : (f : Mode) (n : ℕ) (v bytes : List ℕ) → (text_of_length f n).encodes v bytes → length bytes ≡ n
+unfolding text_of_length owned_content coding raw_bytes
+text_bytewise f n v bytes h = h.code_is.1
+
+pub borrowed_bytewise : (f : Mode) (n : ℕ) (v bytes : List ℕ) → (borrowed_content (text_of_length f n)).encodes v bytes
+    → length bytes ≡ n
+unfolding borrowed_content
+borrowed_bytewise f n v bytes h = text_bytewise f n v bytes h
+
+pub bytes_bytewise : (f : Mode) (n : ℕ) (v bytes : List ℕ)
+    → (borrowed_content (vector n (unsigned_number 1 f))).encodes v bytes → length bytes ≡ n
+unfolding borrowed_content vector owned_content repeat unsigned_number
+bytes_bytewise f n v bytes h = ap length (sym (each_byte_is f.order v bytes h.1)) ∙ h.0
+
 -- ---- items until the bytes end
 
 module _ {V : Type 0} {strict : Bool} {least : ℕ} {F : Format V} (laws : Laws strict least F) where
@@ -336,8 +354,11 @@ module _ {T V : Type 0} {seen : T → V} (item : Codec V) (f : Mode) {items : Li
           let all = got.taken before.tells ∙ (ap (λ s. got.prefix ++ s) rest_is ∙ append-nil got.prefix) in
           let count = ap length is ∙ length-map items seen in
           let enough = taken.some in (
-            (refl, subst (Each (item.format f).encodes (shown y)) (sym all)
-                (subst (λ vs. Each (item.format f).encodes vs got.prefix) (sym is) got.prefix_is)),
+            (
+              refl,
+              subst (Each (item.format f).encodes (shown y)) (sym all)
+                  (subst (λ vs. Each (item.format f).encodes vs got.prefix) (sym is) got.prefix_is),
+            ),
             λ nothing. (let bytes = ap length nothing in omega arith),
           );
     }

@@ -186,7 +186,9 @@ impl<L: AsSlice<u8> + Drop, C: Context, T: ReadFrom<L, C>> ReadRest<L, C> for Bo
 
 impl<'a, C: Context, T: ReadFrom<&'a [u8], C> + 'a> ReadRest<&'a [u8], C> for CowSlice<'a, T> {
     #[inline]
-    fn read_rest<R: MemoryReader<&'a [u8], C>>(reader: &mut R) -> Result<CowSlice<'a, T>, C::Error> {
+    fn read_rest<R: MemoryReader<&'a [u8], C>>(
+        reader: &mut R,
+    ) -> Result<CowSlice<'a, T>, C::Error> {
         let items = read_items_to_end(reader)?;
         Ok(CowSlice::Owned(items))
     }
@@ -194,12 +196,9 @@ impl<'a, C: Context, T: ReadFrom<&'a [u8], C> + 'a> ReadRest<&'a [u8], C> for Co
 
 // What is as long as the bytes are that are left: a text, or bytes.
 #[inline]
-fn read_bytewise<
-    T: ReadOfLength<L, C>,
-    L: AsSlice<u8> + Drop,
-    C: Context,
-    R: MemoryReader<L, C>,
->(reader: &mut R) -> Result<T, C::Error>
+fn read_bytewise<T: ReadOfLength<L, C>, L: AsSlice<u8> + Drop, C: Context, R: MemoryReader<L, C>>(
+    reader: &mut R,
+) -> Result<T, C::Error>
     requires { (f : Mode) (n : ℕ) (v : T.Seen) (bytes : List ℕ) →
         ((T.counting.of_length n).format f).encodes v bytes → length bytes ≡ n }
     ensures { ReadsAll C.Error.IsEof R.state T.seen (rest_codec T.counting) result
@@ -210,12 +209,9 @@ fn read_bytewise<
 }
 
 // Items until no byte is left. One that takes no byte would never end.
-fn read_items_to_end<
-    T: ReadFrom<L, C>,
-    L: AsSlice<u8> + Drop,
-    C: Context,
-    R: MemoryReader<L, C>,
->(reader: &mut R) -> Result<Vec<T>, C::Error>
+fn read_items_to_end<T: ReadFrom<L, C>, L: AsSlice<u8> + Drop, C: Context, R: MemoryReader<L, C>>(
+    reader: &mut R,
+) -> Result<Vec<T>, C::Error>
     ensures { ReadsAll C.Error.IsEof R.state (λ v. map T.seen v.items)
         (rest_codec (list_counting T.layout)) result reader.old reader.new }
 {

@@ -10,20 +10,21 @@ use Rattle.speedy_base.specs.declared.error.Error.{Error}
 use Rattle.speedy_base.specs.Mode.{Mode}
 use Rattle.speedy_layout.specs.Format.{Format, Each}
 use Rattle.speedy_layout.specs.Laws.{Laws}
+use Rattle.speedy_layout.specs.Wholes.{WholeLaws, whole_laws}
 use Rattle.speedy_layout.specs.Lists.{each_more, repeat, repeat_laws}
 use Rattle.speedy_write.specs.Writing.{WriterState, Writes, WritesEach, WritesBytes}
-use Rattle.speedy_write.specs.Sequences.{form_written, one_length}
+use Rattle.speedy_write.specs.Sequences.{form_written, whole_form_written, one_whole_length}
 use Rattle.speedy_write.specs.Counting.{counting_state, CountAppends, CountsEach}
 use Rattle.speedy_write.specs.WaysOfWriting.{NeedsIn}
 use Rattle.speedy_write.proofs.ListLemmas.{first_items}
 
 -- a sum below its greatest value is the length of what was written
-pub counted : {E : Type 0} {gives : Error → E → Type 0} {V : Type 0} {F : Mode → Format V} {v : V}
-    {mode at : Mode} {least sum size answered : ℕ} {targets : List GName} {after : WriterState} {u : Unit {0}}
-    → Laws mode.strict least (F mode) → at ≡ mode → sum ≡ 0 → answered ≡ size → answered < 2 ^ 64 - 1
+pub whole_counted : {E : Type 0} {gives : Error → E → Type 0} {V : Type 0} {F : Mode → Format V} {v : V}
+    {mode at : Mode} {sum size answered : ℕ} {targets : List GName} {after : WriterState} {u : Unit {0}}
+    → WholeLaws mode.strict (F mode) → at ≡ mode → sum ≡ 0 → answered ≡ size → answered < 2 ^ 64 - 1
     → Writes gives F v (Ok u) (counting_state at targets) after (λ b. CountAppends sum b size)
     → NeedsIn gives (F mode) v (Ok answered)
-counted {gives = gives} {F = F} {v = v} {sum = sum} {size = size} {answered = answered} {targets = targets}
+whole_counted {gives = gives} {F = F} {v = v} {sum = sum} {size = size} {answered = answered} {targets = targets}
     {after = after} {u = u} laws same_mode starts is less w =
     let put =
     (subst (λ (f : Mode). Writes gives F v (Ok u) (counting_state f targets) after (λ b. CountAppends sum b size))
@@ -32,12 +33,19 @@ counted {gives = gives} {F = F} {v = v} {sum = sum} {size = size} {answered = an
     record {
       written = (put.bytes, put.is_written, long);
       answers =
-          λ bytes writes _. let same = one_length laws v put.bytes bytes put.is_written writes in omega (arith, long);
+          λ bytes writes _. let same = one_whole_length laws v put.bytes bytes put.is_written writes in omega (arith, long);
       too_long = λ bytes writes past.
-          let same = one_length laws v put.bytes bytes put.is_written writes in
+          let same = one_whole_length laws v put.bytes bytes put.is_written writes in
           absurd (omega (arith, long));
       refused = tt;
     }
+
+pub counted : {E : Type 0} {gives : Error → E → Type 0} {V : Type 0} {F : Mode → Format V} {v : V}
+    {mode at : Mode} {least sum size answered : ℕ} {targets : List GName} {after : WriterState} {u : Unit {0}}
+    → Laws mode.strict least (F mode) → at ≡ mode → sum ≡ 0 → answered ≡ size → answered < 2 ^ 64 - 1
+    → Writes gives F v (Ok u) (counting_state at targets) after (λ b. CountAppends sum b size)
+    → NeedsIn gives (F mode) v (Ok answered)
+counted laws = whole_counted (whole_laws laws)
 
 -- ---- items, one by one
 
@@ -67,16 +75,24 @@ items_counted {F = F} {size = size} {old = old} seen items laws same h told =
     let k = subst (λ (e : Mode). CountsEach (F e).writes (map seen items) size) same h in
     form_written (λ e. repeat_laws (laws e) (length items)) (length-map items seen, k.1) (told k.0 k.2)
 
--- and of one
+-- and of one value
+pub whole_item_counted : {E V : Type 0} {gives : Error → E → Type 0} {F : Mode → Format V} {size : ℕ}
+    {result : Result (Unit {0}) E} {old new : WriterState} {appended : List ℕ → Type 0} {mode : Mode} {v : V}
+    → ((mode : Mode) → WholeLaws mode.strict (F mode)) → mode ≡ old.mode
+    → ((bytes : List ℕ) × (F mode).writes v bytes × (size ≡ length bytes))
+    → ((bytes : List ℕ) → length bytes ≡ size → WritesBytes gives bytes result old new appended)
+    → Writes gives F v result old new appended
+whole_item_counted {F = F} {size = size} {v = v} laws same h told =
+    let k = subst (λ (e : Mode). (bytes : List ℕ) × (F e).writes v bytes × (size ≡ length bytes)) same h in
+    whole_form_written laws k.1 (told k.0 (sym k.2))
+
 pub item_counted : {E V : Type 0} {gives : Error → E → Type 0} {F : Mode → Format V} {least size : ℕ}
     {result : Result (Unit {0}) E} {old new : WriterState} {appended : List ℕ → Type 0} {mode : Mode} {v : V}
     → ((mode : Mode) → Laws mode.strict least (F mode)) → mode ≡ old.mode
     → ((bytes : List ℕ) × (F mode).writes v bytes × (size ≡ length bytes))
     → ((bytes : List ℕ) → length bytes ≡ size → WritesBytes gives bytes result old new appended)
     → Writes gives F v result old new appended
-item_counted {F = F} {size = size} {v = v} laws same h told =
-    let k = subst (λ (e : Mode). (bytes : List ℕ) × (F e).writes v bytes × (size ≡ length bytes)) same h in
-    form_written laws k.1 (told k.0 (sym k.2))
+item_counted laws = whole_item_counted (λ mode. whole_laws (laws mode))
 
 -- ---- a writer whose context was lent
 

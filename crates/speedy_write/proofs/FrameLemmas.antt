@@ -5,15 +5,14 @@ use Rattle.std.proofs.lemmas.Bool.{cases_lt}
 use Rattle.speedy_base.specs.declared.error.Error.{Error}
 use Rattle.speedy_base.specs.Mode.{Mode}
 use Rattle.speedy_base.specs.Error.{passed_on}
-use Rattle.speedy_layout.specs.Codecs.{Codec}
 use Rattle.speedy_layout.specs.Codes.{coding, Accepts-means}
 use Rattle.speedy_layout.specs.Format.{Format, Parts-joined}
 use Rattle.speedy_layout.specs.Frames.{frame, frame_behind, frame_code, AreCounted}
-use Rattle.speedy_layout.specs.Laws.{Laws}
+use Rattle.speedy_layout.specs.Wholes.{WholeLaws, WholeCodec}
 use Rattle.speedy_layout.specs.Prefixed.{Numbers}
 use Rattle.speedy_layout.specs.Sequences.{sequence}
 use Rattle.speedy_layout.specs.Texts.{raw_bytes}
-use Rattle.speedy_write.specs.Sequences.{Kept-same, IsOutOfRange-more, one_length, Writes-as}
+use Rattle.speedy_write.specs.Sequences.{Kept-same, IsOutOfRange-more, one_whole_length, Writes-as}
 use Rattle.speedy_write.specs.WaysOfWriting.{NeedsIn}
 use Rattle.speedy_write.specs.Writing.{WriterState, Writes}
 
@@ -35,7 +34,7 @@ counted_below {n = n} needs =
     ]
 
 -- what encodes a value in a frame
-framed_encodes : {V : Type 0} (f : Mode) (number : Format ℕ) {F : Format V} {least : ℕ} → Laws f.strict least F
+framed_encodes : {V : Type 0} (f : Mode) (number : Format ℕ) {F : Format V} → WholeLaws f.strict F
     → (v : V) (b : List ℕ) → (frame f number F).encodes v b
     → (bytes prefix : List ℕ) × F.encodes v bytes × AreCounted bytes × number.encodes (length bytes) prefix
 unfolding frame coding sequence
@@ -44,7 +43,7 @@ framed_encodes f number {F = F} laws v b h =
     Accepts-means f.strict (frame_code F) h.code v (λ k. (laws.written_encodes v h.code k.0, k.1)) h.stands in
     (h.code, h.code_is.prefix, means.0, means.1, h.code_is.first_is)
 
-module _ {E V : Type 0} {gives : Error → E → Type 0} (numbers : Numbers) (value : Codec V) {v : V}
+module _ {E V : Type 0} {gives : Error → E → Type 0} (numbers : Numbers) (value : WholeCodec V) {v : V}
     {old : WriterState} {appended : List ℕ → Type 0} where
   -- the number of a value's bytes and then the value are written as its frame
   pub frame_written : {n : ℕ} {new : WriterState} {result : Result (Unit {0}) E} → Takes (value.format old.mode) v n
@@ -60,7 +59,7 @@ module _ {E V : Type 0} {gives : Error → E → Type 0} (numbers : Numbers) (va
       Writes-as
       (λ kind refused. elim refused [ inl h ↦ inl h | inr h ↦ inr h.1 ])
       (λ b h.
-      let same : length h.suffix ≡ n = one_length laws v h.suffix bytes h.second_is takes.1 ∙ sym long in
+      let same : length h.suffix ≡ n = one_whole_length laws v h.suffix bytes h.second_is takes.1 ∙ sym long in
       record {
         code = h.suffix;
         code_is = record {
@@ -73,7 +72,7 @@ module _ {E V : Type 0} {gives : Error → E → Type 0} (numbers : Numbers) (va
         stands = (h.second_is, omega arith);
       })
       (λ b h.
-      let same : length h.code ≡ n = one_length laws v h.code bytes h.stands.0 takes.1 ∙ sym long in (
+      let same : length h.code ≡ n = one_whole_length laws v h.code bytes h.stands.0 takes.1 ∙ sym long in (
         b,
         record {
           prefix = h.code_is.prefix;

@@ -14,3 +14,4 @@ pub mod OwnedLemmas
 pub mod PushLemmas
 pub mod StreamLemmas
 pub mod CaseLemmas
+pub mod WholeLemmas

@@ -13,3 +13,4 @@ pub mod Collections
 pub mod Pushing
 pub mod Lengths
 pub mod Counted
+pub mod Wholes

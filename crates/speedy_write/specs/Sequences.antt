@@ -11,6 +11,7 @@ use Rattle.speedy_base.specs.Error.{error_of, IsNamed-more, passed_on}
 use Rattle.speedy_base.specs.FailedCalls.{IsOfFault}
 use Rattle.speedy_layout.specs.Format.{Format, Parts, Asks, Parts-joined}
 use Rattle.speedy_layout.specs.Laws.{Laws}
+use Rattle.speedy_layout.specs.Wholes.{WholeLaws, whole_laws}
 use Rattle.speedy_layout.specs.Sequences.{sequence}
 use Rattle.speedy_layout.specs.Tuples.{unit}
 use Rattle.speedy_write.specs.Writing.{WriterKind, WriterState, IsOutOfRange, Fits, less, Kept, Put, Refused, Writes}
@@ -115,13 +116,17 @@ Put-both {old = old} join p q =
     }
 
 -- the canonical encodings of a value have one length
-pub one_length : {V : Type 0} {strict : Bool} {least : ℕ} {F : Format V} → Laws strict least F → (v : V) (a b : List ℕ)
-    → F.writes v a
-    → F.writes v b → length a ≡ length b
-one_length laws v a b h k =
+pub one_whole_length : {V : Type 0} {strict : Bool} {F : Format V} → WholeLaws strict F → (v : V) (a b : List ℕ)
+    → F.writes v a → F.writes v b → length a ≡ length b
+one_whole_length laws v a b h k =
     let l = laws.shortest v a b h (laws.written_encodes v b k) in
     let m = laws.shortest v b a k (laws.written_encodes v a h) in
     omega arith
+
+pub one_length : {V : Type 0} {strict : Bool} {least : ℕ} {F : Format V} → Laws strict least F → (v : V) (a b : List ℕ)
+    → F.writes v a
+    → F.writes v b → length a ≡ length b
+one_length laws = one_whole_length (whole_laws laws)
 
 -- ---- the same write in other words
 
@@ -161,12 +166,17 @@ module _ {E : Type 0} {gives : Error → E → Type 0} {U V : Type 0} {F : Mode 
 module _ {E : Type 0} {gives : Error → E → Type 0} {V : Type 0} {F : Mode → Format V} {v : V}
     {result : Result (Unit {0}) E} {old new : WriterState} {appended : List ℕ → Type 0} where
   -- the bytes of a canonical encoding are written as the value is
+  pub whole_form_written : {bytes : List ℕ} → ((mode : Mode) → WholeLaws mode.strict (F mode))
+      → (F old.mode).writes v bytes → WritesBytes gives bytes result old new appended
+      → Writes gives F v result old new appended
+  whole_form_written {bytes = bytes} laws written =
+      Writes-as (λ _ k. absurd k) (λ b e. subst ((F old.mode).writes v) (sym e) written)
+      (λ b k. (bytes, refl, one_whole_length (laws old.mode) v bytes b written k)) (λ _ _. (bytes, refl))
+
   pub form_written : {least : ℕ} {bytes : List ℕ} → ((mode : Mode) → Laws mode.strict least (F mode))
       → (F old.mode).writes v bytes → WritesBytes gives bytes result old new appended
       → Writes gives F v result old new appended
-  form_written {bytes = bytes} laws written =
-      Writes-as (λ _ k. absurd k) (λ b e. subst ((F old.mode).writes v) (sym e) written)
-      (λ b k. (bytes, refl, one_length (laws old.mode) v bytes b written k)) (λ _ _. (bytes, refl))
+  form_written laws = whole_form_written (λ mode. whole_laws (laws mode))
 
   -- a state that is another one too, from which what was appended is said in other words
   pub Writes-from : {other : WriterState} {more : List ℕ → Type 0} → old ≡ other → ((b : List ℕ) → appended b → more b)

@@ -35,6 +35,7 @@ pub mod texts;
 pub mod tuples;
 pub mod varint;
 pub mod views;
+pub mod whole;
 pub mod writable;
 pub mod writer;
 

@@ -1,0 +1,45 @@
+//! Values that have all of the bytes: what is left over, and what is the rest.
+use crate::asserting::assert_bytes;
+use crate::context::LittleEndian;
+use crate::error::Error;
+use crate::prefixed::{Framed, Prefixed};
+use crate::readable::Readable;
+use crate::whole::{Followed, ReadableWhole, Rest, WholePart, WriteWhole};
+use crate::writable::Writable;
+use std::alloc::Global;
+
+/// A byte, a number, and numbers to the end.
+type Packet = Followed<(u8, u16), Rest<Vec<u16>>>;
+
+fn read_packet(alloc: Global, bytes: &[u8]) -> Result<Packet, Error> {
+    <Packet as ReadableWhole<LittleEndian>>::read_whole_from_buffer(alloc, bytes)
+}
+
+#[test]
+fn a_packet_has_all_of_the_bytes(rt: HostRuntime) {
+    let alloc = rt.alloc();
+    let bytes = [1, 2, 0, 3, 0, 4, 0];
+    let packet = read_packet(alloc, &bytes).expect(&rt, "a packet");
+    assert!(&rt; packet.0 == (1, 2));
+    assert!(&rt; packet.1.0.as_slice() == [3, 4].as_slice());
+    let written = WriteWhole::<LittleEndian>::write_whole_to_vec(&packet, alloc).expect(
+        &rt, "bytes",
+    );
+    assert_bytes(&rt, written.as_slice(), &bytes);
+    assert!(&rt; read_packet(alloc, &bytes[..6]).is_err());
+    assert!(&rt; read_packet(alloc, &bytes[..2]).is_err());
+    assert!(&rt; read_packet(alloc, &bytes[..3]).expect(&rt, "no numbers").1.0.is_empty());
+}
+
+#[test]
+fn a_packet_stands_in_a_frame(rt: HostRuntime) {
+    let alloc = rt.alloc();
+    let bytes = [7, 1, 2, 0, 3, 0, 4, 0, 9];
+    let frame = <Prefixed<u8, Framed<Packet>> as Readable<LittleEndian>>::read_from_buffer(
+        alloc, &bytes,
+    ).expect(&rt, "a frame");
+    assert!(&rt; frame.value.0.0 == (1, 2));
+    let again: Prefixed<u8, _> = Prefixed::new(Framed(WholePart(&frame.value.0)));
+    let written = Writable::<LittleEndian>::write_to_vec(&again, alloc).expect(&rt, "bytes");
+    assert_bytes(&rt, written.as_slice(), &bytes[..8]);
+}

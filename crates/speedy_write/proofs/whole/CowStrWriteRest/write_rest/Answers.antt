@@ -1,0 +1,5 @@
+use Rattle.speedy_write.proofs.WholeLemmas.{text_bytewise}
+use Rattle.speedy_write.proofs.whole.CowStrWriteRest.write_rest.Goals as goal
+
+pub write_bytewise-requires : goal.write_bytewise-requires
+write_bytewise-requires g c = text_bytewise
