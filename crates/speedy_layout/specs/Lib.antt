@@ -39,5 +39,6 @@ pub mod Wholes
 pub mod Frames
 pub mod Lengths
 pub mod Rests
+pub mod Growing
 pub mod Views
 pub mod ViewIters

@@ -64,7 +64,7 @@ each_as f [] b h = h
 each_as f (v ∷ vs) b h = Parts-as (f v) (λ s k. each_as f vs s k) h
 
 -- of two lists that make none, both are
-both_none : (s t : List ℕ) → s ++ t ≡ [] → (s ≡ []) × (t ≡ [])
+pub both_none : (s t : List ℕ) → s ++ t ≡ [] → (s ≡ []) × (t ≡ [])
 both_none [] t e = (refl, e)
 both_none (b ∷ s) t e = absurd (cc)
 

@@ -1,5 +1,8 @@
 //! Values that have all of the bytes (`Whole`): those of each layout, and those that end where the bytes do.
+ghost use Rattle.std.specs.Prelude.{Option};
+ghost use Rattle.std.specs.Option.{option_map};
 ghost use Rattle.speedy_layout.specs.Codecs.{WholeCodec, whole_codec, followed_codec};
+ghost use Rattle.speedy_layout.specs.Growing.{unless_end_codec};
 ghost use Rattle.speedy_layout.specs.Rests.{rest_codec};
 
 use crate::layout::Layout;
@@ -70,6 +73,23 @@ impl<A: Layout, W: Whole> Whole for Followed<A, W> {
     ghost seen = { λ it. (A.seen it.0, W.seen it.1) };
 
     ghost whole = { followed_codec A.layout W.whole };
+}
+
+/// A part and all that stands behind it, or none of them: `None` where the bytes end before the part.
+///
+/// So a struct grows: later versions have parts more at its end, which are missing from what older ones wrote. A part
+/// that takes no bytes has no encoding here: that is the error `OutOfRangeLength`.
+#[derive(Debug, PartialEq, Drop)]
+pub struct UnlessEnd<A, W>(pub Option<(A, W)>);
+
+impl<A: Layout, W: Whole> Whole for UnlessEnd<A, W> {
+    type Ends = EndsWithInput;
+
+    ghost Seen = { Option (A.Seen × W.Seen) };
+
+    ghost seen = { λ it. option_map (λ parts. (A.seen parts.0, W.seen parts.1)) it.0 };
+
+    ghost whole = { unless_end_codec A.layout W.whole };
 }
 
 /// A whole value behind a reference, which is written as the value itself.

@@ -24,3 +24,4 @@ pub mod UntilEndLaws
 pub mod ConstantLemmas
 pub mod CaseLemmas
 pub mod WholeLemmas
+pub mod GrowingLemmas

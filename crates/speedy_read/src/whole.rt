@@ -1,9 +1,12 @@
 //! How values are read that have all of the bytes, and how a text or a list is that takes the rest of them.
 ghost use Rattle.std.specs.Prelude.{◌≡◌, ℕ, List, length, map};
 ghost use Rattle.speedy_base.specs.Mode.{Mode, plain_mode};
+ghost use Rattle.speedy_layout.specs.Growing.{some_bytes};
 ghost use Rattle.speedy_layout.specs.Lengths.{list_counting};
 ghost use Rattle.speedy_layout.specs.Rests.{rest_codec};
-ghost use Rattle.speedy_read.specs.Wholes.{ReadsAll, AnswersWhole};
+ghost use Rattle.speedy_layout.specs.Tuples.{pair};
+ghost use Rattle.speedy_read.specs.Reading.{ReadsAs};
+ghost use Rattle.speedy_read.specs.Wholes.{ReadsAll, ReadsWhole, AnswersWhole};
 
 use crate::buffer_reader::BufferReader;
 use crate::lengths::ReadOfLength;
@@ -14,7 +17,7 @@ use speedy_base::context::{Context, PlainContext};
 use speedy_base::endianness::Endianness;
 use speedy_base::error::{error_out_of_memory, error_out_of_range_length};
 use speedy_layout::lengths::OfLength;
-use speedy_layout::whole::{EndsItself, EndsWithInput, Followed, Rest, Whole};
+use speedy_layout::whole::{EndsItself, EndsWithInput, Followed, Rest, UnlessEnd, Whole};
 use std::alloc::Global;
 use std::borrow::{CowSlice, CowStr};
 use std::boxed::{BoxedSlice, BoxedStr};
@@ -111,6 +114,55 @@ impl<L: AsSlice<u8> + Drop, C: Context, A: ReadFrom<L, C>, W: ReadWhole<L, C>> R
         let rest = W::read_whole(reader)?;
         Ok(Followed(first, rest))
     }
+}
+
+impl<L: AsSlice<u8> + Drop, C: Context, A: ReadFrom<L, C>, W: ReadWhole<L, C>> ReadToEnd<L, C>
+    for UnlessEnd<A, W> {
+    #[inline]
+    fn read_to_end<R: MemoryReader<L, C>>(reader: &mut R) -> Result<UnlessEnd<A, W>, C::Error> {
+        if reader.left() == 0 {
+            return Ok(UnlessEnd(None));
+        }
+        match read_present(reader) {
+            Ok(parts) => Ok(UnlessEnd(Some(parts))),
+            Err(error) => Err(error),
+        }
+    }
+}
+
+// A part that takes bytes, and all behind it.
+#[inline]
+fn read_present<
+    A: ReadFrom<L, C>,
+    W: ReadWhole<L, C>,
+    L: AsSlice<u8> + Drop,
+    C: Context,
+    R: MemoryReader<L, C>,
+>(reader: &mut R) -> Result<(A, W), C::Error>
+    ensures { let mode = (R.state reader.old).mode in
+        ReadsWhole C.Error.from_gives C.Error.eof (λ parts. (A.seen parts.0, W.seen parts.1))
+        (pair (some_bytes (A.layout.format mode)) (W.whole.format mode)) result
+        (R.state reader.old) (R.state reader.new) }
+{
+    let first = read_some(reader)?;
+    let rest = W::read_whole(reader)?;
+    Ok((first, rest))
+}
+
+// A value that takes bytes.
+#[inline]
+fn read_some<A: ReadFrom<L, C>, L: AsSlice<u8> + Drop, C: Context, R: MemoryReader<L, C>>(
+    reader: &mut R,
+) -> Result<A, C::Error>
+    ensures { ReadsAs C.Error.IsEof R.state A.seen (λ f. some_bytes (A.layout.format f)) result
+        reader.old reader.new }
+{
+    let left = reader.left();
+    let value = A::read_from(reader)?;
+    if reader.left() == left {
+        return Err(error_out_of_range_length());
+    }
+    Ok(value)
 }
 
 /// How texts and lists are read that are the rest of the bytes, where `L` is what the reader lends.

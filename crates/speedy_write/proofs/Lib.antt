@@ -15,3 +15,4 @@ pub mod PushLemmas
 pub mod StreamLemmas
 pub mod CaseLemmas
 pub mod WholeLemmas
+pub mod GrowingLemmas

@@ -1,11 +1,13 @@
 //! How values are written that have all of the bytes, and how a text or a list is that is the rest of them.
-ghost use Rattle.std.specs.Prelude.{◌≡◌, ℕ, List, length, map, IsTrue, false};
+ghost use Rattle.std.specs.Prelude.{◌≡◌, ℕ, List, [], length, map, IsTrue, false};
 ghost use Rattle.speedy_base.specs.Mode.{Mode, plain_mode};
+ghost use Rattle.speedy_layout.specs.Growing.{some_bytes};
 ghost use Rattle.speedy_layout.specs.Lengths.{list_counting};
 ghost use Rattle.speedy_layout.specs.Rests.{rest_codec};
+ghost use Rattle.speedy_layout.specs.Tuples.{pair};
 ghost use Rattle.speedy_write.specs.WaysOfWriting.{NeedsIn, WritesToVecIn};
 ghost use Rattle.speedy_write.specs.Wholes.{TakesNone, TakesBytes};
-ghost use Rattle.speedy_write.specs.Writing.{WritesAs};
+ghost use Rattle.speedy_write.specs.Writing.{Writes, WritesAs};
 
 use crate::collectors::VecCollector;
 use crate::counting::CountingCollector;
@@ -18,7 +20,7 @@ use speedy_base::context::{Context, PlainContext};
 use speedy_base::endianness::Endianness;
 use speedy_base::error::{error_out_of_memory, error_out_of_range_length};
 use speedy_layout::lengths::OfLength;
-use speedy_layout::whole::{EndsItself, EndsWithInput, Followed, Rest, Whole, WholePart};
+use speedy_layout::whole::{EndsItself, EndsWithInput, Followed, Rest, UnlessEnd, Whole, WholePart};
 use std::alloc::Global;
 use std::borrow::{CowSlice, CowStr};
 use std::boxed::{BoxedSlice, BoxedStr};
@@ -139,6 +141,47 @@ impl<C: Context, A: Writable<C>, B: WriteWhole<C>> WriteToEnd<C> for Followed<A,
     }
 }
 
+impl<C: Context, A: Writable<C>, B: WriteWhole<C>> WriteToEnd<C> for UnlessEnd<A, B> {
+    #[inline]
+    fn write_to_end<W: Writer<C>>(&self, writer: &mut W) -> Result<(), C::Error> {
+        match &self.0 {
+            None => Ok(()),
+            Some(parts) => write_present(&parts.0, &parts.1, writer),
+        }
+    }
+}
+
+// A part that takes bytes, and what nothing stands behind.
+#[inline]
+fn write_present<C: Context, A: Writable<C>, B: WriteWhole<C>, W: Writer<C>>(
+    first: &A,
+    rest: &B,
+    writer: &mut W,
+) -> Result<(), C::Error>
+    ensures { Writes C.Error.from_gives
+        (λ f. pair (some_bytes (A.layout.format f)) (B.whole.format f))
+        (A.seen first.now, B.seen rest.now) result (W.state writer.old) (W.state writer.new)
+        (λ b. W.appends writer.old b writer.new) }
+{
+    write_some(first, writer)?;
+    rest.write_whole(writer)
+}
+
+// A value that takes bytes. One that takes none is refused.
+#[inline]
+fn write_some<C: Context, A: Writable<C>, W: Writer<C>>(
+    value: &A,
+    writer: &mut W,
+) -> Result<(), C::Error>
+    ensures { WritesAs C.Error.from_gives W.state W.appends A.seen
+        (λ f. some_bytes (A.layout.format f)) value.now result writer.old writer.new }
+{
+    if takes_no_byte(value, writer) {
+        return Err(error_out_of_range_length());
+    }
+    writer.write_value(value)
+}
+
 /// How texts and lists are written that are the rest of the bytes.
 pub trait WriteRest<C: Context>: OfLength {
     /// Writes the bytes of the text, or the items of the list, and no length.
@@ -256,10 +299,23 @@ fn take_no_byte<C: Context, T: Writable<C>, W: Writer<C>>(items: &[T], writer: &
     ensures some { let format = T.layout.format (W.state writer.old).mode in
         result ≡ false → TakesBytes T.seen format items.now }
 {
-    let Some((first, _)) = items.split_first() else {
-        return false;
-    };
-    match first.bytes_needed(writer.context_mut()) {
+    match items.split_first() {
+        Some((first, _)) => takes_no_byte(first, writer),
+        None => false,
+    }
+}
+
+// Whether the value is written in no byte.
+#[inline]
+fn takes_no_byte<C: Context, T: Writable<C>, W: Writer<C>>(value: &T, writer: &mut W) -> bool
+    ensures state { W.state writer.new ≡ W.state writer.old }
+    ensures joins { (bytes : List ℕ) (w : W) → W.appends writer.new bytes w → W.appends writer.old bytes w }
+    ensures none { let format = T.layout.format (W.state writer.old).mode in
+        IsTrue result → format.writes (T.seen value.now) [] }
+    ensures some { let format = T.layout.format (W.state writer.old).mode in
+        result ≡ false → format.writes (T.seen value.now) [] → ⊥ }
+{
+    match value.bytes_needed(writer.context_mut()) {
         Ok(size) => size == 0,
         Err(_) => false,
     }

@@ -1,4 +1,4 @@
-use Rattle.speedy_write.proofs.whole.take_no_byte.Goals as goal
+use Rattle.speedy_write.proofs.whole.takes_no_byte.Goals as goal
 
 pub returns-clause-joins : goal.returns-clause-joins
 returns-clause-joins g c =
