@@ -54,6 +54,8 @@ pub use Rattle.speedy_layout.specs.ViewIters
 pub use Rattle.speedy_layout.specs.Views
 pub use Rattle.speedy_layout.specs.Wholes
 pub use Rattle.speedy_layout.specs.Rests
+pub use Rattle.speedy_layout.specs.Growing
+pub use Rattle.speedy_layout.specs.Growth
 pub use Rattle.speedy_layout.specs.Zigzag
 pub use Rattle.speedy_read.specs.Buffers
 pub use Rattle.speedy_read.specs.Codes as ReadCodes

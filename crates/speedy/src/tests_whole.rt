@@ -4,7 +4,7 @@ use crate::context::LittleEndian;
 use crate::error::Error;
 use crate::prefixed::{Framed, Prefixed};
 use crate::readable::Readable;
-use crate::whole::{Followed, ReadableWhole, Rest, WholePart, WriteWhole};
+use crate::whole::{Followed, ReadableWhole, Rest, UnlessEnd, WholePart, WriteWhole};
 use crate::writable::Writable;
 use std::alloc::Global;
 
@@ -42,4 +42,26 @@ fn a_packet_stands_in_a_frame(rt: HostRuntime) {
     let again: Prefixed<u8, _> = Prefixed::new(Framed(WholePart(&frame.value.0)));
     let written = Writable::<LittleEndian>::write_to_vec(&again, alloc).expect(&rt, "bytes");
     assert_bytes(&rt, written.as_slice(), &bytes[..8]);
+}
+
+/// A byte, and a number that may be missing.
+type Growing = Followed<u8, UnlessEnd<u16, ()>>;
+
+fn read_growing(alloc: Global, bytes: &[u8]) -> Result<Growing, Error> {
+    <Growing as ReadableWhole<LittleEndian>>::read_whole_from_buffer(alloc, bytes)
+}
+
+#[test]
+fn a_last_part_may_be_missing(rt: HostRuntime) {
+    let alloc = rt.alloc();
+    assert!(&rt; read_growing(alloc, &[7]).expect(&rt, "a byte") == Followed(7, UnlessEnd(None)));
+    let whole = read_growing(alloc, &[7, 1, 2]).expect(&rt, "both");
+    assert!(&rt; whole == Followed(7, UnlessEnd(Some((513, ())))));
+    let written = WriteWhole::<LittleEndian>::write_whole_to_vec(&whole, alloc).expect(
+        &rt, "bytes",
+    );
+    assert_bytes(&rt, written.as_slice(), &[7, 1, 2]);
+    assert!(&rt; read_growing(alloc, &[]).is_err());
+    assert!(&rt; read_growing(alloc, &[7, 1]).is_err());
+    assert!(&rt; read_growing(alloc, &[7, 1, 2, 3]).is_err());
 }

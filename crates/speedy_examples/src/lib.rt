@@ -27,3 +27,4 @@ pub mod sockets;
 pub mod streams;
 pub mod versions;
 pub mod waiting;
+pub mod whole_types;

@@ -57,7 +57,7 @@ some_bytes_laws {F = F} laws = record {
         (
           w.1,
           λ none. h.1 (sym (laws.decodes v v w.0 b b [] (laws.written_encodes v w.0 w.1) h.0
-          (ap (λ s. s ++ b) none ∙ sym (append-nil b))).1 ∙ none),
+              (ap (λ s. s ++ b) none ∙ sym (append-nil b))).1 ∙ none),
         ),
       );
   one_written = λ unhashed v b c h k. laws.one_written unhashed v b c h.0 k.0;
@@ -139,24 +139,3 @@ unless_end_codec first second = record {
   format = λ f. unless_end (first.format f) (second.format f);
   laws = λ f. unless_end_laws (first.laws f) (second.laws f);
 }
-
--- ---- formats that grow
-
--- a prefix of the bytes stands before bytes that are passed over
-abbrev pub Passing : {V : Type 0} → Format V → V → List ℕ → Type 0
-Passing L v b = (rest : List ℕ) × (pair L (plain_format (λ (passed b : List ℕ). passed ≡ b))).encodes (v, rest) b
-
--- What a newer form wrote, which has more parts behind the first ones, are the same first parts to the older, which
--- passes over the rest.
-pub newer_is_read : {U W : Type 0} (L : Format U) (M : Format W) (v : U) (w : W) (b : List ℕ)
-    → (pair L M).encodes (v, w) b → Passing L v b
-unfolding sequence
-newer_is_read L M v w b h =
-    (h.suffix, record { prefix = h.prefix; suffix = h.suffix; whole_is = h.whole_is; first_is = h.first_is; second_is = refl })
-
--- What an older form wrote, which ends behind these parts, are the same first parts to the newer, and none of the later.
-pub older_is_read : {U V W : Type 0} (L : Format U) (N : Format V) (M : Format W) (v : U) (b : List ℕ)
-    → L.encodes v b → (pair L (unless_end N M)).encodes (v, None) b
-unfolding sequence unless_none
-older_is_read L N M v b h =
-    record { prefix = b; suffix = []; whole_is = sym (append-nil b); first_is = h; second_is = refl }

@@ -40,5 +40,6 @@ pub mod Frames
 pub mod Lengths
 pub mod Rests
 pub mod Growing
+pub mod Growth
 pub mod Views
 pub mod ViewIters

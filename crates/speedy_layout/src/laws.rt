@@ -1,9 +1,13 @@
 //! The laws of layouts, as functions with empty bodies that a user's proof can cite.
-ghost use Rattle.std.specs.Prelude.{◌≡◌, ◌≤◌, ◌↔◌, List, ◌++◌, ℕ, length, [], false, IsTrue};
+ghost use Rattle.std.specs.Prelude.{◌≡◌, ◌≤◌, ◌↔◌, List, ◌++◌, ℕ, length, [], false, IsTrue, None};
+ghost use Rattle.speedy_base.specs.Digits.{AreBytes};
 ghost use Rattle.speedy_base.specs.Mode.{Mode};
 
+use crate::frames::Framed;
 use crate::layout::Layout;
+use crate::prefixed::{Prefix, Prefixed};
 use crate::same_key::SameKey;
+use crate::whole::{Followed, Rest, UnlessEnd, Whole};
 
 /// Bytes encode at most one value.
 pub fn one_value<T: Layout>()
@@ -59,6 +63,29 @@ pub fn canonical_alone<T: Layout>()
     ensures same { (f : Mode) (v : T.Seen) (bytes others : List ℕ) →
         IsTrue f.strict → (T.layout.format f).asks.hashed ≡ false → (T.layout.format f).encodes v bytes
         → (T.layout.format f).writes v others → bytes ≡ others }
+{}
+
+/// All of the bytes encode at most one whole value.
+pub fn one_whole_value<T: Whole>()
+    ensures { (f : Mode) (v w : T.Seen) (bytes : List ℕ) →
+        (T.whole.format f).encodes v bytes → (T.whole.format f).encodes w bytes → v ≡ w }
+{}
+
+/// A frame that a newer form wrote, with more parts `W` behind the parts `A`, is to a form that passes over what stands
+/// behind `A` a frame of the same first parts.
+pub fn newer_frame_is_read<N: Prefix, A: Layout, W: Whole>()
+    ensures { (f : Mode) (v : A.Seen) (w : W.Seen) (bytes : List ℕ) → AreBytes bytes
+        → (⟦<Prefixed<N, Framed<Followed<A, W>>> as Layout>⟧.layout.format f).encodes (v, w) bytes
+        → (passed : List ℕ)
+        × (⟦<Prefixed<N, Framed<Followed<A, Rest<Vec<u8>>>>> as Layout>⟧.layout.format f).encodes (v, passed) bytes }
+{}
+
+/// A frame that an older form wrote, which ends behind the parts `A`, is to a form with more parts a frame of the same
+/// first parts, in which the later ones are missing.
+pub fn older_frame_is_read<N: Prefix, A: Layout, B: Layout, W: Whole>()
+    ensures { (f : Mode) (v : A.Seen) (bytes : List ℕ) → AreBytes bytes
+        → (⟦<Prefixed<N, Framed<A>> as Layout>⟧.layout.format f).encodes v bytes
+        → (⟦<Prefixed<N, Framed<Followed<A, UnlessEnd<B, W>>>> as Layout>⟧.layout.format f).encodes (v, None) bytes }
 {}
 
 /// Keys are equal exactly where the same is seen of them.

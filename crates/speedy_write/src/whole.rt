@@ -20,7 +20,9 @@ use speedy_base::context::{Context, PlainContext};
 use speedy_base::endianness::Endianness;
 use speedy_base::error::{error_out_of_memory, error_out_of_range_length};
 use speedy_layout::lengths::OfLength;
-use speedy_layout::whole::{EndsItself, EndsWithInput, Followed, Rest, UnlessEnd, Whole, WholePart};
+use speedy_layout::whole::{
+    EndsItself, EndsWithInput, Followed, Rest, UnlessEnd, Whole, WholePart,
+};
 use std::alloc::Global;
 use std::borrow::{CowSlice, CowStr};
 use std::boxed::{BoxedSlice, BoxedStr};
