@@ -15,8 +15,6 @@ OF_ENUMS = ("tag_type", "peek_tag")
 OF_VARIANTS = ("tag",)
 # The traits of std that a type may derive.
 DERIVED = ("Debug", "Clone", "Copy", "PartialEq", "Eq", "PartialOrd", "Ord", "Hash", "Default")
-UNTIL_END = ("its encoding begins longer ones, so it is not known where it ends. In the code that calls a reader, "
-             "peek, or read items until the end by `read_vec_until_eof`")
 
 
 @dataclass
@@ -27,6 +25,9 @@ class Options:
     varint: bool = False
     constant: object = None
     skip: bool = False
+    # Whether it takes the rest of the input, and whether it may be missing at the end of that.
+    is_rest: bool = False
+    may_be_missing: bool = False
 
 
 def sub_parser(attribute):
@@ -90,13 +91,18 @@ def of_field(field, notes):
     field.attributes = opened(field.attributes)
     others(field.attributes, notes)
     found = settings(field.attributes, OF_FIELDS, "a field")
-    if "default_on_eof" in found:
-        raise Refusal(found["default_on_eof"][0], "`default_on_eof` reads to the end of the input: " + UNTIL_END)
-    options = Options(skip="skip" in found, varint="varint" in found)
+    options = Options(skip="skip" in found, varint="varint" in found, may_be_missing="default_on_eof" in found)
+    if options.may_be_missing and len(found) > 1:
+        raise Refusal(found["default_on_eof"][0], "a field with `default_on_eof` has no other setting: put it into a "
+                                                  "struct of its own")
     if options.skip and len(found) > 1:
         raise Refusal(found["skip"][0], "a field with `skip` has no bytes, and so no other setting")
-    if "length" in found:
-        options.length = length(found["length"])
+    if "length" in found and isinstance(found["length"][1], syntax.Open):
+        options.is_rest = True
+        if len(found) > 1:
+            raise Refusal(found["length"][0], "a field with `length = ..` has no other setting")
+    elif "length" in found:
+        options.length = found["length"][1]
     if "length_type" in found:
         line, options.length_type = found["length_type"]
         if options.length is not None:
@@ -106,14 +112,6 @@ def of_field(field, notes):
     if "constant_prefix" in found:
         options.constant = constant(*found["constant_prefix"])
     return options
-
-
-def length(found):
-    """The length that a field is told."""
-    line, value = found
-    if isinstance(value, syntax.Open):
-        raise Refusal(line, "`length = ..` reads to the end of the input: " + UNTIL_END)
-    return value
 
 
 def constant(line, value):

@@ -41,8 +41,21 @@ BROKEN = [
     ("a skipped field with more", struct("    #[speedy(skip, varint)]\n    a: u64"), 4, "no other setting"),
     ("a length and its width", struct("    n: u8,\n    #[speedy(length = n, length_type = u8)]\n    a: Vec<u8>"), 5,
      "no `length_type`"),
-    ("the rest of the input", struct("    #[speedy(default_on_eof)]\n    a: u8"), 4, "reads to the end of the input"),
-    ("a length to the end", struct("    #[speedy(length = ..)]\n    a: Vec<u8>"), 4, "reads to the end of the input"),
+    ("a rest before another field", struct("    #[speedy(length = ..)]\n    a: Vec<u8>,\n    b: u8"), 6,
+     "such fields alone"),
+    ("a rest in a variant", HEAD + DERIVES + "enum A { B(#[speedy(length = ..)] Vec<u8>) }", 3,
+     "a variant does not end"),
+    ("a rest of a map", "use std::collections::BTreeSet;\n"
+     + struct("    #[speedy(length = ..)]\n    a: BTreeSet<u8>"), 6,
+     "`length = ..` is taken of"),
+    ("a rest behind a part that may be missing", struct("    #[speedy(default_on_eof)]\n    a: u8,\n"
+     "    #[speedy(length = ..)]\n    b: Vec<u8>"), 5, "is the last field"),
+    ("a missing part of two settings", struct("    #[speedy(default_on_eof, varint)]\n    a: u64"), 4,
+     "no other setting"),
+    ("a missing part without a default", "use std::net::IpAddr;\n"
+     + struct("    #[speedy(default_on_eof)]\n    a: IpAddr"), 6, "no default of `IpAddr`"),
+    ("a part that ends where the bytes do", struct("    #[speedy(length = ..)]\n    a: String") + DERIVES
+     + "struct B(A);", 8, "ends where the bytes do"),
     ("a tag that is peeked at", HEAD + DERIVES + "#[speedy(peek_tag)]\nenum A { B }", 3, "no encoding of its own"),
     ("a varint of another width", struct("    #[speedy(varint)]\n    a: u32"), 5, "of the type `u64`"),
     ("a constant of no type", struct("    #[speedy(constant_prefix = 10)]\n    a: ()"), 4, "names its type"),
@@ -66,7 +79,7 @@ BROKEN = [
      "neither an earlier field with bytes"),
     ("a length of a field of another variant", HEAD + DERIVES + "enum A {\n    B(u8),\n    C(\n"
      "        #[speedy(length = t0)]\n        Vec<u8>,\n    ),\n}", 6, "no earlier field"),
-    ("a length of a signed number", told("n", "i32"), 5, "`n` tells no length"),
+    ("a length of a wide number", told("n", "u128"), 5, "`n` tells no length"),
     ("a length of a text", told("n * 2", "String"), 5, "`n` tells no length"),
     ("a sum of two types", struct("    m: u16,\n    n: u8,\n    #[speedy(length = n + m)]\n    a: Vec<u8>"), 6,
      "have no `+` in Rust"),

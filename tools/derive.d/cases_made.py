@@ -236,6 +236,19 @@ struct Index<K, V> {
      + DERIVES + "struct Table(BTreeMap<Key, u8>);\n",
      ["{ λ x y. part_then", "(unsigned_Decides x.a y.a)", "(bytes_decides (string_bytes x.b) (string_bytes y.b)) };",
       "contracts.messages.Kind.{the_type};", "unit_cases_tell the_type tt told", "          | Kind.B ↦ refl"]),
+    ("a rest without a length", DERIVES + "struct A<'a> { a: u8, b: [u8; 4], #[speedy(length = ..)] c: &'a str }\n",
+     ["type AParts<'a> = Followed<(u8, [u8; 4]), Rest<&'a str>>;", "impl<'a> Whole for A<'a> {",
+      "    type Ends = EndsWithInput;", "⟦<&'a str as OfLength>⟧.seen it.c) };", "Ok(Followed(parts, Rest(c))) => {",
+      "Followed((self.a, Part(&self.b)), Rest(Part(&self.c))).write_to_end(writer)"]),
+    ("parts that may be missing", DERIVES + "pub struct A { a: u8, #[speedy(default_on_eof)] b: u16, "
+     "#[speedy(default_on_eof)] c: String }\n",
+     ["pub type AParts = Followed<u8, UnlessEnd<u16, UnlessEnd<String, ()>>>;", "Some (",
+      "pub fn from_parts(alloc: Global, parts: AParts) -> A {", "let Followed(a, UnlessEnd(more)) = parts;",
+      "c: String::new(alloc),", "UnlessEnd(Some((self.b, UnlessEnd(Some((Part(&self.c), ()))))))"]),
+    ("a length that a signed number tells", DERIVES
+     + "struct A { n: i16, #[speedy(length = n)] a: Vec<u8>, b: i8, c: i8 }\n",
+     ["ghost is_told = { λ n. pos 0 ≤ℤ n };", "ghost told = { λ n. unsigned_abs n };", "usize::try_from(n).ok()",
+      "writer.write_value(&(a, Part(&self.b), Part(&self.c)))"]),
     ("a module, and what is no type", "mod inner { use speedy::*;\n" + DERIVES + "pub enum A { B, C(u8) } }\n",
      ["mod inner {", "ghost use Rattle.my_crate.specs.declared.messages.inner.A.{A};"]),
     ("constants of each kind", DERIVES + "struct A(" + ", ".join(

@@ -3,6 +3,7 @@ import attributes
 import expressions
 import keys
 import syntax
+import whole
 from answers import answers
 from impls import Shape
 from parts import (NUMBERS, PartMaker, accesses_of_variant, built, number_of, read_arm, seen_of_parts,
@@ -65,6 +66,7 @@ class EnumShape(Shape):
         self.place = place
         self.cases = []
         for path, variant in leaves(halved(item.variants)):
+            whole.refuse_in_variant(variant)
             maker = PartMaker(item, scope, f"{item.name}::{variant.name}")
             taken = maker.taken(variant.fields, accesses_of_variant(variant.fields, scope))
             self.cases.append(Case(variant, taken, path))
@@ -162,7 +164,7 @@ class EnumShape(Shape):
         if not case.taken.parts:
             return str(variant.tag), value()
         kind = "" if case.taken.is_told() else f"::<{case.parts_type}>"
-        pattern, made = read_arm(case.taken, value, self.scope)
+        pattern, made = read_arm(case.taken, value)
         arms = ((Call(ok, (pattern,)), made), (f"{err}(error)", f"{err}(error)"))
         return str(variant.tag), Match(f"reader.read_value{kind}()", arms)
 

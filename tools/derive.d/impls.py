@@ -29,10 +29,10 @@ class Shape:
         """What an impl says of a type, as a clause quotes it."""
         return f"⟦<{kind} as {self.scope.need(module, trait)}>⟧"
 
-    def alias(self, wanted, about, kind, names):
+    def alias(self, wanted, about, kind, names, visibility=""):
         """An alias of a type, beside the type that is made now: what it is applied to here."""
         name = self.scope.fresh.name(wanted)
-        head = f"type {name}{self.generics.of_alias(names)}"
+        head = f"{visibility}type {name}{self.generics.of_alias(names)}"
         self.scope.beside += [f"/// {about}", f"{head} = {type_text(kind)};", ""]
         return name + self.generics.arguments(names)
 

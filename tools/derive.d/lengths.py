@@ -3,16 +3,18 @@ from dataclasses import dataclass
 
 import expressions
 import syntax
-from arithmetic import TAKEN, UNSIGNED, Computed, Term, number
+from arithmetic import BITS, TAKEN, Computed, Term, number
 from names import Fresh, camel, parameter
-from rattle import Build, Call, Let, Listed, is_listed, tuple_of, type_text
+from rattle import Build, Call, Let, Listed, is_listed, parts_of, tuple_of, type_text
 from refusal import Refusal
 
 OF_LENGTH = ("String", "Vec", "BoxedStr", "BoxedSlice", "CowStr", "CowSlice")
+# So deep may the type of a `WithLength` nest: past that the compiler's search for impls meets its limit.
+MOST_DEEP = 10
 # So many parts stand in one tuple.
 MOST_OTHERS = 6
 # The types of numbers that tell a length.
-HELD = tuple(UNSIGNED)
+HELD = tuple(BITS)
 MAPS = ("BTreeMap", "HashMap", "IndexMap", "BTreeSet", "HashSet", "IndexSet")
 
 
@@ -104,7 +106,8 @@ class Others:
                                                "the length that it tells finds no proof: put this field into a struct "
                                                "of its own")
         statements = [it for item in self.items for it in item.part.statements()]
-        written = [item.part.among(self.scope) for item in self.items]
+        written = [item.part.lent(self.scope) if item.part.is_signed() else item.part.among(self.scope)
+                   for item in self.items]
         return statements, Call(self.type.local, (tuple_of(written) if written else "()",))
 
     def seen(self, alone):
@@ -333,7 +336,15 @@ def tree(items, scope, owner):
         else:
             number_part = Number(item, kind_of(item))
             found = number_part if found is None else Pair(found, number_part)
+    if depth_of(found.type) > MOST_DEEP:
+        raise Refusal(line, "what stands between this field and the numbers that tell its length nests too deep for "
+                            "Rattle's compiler: put some of it into a struct of its own")
     return found
+
+
+def depth_of(kind):
+    """How deep a type nests."""
+    return 1 + max((depth_of(part) for part in parts_of(kind)), default=0)
 
 
 def beside(found, others, scope, line):

@@ -11,6 +11,7 @@ from rattle import type_text
 from refusal import Refusal
 from scope import Scope
 from structs import struct_lines
+from whole import ends_with_input
 
 
 class Made:
@@ -115,6 +116,8 @@ class ModuleMaker:
             return [*docs(item), f"{head} = {type_text(kind)};", ""]
         self.scope.beside = []
         self.set_options(item)
+        if isinstance(item, syntax.Struct) and ends_with_input(item):
+            self.scope.ending.add(item.name)
         declared = Declaration(item, self.scope, self.of_cast).lines()
         if isinstance(item, syntax.Enum):
             made = enum_lines(item, self.scope, self.place)

@@ -53,9 +53,17 @@ class Part:
     # The tree that it is where a length is told of it, by what stands in the tree before it.
     tree: object = None
 
+    def is_signed(self):
+        """Whether it is a signed number, of which a tuple holds one and is short, or it gets no proof as it is."""
+        return is_listed(self.type, *SIGNED)
+
+    def lent(self, scope):
+        """A `Part` of it."""
+        return Call(scope.need("speedy", "Part"), (self.alone,))
+
     def among(self, scope):
         """What is written of it among others."""
-        return Call(scope.need("speedy", "Part"), (self.alone,)) if self.written is None else self.written
+        return self.lent(scope) if self.written is None else self.written
 
     def statements(self):
         """The variables that it is written by."""
@@ -265,18 +273,23 @@ def seen_of_parts(taken, quoted, scope):
 
 # What is read.
 
-def read_arm(taken, built, scope):
+def read_arm(taken, built):
     """The arm of a `match` that takes parts apart: its pattern inside `Ok`, and what is built of them."""
+    pattern, statements = read_pattern(taken)
+    return pattern, rattle.Block(statements, built())
+
+
+def read_pattern(taken):
+    """The pattern that takes parts apart, and the statements that do so behind it, which set the values of fields."""
     fresh = lengths.Names(access.bound for access in taken.accesses)
     told = [part for part in taken.parts if part.tree is not None]
     behind = [let for part in told for let in part.tree.taken(part.bound, fresh, taken.values)]
     if not taken.parts:
-        return "()", built()
+        return "()", ()
     if is_nested(taken.tree) or moves_array(taken):
         apart = taken_apart(taken.tree, {part.bound for part in taken.parts})
-        return "parts", rattle.Block((*apart, *behind), built())
-    bound = fold(taken.tree, lambda it: it.bound, tuple_of)
-    return bound, rattle.Block(tuple(behind), built())
+        return "parts", (*apart, *behind)
+    return fold(taken.tree, lambda it: it.bound, tuple_of), tuple(behind)
 
 
 def moves_array(taken):
@@ -325,12 +338,16 @@ def written(taken, scope):
         return "&()"
     if not isinstance(taken.tree, list):
         return taken.parts[0].alone
-    nested = is_nested(taken.tree)
+    return f"&{written_among(taken, scope)}"
+
+
+def written_among(taken, scope):
+    """The same, as a value that other parts stand beside."""
+    count = sum(part.is_signed() for part in taken.parts)
+    is_bare = count == 1 and not is_nested(taken.tree) and len(taken.parts) <= PARTS_OF_MANY
 
     def among(part):
-        """A part among others. A signed number in a nested tuple gets no proof as it is."""
-        if nested and is_listed(part.type, *SIGNED):
-            return Call(scope.need("speedy", "Part"), (part.alone,))
-        return part.among(scope)
+        """A part among others."""
+        return part.lent(scope) if part.is_signed() and not is_bare else part.among(scope)
 
-    return f"&{fold(taken.tree, among, lambda its: Call('', tuple(its)))}"
+    return fold(taken.tree, among, lambda its: Call("", tuple(its)))

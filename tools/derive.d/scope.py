@@ -34,6 +34,8 @@ class Scope:
         self.fresh = Fresh()
         self.nodes = 0
         self.derives = Derives(self)
+        # The names of the types of this file that end where the bytes do, which have no layout.
+        self.ending = set()
         # The types of this file as keys, by their names.
         self.keys = {}
         # What clauses import: from `Prelude`, and by the paths of others.
@@ -330,6 +332,9 @@ class Converter:
                                      "declare it in a `.rt` file by hand, and import it here")
         if not self.written_alone and not item.readable and not self.is_skipped:
             raise Refusal(kind.line, f"`{item.name}` does not derive `Readable`")
+        if item.name in self.scope.ending and not self.is_skipped:
+            raise Refusal(kind.line, f"`{item.name}` ends where the bytes do, so it has no layout: hold it behind the "
+                                     "number of its bytes, by hand, as a `Prefixed` of a `Framed`")
         return Own(kind.line, item.name, self.arguments(kind, item))
 
     def arguments(self, kind, item):

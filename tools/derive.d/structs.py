@@ -1,5 +1,6 @@
 """The impls of a struct: it has the layout of the tuple of its parts, is read as that and written as it."""
 import keys
+import whole
 from impls import Shape
 from parts import (PartMaker, accesses_of_struct, built, read_arm, seen_of_parts, write_statements, written)
 from rattle import Block, Call, Match, clause_lines, type_text
@@ -45,11 +46,11 @@ class StructShape(Shape):
         meets its step limit in a struct that holds others."""
         ok, err = self.scope.variant("Ok"), self.scope.variant("Err")
         read = "reader.read_value()" if self.taken.is_told() else f"reader.read_value::<{self.parts_type}>()"
-        pattern, value = read_arm(self.taken, lambda: Call(ok, (built(self.item.name, self.item.shape, self.taken),)),
-                                  self.scope)
+        pattern, value = read_arm(self.taken, lambda: Call(ok, (built(self.item.name, self.item.shape, self.taken),)))
         return str(Match(read, ((Call(ok, (pattern,)), value), (f"{err}(error)", f"{err}(error)"))))
 
 
 def struct_lines(item, scope):
     """The impls of a struct."""
-    return StructShape(item, scope).lines()
+    shape = whole.WholeShape if whole.ends_with_input(item) else StructShape
+    return shape(item, scope).lines()

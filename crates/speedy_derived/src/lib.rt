@@ -3,6 +3,7 @@
 #![tactic(auto)]
 
 pub mod constants;
+pub mod endings;
 pub mod floats;
 pub mod generic;
 pub mod generic_enums;

@@ -87,7 +87,8 @@ module _ {E V : Type 0} {gives : Error → E → Type 0} {eof : E → Bool} {F :
   pub filled : {A : Type 0} {seen : A → V} {new : ReaderState}
       → ((error : Error) (e : E) → gives error e → eof e ≡ is_eof_error error) → AreCounted bytes
       → (read result : Result A E) → FillsUnlessEnd gives eof read result
-      → ReadsWhole gives eof seen F read (memory_state lends targets bytes f) new → Fills gives seen F lends result bytes
+      → ReadsWhole gives eof seen F read (memory_state lends targets bytes f) new
+      → Fills gives seen F lends result bytes
   filled keeps_eof fit (Ok x) (Ok y) judged r = (rw judged r.answer, fit)
   filled keeps_eof fit (Ok x) (Err e) judged r = absurd judged
   filled keeps_eof fit (Err e) (Ok y) judged r = absurd judged

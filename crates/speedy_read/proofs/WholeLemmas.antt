@@ -53,7 +53,8 @@ module _ {E : Type 0} {gives : Error → E → Type 0} {eof : E → Bool} {V B :
       subst (λ (x : Result B E). ReadsWhole gives eof seen F x old new) (passed_on result e passed) r
 
   -- a part L that is refused from `mid` on, so that the bytes are those of no value
-  pub part_not_whole : {A U : Type 0} {part : A → U} {L : Format U} {e : E} {result : Result B E} {mid new : ReaderState}
+  pub part_not_whole : {A U : Type 0} {part : A → U} {L : Format U} {e : E} {result : Result B E}
+      {mid new : ReaderState}
       → IsErrAnd result (λ x. x ≡ e) → Kept old mid → InMemory mid → InMemory new
       → (IsTrue L.asks.memory → IsTrue F.asks.memory) → (IsTrue L.asks.lending → IsTrue F.asks.lending)
       → ((kind : ErrorKind) → L.names kind → F.names kind)
@@ -127,7 +128,8 @@ module _ {E : Type 0} {gives : Error → E → Type 0} {eof : E → Bool} {V A :
 
 module _ {E : Type 0} {gives : Error → E → Type 0} {eof : E → Bool} {U W A D : Type 0} {L : Format U}
     {first : A → U} {seen : D → U × W} where
-  pub first_not_whole : (M : Format W) {old new : ReaderState} {e : E} {result : Result D E} → IsErrAnd result (λ x. x ≡ e) → InMemory old → InMemory new
+  pub first_not_whole : (M : Format W) {old new : ReaderState} {e : E} {result : Result D E}
+      → IsErrAnd result (λ x. x ≡ e) → InMemory old → InMemory new
       → Reads gives eof first L (Err e) old new → ReadsWhole gives eof seen (pair L M) result old new
   unfolding sequence
   first_not_whole M passed before since r =
@@ -343,7 +345,8 @@ module _ {T V : Type 0} {seen : T → V} (item : Codec V) (f : Mode) {items : Li
       }
 
     -- no byte is left
-    pub items_whole : {y : B} → n ≡ 0 → shown y ≡ map seen items → ReadsWhole gives eof shown (all_items item f) (Ok y) old mid
+    pub items_whole : {y : B} → n ≡ 0 → shown y ≡ map seen items
+        → ReadsWhole gives eof shown (all_items item f) (Ok y) old mid
     unfolding rest vector owned_content repeat
     items_whole {y = y} none is = record {
       kept = taken.so_far.kept;

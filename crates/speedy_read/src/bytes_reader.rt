@@ -239,7 +239,8 @@ impl<'a, 'c, L: AsSlice<u8> + Drop, U: MayLend<'a, L>, C: Context> MemoryReader<
     for BytesReader<'a, 'c, U, C> {
     #[inline(always)]
     fn left(&self) -> usize {
-        self.rest.len()
+        let rest = self.rest;
+        rest.len()
     }
 
     ghost in_memory = { λ r. bytes_in_memory };

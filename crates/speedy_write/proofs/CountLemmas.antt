@@ -33,7 +33,8 @@ whole_counted {gives = gives} {F = F} {v = v} {sum = sum} {size = size} {answere
     record {
       written = (put.bytes, put.is_written, long);
       answers =
-          λ bytes writes _. let same = one_whole_length laws v put.bytes bytes put.is_written writes in omega (arith, long);
+          λ bytes writes _.
+          let same = one_whole_length laws v put.bytes bytes put.is_written writes in omega (arith, long);
       too_long = λ bytes writes past.
           let same = one_whole_length laws v put.bytes bytes put.is_written writes in
           absurd (omega (arith, long));

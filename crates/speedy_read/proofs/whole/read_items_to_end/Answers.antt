@@ -46,4 +46,5 @@ loop-left-preserved g c =
 pub returns : goal.returns
 returns g c =
     let memory = g.met.R.MemoryReader.in_memory in
-    items_whole g.T.Layout.layout _ c.loop-left.invariant (memory c.args.reader.now) (let none = c.loop-left-test.false in omega arith) refl
+    items_whole g.T.Layout.layout _ c.loop-left.invariant (memory c.args.reader.now)
+    (let none = c.loop-left-test.false in omega arith) refl

@@ -1,0 +1,182 @@
+"""The impls of a struct that ends where the bytes do: by a rest without a length, or parts that may be missing."""
+import defaults
+import rattle
+from impls import Shape
+from lengths import OF_LENGTH
+from parts import (Part, PartMaker, Taken, accesses_of_struct, built, is_lent_list, read_pattern, seen_of_parts,
+                   write_statements, written_among)
+from rattle import Block, Call, Let, Match, clause_lines, clause_text, is_listed, type_text
+from refusal import Refusal
+from sizes import SIGNED, is_copied
+
+
+def ends_with_input(item):
+    """Whether a struct has such parts."""
+    return any(it.options.is_rest or it.options.may_be_missing for it in item.fields)
+
+
+def refuse_in_variant(variant):
+    """Refuses such parts in a variant."""
+    for it in variant.fields:
+        if it.options.is_rest or it.options.may_be_missing:
+            raise Refusal(it.line, "a variant does not end where the bytes do: put this field into a struct of its "
+                                   "own, and hold that behind the number of its bytes, in a `Framed`")
+
+
+class WholeShape(Shape):
+    """What the impls of such a struct are made of: the parts with a layout that stand first, and those at the end."""
+
+    def __init__(self, item, scope):
+        accesses = accesses_of_struct(item.fields, scope)
+        place = next(at for at, it in enumerate(item.fields) if it.options.is_rest or it.options.may_be_missing)
+        for it in item.fields[place:]:
+            if not (it.options.is_rest or it.options.may_be_missing or it.options.skip):
+                raise Refusal(it.line, "behind a field that ends with the input stand such fields alone")
+        maker = PartMaker(item, scope, item.name)
+        self.first = maker.taken(item.fields[:place], accesses[:place])
+        self.last = [(it, access, scope.convert(it.type, item.parameters, not item.readable))
+                     for it, access in zip(item.fields[place:], accesses[place:])]
+        self.check_last()
+        kinds = [Part(kind, access.bound) for it, access, kind in self.last]
+        ends = Taken(item, [], [], parts=kinds)
+        super().__init__(item, scope, [self.first, ends])
+        end = "Rest" if self.is_rest() else "UnlessEnd"
+        self.names_of_whole = {name: scope.need("speedy::whole", name)
+                               for name in ("Followed", "Whole", "EndsWithInput", end)}
+        kind = f"{self.names_of_whole['Followed']}<{type_text(self.first.type())}, {self.end_type()}>"
+        about = f"What [`{item.name}`] is read and written as."
+        self.parts_type = self.alias(f"{item.name}Parts", about, kind, self.names(),
+                                     "" if self.is_rest() else item.visibility)
+
+    def check_last(self):
+        """Refuses what does not end with the input."""
+        for it, _, kind in self.last:
+            if it.options.skip:
+                raise Refusal(it.line, "a field with `skip` stands before those that end with the input")
+            if it.options.is_rest and not (is_listed(kind, *OF_LENGTH) or is_lent_list(kind)):
+                raise Refusal(it.line, "`length = ..` is taken of `String`, `Vec<T>`, `Box<str>`, `Box<[T]>`, `&str`, "
+                                       "`&[u8]`, `Cow<str>` and `Cow<[T]>`")
+        if len(self.last) > 1 and any(it.options.is_rest for it, _, _ in self.last):
+            raise Refusal(self.last[0][0].line, "a rest with `length = ..` is the last field, and stands behind none "
+                                                "with `default_on_eof`")
+
+    def is_rest(self):
+        """Whether the end is a rest, and no parts that may be missing."""
+        return self.last[0][0].options.is_rest
+
+    def end_type(self):
+        """The type of the end."""
+        if self.is_rest():
+            return f"{self.names_of_whole['Rest']}<{type_text(self.last[0][2])}>"
+        found = "()"
+        for _, _, kind in reversed(self.last):
+            found = f"{self.names_of_whole['UnlessEnd']}<{type_text(kind)}, {found}>"
+        return found
+
+    def lines(self):
+        """The impls."""
+        found = self.laying_out(self.names_of_whole["Whole"], self.whole())
+        if self.item.readable:
+            found += self.read_to_end() if self.is_rest() else self.from_parts()
+        if self.item.writable:
+            body = Block(write_statements(self.first), f"{self.written()}.write_to_end(writer)")
+            text = " ".join(map(str, body.statements)) + " " + str(body.value)
+            found += self.writing("speedy::whole", "WriteToEnd", self.writer("write_to_end", text))
+        return found
+
+    def whole(self):
+        """The lines of `impl Whole`."""
+        quoted = self.quoted(self.parts_type, "Whole", "speedy::whole")
+        before, tree = ("", "tt") if not self.first.parts else \
+            seen_of_parts(self.first, type_text(self.first.type()), self.scope)
+        first = before + clause_text(tree)
+        return [f"    type Ends = {self.names_of_whole['EndsWithInput']};", "",
+                f"    ghost Seen = {{ {quoted}.Seen }};", "",
+                *clause_lines(4, "ghost seen = { λ it. ", [first, self.end_seen()], " };"), "",
+                f"    ghost whole = {{ {quoted}.whole }};"]
+
+    def end_seen(self):
+        """What is seen of the end."""
+        if self.is_rest():
+            _, access, kind = self.last[0]
+            return f"{self.quoted(type_text(kind), 'OfLength', 'speedy::lengths')}.seen {access.seen}"
+        self.scope.ghosts.add("Some")
+        found = "tt"
+        for _, access, kind in reversed(self.last):
+            found = f"Some ({self.quoted(type_text(kind))}.seen {access.seen},\n        {found})"
+        return found.replace(",\n        tt)", ", tt)")
+
+    # Reading.
+
+    def value(self, values):
+        """The struct, with these values of the fields at the end."""
+        whole = Taken(self.item, self.item.fields, [], values=[*self.first.values, *values])
+        return built(self.item.name, self.item.shape, whole)
+
+    def read_to_end(self):
+        """`impl ReadToEnd`: the parts are read, and put together."""
+        ok, err = self.scope.variant("Ok"), self.scope.variant("Err")
+        bound, lets = read_pattern(self.first)
+        rest = Call(self.names_of_whole["Rest"], (self.last[0][1].bound,))
+        pattern = Call(ok, (Call(self.names_of_whole["Followed"], (bound, rest)),))
+        made = Block(lets, Call(ok, (self.value([self.last[0][1].bound]),)))
+        trait = self.scope.need("speedy::whole", "ReadToEnd")
+        generics = self.generics
+        read = f"<{self.parts_type} as {trait}<{self.lent()}, {generics.context}>>::read_to_end(reader)"
+        body = Match(read, ((pattern, made), (f"{err}(error)", f"{err}(error)")))
+        memory = f"{self.scope.need('speedy::whole', 'MemoryReader')}<{self.lent()}, {generics.context}>"
+        head = f"    fn read_to_end<{generics.reader}: {memory}>(reader: &mut {generics.reader})"
+        lines = [f"{head} -> {self.result(self.self_type)} {{ {body} }}"]
+        return self.reading("speedy::whole", "ReadToEnd", lines)
+
+    def from_parts(self):
+        """The struct of its parts: what is missing has its default."""
+        alloc = self.scope.need("std::alloc", "Global")
+        bound, lets = read_pattern(self.first)
+        head = Call(self.names_of_whole["Followed"], (bound, Call(self.names_of_whole["UnlessEnd"], ("more",))))
+        body = Block((Let(head, "parts"), *lets), self.unless_end(0, []))
+        wheres = self.generics.wheres_text()
+        needed = {name for it, _, kind in self.last for name in defaults.default(kind, self.scope, it.line)[1]}
+        bounds = {it.name: [self.scope.prelude("Default")] if it.name in needed else []
+                  for it in self.item.parameters if it.kind == "type"}
+        listed = rattle.listed(self.generics.of_keys(bounds))
+        text = " ".join(map(str, body.statements)) + " " + str(body.value)
+        return [f"impl{listed} {self.self_type}{wheres} {{",
+                "    /// The value of the parts that were read. What is missing at the end has its default.",
+                f"    pub fn from_parts(alloc: {alloc}, parts: {self.parts_type}) -> {self.self_type} {{",
+                text, "    }", "}", ""]
+
+    def unless_end(self, place, values):
+        """The struct, where so many of the last parts are there."""
+        if place == len(self.last):
+            return self.value(values)
+        some, none = self.scope.variant("Some"), self.scope.variant("None")
+        missing = [self.default(it, kind) for it, _, kind in self.last[place:]]
+        bound = self.last[place][1].bound
+        is_last = place + 1 == len(self.last)
+        behind = "_" if is_last else Call(self.names_of_whole["UnlessEnd"], ("more",))
+        return Match("more", ((none, self.value(values + missing)),
+                              (Call(some, (Call("", (bound, behind)),)), self.unless_end(place + 1, [*values, bound]))))
+
+    def default(self, it, kind):
+        """The default of a part that is missing."""
+        return defaults.default(kind, self.scope, it.line)[0].replace(defaults.ALLOC, "alloc")
+
+    # Writing.
+
+    def written(self):
+        """What is written."""
+        first = written_among(self.first, self.scope) if self.first.parts else "()"
+        return Call(self.names_of_whole["Followed"], (first, self.end_written()))
+
+    def end_written(self):
+        """What is written of the end."""
+        if self.is_rest():
+            return Call(self.names_of_whole["Rest"], (Call(self.scope.need("speedy", "Part"),
+                                                           (self.last[0][1].reference,)),))
+        found, some = "()", self.scope.variant("Some")
+        for _, access, kind in reversed(self.last):
+            value = access.value if is_copied(kind) and not is_listed(kind, *SIGNED) \
+                else Call(self.scope.need("speedy", "Part"), (access.reference,))
+            found = Call(self.names_of_whole["UnlessEnd"], (Call(some, (Call("", (value, found)),)),))
+        return found
