@@ -54,15 +54,17 @@ def check_type(field, kind):
 class Number:
     """A number, which may tell lengths."""
 
-    def __init__(self, item, kind):
+    def __init__(self, item, kind, scope):
         self.item = item
         self.kind = kind
+        self.scope = scope
         self.bound = item.access.bound
         self.type = item.part.type
 
     def stated(self):
         """The variables that it is written by, and what is written of it then."""
-        return [], self.item.part.written
+        part = self.item.part
+        return [], part.lent(self.scope) if part.is_signed() else part.written
 
     def seen(self, alone):
         """What is seen of it."""
@@ -334,7 +336,7 @@ def tree(items, scope, owner):
             before = found or Others([], scope, line)
             found = Behind(before, item, LengthType(item, before, scope, owner).name, scope)
         else:
-            number_part = Number(item, kind_of(item))
+            number_part = Number(item, kind_of(item), scope)
             found = number_part if found is None else Pair(found, number_part)
     if depth_of(found.type) > MOST_DEEP:
         raise Refusal(line, "what stands between this field and the numbers that tell its length nests too deep for "

@@ -227,7 +227,10 @@ impl<L: AsSlice<u8> + Drop, C: Context> ReadFrom<L, C> for Signed {
 impl<C: Context> Writable<C> for Signed {
     fn write_to<W: Writer<C>>(&self, writer: &mut W) -> Result<(), C::Error> {
         let items: WithLength<SignedItemsLength, _, _> = WithLength {
-            before: ((self.count, self.offset), Other(Part(&self.scale))),
+            before: (
+                (Part(&self.count), Part(&self.offset)),
+                Other(Part(&self.scale)),
+            ),
             value: Part(&self.items),
             length: PhantomData,
         };
