@@ -165,7 +165,12 @@ def is_ours(attribute):
 
 def is_skipped(field):
     """Whether a field has no bytes."""
-    return any(it.name in ("speedy", "cfg_attr") and any(token.text == "skip" for token in it.tokens)
+    return has_setting(field, "skip")
+
+
+def has_setting(field, name):
+    """Whether a field has a setting, before its attributes are read."""
+    return any(it.name in ("speedy", "cfg_attr") and any(token.text == name for token in it.tokens)
                for it in field.attributes)
 
 

@@ -159,6 +159,21 @@ BROKEN = [
     ("a key with a field that is skipped", "use std::collections::BTreeSet;\n" + struct("    a: BTreeSet<B>")
      + "#[derive(PartialEq, Eq, PartialOrd, Ord, Readable, Writable)]\nstruct B(u8, #[speedy(skip)] u8);", 5,
      "a field is skipped"),
+    ("a key that has no order", "use std::collections::BTreeMap;\n" + struct("    a: BTreeMap<B, u8>")
+     + "#[derive(PartialEq, Eq, Hash, Readable, Writable)]\nstruct B(u8);", 5, "`B` has no `Ord`"),
+    ("a key in another type", "use std::collections::BTreeMap;\n" + struct("    a: B<Vec<f64>>") + DERIVES
+     + "struct B<K>(BTreeMap<K, u8>);", 5, "`F64` has no `Ord`"),
+    ("a small vector of what has no default", "use smallvec::SmallVec;\n" + struct("    a: SmallVec<[Box<str>; 4]>"), 5,
+     "`BoxedStr` has none in Rattle: take a `Vec`"),
+    ("a small vector in another type", "use smallvec::SmallVec;\n" + struct("    a: B<std::net::IpAddr>") + DERIVES
+     + "struct B<T>(SmallVec<[T; 4]>);", 5, "`IpAddr` has none"),
+    ("a skipped small vector", "use smallvec::SmallVec;\n"
+     + struct("    #[speedy(skip)]\n    a: SmallVec<[Box<u8>; 4]>"), 6, "`Box<u8>` has none"),
+    ("a default in another type", struct("    a: B<Box<str>>") + DERIVES + "struct B<T>(u8, #[speedy(skip)] T);", 4,
+     "`BoxedStr` has no `Default`"),
+    ("skipped fields of types that hold each other", HEAD + DERIVES
+     + "struct A<T>(T, #[speedy(skip)] Option<Box<B<T>>>);\n" + DERIVES
+     + "struct B<T>(T, #[speedy(skip)] Option<Box<A<T>>>);", 5, "holds in turn what has this field"),
     ("a phantom that is no part", "use std::marker::PhantomData;\n" + HEAD + DERIVES
      + "struct A<T>(T, PhantomData<T>);", 4, "set `skip`"),
 ]

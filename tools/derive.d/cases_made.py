@@ -136,7 +136,7 @@ struct Frame {
       "Magic::<BeforeFrameParts>::new(),"]),
     ("lengths of maps and sets", """use std::collections::{BTreeMap, HashSet};
 #[derive(Readable, Writable)]
-struct Index<K, V> {
+struct Index<K: Ord, V> {
     #[speedy(length_type = u16)]
     places: BTreeMap<K, Vec<V>>,
     #[speedy(length_type = u7)]
@@ -276,6 +276,42 @@ NOTED = [
      ["F32,", "F64,", "const HALF: f64 = 0.5;", "type Real = F64;", "    one: F32,", "    all: Vec<F64>,",
       "    some: (Option<[F64; 2]>, BTreeMap<u8, F32>),", "self.one", "    C(&'a [F32]),",
       "    D { x: A<F64> },"]),
+    ("a key that no bound tells to be one", "use std::collections::{BTreeMap, HashSet};\nuse std::hash::Hash;\n"
+     "#[derive(Clone, PartialEq, Readable, Writable)]\nstruct A<K, V: Hash>(BTreeMap<K, u8>, HashSet<V>);\n"
+     "#[derive(Readable, Writable)]\nenum B<T> where T: Ord { C(A<T, T>), D }\n", 5,
+     "`V` of `A` is declared with `Eq`",
+     ["#[derive(Clone, PartialEq, Drop)]\nstruct A<K: Ord, V: Hash + Eq>(BTreeMap<K, u8>, HashSet<V>);",
+      "impl<K: SameKey + Ord, V: SameKey + Hash> Layout for A<K, V> {", "enum B<T: Hash>\nwhere\n    T: Ord,\n{"]),
+    ("a skipped map of parameters", "use std::collections::HashMap;\n" + DERIVES
+     + "struct A<K, V>(u8, #[speedy(skip)] HashMap<K, V>);\n", 4, "`K` of `A` is declared with `Eq + Hash`",
+     ["struct A<K: Eq + Hash, V>(", "K: Drop + Eq + Hash, V: Drop> ReadFrom<L, C> for A<K, V> {",
+      "impl<C: Context, K: Eq + Hash, V> Writable<C> for A<K, V> {"]),
+    ("small vectors of a parameter", "use smallvec::SmallVec;\n#[derive(Clone, Readable, Writable)]\n"
+     "struct A<T>(SmallVec<[T; 4]>);\n#[derive(Clone, Readable, Writable)]\nstruct B<T>(A<(T, u8)>);\n"
+     "#[derive(Clone, Writable)]\nstruct C(SmallVec<[Box<str>; 4]>);\n", 6, "`T` of `B` is declared with `Default`",
+     ["struct A<T: MadeWith<Global>>(SmallVec<T, 4>);", "T: ReadMany<L, C2> + MadeWith<Global>",
+      "struct B<T: Default>(A<(T, u8)>);", "#[derive(Drop)]\nstruct C("]),
+    ("types less visible than what names them", DERIVES + "pub struct A { pub b: B, c: Vec<C> }\n" + DERIVES
+     + "struct B(pub(super) C, E);\n" + DERIVES + "enum C { X(D) }\ntype Ds = Vec<D>;\n" + DERIVES + "struct D(u8);\n"
+     + DERIVES + "struct E(u8);\npub(crate) type Es = Option<E>;\n", 10, "`D` is made `pub(super)`: `C` names it",
+     ["pub struct B(", "pub(super) enum C {", "\ntype Ds = Vec<D>;", "pub(super) struct D(u8);",
+      "pub(crate) struct E(u8);"]),
+    ("types of other modules of the file", "pub mod a {\n" + DERIVES + "pub struct A(pub super::B, pub b::C);\n"
+     + "mod b {\n" + DERIVES + "pub(super) struct C(u8);\n}\n}\n" + DERIVES + "struct B(u8);\n", 11,
+     "`B` is made `pub`", ["        pub struct C(u8);", "pub struct B(u8);"]),
+    ("helpers of what makes a struct that ends early", DERIVES + "pub struct A {\n"
+     "    #[speedy(constant_prefix = \"a\")]\n    n: u8,\n    #[speedy(length = n)]\n    a: Vec<u8>,\n    #[speedy(default_on_eof)]\n    b: B,\n}\n"
+     "#[derive(Default, Readable, Writable)]\nstruct B(u8);\n", 12, "`B` is made `pub`: `A` names it",
+     ["pub struct BeforeAN {}", "pub struct AALength {}", "pub type AParts = ", "pub struct B(u8);"]),
+    ("a type of a skipped field", "#[derive(Debug, Default)]\nstruct Cache<T>(Vec<T>, Kind);\n"
+     "#[derive(Debug, Default)]\nenum Kind { #[default] A, B }\ntype Caches<T> = Vec<Cache<T>>;\n" + DERIVES
+     + "struct A<T>(T, #[speedy(skip)] Caches<T>, #[speedy(skip)] Kind);\n", 3,
+     "`Cache` derives neither `Readable` nor `Writable`, and is made without impls",
+     ["#[derive(Debug, Drop)]\nstruct Cache<T>(Vec<T>, Kind);", "enum Kind {\n    #[default]\n    A,\n    B,\n}",
+      "type Caches<T> = Vec<Cache<T>>;", "Vec::new(reader.alloc()), Default::default()"]),
+    ("a type of a skipped field, declared behind it", DERIVES + "struct A<T>(u8, #[speedy(skip)] Option<B<T>>);\n"
+     + "#[derive(Debug, Readable, Writable)]\nstruct B<T>(std::collections::BTreeSet<T>);\n", 3,
+     "`T` of `A` is declared with `Ord`", ["struct A<T: Ord>(u8, Option<B<T>>);"]),
 ]
 
 

@@ -1,7 +1,7 @@
 """What a field that is skipped is given in reading."""
 import derives
 import syntax
-from rattle import Foreign, Listed, Own, Variable, is_listed, names_in, parts_of
+from rattle import Foreign, Listed, Own, Variable, is_listed, parts_of
 from refusal import Refusal
 
 ALLOC = "reader.alloc()"
@@ -24,6 +24,19 @@ def default(kind, scope, line):
     return made, tuple(found.parameters)
 
 
+def parameters_of_default(kind):
+    """The parameters that a default of this type asks for one."""
+    if isinstance(kind, Variable):
+        return [kind.name]
+    if is_listed(kind, *derives.FREE_OF_ARGUMENTS["Default"]):
+        return []
+    if isinstance(kind, (Listed, Own, Foreign)):
+        return [name for it in kind.arguments for name in parameters_of_default(it)]
+    if isinstance(kind, (syntax.Tuple, syntax.Array)):
+        return [name for it in parts_of(kind) for name in parameters_of_default(it)]
+    return []
+
+
 class Default:
     """Makes the expression of a default."""
 
@@ -34,7 +47,7 @@ class Default:
     def made(self, kind):
         """The expression, or None where there is none."""
         if derives.prevents("Default", kind, self.scope.derives.kept) is None:
-            self.parameters += self.needed(kind)
+            self.parameters += parameters_of_default(kind)
             return f"{self.scope.prelude('Default')}::default()"
         if isinstance(kind, Listed):
             return self.listed(kind)
@@ -46,30 +59,18 @@ class Default:
             return None if inner is None else f"[{', '.join([inner] * int(kind.length))}]"
         return None
 
-    def needed(self, kind):
-        """The parameters that a default of this type asks for one."""
-        if isinstance(kind, Variable):
-            return [kind.name]
-        if is_listed(kind, *derives.FREE_OF_ARGUMENTS["Default"]):
-            return []
-        if isinstance(kind, (Listed, Own, Foreign)):
-            return [name for it in kind.arguments for name in self.needed(it)]
-        if isinstance(kind, (syntax.Tuple, syntax.Array)):
-            return [name for it in parts_of(kind) for name in self.needed(it)]
-        return []
-
     def listed(self, kind):
         """That of a type of the kit, which asks for an allocator."""
         name, local = kind.name, kind.local
         types = [it for it in kind.arguments if not isinstance(it, syntax.Lifetime)]
         if name in EMPTY:
-            if name == "SmallVec":
-                self.parameters += [it for it in names_in(types[0])]
+            if name == "SmallVec" and derives.prevents_empty(kind, self.scope.derives.kept):
+                return None
             return f"{local}::new({ALLOC})"
         if name in HASHED:
             if len(types) < HASHED[name]:
                 return f"{local}::new({ALLOC})"
-            self.parameters += self.needed(types[-1])
+            self.parameters += parameters_of_default(types[-1])
             return f"{local}::with_hasher({ALLOC}, {types[-1].name}::default())"
         if name in ("BoxedStr", "BoxedSlice"):
             maker, boxed = ("String", "str") if name == "BoxedStr" else ("Vec", "slice")

@@ -1,6 +1,6 @@
 """Which traits the kit derives for a type, by what that holds."""
 import syntax
-from rattle import Foreign, Listed, Own, Variable, is_listed, parts_of
+from rattle import Foreign, Listed, Own, Variable, is_listed, parts_of, type_text
 
 # The traits that are derived. Any other name (`Serialize`, `Error`) is no macro here: it is left out.
 DERIVED = ("Debug", "Clone", "Copy", "PartialEq", "Eq", "PartialOrd", "Ord", "Hash", "Default", "Drop")
@@ -32,6 +32,8 @@ LACKING = {
     "Default": (*OWNING, "CowStr", "CowSlice", "Result", "RangeInclusive", "Ipv4Addr", "Ipv6Addr", "IpAddr", *NON_ZERO,
                 "Endianness", "VarInt64", "SystemTime", "Instant", *VIEWS),
 }
+# Types without a default that are made empty with an allocator.
+EMPTY = ("String", "Vec", "BTreeMap", "BTreeSet", "HashMap", "HashSet", "VecDeque")
 # A tuple of more parts has none of the traits.
 MOST_COMPARED = 12
 # Types whose argument need not have the trait.
@@ -51,11 +53,21 @@ def prevents(trait, kind, own):
     if isinstance(kind, Listed):
         if kind.name in LACKING[trait]:
             return kind.name
+        if trait == "Clone" and kind.name == "SmallVec" and prevents_empty(kind.arguments[0], own):
+            return type_text(kind)
         if kind.name in FREE_OF_ARGUMENTS[trait]:
             return None
     held = (it for it in parts_of(kind) if isinstance(it, (Listed, Own, Foreign, Variable, syntax.Tuple, syntax.Array,
                                                            syntax.Slice, syntax.Reference)))
     return next((found for found in (prevents(trait, it, own) for it in held) if found), None)
+
+
+def prevents_empty(kind, own):
+    """The name of the type that has no value of its own, with an allocator or without one, or None where there is
+    such a value."""
+    if is_listed(kind, "SmallVec"):
+        return prevents_empty(kind.arguments[0], own)
+    return None if is_listed(kind, *EMPTY) else prevents("Default", kind, own)
 
 
 def reference_prevents(trait, kind, own):

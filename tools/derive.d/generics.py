@@ -1,66 +1,12 @@
 """The parameters of a type, and what its impls ask of them."""
+import asked
 import rattle
 import syntax
-from known import HASHED, HASHER, ITEM, KNOWN, ORDERED, PART
+from asked import DEFAULTED, HELD
+from known import HASHED, HASHER, ITEM, ORDERED, PART
 from names import Fresh
-from rattle import Foreign, Listed, Own, Variable, is_listed, names_in, type_text
+from rattle import names_in, type_text
 from refusal import Refusal
-
-# What is asked of a parameter in a field that is skipped: to be let go, and a default.
-HELD, DEFAULTED = "held", "defaulted"
-
-
-# What types ask of the parameters in them.
-
-def asks(kind, scope, roles=(PART,)):
-    """What a type asks of each parameter in it: pairs of a name and what it has to be."""
-    if isinstance(kind, Variable):
-        return [(kind.name, role) for role in roles]
-    if isinstance(kind, syntax.Tuple):
-        return [it for part in kind.parts for it in asks(part, scope, roles)]
-    if isinstance(kind, (syntax.Array, syntax.Slice)):
-        return asks(kind.item, scope, (ITEM,) + keys_of(roles))
-    if isinstance(kind, syntax.Reference):
-        return asks(kind.target, scope, roles)
-    if not isinstance(kind, (Listed, Own, Foreign)):
-        return []
-    inner = scope.asked.get(kind.name, ()) if isinstance(kind, Own) else arguments_of(kind.name)
-    lifetimes = tuple(it.name for it in kind.arguments if isinstance(it, syntax.Lifetime)) \
-        if is_listed(kind, "CowSlice") else ()
-    found, types = [], [it for it in kind.arguments if not isinstance(it, (syntax.Lifetime, str))]
-    for place, argument in enumerate(types):
-        asked = inner[place] if place < len(inner) else (PART,)
-        found.extend(asks(argument, scope, tuple(asked) + keys_of(roles) + lifetimes))
-    return found
-
-
-def keys_of(roles):
-    """What is asked of the parts of a key, too."""
-    return tuple(role for role in roles if role in (ORDERED, HASHED))
-
-
-def arguments_of(name):
-    """What a listed type asks of its arguments."""
-    if name in ("CowSlice", "BoxedSlice", "SmallVec"):
-        return ((ITEM,),)
-    return next((known.arguments for known in KNOWN.values() if known.name == name), ())
-
-
-def asked_of(item, scope, parts, skipped):
-    """What is asked of each parameter, by its name. `skipped` has the types of fields that are skipped, each with the
-    parameters that need a default."""
-    found = {it.name: [] for it in item.parameters if it.kind == "type"}
-    asked = [it for part in parts for it in asks(part.type, scope)]
-    for kind, defaulted in skipped:
-        asked += [(name, HELD) for name in names_in(kind)] + [(name, DEFAULTED) for name in defaulted]
-    for name, role in asked:
-        if name in found and role not in found[name]:
-            found[name].append(role)
-    unused = [name for name, roles in found.items() if not roles]
-    if unused:
-        raise Refusal(item.line, f"the parameter `{unused[0]}` stands in no part: leave it out")
-    scope.asked[item.name] = tuple(tuple(found[it.name]) for it in item.parameters if it.kind == "type")
-    return found
 
 
 class Generics:
@@ -76,9 +22,21 @@ class Generics:
                                      "name one")
         self.bounds = {it.name: [scope.bound(bound) for bound in it.bounds] for it in item.parameters}
         self.wheres = [(self.subject(it), [scope.bound(bound) for bound in it.bounds]) for it in item.wheres]
+        # The bounds that Rattle asks for and the source has not, by parameters.
+        self.added = {}
+        for name, role in item.asked:
+            self.add(name, role)
         fresh = Fresh(scope.fresh.taken)
         fresh.take(*set().union(*(names_in(it) for it in kinds)))
         self.lent, self.context, self.reader, self.writer = (fresh.name(it) for it in "LCRW")
+
+    def add(self, name, role):
+        """Adds the bounds of a role to a parameter, where the declaration has them not."""
+        have = set(self.bounds[name]).union(*(bounds for subject, bounds in self.wheres if subject == name))
+        more = [bound for bound, others in asked.bounds_of(role, self.scope).items() if not have & {bound, *others}]
+        if more:
+            self.bounds[name] += more
+            self.added.setdefault(name, []).extend(more)
 
     def subject(self, where):
         """What a line of a `where` is about."""

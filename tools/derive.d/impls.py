@@ -1,6 +1,7 @@
 """What the impls of structs and enums have in common: their heads, and `impl Layout`."""
 import syntax
-from generics import Generics, asked_of
+from asked import of_impls
+from generics import Generics
 from rattle import function, impl, names_in, type_text
 from sizes import least
 
@@ -15,7 +16,7 @@ class Shape:
         skipped = [it for taken in takens for it in taken.skipped]
         self.kinds = [part.type for part in parts]
         self.generics = Generics(item, scope, self.kinds + [kind for kind, _ in skipped])
-        self.asked = asked_of(item, scope, parts, skipped)
+        self.asked = of_impls(item, scope, parts, skipped)
         self.self_type = item.name + self.generics.arguments()
         # What the parts are read and written as, by its name.
         self.parts_type = ""

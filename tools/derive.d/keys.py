@@ -6,7 +6,6 @@ from dataclasses import dataclass, field, replace
 
 import rattle
 import syntax
-from known import HASHED, KNOWN, ORDERED
 from rattle import Foreign, Listed, Variable, is_listed, type_text
 from refusal import Refusal
 
@@ -401,15 +400,9 @@ def laid_out(text, indent):
 
 
 def check(kind, scope, line):
-    """Refuses a map or a set whose keys are none. A type of another module is taken to be one."""
-    roles = next((known.arguments for known in KNOWN.values() if known.name == kind.name), ()) \
-        if isinstance(kind, Listed) else ()
-    types = [it for it in rattle.parts_of(kind) if not isinstance(it, (syntax.Lifetime, str))]
-    for place, inner in enumerate(types):
-        if place < len(roles) and (ORDERED in roles[place] or HASHED in roles[place]):
-            try:
-                Clause(scope.keys, (), are_foreign_keys=True).lemma(inner, "x", "y")
-            except NoKey as no_key:
-                raise Refusal(line, f"`{type_text(inner)}` is no key of a map and no item of a set: {no_key.reason}") \
-                    from no_key
-        check(inner, scope, line)
+    """Refuses a key that is none. A type of another module is taken to be one."""
+    try:
+        Clause(scope.keys, (), are_foreign_keys=True).lemma(kind, "x", "y")
+    except NoKey as no_key:
+        raise Refusal(line, f"`{type_text(kind)}` is no key of a map and no item of a set: {no_key.reason}") \
+            from no_key

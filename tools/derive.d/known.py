@@ -2,8 +2,8 @@
 from dataclasses import dataclass
 
 # What an argument of a type has to be: a part that is read, an item of a list, a key that is compared or hashed, what
-# makes hashers.
-PART, ITEM, ORDERED, HASHED, HASHER = "part", "item", "ordered", "hashed", "hasher"
+# makes hashers, and what has a value of its own, with which the room of a `SmallVec` is filled.
+PART, ITEM, ORDERED, HASHED, HASHER, MADE = "part", "item", "ordered", "hashed", "hasher", "made"
 
 
 @dataclass(frozen=True)
@@ -40,7 +40,7 @@ KNOWN = {
     "uuid::Uuid": Known("Uuid", "speedy::ext"),
     "indexmap::IndexMap": Known("IndexMap", "speedy::ext", ((PART, HASHED), (PART,), (HASHER,))),
     "indexmap::IndexSet": Known("IndexSet", "speedy::ext", ((ITEM, HASHED), (HASHER,))),
-    "smallvec::SmallVec": Known("SmallVec", "speedy::ext"),
+    "smallvec::SmallVec": Known("SmallVec", "speedy::ext", ((ITEM, MADE),)),
     "speedy::Endianness": Known("Endianness", "speedy"),
     "speedy::private::VarInt64": Known("VarInt64", "speedy::varint"),
 }

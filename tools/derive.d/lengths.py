@@ -371,7 +371,8 @@ class LengthType:
         self.length = Computed(item.field.options.length, self.named, {it[2] for it in self.places.values()})
         scope.ghosts |= {"codes"} | self.length.ghosts
         scope.ghost_paths |= self.length.ghost_paths
-        scope.beside += [f"/// The length of [`{owner}::{self.label}`].", f"struct {self.name} {{}}", *self.lines()]
+        scope.beside += [f"/// The length of [`{owner}::{self.label}`].",
+                         f"{scope.helpers_shown}struct {self.name} {{}}", *self.lines()]
 
     def named(self, mention):
         """The term of a name."""

@@ -1,8 +1,10 @@
 """Makes the module: the types as Rattle has them, and their impls."""
+import asked
 import attributes
 import expressions
 import rattle
 import syntax
+import visibility
 from enums import enum_lines
 from generics import Generics
 from names import field_name
@@ -11,7 +13,7 @@ from rattle import type_text
 from refusal import Refusal
 from scope import Scope
 from structs import struct_lines
-from whole import ends_with_input
+from whole import ends_early, ends_with_input
 
 
 class Made:
@@ -33,6 +35,7 @@ class Made:
         # What clauses import: from `Prelude`, and by the paths of others. No module in the file imports it itself.
         self.ghosts = set()
         self.ghost_paths = set()
+        visibility.raise_all(file, place, self.notes)
         body = ModuleMaker(file, self, place).lines()
         if not any(isinstance(item, (syntax.Declared, syntax.Module)) for item in file.items):
             raise Refusal(1, "this file declares no type that derives `Readable` or `Writable`")
@@ -71,6 +74,8 @@ class ModuleMaker:
         for item in file.items:
             if isinstance(item, syntax.Declared):
                 attributes.of_item(item, self.scope)
+        # Those that derive neither trait, and are made without impls, since fields that are skipped hold them.
+        self.plain = plain_types(file.items)
         file.items = [item for item in file.items if self.is_made(item)]
         self.scope.take_names()
         self.ordered = in_order(file.items)
@@ -84,10 +89,11 @@ class ModuleMaker:
                 self.notes.append((item.line, f"the module `{item.name}` is left out of what is made"))
                 del self.scope.items[item.name]
                 return False
-        if isinstance(item, syntax.Declared) and not item.readable and not item.writable:
-            self.notes.append((item.line, f"`{item.name}` derives neither `Readable` nor `Writable`, and is left out "
-                                          "of what is made: it stays in this file"))
-            return False
+        if isinstance(item, syntax.Declared) and is_plain(item):
+            left = "is made without impls, since a field with `skip` holds it" if item.name in self.plain else \
+                "is left out of what is made: it stays in this file"
+            self.notes.append((item.line, f"`{item.name}` derives neither `Readable` nor `Writable`, and {left}"))
+            return item.name in self.plain
         return True
 
     def lines(self):
@@ -111,14 +117,18 @@ class ModuleMaker:
             value = expressions.written(item.value, self.of_cast)
             return [*docs(item), f"{item.visibility}const {item.name}: {kind} = {value};", ""]
         if isinstance(item, syntax.Alias):
-            kind = self.scope.convert(item.type, item.parameters, True)
+            kind = self.scope.convert(item.type, item.parameters, True, item.name in self.plain)
             head = f"{item.visibility}type {item.name}{rattle.listed([self.parameter(it) for it in item.parameters])}"
             return [*docs(item), f"{head} = {type_text(kind)};", ""]
         self.scope.beside = []
         self.set_options(item)
+        self.scope.helpers_shown = item.visibility if ends_early(item) else ""
         if isinstance(item, syntax.Struct) and ends_with_input(item):
             self.scope.ending.add(item.name)
         declared = Declaration(item, self.scope, self.of_cast).lines()
+        if is_plain(item):
+            asked.of_plain(item, self.scope)
+            return declared + [""]
         if isinstance(item, syntax.Enum):
             made = enum_lines(item, self.scope, self.place)
         else:
@@ -159,15 +169,36 @@ def is_default(variant):
     return any(it.name == "default" for it in variant.attributes)
 
 
+def is_plain(item):
+    """Whether a type derives neither of the two traits."""
+    return not item.readable and not item.writable
+
+
+def plain_types(items):
+    """The names of those types that derive neither trait and are held by fields that are skipped, or by such types."""
+    by_name = {item.name: item for item in items if isinstance(item, (syntax.Declared, syntax.Alias))}
+    waiting = [name for item in items if isinstance(item, syntax.Declared) and not is_plain(item)
+               for name in held_if(item, attributes.is_skipped)]
+    found = set()
+    while waiting:
+        name = waiting.pop()
+        item = by_name.get(name)
+        if item is not None and name not in found and (isinstance(item, syntax.Alias) or is_plain(item)):
+            found.add(name)
+            waiting += held_if(item, lambda _: True)
+    return found
+
+
 def in_order(items):
     """The items, each behind those that it holds. Refuses types that hold themselves."""
     by_name = {item.name: item for item in items}
+    holds = with_skipped(items, {item.name: {it for it in held_by(item) if it in by_name} for item in items})
     ordered, open_names = {}, set()
     for first in items:
         waiting = [first] if first.name not in ordered else []
         while waiting:
             item = waiting[-1]
-            held = [by_name[it] for it in sorted(held_by(item)) if it in by_name and it not in ordered]
+            held = [by_name[it] for it in sorted(holds[item.name]) if it not in ordered]
             if item.name in ordered or not held:
                 waiting.pop()
                 ordered[item.name] = item
@@ -205,11 +236,17 @@ class Declaration:
     def lines(self):
         """Its lines."""
         item = self.item
+        variants = item.variants if isinstance(item, syntax.Enum) else [item]
+        kinds = [self.field_type(it) for variant in variants for it in variant.fields]
+        item.asked = asked.of_declaration(kinds, self.scope)
         generics = Generics(item, self.scope, [])
+        for name, bounds in generics.added.items():
+            self.scope.notes.append((item.line, f"`{name}` of `{item.name}` is declared with `{' + '.join(bounds)}`, "
+                                                "which Rattle asks for wherever such a type is named"))
         kind = "enum" if isinstance(item, syntax.Enum) else "struct"
         head = f"{item.visibility}{kind} {item.name}{generics.declared()}"
         wheres = generics.wheres_text()
-        self.derived = self.derives()
+        self.derived = self.derives(kinds)
         found = [*docs(item), f"#[derive({', '.join(self.derived)})]", *item.kept]
         if kind == "enum":
             return found + [f"{head}{wheres} {{", *(line for it in item.variants for line in self.variant(it)), "}"]
@@ -218,18 +255,19 @@ class Declaration:
         fields = [] if item.shape == "unit" else ["(", *(line for it in item.fields for line in self.field(it)), ")"]
         return found + [head, *fields, f"{wheres};"]
 
-    def derives(self):
-        """The derives that the kit has for a type of these fields."""
+    def derives(self, kinds):
+        """The derives that the kit has for a type of fields of these types."""
         item = self.item
         variants = item.variants if isinstance(item, syntax.Enum) else [item]
         if "Default" in item.derives and isinstance(item, syntax.Enum) and not any(is_default(it) for it in variants):
             raise Refusal(item.line, f"`{item.name}` derives `Default`, and no variant has `#[default]`")
-        kept = self.scope.derives.keep(item, [self.field_type(it) for variant in variants for it in variant.fields])
+        kept = self.scope.derives.keep(item, kinds)
         return kept if "Copy" in kept else [*kept, "Drop"]
 
     def field_type(self, field):
         """The type of a field."""
-        return self.scope.convert(field.type, self.item.parameters, not self.item.readable, field.options.skip)
+        is_skipped = field.options.skip or is_plain(self.item)
+        return self.scope.convert(field.type, self.item.parameters, not self.item.readable, is_skipped)
 
     def field(self, field):
         """The lines of a field."""
@@ -252,26 +290,38 @@ class Declaration:
         return " = " + expressions.written(variant.discriminant, self.of_cast)
 
 
+def with_skipped(items, holds):
+    """What each item holds, by names: with the types of fields that are skipped too, unless these hold it in turn."""
+    def reaches(first, last):
+        """Whether a type holds another one, by whatever way."""
+        seen, waiting = set(), [first]
+        while waiting:
+            name = waiting.pop()
+            if name not in seen:
+                seen.add(name)
+                waiting += holds[name]
+        return last in seen
+
+    for item in items:
+        for name in sorted(held_if(item, attributes.is_skipped)):
+            if name in holds and name not in holds[item.name] and not reaches(name, item.name):
+                holds[item.name].add(name)
+    return holds
+
+
 def held_by(item):
-    """The names of types that an item holds. Of a field that is skipped none has to be made before."""
+    """The names of types that an item holds, but for fields that are skipped."""
+    return held_if(item, lambda field: is_plain(item) or not attributes.is_skipped(field))
+
+
+def held_if(item, holds):
+    """The names of types in those fields of an item for which this holds, or in an alias."""
     if isinstance(item, syntax.Alias):
         return names_of(item.type)
-    if isinstance(item, syntax.Struct):
-        return set().union(*(names_of(field.type) for field in item.fields if not attributes.is_skipped(field)))
-    if isinstance(item, syntax.Enum):
-        return set().union(*(names_of(field.type) for variant in item.variants for field in variant.fields
-                             if not attributes.is_skipped(field)))
-    return set()
+    variants = item.variants if isinstance(item, syntax.Enum) else [item] if isinstance(item, syntax.Struct) else []
+    return set().union(*(names_of(it.type) for variant in variants for it in variant.fields if holds(it)))
 
 
 def names_of(kind):
-    """The names in a type of the source."""
-    if isinstance(kind, syntax.Tuple):
-        return set().union(*(names_of(part) for part in kind.parts))
-    if isinstance(kind, (syntax.Array, syntax.Slice)):
-        return names_of(kind.item)
-    if isinstance(kind, syntax.Reference):
-        return names_of(kind.target)
-    if isinstance(kind, syntax.Named):
-        return ({kind.path[0]} if len(kind.path) == 1 else set()).union(*(names_of(it) for it in kind.arguments))
-    return set()
+    """The names without a path in a type of the source."""
+    return {path[0] for path in syntax.paths_in(kind) if len(path) == 1}

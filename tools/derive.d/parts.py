@@ -1,8 +1,8 @@
 """The parts of a struct or of a variant: how each is read, seen and written."""
 from dataclasses import dataclass, field
 
+import asked
 import defaults
-import keys
 import lengths
 import rattle
 import syntax
@@ -140,12 +140,12 @@ class PartMaker:
         found, items = Taken(self.item, fields, accesses), []
         for place, (it, access) in enumerate(zip(fields, accesses)):
             kind = self.scope.convert(it.type, self.item.parameters, not self.item.readable, it.options.skip)
+            asked.check(kind, self.scope, it, self.item.readable)
             if it.options.skip:
                 value, defaulted = defaults.default(kind, self.scope, it.line) if self.item.readable else ("", ())
                 found.values.append(value)
                 found.skipped.append((kind, defaulted))
                 continue
-            keys.check(kind, self.scope, it.line)
             if it.options.constant is not None:
                 items.append(lengths.Item(self.constant(it, access)))
             part, value = self.part(it, access, kind)
@@ -216,7 +216,7 @@ class PartMaker:
         scope.ghosts |= {"[]"} | ({"◌∷◌"} if data else set())
         listed = " ∷ ".join([str(byte) for byte in data] + ["[]"])
         scope.beside += [f"/// The bytes before [`{self.owner}::{access.label}`].", "#[derive(Drop)]",
-                         f"struct {name} {{}}",
+                         f"{scope.helpers_shown}struct {name} {{}}",
                          f"impl {constant} for {name} {{", f"    ghost bytes = {{ {listed} }};",
                          f"    fn bytes() -> &'static [u8] {{ {byte_string(data)} }}", "}", ""]
         kind = Listed(it.line, "Magic", (Own(it.line, name),), magic)

@@ -45,8 +45,9 @@ class Scope:
         self.least = {}
         # What asks of the parameters of each type of this file, by its name.
         self.asked = {}
-        # The items that stand beside the type that is made now.
+        # The items that stand beside the type that is made now, and how visible types without values are among them.
         self.beside = []
+        self.helpers_shown = ""
 
     def values(self):
         """The names of the source that stand for values, which no pattern may bind."""

@@ -134,6 +134,20 @@ class Tuple:
     parts: tuple
 
 
+def paths_in(kind):
+    """The paths of the names in a type."""
+    if isinstance(kind, Tuple):
+        inner = kind.parts
+    elif isinstance(kind, (Array, Slice)):
+        inner = (kind.item,)
+    elif isinstance(kind, Reference):
+        inner = (kind.target,)
+    else:
+        inner = kind.arguments if isinstance(kind, Named) else ()
+    found = {kind.path} if isinstance(kind, Named) else set()
+    return found.union(*(paths_in(it) for it in inner))
+
+
 # Generics.
 
 @dataclass(frozen=True)
@@ -212,6 +226,8 @@ class Declared:
     kept: list = field(default_factory=list)
     readable: bool = False
     writable: bool = False
+    # What its declaration asks of its parameters: pairs of a name and a role.
+    asked: list = field(default_factory=list)
 
 
 @dataclass

@@ -1,6 +1,8 @@
 """The impls of a struct that ends where the bytes do: by a rest without a length, or parts that may be missing."""
+import asked
 import defaults
 import rattle
+import syntax
 from impls import Shape
 from lengths import OF_LENGTH
 from parts import (Part, PartMaker, Taken, accesses_of_struct, built, is_lent_list, read_pattern, seen_of_parts,
@@ -13,6 +15,11 @@ from sizes import SIGNED, is_copied
 def ends_with_input(item):
     """Whether a struct has such parts."""
     return any(it.options.is_rest or it.options.may_be_missing for it in item.fields)
+
+
+def ends_early(item):
+    """Whether a struct has parts that may be missing. What makes it of its parts names them where others see that."""
+    return isinstance(item, syntax.Struct) and any(it.options.may_be_missing for it in item.fields)
 
 
 def refuse_in_variant(variant):
@@ -36,6 +43,8 @@ class WholeShape(Shape):
         self.first = maker.taken(item.fields[:place], accesses[:place])
         self.last = [(it, access, scope.convert(it.type, item.parameters, not item.readable))
                      for it, access in zip(item.fields[place:], accesses[place:])]
+        for it, _, kind in self.last:
+            asked.check(kind, scope, it, item.readable)
         self.check_last()
         kinds = [Part(kind, access.bound) for it, access, kind in self.last]
         ends = Taken(item, [], [], parts=kinds)
@@ -46,7 +55,7 @@ class WholeShape(Shape):
         kind = f"{self.names_of_whole['Followed']}<{type_text(self.first.type())}, {self.end_type()}>"
         about = f"What [`{item.name}`] is read and written as."
         self.parts_type = self.alias(f"{item.name}Parts", about, kind, self.names(),
-                                     "" if self.is_rest() else item.visibility)
+                                     scope.helpers_shown)
 
     def check_last(self):
         """Refuses what does not end with the input."""
