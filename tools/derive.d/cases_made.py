@@ -292,8 +292,8 @@ NOTED = [
      ["struct A<T: MadeWith<Global>>(SmallVec<T, 4>);", "T: ReadMany<L, C2> + MadeWith<Global>",
       "struct B<T: Default>(A<(T, u8)>);", "#[derive(Drop)]\nstruct C("]),
     ("types less visible than what names them", DERIVES + "pub struct A { pub b: B, c: Vec<C> }\n" + DERIVES
-     + "struct B(pub(super) C, E);\n" + DERIVES + "enum C { X(D) }\ntype Ds = Vec<D>;\n" + DERIVES + "struct D(u8);\n"
-     + DERIVES + "struct E(u8);\npub(crate) type Es = Option<E>;\n", 10, "`D` is made `pub(super)`: `C` names it",
+     + "struct B(pub(super) C, E);\n" + DERIVES + "enum C { X(D) }\ntype Ds = Vec<D>;\n" + DERIVES
+     + "struct D(u8);\n" + DERIVES + "struct E(u8);\npub(crate) type Es = Option<E>;\n", 10, "`D` is made `pub(super)`: `C` names it",
      ["pub struct B(", "pub(super) enum C {", "\ntype Ds = Vec<D>;", "pub(super) struct D(u8);",
       "pub(crate) struct E(u8);"]),
     ("types of other modules of the file", "pub mod a {\n" + DERIVES + "pub struct A(pub super::B, pub b::C);\n"
