@@ -293,14 +293,16 @@ NOTED = [
       "struct B<T: Default>(A<(T, u8)>);", "#[derive(Drop)]\nstruct C("]),
     ("types less visible than what names them", DERIVES + "pub struct A { pub b: B, c: Vec<C> }\n" + DERIVES
      + "struct B(pub(super) C, E);\n" + DERIVES + "enum C { X(D) }\ntype Ds = Vec<D>;\n" + DERIVES
-     + "struct D(u8);\n" + DERIVES + "struct E(u8);\npub(crate) type Es = Option<E>;\n", 10, "`D` is made `pub(super)`: `C` names it",
+     + "struct D(u8);\n" + DERIVES + "struct E(u8);\npub(crate) type Es = Option<E>;\n", 10,
+     "`D` is made `pub(super)`: `C` names it",
      ["pub struct B(", "pub(super) enum C {", "\ntype Ds = Vec<D>;", "pub(super) struct D(u8);",
       "pub(crate) struct E(u8);"]),
     ("types of other modules of the file", "pub mod a {\n" + DERIVES + "pub struct A(pub super::B, pub b::C);\n"
      + "mod b {\n" + DERIVES + "pub(super) struct C(u8);\n}\n}\n" + DERIVES + "struct B(u8);\n", 11,
      "`B` is made `pub`", ["        pub struct C(u8);", "pub struct B(u8);"]),
     ("helpers of what makes a struct that ends early", DERIVES + "pub struct A {\n"
-     "    #[speedy(constant_prefix = \"a\")]\n    n: u8,\n    #[speedy(length = n)]\n    a: Vec<u8>,\n    #[speedy(default_on_eof)]\n    b: B,\n}\n"
+     "    #[speedy(constant_prefix = \"a\")]\n    n: u8,\n    #[speedy(length = n)]\n    a: Vec<u8>,\n"
+     "    #[speedy(default_on_eof)]\n    b: B,\n}\n"
      "#[derive(Default, Readable, Writable)]\nstruct B(u8);\n", 12, "`B` is made `pub`: `A` names it",
      ["pub struct BeforeAN {}", "pub struct AALength {}", "pub type AParts = ", "pub struct B(u8);"]),
     ("a type of a skipped field", "#[derive(Debug, Default)]\nstruct Cache<T>(Vec<T>, Kind);\n"
