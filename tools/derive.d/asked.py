@@ -35,7 +35,7 @@ def inner_places(kind, scope, roles):
     if isinstance(kind, (syntax.Array, syntax.Slice)):
         return [(kind.item, (ITEM,) + keys_of(roles))]
     if isinstance(kind, syntax.Reference):
-        return [(kind.target, roles_of_part(roles))]
+        return [] if is_listed(kind.target, "str") else [(kind.target, roles_of_part(roles))]
     if not isinstance(kind, (Listed, Own, Foreign)):
         return []
     inner = scope.asked.get(kind.name, ()) if isinstance(kind, Own) else arguments_of(kind.name)

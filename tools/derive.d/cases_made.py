@@ -66,6 +66,9 @@ pub struct Contact {
      ["impl<'a, T: Layout> Layout for A<'a, T> {", "impl<'a, C: Context, T: Writable<C>> Writable<C> for A<'a, T> {"]),
     ("parameters named as those of the impls", DERIVES + "struct A<L, C>(L, C);\n",
      ["impl<L2: AsSlice<u8> + Drop, C2: Context, L: ReadFrom<L2, C2>, C: ReadFrom<L2, C2>> ReadFrom<L2, C2>"]),
+    ("keys that borrow", "use std::collections::{BTreeMap, BTreeSet};\n" + DERIVES
+     + "struct A<'a>(BTreeMap<&'a str, u8>, BTreeSet<&'a [u8]>);\n",
+     ["struct A<'a>(BTreeMap<&'a str, u8>, BTreeSet<&'a [u8]>);"]),
     ("a number that an array is generic in", DERIVES + "struct A<T, const N: usize>([T; N]);\n",
      ["impl<T: Layout, const N: usize> Layout for A<T, N> {"]),
 ]
@@ -305,6 +308,11 @@ NOTED = [
      "    #[speedy(default_on_eof)]\n    b: B,\n}\n"
      "#[derive(Default, Readable, Writable)]\nstruct B(u8);\n", 12, "`B` is made `pub`: `A` names it",
      ["pub struct BeforeAN {}", "pub struct AALength {}", "pub type AParts = ", "pub struct B(u8);"]),
+    ("aliases of what is no part", "type F = Box<dyn Fn(u8)>;\ntype Result<T> = std::result::Result<T, Error>;\n"
+     "enum Error { Io(std::io::Error) }\n" + DERIVES + "struct A(u8);\n", 3, "the alias `Result` is left out",
+     ["-> StdResult<A, C::Error>"]),
+    ("a type that derives neither and is not read", "struct B { f: fn(u8) -> u8, p: *const u8 }\n" + DERIVES
+     + "struct A(u8);\n", 2, "`B` derives neither", ["struct A("]),
     ("a type of a skipped field", "#[derive(Debug, Default)]\nstruct Cache<T>(Vec<T>, Kind);\n"
      "#[derive(Debug, Default)]\nenum Kind { #[default] A, B }\ntype Caches<T> = Vec<Cache<T>>;\n" + DERIVES
      + "struct A<T>(T, #[speedy(skip)] Caches<T>, #[speedy(skip)] Kind);\n", 3,

@@ -89,6 +89,8 @@ class ModuleMaker:
                 self.notes.append((item.line, f"the module `{item.name}` is left out of what is made"))
                 del self.scope.items[item.name]
                 return False
+        if isinstance(item, syntax.Declared) and item.refusal and (not is_plain(item) or item.name in self.plain):
+            raise item.refusal
         if isinstance(item, syntax.Declared) and is_plain(item):
             left = "is made without impls, since a field with `skip` holds it" if item.name in self.plain else \
                 "is left out of what is made: it stays in this file"
@@ -117,9 +119,7 @@ class ModuleMaker:
             value = expressions.written(item.value, self.of_cast)
             return [*docs(item), f"{item.visibility}const {item.name}: {kind} = {value};", ""]
         if isinstance(item, syntax.Alias):
-            kind = self.scope.convert(item.type, item.parameters, True, item.name in self.plain)
-            head = f"{item.visibility}type {item.name}{rattle.listed([self.parameter(it) for it in item.parameters])}"
-            return [*docs(item), f"{head} = {type_text(kind)};", ""]
+            return self.alias_lines(item)
         self.scope.beside = []
         self.set_options(item)
         self.scope.helpers_shown = item.visibility if ends_early(item) else ""
@@ -134,6 +134,19 @@ class ModuleMaker:
         else:
             made = struct_lines(item, self.scope)
         return declared + [""] + self.scope.beside + made
+
+    def alias_lines(self, item):
+        """An alias, or nothing where it is of what is neither read nor written: a field that names it says so."""
+        imported = self.scope.imported()
+        try:
+            kind = self.scope.convert(item.type, item.parameters, True, item.name in self.plain)
+        except Refusal:
+            self.scope.import_only(imported)
+            self.notes.append((item.line, f"the alias `{item.name}` is left out of what is made: it stays in this "
+                                          "file"))
+            return []
+        head = f"{item.visibility}type {item.name}{rattle.listed([self.parameter(it) for it in item.parameters])}"
+        return [*docs(item), f"{head} = {type_text(kind)};", ""]
 
     def parameter(self, parameter):
         """A parameter of an alias."""
@@ -157,7 +170,7 @@ def in_lines(names, room):
     found, length = [[]], 0
     for name in names:
         length += len(name) + 2
-        if length > room - len("ghost use .{};"):
+        if length > room - len("ghost use .{};") and found[-1]:
             found.append([])
             length = len(name) + 2
         found[-1].append(name)

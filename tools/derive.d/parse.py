@@ -135,11 +135,9 @@ class Parser:
         elif self.is_word("const") and self.ahead().text not in ("fn", "unsafe", "_", "async", "extern"):
             self.constant(found, line, docs, visibility)
         elif self.is_word("type"):
-            found.items.append(self.alias(line, docs, visibility))
-        elif self.is_word("struct"):
-            found.items.append(self.struct(line, docs, attributes, visibility))
-        elif self.is_word("enum"):
-            found.items.append(self.enum(line, docs, attributes, visibility))
+            self.alias(found, line, docs, visibility)
+        elif self.is_word("struct") or self.is_word("enum"):
+            found.items.append(self.declared(line, docs, attributes, visibility))
         elif self.is_word("mod") and self.ahead(2).text == "{":
             found.items.append(self.module(line, docs, attributes, visibility))
         else:
@@ -301,15 +299,34 @@ class Parser:
             return
         found.items.append(syntax.Constant(line, docs, visibility, name, kind, value))
 
-    def alias(self, line, docs, visibility):
-        """`type NAME<..> = TYPE;`."""
+    def alias(self, found, line, docs, visibility):
+        """`type NAME<..> = TYPE;`. One of what is no type of a part is passed by with a note."""
         self.advance()
         name = self.name("an alias")
-        parameters = self.parameters()
-        self.expect("=")
-        target = self.type()
-        self.expect(";")
-        return syntax.Alias(line, docs, visibility, name, target, parameters)
+        start = self.at
+        try:
+            parameters = self.parameters()
+            self.expect("=")
+            target = self.type()
+            self.expect(";")
+        except Refusal:
+            self.at = start
+            self.skip_item()
+            found.notes.append((line, f"the alias `{name}` is left out of what is made: it stays in this file"))
+            return
+        found.items.append(syntax.Alias(line, docs, visibility, name, target, parameters))
+
+    def declared(self, line, docs, attributes, visibility):
+        """A struct or an enum. What is not taken of one that derives neither trait is no fault of the file."""
+        start, is_enum = self.at, self.is_word("enum")
+        try:
+            return (self.enum if is_enum else self.struct)(line, docs, attributes, visibility)
+        except Refusal as refusal:
+            self.at = start + 1
+            name = self.name("an enum" if is_enum else "a struct")
+            self.at = start
+            self.skip_item()
+            return syntax.Struct(line, docs, attributes, visibility, name, [], [], refusal=refusal)
 
     def struct(self, line, docs, attributes, visibility):
         """A struct of any shape."""

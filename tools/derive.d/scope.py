@@ -84,6 +84,14 @@ class Scope:
         self.locals[module, name] = local
         self.imports.setdefault((visibility, module), set()).add(name if local == name else f"{name} as {local}")
 
+    def imported(self):
+        """What is imported so far."""
+        return dict(self.locals), {place: set(names) for place, names in self.imports.items()}, set(self.fresh.taken)
+
+    def import_only(self, imported):
+        """Imports no more than that."""
+        self.locals, self.imports, self.fresh.taken = imported
+
     def prelude(self, name):
         """A name that needs no import, unless the source gives it to something else."""
         if name in self.items or not self.fresh.is_free(name):

@@ -228,6 +228,8 @@ class Declared:
     writable: bool = False
     # What its declaration asks of its parameters: pairs of a name and a role.
     asked: list = field(default_factory=list)
+    # Why it is not read further, where it is not.
+    refusal: object = None
 
 
 @dataclass
