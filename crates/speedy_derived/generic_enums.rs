@@ -1,4 +1,4 @@
-//! Enums that are generic in their parts.
+//! Enums that are generic in their parts, or in how long these are.
 use speedy::{Readable, Writable};
 use std::collections::BTreeMap;
 
@@ -20,4 +20,12 @@ where
     Missing,
     Found { key: K, value: V },
     All(BTreeMap<K, V>),
+}
+
+/// Generic in a number.
+#[derive(Readable, Writable)]
+#[speedy(tag_type = u8)]
+pub enum Block<const N: usize> {
+    Raw([u8; N]),
+    Numbered { id: u16, items: [u16; N] },
 }

@@ -1,6 +1,7 @@
-//! Keys of one's own: a struct, an enum without parts, and a struct of both that is generic.
-use speedy::{Readable, Writable};
+//! Keys of one's own: structs, an enum without parts, and a struct of both that is generic.
+use speedy::{Endianness, Readable, Writable};
 use std::collections::{BTreeMap, HashMap};
+use std::net::IpAddr;
 
 /// Where a piece stands.
 #[derive(PartialEq, Eq, PartialOrd, Ord, Readable, Writable)]
@@ -26,9 +27,17 @@ pub struct Piece<T> {
     pub note: Option<T>,
 }
 
+/// A key whose parts are keys by laws of the library.
+#[derive(PartialEq, Eq, Hash, Readable, Writable)]
+pub struct Peer {
+    pub address: IpAddr,
+    pub order: Endianness,
+}
+
 #[derive(Readable, Writable)]
 pub struct Board {
     pub places: BTreeMap<Place, u8>,
     pub kinds: HashMap<Kind, u8>,
     pub pieces: BTreeMap<Piece<u8>, u8>,
+    pub players: HashMap<Peer, u8>,
 }

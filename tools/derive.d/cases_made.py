@@ -66,6 +66,17 @@ pub struct Contact {
      ["impl<'a, T: Layout> Layout for A<'a, T> {", "impl<'a, C: Context, T: Writable<C>> Writable<C> for A<'a, T> {"]),
     ("parameters named as those of the impls", DERIVES + "struct A<L, C>(L, C);\n",
      ["impl<L2: AsSlice<u8> + Drop, C2: Context, L: ReadFrom<L2, C2>, C: ReadFrom<L2, C2>> ReadFrom<L2, C2>"]),
+    ("a number that an enum is generic in", DERIVES
+     + "enum A<const N: usize> { B([u8; N]), C { n: u16, a: [u8; N] } }\n",
+     ["type ACases<const N: usize> = Either<Case<0, [u8; N]>, Case<1, (u16, [u8; N])>>;",
+      "impl<const N: usize> Cases for A<N> {", "let (n, a) = parts;",
+      "A::C { n, a } => writer.write_value(&(*n, Part(a))),"]),
+    ("keys of parts with laws of the library", "use std::collections::HashMap;\nuse std::net::IpAddr;\n"
+     "#[derive(PartialEq, Eq, Hash, Readable, Writable)]\nstruct A(IpAddr, Option<speedy::Endianness>);\n" + DERIVES
+     + "struct B(HashMap<A, u8>);\n",
+     ["ghost use Rattle.speedy.specs.Equality.{ip_tells, option_tells, order_tells};",
+      "(ip_tells ⟦<IpAddr as SameKey>⟧.eq (λ v w. refl) (λ v w. refl) (λ v w. refl) (λ v w. refl) x.0 y.0)",
+      "(option_tells (λ v1 w1. order_tells ⟦<Endianness as SameKey>⟧.eq refl refl refl refl v1 w1) x.1 y.1)"]),
     ("keys that borrow", "use std::collections::{BTreeMap, BTreeSet};\n" + DERIVES
      + "struct A<'a>(BTreeMap<&'a str, u8>, BTreeSet<&'a [u8]>);\n",
      ["struct A<'a>(BTreeMap<&'a str, u8>, BTreeSet<&'a [u8]>);"]),

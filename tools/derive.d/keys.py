@@ -13,10 +13,8 @@ CMP = "Rattle.std.specs.Cmp"
 NON_ZERO = "Rattle.std.specs.Int.NonZero"
 EQUALITY = "Rattle.speedy.specs.Equality"
 KEYS = "Rattle.speedy.specs.Keys"
-# Where the law of a type of the library is, for those whose lemma has more arguments than the two values.
-LAW = "Rattle.speedy_layout.specs.contracts.same_key.{}SameKey.TheImpl.Laws"
-
-# The lemmas of leaves: a template of what is compared, `x` and `y`, and the import of each of its words.
+# The lemmas of leaves: a template of what is compared, `x` and `y`, and the import of each of its words. `eq` is the
+# equality of the type, which its impl of `SameKey` quotes: the law of that lies in a crate that users need not list.
 UNSIGNED = ("unsigned_Decides {x} {y}", {"unsigned_Decides": CMP})
 SIGNED = ("signed_Decides {x} {y}", {"signed_Decides": CMP})
 
@@ -29,12 +27,14 @@ def bytes_by(view, module):
 
 LEAVES = {
     "bool": ("booleans_Decides {x} {y}", {"booleans_Decides": CMP}),
-    "Endianness": ("endianness_key {x} {y}", {"same_key-law as endianness_key": LAW.format("Endianness")}),
+    "Endianness": ("order_tells {eq} refl refl refl refl {x} {y}",
+                   {"order_tells": EQUALITY, "refl": "Rattle.std.specs.Prelude"}),
     "Uuid": ("bytes_decides {x} {y}", {"bytes_decides": "Rattle.std.specs.Cmp.Lexicographic"}),
     "Ipv4Addr": bytes_by("ipv4_octets", "Rattle.std.specs.Net.Addr"),
     "Ipv6Addr": ("segments_tell (ipv6_segments {x}) (ipv6_segments {y})",
                  {"segments_tell": EQUALITY, "ipv6_segments": "Rattle.std.specs.Net.Addr"}),
-    "IpAddr": ("ip_addr_key {x} {y}", {"same_key-law as ip_addr_key": LAW.format("IpAddr")}),
+    "IpAddr": ("ip_tells {eq} (λ v w. refl) (λ v w. refl) (λ v w. refl) (λ v w. refl) {x} {y}",
+               {"ip_tells": EQUALITY, "refl": "Rattle.std.specs.Prelude"}),
     "String": bytes_by("string_bytes", "Rattle.std.specs.String"),
     "BoxedStr": bytes_by("boxed_str_bytes", "Rattle.std.specs.Box"),
     "CowStr": bytes_by("cow_str_bytes", "Rattle.std.specs.Cow"),
@@ -97,6 +97,8 @@ class Clause:
     """A clause that is made, and what it names."""
     own: dict
     parameters: tuple
+    # The trait `SameKey`, as the made module names it.
+    key: str = "SameKey"
     # The words to import, each with its module.
     words: dict = field(default_factory=dict)
     # The laws of other types of the file, each with its module, to be imported in the `impl` block (at the top of the
@@ -130,7 +132,7 @@ class Clause:
         if name in LEAVES:
             template, words = LEAVES[name]
             self.need(words)
-            return template.format(x=x, y=y)
+            return template.format(x=x, y=y, eq=f"⟦<{kind.local} as {self.key}>⟧.eq")
         arguments = [it for it in kind.arguments if not isinstance(it, (syntax.Lifetime, str))]
         if name in LISTS:
             view, words = LISTS[name]
@@ -263,9 +265,9 @@ class Clause:
         return f"groups ({self.group(tree[0], x, y, given)}) ({self.group(tree[1:], x, y, given)})"
 
 
-def struct_clause(tree, own, parameters):
+def struct_clause(tree, own, parameters, key):
     """The clause of a struct, and what it imports. Raises NoKey where a part is no key."""
-    clause = Clause(own, tuple(parameters))
+    clause = Clause(own, tuple(parameters), key)
     return f"λ x y. {clause.tree(tree, 'x', 'y', {})}", clause
 
 
@@ -319,11 +321,13 @@ def add_struct(shape, taken):
     if hidden:
         own.reason = hidden
         return []
-    own.tree = named(taken.tree)
+    own.tree, imported = named(taken.tree), shape.scope.imported()
     try:
-        text, clause = struct_clause(own.tree, shape.scope.keys, own.parameters)
+        key = shape.scope.need("speedy", "SameKey")
+        text, clause = struct_clause(own.tree, shape.scope.keys, own.parameters, key)
     except NoKey as no_key:
         own.reason = str(no_key)
+        shape.scope.import_only(imported)
         return []
     return impl_lines(shape, [text], clause.words, [f"    ghost use {module}.{{{law(word)}}};"
                                                     for word, module in clause.laws.items()])

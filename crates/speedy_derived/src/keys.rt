@@ -1,8 +1,8 @@
-//! Keys of one's own: a struct, an enum without parts, and a struct of both that is generic.
+//! Keys of one's own: structs, an enum without parts, and a struct of both that is generic.
 //!
 //! Made from `keys.rs` by `tools/derive`: change that, and make this again.
 ghost use Rattle.std.specs.Prelude.{refl, ◌≡◌};
-ghost use Rattle.speedy.specs.Equality.{option_tells};
+ghost use Rattle.speedy.specs.Equality.{ip_tells, option_tells, order_tells};
 ghost use Rattle.speedy.specs.Keys.{part_then, unit_cases_tell};
 ghost use Rattle.std.proofs.Common.{inl, inr};
 ghost use Rattle.std.specs.Cmp.Lexicographic.{bytes_decides};
@@ -15,10 +15,12 @@ use speedy::cases::{
 use speedy::prefixed::Prefixed;
 use speedy::private::error_invalid_enum_variant;
 use speedy::{
-    Context, ItemByItem, Layout, LendingReader, Part, ReadFrom, SameKey, Writable, Writer,
+    Context, Endianness, ItemByItem, Layout, LendingReader, Part, ReadFrom, SameKey, Writable,
+    Writer,
 };
 use std::collections::{BTreeMap, HashMap};
 use std::convert::AsSlice;
+use std::net::IpAddr;
 
 /// Where a piece stands.
 #[derive(PartialEq, Eq, PartialOrd, Ord, Drop)]
@@ -227,11 +229,57 @@ impl<C: Context, T: Writable<C>> Writable<C> for Piece<T> {
     }
 }
 
+/// A key whose parts are keys by laws of the library.
+#[derive(PartialEq, Eq, Hash, Drop)]
+pub struct Peer {
+    pub address: IpAddr,
+    pub order: Endianness,
+}
+
+/// What [`Peer`] is read and written as.
+type PeerParts = (IpAddr, Endianness);
+
+impl Layout for Peer {
+    ghost Seen = { ⟦<PeerParts as Layout>⟧.Seen };
+
+    ghost seen = { λ it. ⟦<PeerParts as Layout>⟧.seen (it.address, it.order) };
+
+    ghost layout = { ⟦<PeerParts as Layout>⟧.layout };
+}
+
+impl SameKey for Peer {
+    ghost same_key = { λ x y. part_then
+        (ip_tells ⟦<IpAddr as SameKey>⟧.eq (λ v w. refl) (λ v w. refl) (λ v w. refl) (λ v w. refl) x.address y.address)
+        (order_tells ⟦<Endianness as SameKey>⟧.eq refl refl refl refl x.order y.order) };
+}
+
+impl<L: AsSlice<u8> + Drop, C: Context> ReadFrom<L, C> for Peer {
+    type Strategy = ItemByItem<C>;
+
+    fn read_from<R: LendingReader<L, C>>(reader: &mut R) -> Result<Peer, C::Error> {
+        match reader.read_value() {
+            Ok((address, order)) => Ok(Peer { address, order }),
+            Err(error) => Err(error),
+        }
+    }
+
+    fn minimum_bytes_needed() -> usize {
+        6
+    }
+}
+
+impl<C: Context> Writable<C> for Peer {
+    fn write_to<W: Writer<C>>(&self, writer: &mut W) -> Result<(), C::Error> {
+        writer.write_value(&(Part(&self.address), Part(&self.order)))
+    }
+}
+
 #[derive(Drop)]
 pub struct Board {
     pub places: BTreeMap<Place, u8>,
     pub kinds: HashMap<Kind, u8>,
     pub pieces: BTreeMap<Piece<u8>, u8>,
+    pub players: HashMap<Peer, u8>,
 }
 
 /// What [`Board`] is read and written as.
@@ -239,12 +287,13 @@ type BoardParts = (
     BTreeMap<Place, u8>,
     HashMap<Kind, u8>,
     BTreeMap<Piece<u8>, u8>,
+    HashMap<Peer, u8>,
 );
 
 impl Layout for Board {
     ghost Seen = { ⟦<BoardParts as Layout>⟧.Seen };
 
-    ghost seen = { λ it. ⟦<BoardParts as Layout>⟧.seen (it.places, it.kinds, it.pieces) };
+    ghost seen = { λ it. ⟦<BoardParts as Layout>⟧.seen (it.places, it.kinds, it.pieces, it.players) };
 
     ghost layout = { ⟦<BoardParts as Layout>⟧.layout };
 }
@@ -254,22 +303,28 @@ impl<L: AsSlice<u8> + Drop, C: Context> ReadFrom<L, C> for Board {
 
     fn read_from<R: LendingReader<L, C>>(reader: &mut R) -> Result<Board, C::Error> {
         match reader.read_value() {
-            Ok((places, kinds, pieces)) => Ok(Board {
+            Ok((places, kinds, pieces, players)) => Ok(Board {
                 places,
                 kinds,
                 pieces,
+                players,
             }),
             Err(error) => Err(error),
         }
     }
 
     fn minimum_bytes_needed() -> usize {
-        12
+        16
     }
 }
 
 impl<C: Context> Writable<C> for Board {
     fn write_to<W: Writer<C>>(&self, writer: &mut W) -> Result<(), C::Error> {
-        writer.write_value(&(Part(&self.places), Part(&self.kinds), Part(&self.pieces)))
+        writer.write_value(&(
+            Part(&self.places),
+            Part(&self.kinds),
+            Part(&self.pieces),
+            Part(&self.players),
+        ))
     }
 }
