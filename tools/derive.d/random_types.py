@@ -1,8 +1,9 @@
 """Random Rust files of types that derive `Readable` and `Writable`, as users of the original crate write them.
 
-`random_file(seed)` is one; `shapes()` gives one for each production, a small one that holds it. Productions have names:
-those of `CHANCES` are drawn each time that they could stand, those of the tables of types, shapes, widths and constants
-by their weights. What `REFUSED` names is left out where only that is wanted which the generator takes.
+`random_file(seed)` is one; `shapes()` gives one for each production, a small one that holds it; `covering(..)` gives
+few files that hold all of them. Productions have names: those of `CHANCES` are drawn each time that they could stand,
+those of the tables of types, shapes, widths and constants by their weights. What `REFUSED` names is left out where only
+that is wanted which the generator takes.
 """
 from random_fields import PREFIXES, WIDTHS, Fields
 from random_items import SHAPES, VARIANT_SHAPES, Item
@@ -116,14 +117,39 @@ def productions():
 def shapes(only_taken=False):
     """For each production its name and a short file that holds it, or None where none came up."""
     for name in productions():
-        if only_taken and name in REFUSED:
-            continue
-        found = []
-        for place in range(TRIES):
-            file = File(f"{name} {place}", only_taken, None, name)
-            text = file.text()
-            if name in file.source.used:
-                found.append(text)
-            if len(found) == 12:
-                break
-        yield name, min(found, key=len) if found else None
+        if not (only_taken and name in REFUSED):
+            yield name, shape(name, only_taken)
+
+
+def shape(name, only_taken=False):
+    """A short file that holds a production, or None where none came up."""
+    found = []
+    for place in range(TRIES):
+        file = File(f"{name} {place}", only_taken, None, name)
+        text = file.text()
+        if name in file.source.used:
+            found.append(text)
+        if len(found) == 12:
+            break
+    return min(found, key=len) if found else None
+
+
+def covering(seed, count, is_made):
+    """Files that hold each production, as `shapes` gives them: few of the first ones of a seed, of which so many are
+    looked at and `is_made` says which ones the generator takes, and a short file of each production that none holds."""
+    files, left = [], set(productions()) - REFUSED
+    for place in range(count):
+        file = File(f"{seed}/{place}", True)
+        text = file.text()
+        if is_made(text):
+            files.append((f"r{place}", text, file.source.used & left))
+    while files:
+        # A longer file costs more to compile.
+        name, text, used = max(files, key=lambda it: len(it[2] & left) / (2000 + len(it[1])))
+        if not used & left:
+            break
+        left -= used
+        yield name, text
+    for name in productions():
+        if name in left or name in REFUSED:
+            yield f"shape_{name}", shape(name)

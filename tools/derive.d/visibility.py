@@ -14,10 +14,12 @@ MOST_STEPS = 20
 
 @dataclass
 class Place:
-    """A module of the file: its path from the file's own module, its items by their names, and its imports."""
+    """A module of the file: its path from the file's own module, its items and the paths of its imports by their names,
+    and the paths of those that bring all names."""
     path: tuple
     items: dict
-    uses: list
+    uses: dict
+    globs: list
 
     @property
     def depth(self):
@@ -47,7 +49,8 @@ def raise_all(file, place, notes):
 
 def modules_of(file, path):
     """The file's own module and those in it."""
-    found = [Place(path, {it.name: it for it in file.items}, file.uses)]
+    found = [Place(path, {it.name: it for it in file.items}, {it.name: it.path for it in file.uses},
+                   [it.path for it in file.uses if it.name == "*"])]
     for item in file.items:
         if isinstance(item, syntax.Module):
             found += modules_of(item.file, (*path, item.name))
@@ -102,24 +105,23 @@ class Mentions:
                 found.append((item, at.depth))
         return found
 
-    def resolved(self, path, module, steps):
-        """The item that a path stands for in a module, with its module; or nothing."""
+    def resolved(self, path, module, steps, with_globs=True):
+        """The item that a path stands for in a module, with its module; or nothing. What one `use` brings whole is not
+        looked for in others."""
         if steps == 0 or module is None or not path:
             return None, None
         first, rest = path[0], path[1:]
         if first in ("self", "super", "crate"):
-            return self.resolved(*self.from_keyword(first, rest, module), steps - 1)
+            return self.resolved(*self.from_keyword(first, rest, module), steps - 1, with_globs)
         item = module.items.get(first)
         if isinstance(item, syntax.Module):
-            return self.resolved(rest, self.modules[(*module.path, first)], steps - 1)
+            return self.resolved(rest, self.modules[(*module.path, first)], steps - 1, with_globs)
         if item is not None:
             return (None, None) if rest or isinstance(item, syntax.Constant) else (item, module)
-        for use in module.uses:
-            if use.name in (first, "*"):
-                found = self.resolved((*use.path, *(path if use.name == "*" else rest)), module, steps - 1)
-                if found[0] is not None:
-                    return found
-        return None, None
+        if first in module.uses:
+            return self.resolved((*module.uses[first], *rest), module, steps - 1, False)
+        found = (self.resolved((*glob, *path), module, steps - 1, False) for glob in module.globs if with_globs)
+        return next((it for it in found if it[0] is not None), (None, None))
 
     def from_keyword(self, word, rest, module):
         """The rest of a path behind `self`, `super` or `crate`, and the module that it goes on from, or None."""
