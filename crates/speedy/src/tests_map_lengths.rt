@@ -1,5 +1,5 @@
 //! Maps and sets of a length that a number before them tells: their bytes, and what is refused.
-ghost use Rattle.std.specs.Prelude.{codes};
+ghost use Rattle.std.specs.Prelude.{codes, ◌≡◌};
 
 use crate::asserting::{assert_bytes, assert_refused, gather};
 use crate::context::{LittleEndian, StrictLittleEndian};

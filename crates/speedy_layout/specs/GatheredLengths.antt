@@ -20,7 +20,7 @@ use Rattle.speedy_layout.specs.Sequences.{AsksAtMost, asks_same, neither}
 
 module _ {X : Type 0} where
   -- distinct items that lie inside a list are no more than its items
-  pub no_more : (xs ys : List X) → AreDistinct xs → ((x : X) → IsIn x xs → IsIn x ys) → length xs ≤ length ys
+  no_more : (xs ys : List X) → AreDistinct xs → ((x : X) → IsIn x xs → IsIn x ys) → length xs ≤ length ys
   no_more xs ys d inside = (encoded_within any xs ys [] d inside (each ys)).count where
     any : X → List ℕ → Type 0
     any x b = Unit {0}
@@ -70,6 +70,7 @@ pub record HasLengths {E S : Type 0} (stands : List E → S → Type 0) (written
   pub is_single : IsSingle stands single
   -- the thing has a form, in which nothing is repeated
   pub form : (xs : List E) (s : S) → single xs → stands xs s → (ys : List E) × stands ys s × written ys × single ys
+  -- and has the length of the list
   pub long : (xs : List E) (s : S) → single xs → stands xs s → length xs ≡ count s
 
 -- Things that are forms themselves: a list that stands for one is another list, its form.

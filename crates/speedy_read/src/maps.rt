@@ -60,11 +60,11 @@ impl<
         reader: &mut R,
         length: usize,
     ) -> Result<BTreeMap<K, V>, C::Error> {
-        let map: BTreeMap<K, V> = reader.read_key_value_collection(length)?;
-        if map.len() != length {
+        let sorted: BTreeMap<K, V> = reader.read_key_value_collection(length)?;
+        if sorted.len() != length {
             return Err(error_out_of_range_length());
         }
-        Ok(map)
+        Ok(sorted)
     }
 }
 
@@ -116,11 +116,11 @@ impl<
         reader: &mut R,
         length: usize,
     ) -> Result<HashMap<K, V, S>, C::Error> {
-        let map: HashMap<K, V, S> = reader.read_key_value_collection(length)?;
-        if map.len() != length {
+        let hashed: HashMap<K, V, S> = reader.read_key_value_collection(length)?;
+        if hashed.len() != length {
             return Err(error_out_of_range_length());
         }
-        Ok(map)
+        Ok(hashed)
     }
 }
 
@@ -172,10 +172,10 @@ impl<
         reader: &mut R,
         length: usize,
     ) -> Result<IndexMap<K, V, S>, C::Error> {
-        let map: IndexMap<K, V, S> = reader.read_key_value_collection(length)?;
-        if map.len() != length {
+        let listed: IndexMap<K, V, S> = reader.read_key_value_collection(length)?;
+        if listed.len() != length {
             return Err(error_out_of_range_length());
         }
-        Ok(map)
+        Ok(listed)
     }
 }

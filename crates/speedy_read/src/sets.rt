@@ -48,11 +48,11 @@ impl<L: AsSlice<u8> + Drop, C: Context, T: ReadMany<L, C> + SameKey + Ord> ReadO
         reader: &mut R,
         length: usize,
     ) -> Result<BTreeSet<T>, C::Error> {
-        let set: BTreeSet<T> = reader.read_collection(length)?;
-        if set.len() != length {
+        let sorted: BTreeSet<T> = reader.read_collection(length)?;
+        if sorted.len() != length {
             return Err(error_out_of_range_length());
         }
-        Ok(set)
+        Ok(sorted)
     }
 }
 
@@ -101,11 +101,11 @@ impl<
         reader: &mut R,
         length: usize,
     ) -> Result<HashSet<T, S>, C::Error> {
-        let set: HashSet<T, S> = reader.read_collection(length)?;
-        if set.len() != length {
+        let hashed: HashSet<T, S> = reader.read_collection(length)?;
+        if hashed.len() != length {
             return Err(error_out_of_range_length());
         }
-        Ok(set)
+        Ok(hashed)
     }
 }
 
@@ -154,10 +154,10 @@ impl<
         reader: &mut R,
         length: usize,
     ) -> Result<IndexSet<T, S>, C::Error> {
-        let set: IndexSet<T, S> = reader.read_collection(length)?;
-        if set.len() != length {
+        let listed: IndexSet<T, S> = reader.read_collection(length)?;
+        if listed.len() != length {
             return Err(error_out_of_range_length());
         }
-        Ok(set)
+        Ok(listed)
     }
 }

@@ -34,7 +34,8 @@ impl<C: Context, K: Writable<C> + SameKey + Ord, V: Writable<C>> WriteOfLength<C
 
     #[inline]
     fn write_of_length<W: Writer<C>>(&self, writer: &mut W) -> Result<(), C::Error> {
-        write_items_of(self.iter(), writer)
+        let sorted = self.iter();
+        write_items_of(sorted, writer)
     }
 }
 
@@ -93,6 +94,7 @@ impl<C: Context, K: Writable<C> + SameKey + Hash, V: Writable<C>, S: BuildHasher
 
     #[inline]
     fn write_of_length<W: Writer<C>>(&self, writer: &mut W) -> Result<(), C::Error> {
-        write_items_of(self.iter(), writer)
+        let listed = self.iter();
+        write_items_of(listed, writer)
     }
 }

@@ -33,7 +33,8 @@ impl<C: Context, T: Writable<C> + SameKey + Ord> WriteOfLength<C> for BTreeSet<T
 
     #[inline]
     fn write_of_length<W: Writer<C>>(&self, writer: &mut W) -> Result<(), C::Error> {
-        write_items_of(self.iter(), writer)
+        let sorted = self.iter();
+        write_items_of(sorted, writer)
     }
 }
 
@@ -88,6 +89,7 @@ impl<C: Context, T: Writable<C> + SameKey + Hash, S: BuildHasher> WriteOfLength<
 
     #[inline]
     fn write_of_length<W: Writer<C>>(&self, writer: &mut W) -> Result<(), C::Error> {
-        write_items_of(self.iter(), writer)
+        let listed = self.iter();
+        write_items_of(listed, writer)
     }
 }
