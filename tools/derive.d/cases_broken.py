@@ -93,8 +93,8 @@ BROKEN = [
     ("a sign before a number", told("!n", "u8"), 5, "a length is made of"),
     ("a length below nothing", told("2 - 3", "u8"), 5, "-1 is no `usize`"),
     ("a length by a method", told("n.into()", "u8"), 5, "a length is made of"),
-    ("a length of a map", "use std::collections::BTreeMap;\n" + told("n", "u8", "BTreeMap<u8, u8>"), 7,
-     "maps and sets"),
+    ("a length of a cow of a map", "use std::borrow::Cow;\nuse std::collections::BTreeMap;\n"
+     + told("n", "u8", "Cow<'a, BTreeMap<u8, u8>>").replace("struct A", "struct A<'a>"), 8, "`length` is taken of"),
     ("a length of what has none", told("n", "u8", "Option<String>"), 6, "`length` is taken of"),
     ("a length behind a reference", HEAD + "#[derive(Writable)]\n"
      "struct A<'a> {\n    n: u8,\n    #[speedy(length = n)]\n    a: &'a String,\n}", 6, "`length` is taken of"),

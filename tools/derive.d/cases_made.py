@@ -184,6 +184,18 @@ struct Index<K: Ord, V> {
       "(it.length, ⟦<Vec<bool> as Layout>⟧.seen it.data)", "length: data.before,\n                data: data.value,",
       "let data: WithLength<CountedDataLength, _, _> = WithLength {\n            before: self.length,",
       "writer.write_value(&(data, self.last))"]),
+    ("lengths of maps and sets that fields tell", "use std::collections::{BTreeSet, HashMap};\n" + DERIVES
+     + """struct Tables<K: Ord + std::hash::Hash> {
+    count: u8,
+    #[speedy(length = count)]
+    names: HashMap<K, String>,
+    #[speedy(length = count - 1)]
+    ids: BTreeSet<K>,
+}
+""", ["use speedy::lengths::{Length, OfLength, WithLength};", "/// The length of [`Tables::names`].",
+      "    WithLength<TablesNamesLength, u8, HashMap<K, String>>,\n",
+      "(it.count, ⟦<HashMap<K, String> as OfLength>⟧.seen it.names),\n      ⟦<BTreeSet<K> as OfLength>⟧.seen it.ids,",
+      "K: ReadMany<L, C> + SameKey + Ord + Hash> ReadFrom<L, C>\n    for Tables<K> {", "value: Part(&self.names),"]),
     ("lengths behind other parts", DERIVES + """struct Header<T> {
     first: String,
     name_length: u16,

@@ -8,14 +8,14 @@ from names import Fresh, camel, parameter
 from rattle import Build, Call, Let, Listed, is_listed, parts_of, tuple_of, type_text
 from refusal import Refusal
 
-OF_LENGTH = ("String", "Vec", "BoxedStr", "BoxedSlice", "CowStr", "CowSlice")
+TEXTS_AND_LISTS = ("String", "Vec", "BoxedStr", "BoxedSlice", "CowStr", "CowSlice")
+MAPS = ("BTreeMap", "HashMap", "IndexMap", "BTreeSet", "HashSet", "IndexSet")
 # So deep may the type of a `WithLength` nest: past that the compiler's search for impls meets its limit.
 MOST_DEEP = 10
 # So many parts stand in one tuple.
 MOST_OTHERS = 6
 # The types of numbers that tell a length.
 HELD = tuple(BITS)
-MAPS = ("BTreeMap", "HashMap", "IndexMap", "BTreeSet", "HashSet", "IndexSet")
 
 
 @dataclass
@@ -38,14 +38,12 @@ class Item:
 
 
 def check_type(field, kind):
-    """Refuses a length of what is no text and no list."""
-    if is_listed(kind, *MAPS):
-        raise Refusal(field.line, "`length` is not taken of maps and sets: where a key came twice, fewer are left than "
-                                  "the length says, and could not be written again. Set `length_type`, or take a `Vec`")
+    """Refuses a length of what is no text, no list, no map and no set."""
     lent = kind.target if isinstance(kind, syntax.Reference) else None
-    if not is_listed(kind, *OF_LENGTH) and not isinstance(lent, syntax.Slice) and not is_listed(lent, "str"):
+    is_lent = isinstance(lent, syntax.Slice) or is_listed(lent, "str")
+    if not is_listed(kind, *TEXTS_AND_LISTS, *MAPS) and not is_lent:
         raise Refusal(field.line, "`length` is taken of `String`, `Vec<T>`, `Box<str>`, `Box<[T]>`, `&str`, `&[u8]`, "
-                                  "`Cow<str>` and `Cow<[T]>`")
+                                  "`Cow<str>`, `Cow<[T]>`, maps and sets")
 
 
 # What stands in one `WithLength` is a tree: of numbers, other parts, pairs, and what has a length. `taken` gives the
@@ -198,7 +196,8 @@ class Pair:
 
 
 class Behind:
-    """Parts, and behind them a text or a list of the length that their numbers tell, as the type `length` says."""
+    """Parts, and behind them a text, a list, a map or a set of the length that their numbers tell, as the type `length`
+    says."""
 
     def __init__(self, before, item, length, scope):
         self.before = before
@@ -219,7 +218,12 @@ class Behind:
 
     def seen(self, alone):
         """What is seen of it."""
-        return [self.before.seen(alone), alone(self.item.part)]
+        part = self.item.part
+        if not is_listed(part.type, *MAPS):
+            return [self.before.seen(alone), alone(part)]
+        # What is seen of a hashed one by itself does not tell its length.
+        trait = self.scope.need("speedy::lengths", "OfLength")
+        return [self.before.seen(alone), f"⟦<{type_text(part.type)} as {trait}>⟧.seen {part.seen}"]
 
     def numbers(self):
         """The type of the numbers that the parts before it hold."""

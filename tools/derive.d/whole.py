@@ -4,7 +4,7 @@ import defaults
 import rattle
 import syntax
 from impls import Shape
-from lengths import OF_LENGTH
+from lengths import TEXTS_AND_LISTS
 from parts import (Part, PartMaker, Taken, accesses_of_struct, built, is_lent_list, read_pattern, seen_of_parts,
                    write_statements, written_among)
 from rattle import Block, Call, Let, Match, clause_lines, clause_text, is_listed, type_text
@@ -62,7 +62,7 @@ class WholeShape(Shape):
         for it, _, kind in self.last:
             if it.options.skip:
                 raise Refusal(it.line, "a field with `skip` stands before those that end with the input")
-            if it.options.is_rest and not (is_listed(kind, *OF_LENGTH) or is_lent_list(kind)):
+            if it.options.is_rest and not (is_listed(kind, *TEXTS_AND_LISTS) or is_lent_list(kind)):
                 raise Refusal(it.line, "`length = ..` is taken of `String`, `Vec<T>`, `Box<str>`, `Box<[T]>`, `&str`, "
                                        "`&[u8]`, `Cow<str>` and `Cow<[T]>`")
         if len(self.last) > 1 and any(it.options.is_rest for it, _, _ in self.last):

@@ -1,4 +1,4 @@
-//! Texts and lists of a length that the parts before them tell.
+//! Texts, lists, maps and sets of a length that the parts before them tell.
 pub use speedy_layout::lengths::{Holds, Length, OfLength, Other, WithLength};
 pub use speedy_read::lengths::{ReadHolds, ReadOfLength};
 pub use speedy_write::lengths::{WriteHolds, WriteOfLength};

@@ -41,6 +41,8 @@ mod tests_lent;
 #[cfg(test)]
 mod tests_lists;
 #[cfg(test)]
+mod tests_map_lengths;
+#[cfg(test)]
 mod tests_maps;
 #[cfg(test)]
 mod tests_numbers;

@@ -13,6 +13,7 @@ pub mod keys;
 pub mod lengths;
 pub mod lent;
 pub mod many;
+pub mod map_lengths;
 pub mod names;
 pub mod skips;
 pub mod structs;

@@ -10,7 +10,7 @@ use Rattle.speedy_layout.specs.Numbers.{WritesSmaller}
 use Rattle.speedy_layout.specs.Owned.{owned_content}
 use Rattle.speedy_layout.specs.Prefixed.{Numbers, Behind}
 use Rattle.speedy_layout.specs.Sequences.{sequence}
-use Rattle.speedy_layout.specs.Lists.{prefixed_list, prefixed_list_laws, repeat, vector, each_shortest}
+use Rattle.speedy_layout.specs.Lists.{prefixed_list, prefixed_list_laws, repeat, vector, each_shortest, each_tells}
 use Rattle.speedy_layout.specs.Members.{IsIn, AreDistinct, IsIn-left, IsIn-right, IsIn-either, IsIn-around}
 
 -- What makes it lawful that lists stand for things, and that some lists are written. A list that stands for a thing and
@@ -70,11 +70,11 @@ record Taken {V : Type 0} (encodes : V → List ℕ → Type 0) (v : V) (others 
   size_is : length bytes ≡ length item + length rest
 
 -- an encoding of these items, no longer than the bytes
-record Within {V : Type 0} (encodes : V → List ℕ → Type 0) (xs ys : List V) (bytes : List ℕ) : Type 0 where
-  shorter : List ℕ
-  encoded : Each encodes xs shorter
-  size : length shorter ≤ length bytes
-  count : length xs ≤ length ys
+pub record Within {V : Type 0} (encodes : V → List ℕ → Type 0) (xs ys : List V) (bytes : List ℕ) : Type 0 where
+  pub shorter : List ℕ
+  pub encoded : Each encodes xs shorter
+  pub size : length shorter ≤ length bytes
+  pub count : length xs ≤ length ys
 
 module _ {V : Type 0} (encodes : V → List ℕ → Type 0) where
   take_item : (v : V) (before after : List V) (bytes : List ℕ) → Each encodes (before ++ v ∷ after) bytes
@@ -109,7 +109,7 @@ module _ {V : Type 0} (encodes : V → List ℕ → Type 0) where
       ]
 
   -- distinct items that lie inside a list are encoded in no more bytes than the list, and are no more
-  encoded_within : (xs ys : List V) (bytes : List ℕ) → AreDistinct xs → ((v : V) → IsIn v xs → IsIn v ys)
+  pub encoded_within : (xs ys : List V) (bytes : List ℕ) → AreDistinct xs → ((v : V) → IsIn v xs → IsIn v ys)
       → Each encodes ys bytes
       → Within encodes xs ys bytes
   encoded_within [] ys bytes d inside h = record {
@@ -168,6 +168,27 @@ module _ {V : Type 0} {strict : Bool} {least : ℕ} {F : Format V} (laws : Laws 
         | inr n ↦ inr (λ all. n (all x (inl refl)))
       ]
 
+-- Whether two things are the same is decided by forms that are encoded: by their order, and where things are hashed, by
+-- their items.
+pub forms_tell : {E S : Type 0} (hashed : Bool) {kind : Bool} → kind ≡ hashed → {stands : List E → S → Type 0}
+    {written : List E → Type 0} {strict : Bool} {least : ℕ} {L : Format E} → Laws strict least L
+    → IsGathering kind stands written → (xs ys : List E) (b d : List ℕ) → Each L.encodes xs b → Each L.encodes ys d
+    → (s t : S) → stands xs s × written xs → stands ys t × written ys → Decided (s ≡ t)
+forms_tell false ordered {stands = stands} laws is xs ys b d h k s t x y =
+    elim (each_tells laws xs ys b d h k) [
+      | inl e ↦ inl (is.one_thing ys s t (subst (λ zs. stands zs s) e x.0) y.0)
+      | inr n ↦ inr (λ e. n (is.one_form ordered xs ys t x.1 y.1 (subst (stands xs) e x.0) y.0))
+    ]
+forms_tell true unordered {stands = stands} laws is xs ys b d h k s t x y =
+    elim (inside_decided laws xs ys b d h k) [
+      | inl there ↦
+          elim (inside_decided laws ys xs d b k h) [
+            | inl suffix ↦ inl (is.one_hashed unordered xs ys s t x.1 y.1 x.0 y.0 there suffix)
+            | inr n ↦ inr (λ e. n (is.form_inside ys xs t y.1 y.0 (subst (stands xs) e x.0)))
+          ]
+      | inr n ↦ inr (λ e. n (is.form_inside xs ys t x.1 (subst (stands xs) e x.0) y.0))
+    ]
+
 -- ---- the laws
 
 module _ {E S : Type 0} {hashed : Bool} {stands : List E → S → Type 0} {written : List E → Type 0}
@@ -213,36 +234,18 @@ module _ {E S : Type 0} {hashed : Bool} {stands : List E → S → Type 0} {writ
       let m = ap length k.code_is.whole_is ∙ length-append k.code_is.prefix k.code_is.suffix in
       omega arith
 
-  -- their forms tell things apart, and where things are hashed, the items of the forms
-  things_tell : (unordered : Bool) → hashed ≡ unordered → HasForms L stands written → (s t : S) (b d : List ℕ)
+  -- their forms tell things apart
+  things_tell : HasForms L stands written → (s t : S) (b d : List ℕ)
       → Coded (prefixed_list count L).encodes stands s b → Coded (prefixed_list count L).encodes stands t d
       → Decided (s ≡ t)
   unfolding sequence vector owned_content repeat
-  things_tell false ordered has s t b d h k =
+  things_tell has s t b d h k =
       let x = some_form_encoded has s b h in
       let y = some_form_encoded has t d k in
-      elim ((prefixed_list_laws numbers laws).tells x.1.code y.1.code x.0 y.0 x.1.code_is y.1.code_is) [
-        | inl e ↦ inl (is.one_thing y.1.code s t (subst (λ zs. stands zs s) e x.1.stands.0) y.1.stands.0)
-        | inr n ↦ inr (λ e. n (is.one_form ordered x.1.code y.1.code t x.1.stands.1 y.1.stands.1
-            (subst (stands x.1.code) e x.1.stands.0) y.1.stands.0))
-      ]
-  things_tell true unordered has s t b d h k =
-      let x = some_form_encoded has s b h in
-      let y = some_form_encoded has t d k in
-      let xs = x.1.code in
-      let ys = y.1.code in
       let left = x.1.code_is in
       let right = y.1.code_is in
-      elim (inside_decided laws xs ys left.suffix right.suffix left.second_is.1 right.second_is.1) [
-        | inl there ↦
-            elim (inside_decided laws ys xs right.suffix left.suffix right.second_is.1 left.second_is.1) [
-              | inl suffix ↦ inl (is.one_hashed unordered xs ys s t x.1.stands.1 y.1.stands.1 x.1.stands.0 y.1.stands.0
-                  there suffix)
-              | inr n ↦ inr (λ e. n (is.form_inside ys xs t y.1.stands.1 y.1.stands.0
-                  (subst (stands xs) e x.1.stands.0)))
-            ]
-        | inr n ↦ inr (λ e. n (is.form_inside xs ys t x.1.stands.1 (subst (stands xs) e x.1.stands.0) y.1.stands.0))
-      ]
+      forms_tell hashed refl laws is x.1.code y.1.code left.suffix right.suffix left.second_is.1 right.second_is.1 s t
+      x.1.stands y.1.stands
 
 -- what lists gather to is coded by them
 pub gathering_is_code : {E S : Type 0} (hashed : Bool) {stands : List E → S → Type 0} {written : List E → Type 0}
@@ -253,7 +256,7 @@ unfolding hashed_items
 gathering_is_code false numbers smaller laws is has = record {
   one_meaning = is.one_thing;
   one_chosen = λ _ xs ys s h k. is.one_form refl xs ys s h.1 k.1 h.0 k.0;
-  tells = λ _ _. things_tell numbers smaller laws is false refl has;
+  tells = λ _ _. things_tell numbers smaller laws is has;
   chosen_means = λ xs s h. h.0;
   has_chosen = some_form_encoded numbers smaller laws is has;
   chosen_shortest = λ _. form_shortest numbers smaller laws is;
@@ -262,7 +265,7 @@ gathering_is_code false numbers smaller laws is has = record {
 gathering_is_code true numbers smaller laws is has = record {
   one_meaning = is.one_thing;
   one_chosen = λ e. absurd (cc);
-  tells = λ _ _. things_tell numbers smaller laws is true refl has;
+  tells = λ _ _. things_tell numbers smaller laws is has;
   chosen_means = λ xs s h. h.0;
   has_chosen = some_form_encoded numbers smaller laws is has;
   chosen_shortest = λ _. form_shortest numbers smaller laws is;

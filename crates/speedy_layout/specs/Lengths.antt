@@ -1,4 +1,5 @@
--- Parts that tell the length of what stands behind them: of a text its number of bytes, of a list that of its items.
+-- Parts that tell the length of what stands behind them: of a text its number of bytes, of a list or a set that of its
+-- items, of a map that of its pairs.
 use Rattle.std.specs.Prelude.{◌≡◌, ℕ, ◌+◌, List, [], Bool, ◌⊎◌, length, true, false}
 use Rattle.std.proofs.Common.{ap, arith, inl, inr, sym, ◌∙◌}
 use Rattle.speedy_base.specs.Mode.{Mode}
@@ -13,7 +14,7 @@ use Rattle.speedy_layout.specs.Owned.{borrowed_content, owned_content}
 use Rattle.speedy_layout.specs.Sequences.{AsksAtMost, sequence, sequence_laws}
 use Rattle.speedy_layout.specs.Texts.{raw_bytes, text_of_length, text_of_length_laws, text_asks}
 
--- Texts or lists of a length that their encoding does not say.
+-- Texts, lists, maps or sets of a length that their encoding does not say.
 pub record Counting (V : Type 0) : Type 1 where
   -- how long a value is
   pub count : V → ℕ

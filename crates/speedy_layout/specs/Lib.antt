@@ -38,6 +38,8 @@ pub mod Choices
 pub mod Wholes
 pub mod Frames
 pub mod Lengths
+pub mod GatheredLengths
+pub mod CollectionLengths
 pub mod Rests
 pub mod Growing
 pub mod Growth

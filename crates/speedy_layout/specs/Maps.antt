@@ -110,7 +110,7 @@ module _ {K V : Type 0} where
   own_tree_map order es h = (h, own_lasts es (Ascends-distinct_keys order es h))
 
   -- pairs with distinct keys that a list has are the last ones of each list of the same map
-  inside_lasts : (items others es : List (K × V)) → HasDistinctKeys items → HasLasts items es
+  pub inside_lasts : (items others es : List (K × V)) → HasDistinctKeys items → HasLasts items es
       → HasLasts others es → (e : K × V)
       → IsIn e items → IsIn e others
   inside_lasts items others es d h k e s = IsLast-in e others ((k e).0 ((h e).1 (IsIn-last e items d s)))

@@ -1,4 +1,4 @@
-//! Texts and lists of a length that the parts before them tell.
+//! Texts, lists, maps and sets of a length that the parts before them tell.
 ghost use Rattle.std.specs.Prelude.{◌≡◌, ℕ, ℤ, List, SomeIff};
 ghost use Rattle.speedy_layout.specs.Codecs.{Codec, pair_codec};
 ghost use Rattle.speedy_layout.specs.Lengths.{Counting, with_length_codec, list_counting, text_counting};
@@ -9,7 +9,7 @@ use std::borrow::{CowSlice, CowStr};
 use std::boxed::{BoxedSlice, BoxedStr};
 use std::marker::PhantomData;
 
-/// Types of texts and lists, which may stand without their length where that is told elsewhere.
+/// Types of texts, lists, maps and sets, which may stand without their length where that is told elsewhere.
 pub trait OfLength {
     /// What is seen of a value.
     ghost Seen: { Type 0 };
@@ -84,7 +84,7 @@ impl<'a, T: Layout> OfLength for CowSlice<'a, T> {
     ghost counting = { list_counting T.layout };
 }
 
-/// Which length numbers tell: of a text in bytes, of a list in items.
+/// Which length numbers tell: of a text in bytes, of a list or a set in items, of a map in pairs.
 ///
 /// `N` is one number, or a pair that may hold pairs again.
 pub trait Length<N> {
@@ -317,15 +317,17 @@ impl<A: Holds, B: Holds> Holds for (A, B) {
     }
 }
 
-/// Parts that hold numbers, and behind them a text or a list of the length that the numbers tell, as `K` says.
+/// Parts that hold numbers, and behind them a text, a list, a map or a set of the length that the numbers tell, as `K`
+/// says.
 ///
 /// One of another length has no encoding: that is `LengthIsNotTheSameAsLengthAttribute`. Numbers that tell no length
-/// are `OutOfRangeLength`, in reading too.
+/// are `OutOfRangeLength`, in reading too. So are pairs of a map of which two have one key, and items of a set of which
+/// two are equal: the map or the set would have fewer than are told.
 #[derive(Debug, PartialEq, Drop)]
 pub struct WithLength<K, B, T> {
     /// The parts that hold the numbers.
     pub before: B,
-    /// The text or the list.
+    /// The text, the list, the map or the set.
     pub value: T,
     /// Names how the numbers tell the length, and holds nothing.
     pub length: PhantomData<K>,

@@ -182,15 +182,18 @@ each_begins laws (v ∷ vs) (w ∷ ws) s t r q l h k e =
     let rest = each_begins laws vs ws h.suffix k.suffix r q (omega arith) h.second_is k.second_is first.2 in
     (rest.0, let a = first.0 in let b = rest.1 in (cc))
 
-module _ {T F V S : Type 0} {g : Gatherer T F V} {c : Code (List V) S} {seen' : F → S} (is : IsCodeOf g c seen')
-    {L : Format V} {n : ℕ} {old : ReaderState} {new : ReaderState} (h : NotWritten g L n old new) where
+-- items that are written of no collection stand where the canonical encoding is demanded
+module _ {T F V S : Type 0} {g : Gatherer T F V} (c : Code (List V) S)
+    (first : (items : List T) (more : List V) (s : S) → c.chosen (map g.seen items ++ more) s → g.are_written items)
+    {L : Format V} {n : ℕ} {old : ReaderState} {new : ReaderState} (h : NotWritten g L n old new) (value : S)
+    (meant : c.means (map g.seen h.items) value) where
   wider : ReadsWider c
   wider = record {
     code = map g.seen h.items;
-    value = seen' h.whole;
-    meant = is.meant h.items h.whole h.gathered;
-    not_chosen = λ k. h.not_written (is.first_chosen h.items [] (seen' h.whole)
-        (subst (λ (vs : List V). c.chosen vs (seen' h.whole)) (sym (append-nil (map g.seen h.items))) k));
+    value = value;
+    meant = meant;
+    not_chosen = λ k. h.not_written (first h.items [] value
+        (subst (λ (vs : List V). c.chosen vs value) (sym (append-nil (map g.seen h.items))) k));
   }
 
   -- what is encoded where such items stand is written of no collection
@@ -206,23 +209,43 @@ module _ {T F V S : Type 0} {g : Gatherer T F V} {c : Code (List V) S} {seen' : 
       in
       let begins = each_begins laws (map g.seen h.items) vs h.ahead.prefix prefix (h.ahead.rest ++ more) rest fewer
       h.ahead.prefix_is encoded joined in
-      h.not_written (is.first_chosen h.items begins.0 s (subst (λ (vs : List V). c.chosen vs s) begins.1 chosen))
+      h.not_written (first h.items begins.0 s (subst (λ (vs : List V). c.chosen vs s) begins.1 chosen))
 
-  not_written_undecodable : {E : Type 0} {gives : Error → E → Type 0} {eof : E → Bool} {least : ℕ} {e : E}
-      → Laws old.mode.strict least L → gives (error_of kinds.NotWrittenForm) e → IsTrue old.fixed.tells
-      → Undecodable gives eof (coding old.mode c (vector n L)) e old.remaining
-  unfolding coding vector owned_content repeat
-  not_written_undecodable laws given tells = record {
-    no_prefix = λ v prefix rest whole k.
-        none_chosen laws k.code v prefix rest old.remaining [] k.code_is.0 k.code_is.1
-        (append-nil old.remaining ∙ whole)
-        (h.ahead.stands tells) (Accepts-demanded old.mode.strict c k.code v h.demanded k.stands);
-    too_short = λ v more k.
-        absurd (none_chosen laws k.code v (old.remaining ++ more) [] old.remaining more k.code_is.0 k.code_is.1
-        (sym (append-nil (old.remaining ++ more))) (h.ahead.stands tells)
-        (Accepts-demanded old.mode.strict c k.code v h.demanded k.stands));
-    malformed = λ _. (kinds.NotWrittenForm, inr (inr (h.demanded, refl, wider)), given);
-  }
+  module _ {E : Type 0} {gives : Error → E → Type 0} {eof : E → Bool} {least : ℕ} {e : E} (M : Format (List V))
+      (laws : Laws old.mode.strict least L)
+      (items_of : (vs : List V) (s : List ℕ) → M.encodes vs s → (length vs ≡ n) × Each L.encodes vs s)
+      (given : gives (error_of kinds.NotWrittenForm) e) where
+    not_written_undecodable : IsTrue old.fixed.tells → Undecodable gives eof (coding old.mode c M) e old.remaining
+    unfolding coding
+    not_written_undecodable tells = record {
+      no_prefix = λ v prefix rest whole k.
+          let is = items_of k.code prefix k.code_is in
+          none_chosen laws k.code v prefix rest old.remaining [] is.0 is.1 (append-nil old.remaining ∙ whole)
+          (h.ahead.stands tells) (Accepts-demanded old.mode.strict c k.code v h.demanded k.stands);
+      too_short = λ v more k.
+          let is = items_of k.code (old.remaining ++ more) k.code_is in
+          absurd (none_chosen laws k.code v (old.remaining ++ more) [] old.remaining more is.0 is.1
+          (sym (append-nil (old.remaining ++ more))) (h.ahead.stands tells)
+          (Accepts-demanded old.mode.strict c k.code v h.demanded k.stands));
+      malformed = λ _. (kinds.NotWrittenForm, inr (inr (h.demanded, refl, wider)), given);
+    }
+
+    -- so no value of a code is read, whose codes are lists of such items
+    pub not_written_refused : {seen' : F → S} → Kept old new → Reads gives eof seen' (coding old.mode c M) (Err e) old new
+    unfolding coding
+    not_written_refused kept = record {
+      kept = kept;
+      answer = inr (record {
+        no_fault = h.ahead.no_fault;
+        kind = inr (kinds.NotWrittenForm, inl (inr (inr (h.demanded, refl, wider))), given);
+        because = λ told. not_written_undecodable told.tells;
+      });
+    }
+
+vector_items : {V : Type 0} (L : Format V) (n : ℕ) (vs : List V) (s : List ℕ) → (vector n L).encodes vs s
+    → (length vs ≡ n) × Each L.encodes vs s
+unfolding vector owned_content repeat
+vector_items L n vs s h = h
 
 -- so items that are read and gathered are a value of the code that is read
 pub collected_read : {T F V S : Type 0} {g : Gatherer T F V} {c : Code (List V) S} {seen' : F → S} {L : Format V}
@@ -243,8 +266,8 @@ collected_read {g = g} {c = c} {seen' = seen'} {L = L} {n = n} {result = Ok whol
                 (is.meant h.items whole h.gathered) (λ strict. is.chosen h.items whole h.gathered (h.written strict));
           }) h.got;
     }
-collected_read {V = V} {g = g} {c = c} {L = L} {n = n} {gives = gives} {eof = eof} {result = Err e} {old = old}
-    {new = new} laws is r =
+collected_read {V = V} {g = g} {c = c} {seen' = seen'} {L = L} {n = n} {gives = gives} {eof = eof} {result = Err e}
+    {old = old} {new = new} laws is r =
     elim r.answer [
       | inl x ↦ record { kept = r.kept; answer = inl x }
       | inr x ↦ elim x [
@@ -254,14 +277,9 @@ collected_read {V = V} {g = g} {c = c} {L = L} {n = n} {gives = gives} {eof = eo
               answer = inr y;
             } in
             code_refused old.mode c refl items
-        | inr y ↦ record {
-          kept = r.kept;
-          answer = inr (record {
-            no_fault = y.1.ahead.no_fault;
-            kind = inr (kinds.NotWrittenForm, inl (inr (inr (y.1.demanded, refl, wider is y.1))), y.0);
-            because = λ told. not_written_undecodable is y.1 laws y.0 told.tells;
-          });
-        }
+        | inr y ↦
+            not_written_refused c is.first_chosen y.1 (seen' y.1.whole)
+            (is.meant y.1.items y.1.whole y.1.gathered) (vector n L) laws (vector_items L n) y.0 r.kept
       ]
     ]
 

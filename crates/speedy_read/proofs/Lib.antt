@@ -12,6 +12,7 @@ pub mod AddressLemmas
 pub mod BufferLemmas
 pub mod RoundTripLemmas
 pub mod CollectionLemmas
+pub mod CollectionLengthLemmas
 pub mod LengthLemmas
 pub mod LentLemmas
 pub mod FrameLemmas

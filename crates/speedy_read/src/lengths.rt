@@ -1,4 +1,5 @@
-//! How parts are read, and behind them a text or a list of the length that they tell; and how lengths are compared.
+//! How parts are read, and behind them a text, a list, a map or a set of the length that they tell; and how lengths are
+//! compared.
 ghost use Rattle.std.specs.Prelude.{◌≡◌, ℕ, ◌↔◌, IsTrue, IfOk};
 ghost use Rattle.speedy_layout.specs.Lengths.{told_codec};
 ghost use Rattle.speedy_read.specs.Counted.{counted};
@@ -18,7 +19,7 @@ use std::boxed::{BoxedSlice, BoxedStr};
 use std::convert::AsSlice;
 use std::marker::PhantomData;
 
-/// How texts and lists of a length are read, where `L` is what the reader lends.
+/// How texts, lists, maps and sets of a length are read, where `L` is what the reader lends.
 pub trait ReadOfLength<L: AsSlice<u8> + Drop, C: Context>: OfLength + Sized + Drop {
     /// Reads a value of the length.
     fn read_of_length<R: LendingReader<L, C>>(

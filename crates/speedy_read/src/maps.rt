@@ -1,10 +1,15 @@
 //! How maps are read: what a repeated key does, and which order is canonical, is in `collections`.
+//!
+//! Where the number of pairs is told elsewhere, a map that has fewer since a key was repeated is refused: it could not be
+//! written with that number.
+use crate::lengths::ReadOfLength;
 use crate::many::ItemByItem;
 use crate::prefixed::{ReadPrefix, ReadTold};
 use crate::readable::ReadFrom;
 use crate::reader::LendingReader;
 use indexmap::IndexMap;
 use speedy_base::context::Context;
+use speedy_base::error::error_out_of_range_length;
 use speedy_layout::same_key::SameKey;
 use std::collections::{BTreeMap, HashMap};
 use std::convert::AsSlice;
@@ -41,6 +46,25 @@ impl<
     ) -> Result<BTreeMap<K, V>, C::Error> {
         let length = N::read_number(reader)?;
         reader.read_key_value_collection(length)
+    }
+}
+
+impl<
+    L: AsSlice<u8> + Drop,
+    C: Context,
+    K: ReadFrom<L, C> + SameKey + Ord,
+    V: ReadFrom<L, C>,
+> ReadOfLength<L, C> for BTreeMap<K, V> {
+    #[inline]
+    fn read_of_length<R: LendingReader<L, C>>(
+        reader: &mut R,
+        length: usize,
+    ) -> Result<BTreeMap<K, V>, C::Error> {
+        let sorted: BTreeMap<K, V> = reader.read_key_value_collection(length)?;
+        if sorted.len() != length {
+            return Err(error_out_of_range_length());
+        }
+        Ok(sorted)
     }
 }
 
@@ -86,6 +110,26 @@ impl<
     K: ReadFrom<L, C> + SameKey + Hash,
     V: ReadFrom<L, C>,
     S: BuildHasher + Default + Drop,
+> ReadOfLength<L, C> for HashMap<K, V, S> {
+    #[inline]
+    fn read_of_length<R: LendingReader<L, C>>(
+        reader: &mut R,
+        length: usize,
+    ) -> Result<HashMap<K, V, S>, C::Error> {
+        let hashed: HashMap<K, V, S> = reader.read_key_value_collection(length)?;
+        if hashed.len() != length {
+            return Err(error_out_of_range_length());
+        }
+        Ok(hashed)
+    }
+}
+
+impl<
+    L: AsSlice<u8> + Drop,
+    C: Context,
+    K: ReadFrom<L, C> + SameKey + Hash,
+    V: ReadFrom<L, C>,
+    S: BuildHasher + Default + Drop,
 > ReadFrom<L, C> for IndexMap<K, V, S> {
     type Strategy = ItemByItem<C>;
 
@@ -113,5 +157,25 @@ impl<
     ) -> Result<IndexMap<K, V, S>, C::Error> {
         let number = N::read_number(reader)?;
         reader.read_key_value_collection(number)
+    }
+}
+
+impl<
+    L: AsSlice<u8> + Drop,
+    C: Context,
+    K: ReadFrom<L, C> + SameKey + Hash,
+    V: ReadFrom<L, C>,
+    S: BuildHasher + Default + Drop,
+> ReadOfLength<L, C> for IndexMap<K, V, S> {
+    #[inline]
+    fn read_of_length<R: LendingReader<L, C>>(
+        reader: &mut R,
+        length: usize,
+    ) -> Result<IndexMap<K, V, S>, C::Error> {
+        let listed: IndexMap<K, V, S> = reader.read_key_value_collection(length)?;
+        if listed.len() != length {
+            return Err(error_out_of_range_length());
+        }
+        Ok(listed)
     }
 }

@@ -1,10 +1,15 @@
 //! How sets are read: what a repeated item does, and which order is canonical, is in `collections`.
+//!
+//! Where the number of items is told elsewhere, a set that has fewer since an item was repeated is refused: it could not
+//! be written with that number.
+use crate::lengths::ReadOfLength;
 use crate::many::ItemByItem;
 use crate::prefixed::{ReadPrefix, ReadTold};
 use crate::readable::{ReadFrom, ReadMany};
 use crate::reader::LendingReader;
 use indexmap::IndexSet;
 use speedy_base::context::Context;
+use speedy_base::error::error_out_of_range_length;
 use speedy_layout::same_key::SameKey;
 use std::collections::{BTreeSet, HashSet};
 use std::convert::AsSlice;
@@ -33,6 +38,21 @@ impl<L: AsSlice<u8> + Drop, C: Context, T: ReadMany<L, C> + SameKey + Ord> ReadT
     ) -> Result<BTreeSet<T>, C::Error> {
         let length = N::read_number(reader)?;
         reader.read_collection(length)
+    }
+}
+
+impl<L: AsSlice<u8> + Drop, C: Context, T: ReadMany<L, C> + SameKey + Ord> ReadOfLength<L, C>
+    for BTreeSet<T> {
+    #[inline]
+    fn read_of_length<R: LendingReader<L, C>>(
+        reader: &mut R,
+        length: usize,
+    ) -> Result<BTreeSet<T>, C::Error> {
+        let sorted: BTreeSet<T> = reader.read_collection(length)?;
+        if sorted.len() != length {
+            return Err(error_out_of_range_length());
+        }
+        Ok(sorted)
     }
 }
 
@@ -75,6 +95,25 @@ impl<
     C: Context,
     T: ReadMany<L, C> + SameKey + Hash,
     S: BuildHasher + Default + Drop,
+> ReadOfLength<L, C> for HashSet<T, S> {
+    #[inline]
+    fn read_of_length<R: LendingReader<L, C>>(
+        reader: &mut R,
+        length: usize,
+    ) -> Result<HashSet<T, S>, C::Error> {
+        let hashed: HashSet<T, S> = reader.read_collection(length)?;
+        if hashed.len() != length {
+            return Err(error_out_of_range_length());
+        }
+        Ok(hashed)
+    }
+}
+
+impl<
+    L: AsSlice<u8> + Drop,
+    C: Context,
+    T: ReadMany<L, C> + SameKey + Hash,
+    S: BuildHasher + Default + Drop,
 > ReadFrom<L, C> for IndexSet<T, S> {
     type Strategy = ItemByItem<C>;
 
@@ -101,5 +140,24 @@ impl<
     ) -> Result<IndexSet<T, S>, C::Error> {
         let number = N::read_number(reader)?;
         reader.read_collection(number)
+    }
+}
+
+impl<
+    L: AsSlice<u8> + Drop,
+    C: Context,
+    T: ReadMany<L, C> + SameKey + Hash,
+    S: BuildHasher + Default + Drop,
+> ReadOfLength<L, C> for IndexSet<T, S> {
+    #[inline]
+    fn read_of_length<R: LendingReader<L, C>>(
+        reader: &mut R,
+        length: usize,
+    ) -> Result<IndexSet<T, S>, C::Error> {
+        let listed: IndexSet<T, S> = reader.read_collection(length)?;
+        if listed.len() != length {
+            return Err(error_out_of_range_length());
+        }
+        Ok(listed)
     }
 }

@@ -1,5 +1,6 @@
 pub mod ArrayLemmas
 pub mod CollectionLemmas
+pub mod CollectionLengthLemmas
 pub mod CountLemmas
 pub mod FillLemmas
 pub mod FixedLemmas

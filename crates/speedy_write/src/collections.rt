@@ -1,6 +1,7 @@
-//! How the items of a map or a set are written, behind their number, in the order that it gives.
+//! How the items of a map or a set are written, behind their number or without it, in the order that it gives.
 ghost use Rattle.std.specs.Prelude.{◌≡◌, List, length};
 ghost use Rattle.std.specs.Iterator.{IsFinite, AlwaysYields};
+ghost use Rattle.speedy_layout.specs.Codecs.{vector_codec};
 ghost use Rattle.speedy_layout.specs.Prefixed.{list_behind, prefixed_codec};
 ghost use Rattle.speedy_write.specs.Writing.{WritesValue};
 
@@ -27,5 +28,22 @@ pub(crate) fn write_counted_items<
         (prefixed_codec (list_behind T.layout N.numbers)) shown result writer.old writer.new }
 {
     N::write_number(count, writer)?;
+    write_items_of(items, writer)
+}
+
+// The items, and no number of them. Items that every walk gives are written as so many.
+#[inline]
+pub(crate) fn write_items_of<
+    C: Context,
+    T: Writable<C> + Drop,
+    I: Iterator<Item = T>,
+    W: Writer<C>,
+>(items: I, writer: &mut W) -> Result<(), C::Error>
+    requires can { I.can_next items }
+    requires ends { IsFinite (I.remaining items) }
+    ensures { (shown : List T.Seen) → AlwaysYields I.next_gives T.seen items shown
+        → WritesValue C.Error.from_gives W.state W.appends (λ v. v)
+        (vector_codec (length shown) T.layout) shown result writer.old writer.new }
+{
     writer.write_collection(items)
 }

@@ -1,4 +1,4 @@
-//! How parts are written, and behind them a text or a list of the length that they tell.
+//! How parts are written, and behind them a text, a list, a map or a set of the length that they tell.
 ghost use Rattle.std.specs.Prelude.{◌≡◌, length, map};
 ghost use Rattle.speedy_layout.specs.Codecs.{vector_codec};
 ghost use Rattle.speedy_layout.specs.Texts.{text_of_length};
@@ -15,13 +15,13 @@ use speedy_layout::lengths::{Holds, Length, OfLength, Other, WithLength};
 use std::borrow::{CowSlice, CowStr};
 use std::boxed::{BoxedSlice, BoxedStr};
 
-/// How texts and lists are written without their length.
+/// How texts, lists, maps and sets are written without their length.
 pub trait WriteOfLength<C: Context>: OfLength {
-    /// The length: of a text in bytes, of a list in items.
+    /// The length: of a text in bytes, of a list or a set in items, of a map in pairs.
     fn length(&self) -> usize
         ensures { result ≡ Self.counting.count (Self.seen self.now) };
 
-    /// Writes the bytes of the text, or the items of the list, and no length.
+    /// Writes the bytes of the text, the items or the pairs, and no length.
     fn write_of_length<W: Writer<C>>(&self, writer: &mut W) -> Result<(), C::Error>
         ensures { let value = Self.seen self.now in
             WritesValue C.Error.from_gives W.state W.appends Self.seen

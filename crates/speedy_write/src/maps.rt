@@ -1,5 +1,6 @@
 //! How maps are written: in the order in which each walks its pairs, a `BTreeMap` by its keys.
-use crate::collections::write_counted_items;
+use crate::collections::{write_counted_items, write_items_of};
+use crate::lengths::WriteOfLength;
 use crate::prefixed::{WritePrefix, WriteTold};
 use crate::writable::Writable;
 use crate::writer::Writer;
@@ -24,6 +25,20 @@ impl<C: Context, K: Writable<C> + SameKey + Ord, V: Writable<C>> WriteTold<C> fo
     }
 }
 
+impl<C: Context, K: Writable<C> + SameKey + Ord, V: Writable<C>> WriteOfLength<C>
+    for BTreeMap<K, V> {
+    #[inline]
+    fn length(&self) -> usize {
+        self.len()
+    }
+
+    #[inline]
+    fn write_of_length<W: Writer<C>>(&self, writer: &mut W) -> Result<(), C::Error> {
+        let sorted = self.iter();
+        write_items_of(sorted, writer)
+    }
+}
+
 impl<C: Context, K: Writable<C> + SameKey + Hash, V: Writable<C>, S: BuildHasher> Writable<C>
     for HashMap<K, V, S> {
     #[inline]
@@ -37,6 +52,19 @@ impl<C: Context, K: Writable<C> + SameKey + Hash, V: Writable<C>, S: BuildHasher
     #[inline]
     fn write_behind<N: WritePrefix, W: Writer<C>>(&self, writer: &mut W) -> Result<(), C::Error> {
         write_counted_items::<N, C, _, _, W>(self.len(), self.iter(), writer)
+    }
+}
+
+impl<C: Context, K: Writable<C> + SameKey + Hash, V: Writable<C>, S: BuildHasher> WriteOfLength<C>
+    for HashMap<K, V, S> {
+    #[inline]
+    fn length(&self) -> usize {
+        self.len()
+    }
+
+    #[inline]
+    fn write_of_length<W: Writer<C>>(&self, writer: &mut W) -> Result<(), C::Error> {
+        write_items_of(self.iter(), writer)
     }
 }
 
@@ -54,5 +82,19 @@ impl<C: Context, K: Writable<C> + SameKey + Hash, V: Writable<C>, S: BuildHasher
     fn write_behind<N: WritePrefix, W: Writer<C>>(&self, writer: &mut W) -> Result<(), C::Error> {
         let count = self.len();
         write_counted_items::<N, C, _, _, W>(count, self.iter(), writer)
+    }
+}
+
+impl<C: Context, K: Writable<C> + SameKey + Hash, V: Writable<C>, S: BuildHasher> WriteOfLength<C>
+    for IndexMap<K, V, S> {
+    #[inline]
+    fn length(&self) -> usize {
+        self.len()
+    }
+
+    #[inline]
+    fn write_of_length<W: Writer<C>>(&self, writer: &mut W) -> Result<(), C::Error> {
+        let listed = self.iter();
+        write_items_of(listed, writer)
     }
 }

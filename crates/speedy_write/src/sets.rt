@@ -1,5 +1,6 @@
 //! How sets are written: in the order in which each walks its items, a `BTreeSet` in ascending order.
-use crate::collections::write_counted_items;
+use crate::collections::{write_counted_items, write_items_of};
+use crate::lengths::WriteOfLength;
 use crate::prefixed::{WritePrefix, WriteTold};
 use crate::writable::Writable;
 use crate::writer::Writer;
@@ -24,6 +25,19 @@ impl<C: Context, T: Writable<C> + SameKey + Ord> WriteTold<C> for BTreeSet<T> {
     }
 }
 
+impl<C: Context, T: Writable<C> + SameKey + Ord> WriteOfLength<C> for BTreeSet<T> {
+    #[inline]
+    fn length(&self) -> usize {
+        self.len()
+    }
+
+    #[inline]
+    fn write_of_length<W: Writer<C>>(&self, writer: &mut W) -> Result<(), C::Error> {
+        let sorted = self.iter();
+        write_items_of(sorted, writer)
+    }
+}
+
 impl<C: Context, T: Writable<C> + SameKey + Hash, S: BuildHasher> Writable<C> for HashSet<T, S> {
     #[inline]
     fn write_to<W: Writer<C>>(&self, writer: &mut W) -> Result<(), C::Error> {
@@ -35,6 +49,19 @@ impl<C: Context, T: Writable<C> + SameKey + Hash, S: BuildHasher> WriteTold<C> f
     #[inline]
     fn write_behind<N: WritePrefix, W: Writer<C>>(&self, writer: &mut W) -> Result<(), C::Error> {
         write_counted_items::<N, C, _, _, W>(self.len(), self.iter(), writer)
+    }
+}
+
+impl<C: Context, T: Writable<C> + SameKey + Hash, S: BuildHasher> WriteOfLength<C>
+    for HashSet<T, S> {
+    #[inline]
+    fn length(&self) -> usize {
+        self.len()
+    }
+
+    #[inline]
+    fn write_of_length<W: Writer<C>>(&self, writer: &mut W) -> Result<(), C::Error> {
+        write_items_of(self.iter(), writer)
     }
 }
 
@@ -50,5 +77,19 @@ impl<C: Context, T: Writable<C> + SameKey + Hash, S: BuildHasher> WriteTold<C> f
     fn write_behind<N: WritePrefix, W: Writer<C>>(&self, writer: &mut W) -> Result<(), C::Error> {
         let count = self.len();
         write_counted_items::<N, C, _, _, W>(count, self.iter(), writer)
+    }
+}
+
+impl<C: Context, T: Writable<C> + SameKey + Hash, S: BuildHasher> WriteOfLength<C>
+    for IndexSet<T, S> {
+    #[inline]
+    fn length(&self) -> usize {
+        self.len()
+    }
+
+    #[inline]
+    fn write_of_length<W: Writer<C>>(&self, writer: &mut W) -> Result<(), C::Error> {
+        let listed = self.iter();
+        write_items_of(listed, writer)
     }
 }

@@ -15,4 +15,4 @@ unfolding vector
 returns g c = λ shown same always.
     second_written is_sequence (so_many _ shown (sym same)) g.N.Prefix.numbers.codec.laws
     (g.met.W.Writer.additive _ _ _) c.in_ok-write_number.ensures
-    (owned_written (shown_items_written same always c.write_collection.ensures))
+    (rw (sym same) at (c.write_items_of.ensures shown always))
