@@ -1,6 +1,7 @@
 """Makes the module: the types as Rattle has them, and their impls."""
 import attributes
 import expressions
+import holders
 import rattle
 import syntax
 from enums import enum_lines
@@ -92,6 +93,9 @@ class ModuleMaker:
 
     def lines(self):
         """The imports and the items."""
+        for item in self.ordered:
+            self.set_options(item)
+        self.scope.telling = holders.find(self.ordered, self.scope)
         made = {id(item): self.item_lines(item) for item in self.ordered}
         head = []
         for (visibility, module), names in self.scope.imports.items():
@@ -115,7 +119,6 @@ class ModuleMaker:
             head = f"{item.visibility}type {item.name}{rattle.listed([self.parameter(it) for it in item.parameters])}"
             return [*docs(item), f"{head} = {type_text(kind)};", ""]
         self.scope.beside = []
-        self.set_options(item)
         if isinstance(item, syntax.Struct) and ends_with_input(item):
             self.scope.ending.add(item.name)
         declared = Declaration(item, self.scope, self.of_cast).lines()
@@ -137,8 +140,7 @@ class ModuleMaker:
 
     def set_options(self, item):
         """Reads the attributes of the fields."""
-        variants = item.variants if isinstance(item, syntax.Enum) else [item]
-        for field in (field for variant in variants for field in variant.fields):
+        for field in (field for variant in syntax.variants_of(item) for field in variant.fields):
             field.options = attributes.of_field(field, self.notes)
 
 

@@ -15,6 +15,7 @@ pub mod lent;
 pub mod many;
 pub mod names;
 pub mod skips;
+pub mod struct_lengths;
 pub mod structs;
 pub mod sums;
 pub mod tags;
