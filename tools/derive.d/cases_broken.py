@@ -92,6 +92,24 @@ BROKEN = [
     ("a choice of one branch", told("if n < 1 { 1 }", "u8"), 5, "`else` is missing"),
     ("a sign before a number", told("!n", "u8"), 5, "a length is made of"),
     ("a length below nothing", told("2 - 3", "u8"), 5, "-1 is no `usize`"),
+    ("a length of a field that is not there", struct("    n: B,\n    #[speedy(length = n.a)]\n    a: String") + DERIVES
+     + "struct B { b: u8 }", 5, "`B` has no field `a`"),
+    ("a length of a field of a field that is no number", struct("    n: B,\n    #[speedy(length = n.b)]\n    a: String")
+     + DERIVES + "struct B { b: u128 }", 5, "`b` tells no length"),
+    ("a length of a field of a field without bytes", struct("    n: B,\n    #[speedy(length = n.b)]\n    a: String")
+     + DERIVES + "struct B { a: u8, #[speedy(skip)] b: u8 }", 5, "`b` of `B` has no bytes"),
+    ("a length of a whole struct", struct("    n: B,\n    #[speedy(length = n)]\n    a: String") + DERIVES
+     + "struct B(u8);", 5, "`n` tells no length"),
+    ("a length of a place of a tuple", told("n.1", "(u8, u8)"), 5, "`n` is a tuple"),
+    ("a length of a field of an enum", struct("    n: B,\n    #[speedy(length = n.b)]\n    a: String") + DERIVES
+     + "enum B { C { b: u8 } }", 5, "`n` is an enum"),
+    ("a length of a field of another file", "use other::Header;\n" + told("n.b", "Header"), 6,
+     "a type of another file"),
+    ("a length of a field of a number", told("n.b", "u8"), 5, "`n` is no struct of this file"),
+    ("a length of a field of a parameter", HEAD + DERIVES
+     + "struct A<T> {\n    n: T,\n    #[speedy(length = n.b)]\n    a: String\n}", 5, "`n` is no struct of this file"),
+    ("a length of a field of a sum", told("(n + 1).b", "u8"), 5, "a length is made of"),
+    ("a length of a field of what is not there", told("m.b", "u8"), 5, "`m` is neither an earlier field"),
     ("a length by a method", told("n.into()", "u8"), 5, "a length is made of"),
     ("a length of a cow of a map", "use std::borrow::Cow;\nuse std::collections::BTreeMap;\n"
      + told("n", "u8", "Cow<'a, BTreeMap<u8, u8>>").replace("struct A", "struct A<'a>"), 8, "`length` is taken of"),

@@ -275,6 +275,30 @@ struct Index<K: Ord, V> {
      + "struct A { n: i16, #[speedy(length = n)] a: Vec<u8>, b: i8, c: i8 }\n",
      ["ghost is_told = { λ n. pos 0 ≤ℤ n };", "ghost told = { λ n. unsigned_abs n };", "usize::try_from(n).ok()",
       "writer.write_value(&(a, Part(&self.b), Part(&self.c)))"]),
+    ("a length that a field of a field tells", DERIVES + "struct Header<T> { kind: u8, note: T, "
+     + "#[speedy(varint)] count: u64 }\n" + DERIVES + """struct Outer { id: u8, header: Header<u8> }
+""" + DERIVES + """struct Message {
+    outer: Outer,
+    is_last: bool,
+    #[speedy(length = outer.header.count - outer.id as u64)]
+    data: Vec<u16>,
+}
+""", ["use speedy::lengths::{Holds, Length, Other, ReadHolds, WithLength, WriteHolds};",
+      "impl<T: Layout> Holds for Header<T> {\n    type Numbers = ((), (), u64);",
+      "ghost numbers = { λ it. (tt, tt, it.1.1) };", "        ((), (), self.count)",
+      "T: ReadFrom<L, C>> ReadHolds<L, C> for Header<T> {", "        reader.read_value()",
+      "T: Writable<C>> WriteHolds<C> for Header<T> {", "        writer.write_value(self)",
+      "    type Numbers = (u8, ((), (), u64));", "(it.0, ⟦<Header<u8> as Holds>⟧.numbers it.1) };",
+      "(self.id, self.header.numbers())", "ghost is_told = { λ it. it.0.0 ≤ it.0.1.2 };",
+      "((outer_id, (_, _, outer_header_count)), _): ((u8, ((), (), u64)), ()),",
+      "let step1 = outer_header_count.checked_sub(outer_id as u64)?;",
+      "type MessageParts = WithLength<MessageDataLength, (Outer, Other<bool>), Vec<u16>>;",
+      "before: (Part(&self.outer), Other(self.is_last)),"]),
+    ("lengths of fields of a struct in a variant, whose parts have lengths too", DERIVES
+     + "struct A(u8, #[speedy(length = t0)] String, i16);\n" + DERIVES
+     + "enum B { C { a_1: u8, a: A, #[speedy(length = a.2 - a_1 as i16 - a.0 as i16)] d: Vec<u8> } }\n",
+     ["    type Numbers = ((u8, ()), i16);", "{ λ it. ((it.0.0, tt), it.1) };", "((self.0, ()), self.2)",
+      "fn length((a_1, ((a_0, _), a_2)): (u8, ((u8, ()), i16)))", "before: (*a_1, Part(a)),"]),
     ("a module, and what is no type", "mod inner { use speedy::*;\n" + DERIVES + "pub enum A { B, C(u8) } }\n",
      ["mod inner {", "ghost use Rattle.my_crate.specs.declared.messages.inner.A.{A};"]),
     ("constants of each kind", DERIVES + "struct A(" + ", ".join(

@@ -156,6 +156,29 @@ def mention(parser, line):
     return syntax.Mention(line, tuple(path))
 
 
+def path_of(value):
+    """The names of a named value, or of a field of it behind the value's own; None of anything else."""
+    if isinstance(value, syntax.Mention):
+        return ["::".join(value.path)]
+    front = path_of(value.value) if isinstance(value, syntax.Inner) else None
+    return None if front is None else [*front, value.name]
+
+
+def mentions(value):
+    """The named values in an expression, each with the field of it that is named; of None there are none."""
+    if path_of(value) is not None:
+        return [value]
+    if isinstance(value, syntax.Binary):
+        return mentions(value.left) + mentions(value.right)
+    if isinstance(value, syntax.Choice):
+        return mentions(value.condition) + mentions(value.yes) + mentions(value.no)
+    if isinstance(value, syntax.Apply):
+        return [it for argument in value.arguments for it in mentions(argument)]
+    if isinstance(value, syntax.Inner):
+        return mentions(value.value)
+    return mentions(value.inner) if isinstance(value, (syntax.Cast, syntax.Unary)) else []
+
+
 def number(value, constants, seen=()):
     """The number that an expression stands for, by the constants of the file."""
     if isinstance(value, syntax.Literal) and value.token.kind in ("integer", "byte"):

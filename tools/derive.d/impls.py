@@ -118,7 +118,7 @@ class Shape:
             found = f"{self.sum_of_least(part)}.saturating_add({found})"
         return found
 
-    def least_lines(self):
+    def least_lines(self, name="minimum_bytes_needed"):
         """The least size: as a number where it is known here, since a call at the type of the parts takes longer to
         prove, or else that of the parts. With a lifetime it needs its clause, which a trait does not give there."""
         known = self.scope.least[self.item.name]
@@ -132,4 +132,4 @@ class Shape:
         if self.generics.lifetimes:
             self.scope.ghosts.add("◌≡◌")
             ensures = [f"result ≡ {self.quoted(self.parts_type)}.layout.least"]
-        return function("fn minimum_bytes_needed()", "usize", body, ensures)
+        return function(f"fn {name}()", "usize", body, ensures)

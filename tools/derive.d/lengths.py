@@ -2,8 +2,10 @@
 from dataclasses import dataclass
 
 import expressions
+import holders
 import syntax
-from arithmetic import BITS, TAKEN, Computed, Term, number
+from arithmetic import BITS, TAKEN, Computed, Term, number, refused
+from expressions import mentions, path_of
 from names import Fresh, camel, parameter
 from rattle import Build, Call, Let, Listed, is_listed, parts_of, tuple_of, type_text
 from refusal import Refusal
@@ -46,8 +48,9 @@ def check_type(field, kind):
                                   "`Cow<str>`, `Cow<[T]>`, maps and sets")
 
 
-# What stands in one `WithLength` is a tree: of numbers, other parts, pairs, and what has a length. `taken` gives the
-# statements that take apart what was read, where it is bound to a name, and sets the values of the fields in it.
+# What stands in one `WithLength` is a tree: of numbers, structs that hold some, other parts, pairs, and what has a
+# length. `taken` gives the statements that take apart what was read, where it is bound to a name, and sets the values
+# of the fields in it. `outline` has the items as what is seen has them: a tuple is a list, and no item is None.
 
 class Number:
     """A number, which may tell lengths."""
@@ -84,6 +87,53 @@ class Number:
         """No statement."""
         values[self.item.place] = f"{name}.0" if self.item.field.options.varint else name
         return []
+
+    def outline(self):
+        """It alone."""
+        return self.item
+
+
+class Holder:
+    """A struct that holds numbers, which may tell lengths."""
+
+    def __init__(self, item, scope, names):
+        self.item = item
+        self.scope = scope
+        self.bound = item.access.bound
+        self.type = item.part.type
+        self.holding = scope.holding[item.part.type.name]
+        self.variables = holders.names_of(self.holding, item.source(), names)
+
+    def stated(self):
+        """The variables that it is written by, and what is written of it then."""
+        return [], self.item.part.lent(self.scope)
+
+    def seen(self, alone):
+        """What is seen of it."""
+        return alone(self.item.part)
+
+    def numbers(self):
+        """The type of the numbers that it holds."""
+        return self.holding.type()
+
+    def places(self, path):
+        """Where the numbers stand, by their names."""
+        return {name: (at, kind, self.variables[name])
+                for name, (at, kind) in self.holding.places(self.item.source(), path).items()}
+
+    def pattern(self, used):
+        """The pattern of the numbers, which names those that are used."""
+        bound = {name: variable for name, variable in self.variables.items() if name in used}
+        return str(self.holding.pattern(self.item.source(), bound))
+
+    def taken(self, name, names, values):
+        """No statement."""
+        values[self.item.place] = name
+        return []
+
+    def outline(self):
+        """It alone."""
+        return self.item
 
 
 class Others:
@@ -136,6 +186,10 @@ class Others:
             if item.field is not None and is_alone:
                 values[item.place] = renamed(item, f"{name}.0")
         return [] if is_alone else found
+
+    def outline(self):
+        """The parts, or the only one."""
+        return self.items[0] if len(self.items) == 1 else self.items or None
 
 
 def renamed(item, name):
@@ -194,6 +248,10 @@ class Pair:
         found = [Let(Call("", (first, second)), name)]
         return found + self.first.taken(first, names, values) + self.second.taken(second, names, values)
 
+    def outline(self):
+        """The two."""
+        return [self.first.outline(), self.second.outline()]
+
 
 class Behind:
     """Parts, and behind them a text, a list, a map or a set of the length that their numbers tell, as the type `length`
@@ -240,7 +298,7 @@ class Behind:
     def taken(self, name, names, values):
         """The parts before it, and the value."""
         bound = self.item.access.bound
-        if isinstance(self.before, Number) or (isinstance(self.before, Others) and not self.before.items):
+        if isinstance(self.before, (Number, Holder)) or (isinstance(self.before, Others) and not self.before.items):
             # A path to a field of a field is moved out of where no tuple is on it.
             values[self.item.place] = renamed(self.item, f"{name}.value")
             return self.before.taken(f"{name}.before", names, values)
@@ -248,6 +306,10 @@ class Behind:
         before = names.fresh()
         found = [Let(Build(self.type.local, (("before", before), ("value", bound), ("length", "_"))), name)]
         return found + self.before.taken(before, names, values)
+
+    def outline(self):
+        """The parts before it, and the value."""
+        return [self.before.outline(), self.item]
 
 
 class Names:
@@ -290,32 +352,17 @@ def numbers_of(items, place, scope):
     by_name = {item.source(): at for at, item in enumerate(items) if item.field is not None}
     found = set()
     for mention in mentions(items[place].field.options.length):
-        name = "::".join(mention.path)
+        name, *fields = path_of(mention)
         at = by_name.get(name)
         if at is not None and at >= place:
             raise Refusal(mention.line, f"`{name}` is no earlier field: what tells a length stands before it")
         if at is not None:
-            if kind_of(items[at]) is None:
+            if not fields and kind_of(items[at]) is None:
                 raise Refusal(mention.line, f"`{name}` tells no length: its type is none of {TAKEN}")
             found.add(at)
-        elif not isinstance(scope.items.get(name), syntax.Constant):
+        elif fields or not isinstance(scope.items.get(name), syntax.Constant):
             raise Refusal(mention.line, f"`{name}` is neither an earlier field with bytes nor a constant of this file")
     return found
-
-
-def mentions(value):
-    """The names in an expression."""
-    if isinstance(value, syntax.Mention):
-        return [value]
-    if isinstance(value, syntax.Binary):
-        return mentions(value.left) + mentions(value.right)
-    if isinstance(value, syntax.Choice):
-        return mentions(value.condition) + mentions(value.yes) + mentions(value.no)
-    if isinstance(value, syntax.Apply):
-        return [it for argument in value.arguments for it in mentions(argument)]
-    if isinstance(value, syntax.Inner):
-        return mentions(value.value)
-    return mentions(value.inner) if isinstance(value, (syntax.Cast, syntax.Unary)) else []
 
 
 def kind_of(item):
@@ -330,7 +377,7 @@ def tree(items, scope, owner):
     """The tree of some items, of which the last one has a length, with the types that say its lengths."""
     line = items[-1].field.line
     used = set().union(*(numbers_of(items, place, scope) for place, item in enumerate(items) if item.has_length()))
-    found, others = None, []
+    found, others, names = None, [], Fresh(bound_of(item) for item in items)
     for place, item in enumerate(items):
         if place not in used and not item.has_length():
             others.append(item)
@@ -340,8 +387,9 @@ def tree(items, scope, owner):
             before = found or Others([], scope, line)
             found = Behind(before, item, LengthType(item, before, scope, owner).name, scope)
         else:
-            number_part = Number(item, kind_of(item), scope)
-            found = number_part if found is None else Pair(found, number_part)
+            kind = kind_of(item)
+            telling = Number(item, kind, scope) if kind is not None else Holder(item, scope, names)
+            found = telling if found is None else Pair(found, telling)
     if depth_of(found.type) > MOST_DEEP:
         raise Refusal(line, "what stands between this field and the numbers that tell its length nests too deep for "
                             "Rattle's compiler: put some of it into a struct of its own")
@@ -380,9 +428,12 @@ class LengthType:
 
     def named(self, mention):
         """The term of a name."""
-        found = self.places.get("::".join(mention.path))
+        path = path_of(mention)
+        found = None if path is None else self.places.get(".".join(path))
         if found is not None:
             return Term(found[2], found[0], found[1])
+        if not isinstance(mention, syntax.Mention):
+            raise refused(mention)
         constant = self.scope.items[mention.path[0]]
         kind = type_text(self.scope.of_constant(constant.type))
         return number(mention.line, constant.name, expressions.number(constant.value, self.scope.constants), kind)
@@ -390,7 +441,7 @@ class LengthType:
     def lines(self):
         """`impl Length`."""
         trait, option = self.scope.need("speedy::lengths", "Length"), self.scope.prelude("Option")
-        used = {"::".join(it.path) for it in mentions(self.item.field.options.length)}
+        used = {".".join(path_of(it)) for it in mentions(self.item.field.options.length)}
         pattern, numbers, alias = self.before.pattern(used), self.before.numbers(), []
         if len(numbers) > 60:
             alias = [f"type {self.scope.fresh.name(self.name + 'Numbers')} = {numbers};"]

@@ -2,6 +2,7 @@
 import asked
 import attributes
 import expressions
+import holders
 import rattle
 import syntax
 import visibility
@@ -100,6 +101,9 @@ class ModuleMaker:
 
     def lines(self):
         """The imports and the items."""
+        for item in self.ordered:
+            self.set_options(item)
+        self.scope.telling = holders.find(self.ordered, self.scope)
         made = {id(item): self.item_lines(item) for item in self.ordered}
         head = []
         for (visibility, module), names in self.scope.imports.items():
@@ -121,7 +125,6 @@ class ModuleMaker:
         if isinstance(item, syntax.Alias):
             return self.alias_lines(item)
         self.scope.beside = []
-        self.set_options(item)
         self.scope.helpers_shown = item.visibility if ends_early(item) else ""
         if isinstance(item, syntax.Struct) and ends_with_input(item):
             self.scope.ending.add(item.name)
@@ -160,8 +163,7 @@ class ModuleMaker:
 
     def set_options(self, item):
         """Reads the attributes of the fields."""
-        variants = item.variants if isinstance(item, syntax.Enum) else [item]
-        for field in (field for variant in variants for field in variant.fields):
+        for field in (field for variant in syntax.variants_of(item) for field in variant.fields):
             field.options = attributes.of_field(field, self.notes)
 
 

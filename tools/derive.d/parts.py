@@ -78,6 +78,8 @@ class Taken:
     accesses: list
     parts: list = field(default_factory=list)
     values: list = field(default_factory=list)
+    # The parts of the fields, and of the constants before them.
+    items: list = field(default_factory=list)
     # The types of fields that are skipped, each with the parameters that need a default.
     skipped: list = field(default_factory=list)
     # The tree of tuples that the parts stand in: a part, or a list of trees.
@@ -120,6 +122,12 @@ def fold(tree, leaf, node):
     return leaf(tree)
 
 
+def outline(taken):
+    """The items of parts, as what is seen of these has them."""
+    by_part = {id(item.part): item for item in taken.items}
+    return fold(taken.tree, lambda it: by_part[id(it)] if it.tree is None else it.tree.outline(), list)
+
+
 def is_nested(tree):
     """Whether a tuple holds tuples."""
     return isinstance(tree, list) and any(isinstance(it, list) for it in tree)
@@ -137,7 +145,8 @@ class PartMaker:
 
     def taken(self, fields, accesses):
         """The fields with their parts."""
-        found, items = Taken(self.item, fields, accesses), []
+        found = Taken(self.item, fields, accesses)
+        items = found.items
         for place, (it, access) in enumerate(zip(fields, accesses)):
             kind = self.scope.convert(it.type, self.item.parameters, not self.item.readable, it.options.skip)
             asked.check(kind, self.scope, it, self.item.readable)

@@ -45,6 +45,9 @@ class Scope:
         self.least = {}
         # What asks of the parameters of each type of this file, by its name.
         self.asked = {}
+        # The labels of the fields that lengths of others name, and how their structs hold them, by the structs' names.
+        self.telling = {}
+        self.holding = {}
         # The items that stand beside the type that is made now, and how visible types without values are among them.
         self.beside = []
         self.helpers_shown = ""

@@ -1,8 +1,9 @@
 """The impls of a struct: it has the layout of the tuple of its parts, is read as that and written as it."""
+import holders
 import keys
 import whole
 from impls import Shape
-from parts import (PartMaker, accesses_of_struct, built, read_arm, seen_of_parts, write_statements, written)
+from parts import (PartMaker, accesses_of_struct, built, outline, read_arm, seen_of_parts, write_statements, written)
 from rattle import Block, Call, Match, clause_lines, type_text
 from sizes import least
 
@@ -22,6 +23,8 @@ class StructShape(Shape):
                                          self.names())
         else:
             self.parts_type = type_text(kind)
+        if item.name in scope.telling:
+            scope.holding[item.name] = holders.Holding(outline(self.taken), scope.telling[item.name], scope)
 
     def lines(self):
         """The impls."""
@@ -32,6 +35,8 @@ class StructShape(Shape):
             body = Block(write_statements(self.taken), f"writer.write_value({written(self.taken, self.scope)})")
             found += self.writing("speedy", "Writable", self.writer("write_to", " ".join(map(str, body.statements))
                                                                     + " " + str(body.value)))
+        if self.item.name in self.scope.holding:
+            found += holders.impls(self, self.scope.holding[self.item.name])
         return found
 
     def seen(self):

@@ -16,6 +16,7 @@ pub mod many;
 pub mod map_lengths;
 pub mod names;
 pub mod skips;
+pub mod struct_lengths;
 pub mod structs;
 pub mod sums;
 pub mod tags;
