@@ -21,7 +21,7 @@ use Rattle.speedy.specs.ErrorKind.{EndsInput}
 use Rattle.speedy.specs.Flags.{option}
 use Rattle.speedy.specs.Format.{Format}
 use Rattle.speedy.specs.Frames.{frame}
-use Rattle.speedy.specs.Lists.{list, repeat, vector}
+use Rattle.speedy.specs.Lists.{list, prefixed_list, repeat, vector}
 use Rattle.speedy.specs.Numbers.{unsigned_number, signed_number}
 use Rattle.speedy.specs.Owned.{owned_content, borrowed_content}
 use Rattle.speedy.specs.Prefixed.{prefixed_codec, unsigned_numbers}
@@ -30,17 +30,14 @@ use Rattle.speedy.specs.Sequences.{sequence}
 use Rattle.speedy.specs.Texts.{raw_bytes, text_of_length, text}
 use Rattle.speedy.specs.Tuples.{pair, unit}
 use Rattle.speedy.specs.WaysOfReading.{AnswersBufferIf, Counts}
-use Rattle.speedy_protocol.specs.Refusals.{BeginsWith, BeginsWithNone, SaysWhy}
+use Rattle.speedy_protocol.specs.Refusals.{IsBroken}
 
-abbrev little : Mode
+abbrev pub little : Mode
 little = plain_mode LittleEndian
-
-abbrev pub itself : Error → Error → Type 0
-itself error e = e ≡ error
 
 -- what may be wrong with bytes that are enough
 abbrev Wrong : ErrorKind → Type 0
-Wrong kind = (kind ≡ kinds.InvalidUtf8) ⊎ (kind ≡ kinds.InvalidEnumVariant) ⊎ (kind ≡ kinds.OutOfRangeLength)
+Wrong kind = IsBroken (error_of kind)
 
 -- a format names no other kinds
 abbrev NamesWrong : {V : Type 0} → Format V → Type 0
@@ -58,7 +55,7 @@ text_wrong : NamesWrong (borrowed_content (text little))
 unfolding sequence unsigned_number text text_of_length raw_bytes coding owned_content borrowed_content
 text_wrong kind (inl none) = absurd none
 text_wrong kind (inr (n, inl none)) = absurd none
-text_wrong kind (inr (n, inr (inl is))) = inl is
+text_wrong kind (inr (n, inr (inl is))) = inl (ap error_of is)
 text_wrong kind (inr (n, inr (inr demand))) = absurd (let never = demand.0 in cc)
 
 bytes_wrong : NamesWrong (borrowed_content (list little (unsigned_number 1 little)))
@@ -95,7 +92,7 @@ CasesWrong cases = (n : ℕ) → NamesWrong (case_format (cases.case_of n) littl
 only_if_wrong : {V : Type 0} (at_tag : Unit {0} → AtTag V) (b : Bool) → NamesWrong (case_format (at_tag tt) little)
     → NamesWrong (case_format (only_if b at_tag) little)
 only_if_wrong at_tag true wrong kind h = wrong kind h
-only_if_wrong at_tag false wrong kind is = inr (inl is)
+only_if_wrong at_tag false wrong kind is = inr (inl (ap error_of is))
 
 right_wrong : (V : Type 0) {W : Type 0} (w : AtTag W) → NamesWrong (case_format w little)
     → (let second : AtTag (V ⊎ W) = right_case w in NamesWrong (case_format second little))
@@ -131,7 +128,7 @@ unfolding frame coding sequence raw_bytes unsigned_number
 frame_wrong F wrong kind (inl (inl none)) = absurd none
 frame_wrong F wrong kind (inl (inr (n, none))) = absurd none
 frame_wrong F wrong kind (inr (inl (inl h))) = wrong kind h
-frame_wrong F wrong kind (inr (inl (inr is))) = inr (inr is)
+frame_wrong F wrong kind (inr (inl (inr is))) = inr (inr (ap error_of is))
 frame_wrong F wrong kind (inr (inr demand)) = absurd (let never = demand.0 in cc)
 
 -- the cases of a message, as `Message` has them
@@ -150,16 +147,16 @@ blob = one_case 4 (borrowed_codec (list_codec (unsigned_codec 1)))
 abbrev failure : Choices (ℕ × List ℕ)
 failure = one_case 5 (pair_codec (unsigned_codec 4) lent_text)
 
-abbrev FirstCases : Type 0
+abbrev pub FirstCases : Type 0
 FirstCases = Unit {0} ⊎ ((List ℕ × Option (List ℕ)) ⊎ (ℕ × List (ℕ × ℤ)))
 
-abbrev LastCases : Type 0
+abbrev pub LastCases : Type 0
 LastCases = List ℕ ⊎ ((ℕ × List ℕ) ⊎ Unit {0})
 
-abbrev first_cases : Choices FirstCases
+abbrev pub first_cases : Choices FirstCases
 first_cases = either_case (unit_case 1) (either_case hello readings)
 
-abbrev last_cases : Choices LastCases
+abbrev pub last_cases : Choices LastCases
 last_cases = either_case blob (either_case failure (unit_case 255))
 
 abbrev message_codec : Codec (FirstCases ⊎ LastCases)
@@ -191,50 +188,34 @@ framed_wrong =
     let wrong = cases_wrong first_cases last_cases first_cases_wrong last_cases_wrong in
     frame_wrong _ (tagged_wrong (either_case first_cases last_cases) wrong)
 
--- ---- what decoding answers
+-- what is broken has the two bytes of a frame's number
+pub framed_whole : (bytes : List ℕ) → framed.malformed bytes → 2 ≤ length bytes
+unfolding frame coding sequence raw_bytes unsigned_number
+framed_whole bytes (inl (inl none)) = absurd none
+framed_whole bytes (inl (inr (n, broken))) = absurd broken.second_is
+framed_whole bytes (inr nothing) =
+    let number = nothing.code_is.first_is.width_is in
+    let inner = ap length nothing.code_is.whole_is ∙ length-append nothing.code_is.prefix nothing.code_is.suffix in
+    let outer = ap length nothing.whole_is ∙ length-append nothing.prefix nothing.rest in
+    omega arith
 
--- bytes in memory end as `UnexpectedEndOfInput`
-memory_end : {e : Error} (kind : ErrorKind) → EndsInput false kind → e ≡ error_of kind
-    → e ≡ error_of kinds.UnexpectedEndOfInput
-memory_end kinds.UnexpectedEndOfInput ends is = is
-memory_end (kinds.IoError boxed) ends is = absurd (let never = ends.1 in cc)
-memory_end _ ends is = absurd ends
+-- ---- a frame with whatever stands in it
 
-named : {e : Error} (size : ℕ) (kind : ErrorKind) → Wrong kind → e ≡ error_of kind → SaysWhy size e
-named size kind (inl is) e = inr (inl (e ∙ ap error_of is))
-named size kind (inr (inl is)) e = inr (inr (inl (e ∙ ap error_of is)))
-named size kind (inr (inr is)) e = inr (inr (inr (e ∙ ap error_of is)))
+abbrev pub any_frame_in : Mode → Format (List ℕ)
+any_frame_in mode = borrowed_content (prefixed_list (unsigned_number 2 mode) (unsigned_number 1 mode))
 
--- a prefix that was read, and what is left when it is dropped
-pub prefix_read : {encoded : List ℕ → Type 0} (count : ℕ) (bytes : List ℕ) → Counts encoded count bytes
-    → (prefix : List ℕ) × encoded prefix × (bytes ≡ prefix ++ drop count bytes)
-prefix_read count bytes read =
-    let rest = ap₂ drop read.count_is read.whole_is ∙ drop-append_seam read.prefix read.rest in
-    (read.prefix, read.prefix_is, read.whole_is ∙ ap (λ left. read.prefix ++ left) (sym rest))
+abbrev pub any_frame : Format (List ℕ)
+any_frame = any_frame_in little
 
--- what bytes are refused as that a message in its frame is read from
-pub refused_so : {A V : Type 0} {seen : A → V} (F : Format V) {e : Error} {count : ℕ} {bytes : List ℕ}
-    → NamesWrong F → ((v : V) (prefix : List ℕ) → F.encodes v prefix → 2 ≤ length prefix)
-    → (let refused : Result A Error = Err e in
-    AnswersBufferIf itself is_eof_error (Unit {0}) F.names seen 2 F refused count bytes)
-    → (e ≡ error_of kinds.OutOfMemory) ⊎ (SaysWhy (length bytes) e × BeginsWithNone F bytes)
-refused_so {V = V} F {e = e} {bytes = bytes} wrong least answers =
-    elim (cases_lt (length bytes) 2) [
-      | inl few ↦ inr (inl (inl (answers.too_small few).0), λ v rest begins. too_few v rest begins few)
-      | inr enough ↦ elim (answers.refused enough) [
-        | inl want ↦ inl want.0
-        | inr refused ↦ inr (why refused.kind, no_prefix (refused.because tt))
-      ]
-    ] where
-      too_few : (v : V) (rest : List ℕ) → BeginsWith F v bytes rest → length bytes < 2 → ⊥
-      too_few v rest begins few =
-          let size = ap length begins.2 ∙ length-append begins.0 rest in
-          let enough = least v begins.0 begins.1 in
-          omega arith
+pub any_frame_wrong : NamesWrong any_frame
+unfolding sequence unsigned_number vector repeat owned_content borrowed_content
+any_frame_wrong kind (inl none) = absurd none
+any_frame_wrong kind (inr (n, none)) = absurd none
 
-      no_prefix : Undecodable itself is_eof_error F e bytes → BeginsWithNone F bytes
-      no_prefix none v rest begins = none.no_prefix v begins.0 rest begins.2 begins.1
-
-      why : IsEnd itself is_eof_error false e ⊎ IsNamed itself F.names e → SaysWhy (length bytes) e
-      why (inl ends) = inl (inr (memory_end ends.0.0 ends.0.1 ends.0.2))
-      why (inr names) = named (length bytes) names.0 (wrong names.0 names.1) names.2
+pub any_frame_whole : (bytes : List ℕ) → any_frame.malformed bytes → 2 ≤ length bytes
+unfolding sequence unsigned_number vector repeat owned_content borrowed_content
+any_frame_whole bytes (inl none) = absurd none
+any_frame_whole bytes (inr (n, broken)) =
+    let number = broken.first_is.width_is in
+    let joined = ap length broken.whole_is ∙ length-append broken.prefix broken.suffix in
+    omega arith

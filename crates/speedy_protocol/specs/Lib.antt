@@ -1,1 +1,2 @@
+pub mod NextFrame
 pub mod Refusals

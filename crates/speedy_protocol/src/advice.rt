@@ -1,6 +1,6 @@
 //! What to do about bytes that are no message.
-ghost use Rattle.std.specs.Prelude.{◌≡◌, IsTrue};
-ghost use Rattle.speedy.specs.Error.{is_eof_error};
+ghost use Rattle.std.specs.Prelude.{◌≡◌, ◌↔◌};
+ghost use Rattle.speedy_protocol.specs.Refusals.{IsShort, IsBroken};
 
 use speedy::error::{ErrorKind, get_error_kind};
 use speedy::{Error, IsEof};
@@ -18,7 +18,8 @@ pub enum Advice {
 
 /// What to do after an error of a buffer.
 pub fn advise(error: &Error) -> Advice
-    ensures { IsTrue (is_eof_error error.now) → result ≡ Advice.Wait }
+    ensures waits { (result ≡ Advice.Wait) ↔ IsShort error.now }
+    ensures skips { (result ≡ Advice.Skip) ↔ IsBroken error.now }
 {
     match get_error_kind(error) {
         ErrorKind::InputBufferIsTooSmall { .. } => Advice::Wait,

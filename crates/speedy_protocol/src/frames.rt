@@ -1,11 +1,13 @@
 //! Messages in frames, each behind the number of its bytes: written, taken from a buffer and from a stream.
-ghost use Rattle.std.specs.Prelude.{◌≡◌, ◌≤◌, ◌+◌, ◌++◌, ◌⊎◌, ℕ, List, length, IfOk, IfErr, MatchOption};
+ghost use Rattle.std.specs.Prelude.{◌≡◌, ◌∷◌, List, ℕ, IfOk, IfErr};
+ghost use Rattle.std.specs.Option.{option_map};
 ghost use Rattle.speedy.specs.Mode.{plain_mode};
-ghost use Rattle.speedy.specs.Error.{error_of};
-ghost use Rattle.speedy.specs.WaysOfWriting.{WritesToStream};
-ghost use Rattle.speedy_protocol.specs.Refusals.{BeginsWith, BeginsWithNone, SaysWhy};
+ghost use Rattle.speedy.specs.WaysOfWriting.{WritesToStream, WritesToVec};
+ghost use Rattle.speedy_protocol.specs.NextFrame.{TakesNext, RefusesNext};
+ghost use Rattle.speedy_protocol.specs.Refusals.{BeginsWith, RefusesWhy};
 
 use crate::messages::Message;
+use speedy::cases::Cases;
 use speedy::device::Sink;
 use speedy::error::{ErrorKind, get_error_kind};
 use speedy::laws::{no_encoding_is_below_least, one_prefix, written_is_shortest};
@@ -20,10 +22,10 @@ pub type Frame<'a> = Prefixed<u16, Framed<Message<'a>>>;
 /// The most bytes of a message that are taken from a stream.
 pub const LIMIT: usize = 1024;
 
-/// The bytes of a message in its frame.
+/// The bytes of a message in its frame. One of more bytes than a frame holds is the error `OutOfRangeLength`.
 pub fn encode<'a>(alloc: Global, message: &Message<'a>) -> Result<Vec<u8>, Error>
-    ensures { let format = ⟦<Frame<'a> as Layout>⟧.layout.format (plain_mode Endianness.LittleEndian) in
-        IfOk result (λ bytes. format.writes (⟦<Message<'a> as Layout>⟧.seen message.now) bytes.items) }
+    ensures { WritesToVec ⟦<Error as From<Error>>⟧.from_gives ⟦<Message<'a> as Layout>⟧.seen
+        ⟦<Frame<'a> as Layout>⟧.layout (plain_mode Endianness.LittleEndian) message.now (λ bytes. bytes.items) result }
 {
     let frame: Prefixed<u16, _> = Prefixed::new(Framed(Part(message)));
     Writable::<LittleEndian>::write_to_vec(&frame, alloc)
@@ -38,13 +40,12 @@ pub fn send<'a, S: Sink>(alloc: Global, message: &Message<'a>, sink: &mut S) -> 
     Writable::<LittleEndian>::write_to_stream(&frame, alloc, sink)
 }
 
-/// The message at the front of the bytes, and the bytes behind its frame.
+/// The message at the front of the bytes, and the bytes behind its frame. Where the front is no message, the error says
+/// whether more bytes could make it one.
 pub fn decode<'a>(alloc: Global, bytes: &'a [u8]) -> Result<(Message<'a>, &'a [u8]), Error>
     ensures message { let format = ⟦<Frame<'a> as Layout>⟧.layout.format (plain_mode Endianness.LittleEndian) in
         IfOk result (λ it. BeginsWith format (⟦<Message<'a> as Layout>⟧.seen it.0) bytes.now it.1.now) }
-    ensures refused { let format = ⟦<Frame<'a> as Layout>⟧.layout.format (plain_mode Endianness.LittleEndian) in
-        IfErr result (λ e. (e ≡ error_of ErrorKind.OutOfMemory)
-        ⊎ (SaysWhy (length bytes.now) e × BeginsWithNone format bytes.now)) }
+    ensures refused { RefusesWhy ⟦<Frame<'a> as Layout>⟧.layout (plain_mode Endianness.LittleEndian) bytes.now result }
 {
     no_encoding_is_below_least::<Frame<'a>>();
     let (outcome, size) = bytes.read_with_length::<Frame<'a>>(alloc, LittleEndian {});
@@ -53,6 +54,14 @@ pub fn decode<'a>(alloc: Global, bytes: &'a [u8]) -> Result<(Message<'a>, &'a [u
         Err(error) => Err(error),
     }
 }
+
+/// The tag of a message stands behind the two bytes of its frame's length.
+pub fn tag_is_third<'a>()
+    ensures { (v : ⟦<Message<'a> as Layout>⟧.Seen) (bytes rest : List ℕ) →
+        BeginsWith (⟦<Frame<'a> as Layout>⟧.layout.format (plain_mode Endianness.LittleEndian)) v bytes rest →
+        (low high : ℕ) × (more : List ℕ)
+        × (bytes ≡ low ∷ high ∷ ⟦<Message<'a> as Cases>⟧.choices.tag v ∷ more) }
+{}
 
 /// Encodes a message into the vector, and decodes it from there.
 pub fn again<'a, 'b>(
@@ -71,13 +80,19 @@ pub fn again<'a, 'b>(
     }
 }
 
+/// A frame with whatever stands in it.
+pub type AnyFrame<'a> = Prefixed<u16, &'a [u8]>;
+
 /// The bytes behind the first frame, whatever stands in it.
 pub fn skip<'a>(alloc: Global, bytes: &'a [u8]) -> Result<&'a [u8], Error>
-    ensures { IfOk result (λ rest. (prefix : List ℕ) × (bytes.now ≡ prefix ++ rest.now)) }
+    ensures content { let format = ⟦<AnyFrame<'a> as Layout>⟧.layout.format (plain_mode Endianness.LittleEndian) in
+        IfOk result (λ rest. (content : List ℕ) × BeginsWith format content bytes.now rest.now) }
+    ensures refused { RefusesWhy ⟦<AnyFrame<'a> as Layout>⟧.layout (plain_mode Endianness.LittleEndian) bytes.now result }
 {
-    let (outcome, size) = bytes.read_with_length::<Prefixed<u16, &'a [u8]>>(alloc, LittleEndian {});
+    no_encoding_is_below_least::<AnyFrame<'a>>();
+    let (outcome, size) = bytes.read_with_length::<AnyFrame<'a>>(alloc, LittleEndian {});
     match outcome {
-        Ok(_) => Ok(&bytes[size..]),
+        Ok(_) => Ok(bytes.split_at(size).1),
         Err(error) => Err(error),
     }
 }
@@ -87,7 +102,11 @@ pub fn skip<'a>(alloc: Global, bytes: &'a [u8]) -> Result<&'a [u8], Error>
 pub fn next_frame<L: AsSlice<u8> + Drop, R: LendingReader<L, LittleEndian>>(
     reader: &mut R,
 ) -> Result<Option<Vec<u8>>, Error>
-    ensures limited { IfOk result (λ next. MatchOption next (Unit {0}) (λ frame. length frame.items ≤ 2 + 1024)) }
+    ensures next { let format = ⟦<AnyFrame<'static> as Layout>⟧.layout.format (R.state reader.old).mode in
+        IfOk result (λ next. TakesNext format 1024 (option_map (λ frame. frame.items) next)
+        (R.state reader.old) (R.state reader.new)) }
+    ensures refused { let format = ⟦<AnyFrame<'static> as Layout>⟧.layout.format (R.state reader.old).mode in
+        IfErr result (λ e. RefusesNext format 1024 e (R.state reader.old) (R.state reader.new)) }
 {
     match reader.peek_u8() {
         Ok(_) => {}
@@ -96,10 +115,15 @@ pub fn next_frame<L: AsSlice<u8> + Drop, R: LendingReader<L, LittleEndian>>(
             _ => return Err(error),
         },
     }
-    let length = reader.peek_u16()? as usize;
+    let length = match reader.peek_u16() {
+        Ok(length) => length as usize,
+        Err(error) => return Err(error),
+    };
     if length > LIMIT {
         return Err(Error::custom(reader.alloc(), "a message past the limit"));
     }
-    let frame = reader.read_vec(2 + length)?;
-    Ok(Some(frame))
+    match reader.read_vec(2 + length) {
+        Ok(frame) => Ok(Some(frame)),
+        Err(error) => Err(error),
+    }
 }

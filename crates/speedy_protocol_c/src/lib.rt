@@ -1,13 +1,14 @@
 //! The protocol for callers in C and in Rust: `speedy_protocol.h` in the folder `examples` declares what stands here.
 #![tactic(auto)]
 
-ghost use Rattle.std.specs.Prelude.{◌≡◌, ◌≤◌, ◌+◌, ℕ, List, length};
+ghost use Rattle.std.specs.Prelude.{◌≡◌, ◌≤◌, ◌+◌, ◌⊎◌, ◌∷◌, ℕ, List, length};
 ghost use Rattle.speedy.specs.Mode.{plain_mode};
-ghost use Rattle.speedy_protocol.specs.Refusals.{BeginsWith};
+ghost use Rattle.speedy_protocol.specs.Refusals.{BeginsWith, MayGrow, IsRefused};
 
+use speedy::cases::Cases;
 use speedy::{Endianness, Layout};
 use speedy_protocol::advice::{Advice, advise};
-use speedy_protocol::frames::{Frame, decode, skip};
+use speedy_protocol::frames::{AnyFrame, Frame, decode, skip, tag_is_third};
 use speedy_protocol::messages::Message;
 use std::alloc::Global;
 
@@ -24,7 +25,9 @@ pub struct Places {
 }
 
 /// The tag of a message, and the place of its text.
-fn place<'a>(message: &Message<'a>) -> (u32, usize, usize) {
+fn place<'a>(message: &Message<'a>) -> (u32, usize, usize)
+    ensures { result.0 ≡ ⟦<Message<'a> as Cases>⟧.choices.tag (⟦<Message<'a> as Layout>⟧.seen message.now) }
+{
     match message {
         Message::Ping => (1, 0, 0),
         Message::Hello { name, .. } => (2, 7, name.len()),
@@ -38,7 +41,8 @@ fn place<'a>(message: &Message<'a>) -> (u32, usize, usize) {
 /// Looks at the frame that the bytes begin with, and says where its parts lie.
 ///
 /// The answer is 0 for a message, 1 where more bytes have to come, 2 for a broken message, of which `size` says how
-/// many bytes to skip, and 3 where it is not known how to go on. Where it is 1 or 3, `places` stays as it is.
+/// many bytes to skip, and 3 where memory lacked. Where it is 1 or 3, `places` stays as it is, and where it is 2, all of
+/// it but `size`.
 #[unsafe(no_mangle)]
 pub extern "C" fn speedy_protocol_check<'a>(
     alloc: Global,
@@ -49,8 +53,20 @@ pub extern "C" fn speedy_protocol_check<'a>(
         result ≡ 0 → (message : it.Seen) × (rest : List ℕ)
         × BeginsWith (it.layout.format (plain_mode Endianness.LittleEndian)) message bytes.now rest
         × (places.new.size + length rest ≡ length bytes.now) }
+    ensures tag { result ≡ 0 → (low high : ℕ) × (more : List ℕ) × (bytes.now ≡ low ∷ high ∷ places.new.tag ∷ more) }
     ensures within { result ≡ 0 → places.new.text_at + places.new.text_length ≤ places.new.size }
+    ensures wait { let it = ⟦<Frame<'a> as Layout>⟧ in
+        result ≡ 1 → MayGrow (it.layout.format (plain_mode Endianness.LittleEndian)) bytes.now }
+    ensures broken { let it = ⟦<Frame<'a> as Layout>⟧ in
+        result ≡ 2 → IsRefused (it.layout.format (plain_mode Endianness.LittleEndian)) bytes.now }
+    ensures skipped { let it = ⟦<AnyFrame<'a> as Layout>⟧ in
+        result ≡ 2 → (content rest : List ℕ)
+        × BeginsWith (it.layout.format (plain_mode Endianness.LittleEndian)) content bytes.now rest
+        × (places.new.size + length rest ≡ length bytes.now) }
+    ensures kept { (result ≡ 1) ⊎ (result ≡ 3) → places.new ≡ places.old }
+    ensures last { result ≤ 3 }
 {
+    tag_is_third();
     match decode(alloc, bytes) {
         Ok((message, behind)) => {
             let size = bytes.len() - behind.len();

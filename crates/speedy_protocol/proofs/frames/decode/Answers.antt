@@ -1,5 +1,6 @@
 use Rattle.std.proofs.Common.{◌∙◌, ◌++◌, ap, sym}
-use Rattle.speedy_protocol.proofs.MessageKinds.{framed, framed_wrong, prefix_read, refused_so}
+use Rattle.speedy_protocol.proofs.MessageKinds.{framed, framed_wrong, framed_whole}
+use Rattle.speedy_protocol.proofs.RefusalLemmas.{prefix_read, refused_why}
 use Rattle.speedy_protocol.proofs.frames.decode.Goals as goal
 
 pub returns-in-Ok-clause-message : goal.returns-in-Ok-clause-message
@@ -10,4 +11,4 @@ returns-in-Ok-clause-message c =
 pub returns-in-Err-clause-refused : goal.returns-in-Err-clause-refused
 returns-in-Err-clause-refused c =
     let read = rw c.in-Err.is at c.read_with_length-outcome.ensures in
-    refused_so framed framed_wrong (c.no_encoding_is_below_least.ensures _) read
+    refused_why 2 framed framed_wrong (c.no_encoding_is_below_least.ensures _) (framed_whole _) read
