@@ -129,7 +129,8 @@ abbrev pub asks_unordered : Bool → Asks → Asks
 asks_unordered hashed asks = record asks { hashed = hashed || asks.hashed }
 
 -- things that are encoded as n items that gather to them
-abbrev pub gathered_of_length : {E S : Type 0} → Bool → Mode → (List E → S → Type 0) → (written single : List E → Type 0)
+abbrev pub gathered_of_length : {E S : Type 0} → Bool → Mode → (List E → S → Type 0)
+    → (written single : List E → Type 0)
     → ℕ → Format E → Format S
 gathered_of_length hashed mode stands written single n L =
     let items = single_items mode single n L in

@@ -33,7 +33,8 @@ shrunk mode bytes more version flags session begins =
       record { prefix = a; suffix = b; whole_is = refl; first_is = all.first_is; second_is = all.second_is.first_is },
       all.second_is.second_is,
       begins.2
-          ∙ (ap (λ xs. xs ++ more) (all.whole_is ∙ (ap (λ xs. a ++ xs) all.second_is.whole_is ∙ sym (append_assoc a b c)))
+          ∙ (ap (λ xs. xs ++ more)
+          (all.whole_is ∙ (ap (λ xs. a ++ xs) all.second_is.whole_is ∙ sym (append_assoc a b c)))
           ∙ append_assoc (a ++ b) c more),
     )
 

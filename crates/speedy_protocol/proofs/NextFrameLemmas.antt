@@ -1,6 +1,6 @@
 -- How the next frame of a stream is taken: a byte and then a number are peeked, and then the frame is read.
-use Rattle.std.specs.Prelude.{◌≡◌, ℕ, ◌+◌, ◌<◌, ◌≤◌, List, [], ◌∷◌, ◌++◌, length, false, IsTrue, ◌⊎◌, Result, Ok, Err, refl}
-use Rattle.std.specs.Prelude.{codes, Some, None}
+use Rattle.std.specs.Prelude.{◌≡◌, ℕ, ◌+◌, ◌<◌, ◌≤◌, List, [], ◌∷◌, ◌++◌, length, false, IsTrue, ◌⊎◌, refl}
+use Rattle.std.specs.Prelude.{codes, Some, Result, Ok, Err}
 use Rattle.std.proofs.Common.{sym, ◌∙◌, ap, subst, arith, inl, inr}
 use Rattle.std.proofs.lemmas.List.{append_assoc, length-append}
 use Rattle.speedy.specs.declared.error.Error.{Error}
@@ -55,7 +55,8 @@ plain_end F plain (inl ends) = ends.1
 plain_end F plain (inr (kind, inl named, given)) = absurd (plain.0 kind named)
 plain_end F plain (inr (kind, inr h, given)) = absurd (unlent F plain h.0)
 
-told : {V : Type 0} (F : Format V) {old mid : ReaderState} (new : ReaderState) → IsPlain F → KeptByPeek old mid → IsClean old new
+told : {V : Type 0} (F : Format V) {old mid : ReaderState} (new : ReaderState) → IsPlain F → KeptByPeek old mid
+    → IsClean old new
     → IsTold F mid
 told F new plain kept clean =
     let same = kept.remaining clean.0 in
@@ -199,7 +200,8 @@ byte_refused {old = old} most peeks =
     failed (unsigned_number 1 old.mode) most (number_plain 1 old.mode) KeptByPeek-same
     (λ tells are none. none_without_byte old.mode old.remaining are none) peeks.answer
 
-module _ {b : ℕ} {old mid new : ReaderState} (byte : (let peeked : Result ℕ Error = Ok b in PeeksNumber 1 peeked old mid)) where
+module _ {b : ℕ} {old mid new : ReaderState}
+    (byte : (let peeked : Result ℕ Error = Ok b in PeeksNumber 1 peeked old mid)) where
   -- the number is refused
   pub number_refused : {e : Error} (most : ℕ) → (let refused : Result ℕ Error = Err e in PeeksNumber 2 refused mid new)
       → RefusesNext (any_frame_in old.mode) most e old new
@@ -228,8 +230,8 @@ module _ {b : ℕ} {old mid new : ReaderState} (byte : (let peeked : Result ℕ 
           custom,
           λ size rest tells begins.
               let answer = peeked.answer in
-              let same = (unsigned_number_laws 2 old.mode).decodes size n begins.0 answer.prefix rest answer.rest begins.1
-              number_is (sym begins.2 ∙ stands tells) in
+              let same = (unsigned_number_laws 2 old.mode).decodes size n begins.0 answer.prefix rest answer.rest
+              begins.1 number_is (sym begins.2 ∙ stands tells) in
               rw same.0 past,
         )))
 
@@ -263,6 +265,8 @@ module _ {b : ℕ} {old mid new : ReaderState} (byte : (let peeked : Result ℕ 
                 peeked.answer.rest count got.prefix_is.1 number_is (sym (whole tells) ∙ stands tells) in (
                   content.0,
                   content.1,
-                  whole tells ∙ ap (λ xs. xs ++ last.remaining) (sym (each_byte_is old.mode.order (seen x) got.prefix got.prefix_is.1)),
+                  whole tells
+                      ∙ ap (λ xs. xs ++ last.remaining)
+                      (sym (each_byte_is old.mode.order (seen x) got.prefix got.prefix_is.1)),
                 ),
           )

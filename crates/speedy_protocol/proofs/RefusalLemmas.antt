@@ -83,7 +83,8 @@ pub refused_short : {A V : Type 0} {seen : A → V} (least : ℕ) (F : Format V)
     AnswersBufferIf itself is_eof_error (Unit {0}) F.names seen least F refused count bytes)
     → IsShort e × BeginsWithNone F bytes
 refused_short least F {e = e} {bytes = bytes} plain encoded answers =
-    of (refused_why least F (λ kind h. absurd (plain.names kind h)) encoded (λ h. absurd (plain.malformed bytes h)) answers) where
+    of (refused_why least F (λ kind h. absurd (plain.names kind h)) encoded
+    (λ h. absurd (plain.malformed bytes h)) answers) where
       short : IsShort e
       short = elim (cases_lt (length bytes) least) [
         | inl few ↦ inr (length bytes, least, (answers.too_small few).0)

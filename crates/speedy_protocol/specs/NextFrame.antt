@@ -1,5 +1,6 @@
 -- The next frame of a stream.
-use Rattle.std.specs.Prelude.{◌≡◌, ℕ, ◌<◌, ◌≤◌, ◌+◌, ◌-◌, ◌^◌, List, [], ◌++◌, length, IsTrue, codes, Option, Some, None, ◌⊎◌}
+use Rattle.std.specs.Prelude.{◌≡◌, ℕ, ◌<◌, ◌≤◌, ◌+◌, ◌-◌, ◌^◌, List, [], ◌++◌, length, IsTrue, ◌⊎◌}
+use Rattle.std.specs.Prelude.{codes, Option, Some, None}
 use Rattle.speedy.specs.declared.error.Error.{Error}
 use Rattle.speedy.specs.declared.error.ErrorKind.TheVariants as kinds
 use Rattle.speedy.specs.Digits.{AreBytes}
@@ -16,7 +17,7 @@ IsClean old new =
     IsTrue old.fixed.tells × AreBytes old.remaining × (length old.remaining < 2 ^ 64 - 1)
     × (HasGrown old.faults new.faults → ⊥)
 
--- The next frame is taken whole, of which the content has at most `most` bytes; or there is none, where no byte is left.
+-- The next frame is taken whole, and its content has at most `most` bytes; or there is none, where no byte is left.
 abbrev pub TakesNext : Format (List ℕ) → ℕ → Option (List ℕ) → ReaderState → ReaderState → Type 0
 TakesNext format most None old new = IsClean old new → old.remaining ≡ []
 TakesNext format most (Some frame) old new =

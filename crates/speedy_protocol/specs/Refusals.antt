@@ -26,7 +26,9 @@ IsRefused {V = V} format bytes =
 
 -- the bytes are too few: `size` of them in memory, or those that a device gave
 abbrev pub IsShort : Error → Type 0
-IsShort e = IsTrue (is_eof_error e) ⊎ ((actual expected : ℕ) × (e ≡ error_of (kinds.InputBufferIsTooSmall actual expected)))
+IsShort e =
+    IsTrue (is_eof_error e)
+    ⊎ ((actual expected : ℕ) × (e ≡ error_of (kinds.InputBufferIsTooSmall actual expected)))
 
 -- a text is no UTF-8, no message has the tag, or the message does not fill its frame
 abbrev pub IsBroken : Error → Type 0

@@ -87,7 +87,8 @@ pub type AnyFrame<'a> = Prefixed<u16, &'a [u8]>;
 pub fn skip<'a>(alloc: Global, bytes: &'a [u8]) -> Result<&'a [u8], Error>
     ensures content { let format = ⟦<AnyFrame<'a> as Layout>⟧.layout.format (plain_mode Endianness.LittleEndian) in
         IfOk result (λ rest. (content : List ℕ) × BeginsWith format content bytes.now rest.now) }
-    ensures refused { RefusesWhy ⟦<AnyFrame<'a> as Layout>⟧.layout (plain_mode Endianness.LittleEndian) bytes.now result }
+    ensures refused { let it = ⟦<AnyFrame<'a> as Layout>⟧ in
+        RefusesWhy it.layout (plain_mode Endianness.LittleEndian) bytes.now result }
 {
     no_encoding_is_below_least::<AnyFrame<'a>>();
     let (outcome, size) = bytes.read_with_length::<AnyFrame<'a>>(alloc, LittleEndian {});

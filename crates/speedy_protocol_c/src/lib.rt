@@ -41,8 +41,8 @@ fn place<'a>(message: &Message<'a>) -> (u32, usize, usize)
 /// Looks at the frame that the bytes begin with, and says where its parts lie.
 ///
 /// The answer is 0 for a message, 1 where more bytes have to come, 2 for a broken message, of which `size` says how
-/// many bytes to skip, and 3 where memory lacked. Where it is 1 or 3, `places` stays as it is, and where it is 2, all of
-/// it but `size`.
+/// many bytes to skip, and 3 where memory lacked. Where it is 1 or 3, `places` stays as it is, and where it is 2, only
+/// `size` is set.
 #[unsafe(no_mangle)]
 pub extern "C" fn speedy_protocol_check<'a>(
     alloc: Global,

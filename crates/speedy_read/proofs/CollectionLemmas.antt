@@ -231,7 +231,8 @@ module _ {T F V S : Type 0} {g : Gatherer T F V} (c : Code (List V) S)
     }
 
     -- so no value of a code is read, whose codes are lists of such items
-    pub not_written_refused : {seen' : F → S} → Kept old new → Reads gives eof seen' (coding old.mode c M) (Err e) old new
+    pub not_written_refused : {seen' : F → S} → Kept old new
+        → Reads gives eof seen' (coding old.mode c M) (Err e) old new
     unfolding coding
     not_written_refused kept = record {
       kept = kept;

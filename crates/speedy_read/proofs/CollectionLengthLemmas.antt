@@ -33,7 +33,8 @@ pub record TellsLength {T F V S : Type 0} (seen : T → V) (gathers : List T →
 
 module _ {T F V : Type 0} {seen : T → V} {gathers : List T → F → Type 0} {single : List V → Type 0} where
   -- a collection whose items are seen of it tells its length
-  pub own_tells : {stands : List V → List V → Type 0} {written : List V → Type 0} {seen' : F → List V} → IsSingle stands single
+  pub own_tells : {stands : List V → List V → Type 0} {written : List V → Type 0} {seen' : F → List V}
+      → IsSingle stands single
       → AreForms stands written single
       → ((items : List T) (whole : F) → gathers items whole → stands (map seen items) (seen' whole))
       → TellsLength seen gathers stands single seen' length
@@ -53,7 +54,8 @@ module _ {T F V : Type 0} {seen : T → V} {gathers : List T → F → Type 0} {
   }
 
   -- and so does one beside whose value its length is seen
-  pub beside_tells : {U : Type 0} {stands : List V → U → Type 0} {seen' : F → U} {count : F → ℕ} → IsSingle stands single
+  pub beside_tells : {U : Type 0} {stands : List V → U → Type 0} {seen' : F → U} {count : F → ℕ}
+      → IsSingle stands single
       → ((items : List T) (whole : F) → gathers items whole → stands (map seen items) (seen' whole))
       → ((items : List T) (whole : F) → gathers items whole
       → (ys : List V) × stands ys (seen' whole) × single ys × (length ys ≡ count whole))

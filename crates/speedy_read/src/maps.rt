@@ -1,7 +1,7 @@
 //! How maps are read: what a repeated key does, and which order is canonical, is in `collections`.
 //!
-//! Where the number of pairs is told elsewhere, a map that has fewer since a key was repeated is refused: it could not be
-//! written with that number.
+//! Where the number of pairs is told elsewhere, a map that has fewer since a key was repeated is refused: it could not
+//! be written with that number.
 use crate::lengths::ReadOfLength;
 use crate::many::ItemByItem;
 use crate::prefixed::{ReadPrefix, ReadTold};

@@ -1,7 +1,7 @@
 //! How sets are read: what a repeated item does, and which order is canonical, is in `collections`.
 //!
-//! Where the number of items is told elsewhere, a set that has fewer since an item was repeated is refused: it could not
-//! be written with that number.
+//! Where the number of items is told elsewhere, a set that has fewer since an item was repeated is refused: it could
+//! not be written with that number.
 use crate::lengths::ReadOfLength;
 use crate::many::ItemByItem;
 use crate::prefixed::{ReadPrefix, ReadTold};

@@ -31,7 +31,8 @@ module _ {E : Type 0} {gives : Error → E → Type 0} {result : Result (Unit {0
 
   -- and so are pairs of lent parts
   lent_pairs : {K V : Type 0} (n : ℕ) {shown : List (K × V)} (F : Mode → Format K) (G : Mode → Format V)
-      → Writes gives (λ f. vector n (pair (borrowed_content (F f)) (borrowed_content (G f)))) shown result old new appended
+      → Writes gives (λ f. vector n (pair (borrowed_content (F f)) (borrowed_content (G f)))) shown result old new
+      appended
       → Writes gives (λ f. vector n (pair (F f) (G f))) shown result old new appended
   unfolding sequence vector owned_content repeat borrowed_content
   lent_pairs n F G w = Writes-as (λ _ k. k) (λ _ h. h) (λ b h. (b, h, refl)) (λ b h. (b, h)) w

@@ -16,7 +16,8 @@ returns-in_err-sorted g c =
     of_length_refused (Ascends (by_key (IsLess g.K.Layout.seen g.K.Ord.cmp))) false
     (own_tells (tree_map_single _) (tree_maps_are_forms (less_is_asymmetric g.K.Layout.seen g.K.Ord.cmp))
     (tree_map_seen g.V.Layout.seen g.met.K.SameKey.same_key g.met.K.Ord.total g.met.K.Ord.matches_eq))
-    (pair_codec g.K.Layout.layout g.V.Layout.layout) c.args.length (Ascends-first (by_key (IsLess g.K.Layout.seen g.K.Ord.cmp))) c.from_residual.ensures.1 c.in_err-sorted.ensures
+    (pair_codec g.K.Layout.layout g.V.Layout.layout) c.args.length
+    (Ascends-first (by_key (IsLess g.K.Layout.seen g.K.Ord.cmp))) c.from_residual.ensures.1 c.in_err-sorted.ensures
 
 pub returns-then-len-length : goal.returns-then-len-length
 returns-then-len-length g c =

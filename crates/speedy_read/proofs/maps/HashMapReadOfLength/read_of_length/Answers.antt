@@ -15,7 +15,8 @@ returns-in_err-hashed g c =
     (beside_tells hash_map_single (hash_map_seen g.V.Layout.seen g.met.K.SameKey.same_key)
     (λ items m h. let e = hash_map_entries g.V.Layout.seen g.met.K.SameKey.same_key m h.1 in
     (_, e.0, e.1, length-map _ _)))
-    (pair_codec g.K.Layout.layout g.V.Layout.layout) c.args.length HasDistinctKeys-first c.from_residual.ensures.1 c.in_err-hashed.ensures
+    (pair_codec g.K.Layout.layout g.V.Layout.layout) c.args.length HasDistinctKeys-first
+    c.from_residual.ensures.1 c.in_err-hashed.ensures
 
 pub returns-then-len-length : goal.returns-then-len-length
 returns-then-len-length g c =

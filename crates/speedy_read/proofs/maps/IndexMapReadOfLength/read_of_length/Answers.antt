@@ -13,7 +13,8 @@ pub returns-in_err-listed : goal.returns-in_err-listed
 returns-in_err-listed g c =
     of_length_refused HasDistinctKeys false
     (own_tells index_map_single index_maps_are_forms (index_map_seen g.V.Layout.seen g.met.K.SameKey.same_key))
-    (pair_codec g.K.Layout.layout g.V.Layout.layout) c.args.length HasDistinctKeys-first c.from_residual.ensures.1 c.in_err-listed.ensures
+    (pair_codec g.K.Layout.layout g.V.Layout.layout) c.args.length HasDistinctKeys-first
+    c.from_residual.ensures.1 c.in_err-listed.ensures
 
 pub returns-then-len-length : goal.returns-then-len-length
 returns-then-len-length g c =

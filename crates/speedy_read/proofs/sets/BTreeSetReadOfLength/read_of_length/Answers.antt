@@ -14,7 +14,8 @@ returns-in_err-sorted g c =
     of_length_refused (Ascends (IsLess g.T.Layout.seen g.T.Ord.cmp)) false
     (own_tells (tree_set_single _) (tree_sets_are_forms (less_is_asymmetric g.T.Layout.seen g.T.Ord.cmp))
     (tree_set_seen g.met.T.SameKey.same_key g.met.T.Ord.total g.met.T.Ord.matches_eq))
-    g.T.Layout.layout c.args.length (Ascends-first (IsLess g.T.Layout.seen g.T.Ord.cmp)) c.from_residual.ensures.1 c.in_err-sorted.ensures
+    g.T.Layout.layout c.args.length (Ascends-first (IsLess g.T.Layout.seen g.T.Ord.cmp))
+    c.from_residual.ensures.1 c.in_err-sorted.ensures
 
 pub returns-then-len-length : goal.returns-then-len-length
 returns-then-len-length g c =
