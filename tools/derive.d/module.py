@@ -231,7 +231,7 @@ class Declaration:
 
     def field_type(self, field):
         """The type of a field."""
-        return self.scope.convert(field.type, self.item.parameters, not self.item.readable, field.options.skip)
+        return self.scope.of_field(field, self.item)
 
     def field(self, field):
         """The lines of a field."""
