@@ -12,7 +12,7 @@ def answers(shape, place):
     if len(shape.cases) < MANY_VARIANTS and sum(types_in(kind) for kind in shape.kinds) < MANY_TYPES:
         return {}
     crate, *modules = place
-    name, lent = shape.item.name, "RefSliceU8" if shape.generics.lifetimes else ""
+    name, lent = shape.item.name, "RefSliceU8" if shape.generics.lending else ""
     found = {}
     for trait, function, lines in ((f"{name}WriteCases", "write_case", write_answers(shape)),
                                    (f"{name}ReadCases{lent}", "read_case", read_answers(shape))):

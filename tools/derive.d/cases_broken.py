@@ -110,6 +110,16 @@ BROKEN = [
      + "struct A<T> {\n    n: T,\n    #[speedy(length = n.b)]\n    a: String\n}", 5, "`n` is no struct of this file"),
     ("a length of a field of a sum", told("(n + 1).b", "u8"), 5, "a length is made of"),
     ("a length of a field of what is not there", told("m.b", "u8"), 5, "`m` is neither an earlier field"),
+    ("a frame of what is not written", HEAD + "#[derive(Readable)]\nstruct B(u8);\n" + DERIVES
+     + "struct A {\n    n: u8,\n    #[speedy(length = n)]\n    b: B\n}", 8, "has to derive `Writable`"),
+    ("a frame of many that end where the bytes do", struct("    n: u8,\n    #[speedy(length = n)]\n    a: Vec<B>")
+     + DERIVES + "struct B(#[speedy(length = ..)] String);", 6, "ends where the bytes do"),
+    ("a frame of parts that may be missing", struct("    n: u8,\n    #[speedy(length = n)]\n    a: B") + DERIVES
+     + "struct B { #[speedy(default_on_eof)] b: u8 }", 6, "is made of the parts that are read"),
+    ("a frame of a parameter's", HEAD + DERIVES + "struct B<T>(T);\n" + DERIVES
+     + "struct A<T> {\n    n: u8,\n    #[speedy(length = n)]\n    b: B<T>\n}", 8, "generic here"),
+    ("a length of a parameter", HEAD + DERIVES + "struct A<T> {\n    n: u8,\n    #[speedy(length = n)]\n    b: T\n}", 6,
+     "`length` is taken of"),
     ("a length by a method", told("n.into()", "u8"), 5, "a length is made of"),
     ("a length of a cow of a map", "use std::borrow::Cow;\nuse std::collections::BTreeMap;\n"
      + told("n", "u8", "Cow<'a, BTreeMap<u8, u8>>").replace("struct A", "struct A<'a>"), 8, "`length` is taken of"),

@@ -299,6 +299,24 @@ struct Index<K: Ord, V> {
      + "enum B { C { a_1: u8, a: A, #[speedy(length = a.2 - a_1 as i16 - a.0 as i16)] d: Vec<u8> } }\n",
      ["    type Numbers = ((u8, ()), i16);", "{ λ it. ((it.0.0, tt), it.1) };", "((self.0, ()), self.2)",
       "fn length((a_1, ((a_0, _), a_2)): (u8, ((u8, ()), i16)))", "before: (*a_1, Part(a)),"]),
+    ("a value in a frame whose length is told", DERIVES + "struct In(u8, String);\n" + DERIVES
+     + "struct End { #[speedy(length = ..)] rest: Vec<u8> }\n" + DERIVES + """struct Packet {
+    size: u16,
+    flag: bool,
+    #[speedy(length = size - 2)]
+    inner: In,
+    #[speedy(length = 4)]
+    end: End,
+}
+""" + DERIVES + "struct Holder<T> { packets: Vec<Packet>, more: T }\n",
+     ["use speedy::lengths::{Length, OfLength, Other, WithFrame};", "Whole, WholePart,",
+      "    WithFrame<PacketInnerLength, (u16, Other<bool>), In>,\n    WithFrame<PacketEndLength, Other<()>, End>,\n",
+      "⟦<In as Layout>⟧.seen it.inner", "⟦<End as Whole>⟧.seen it.end",
+      "impl<'a, C: Context> ReadFrom<&'a [u8], C> for Packet {", "let WithFrame {",
+      "    fn minimum_bytes_needed() -> usize\n        ensures { result ≡ ⟦<PacketParts as Layout>⟧.layout.least }\n"
+      "    {\n        3\n", "let inner: WithFrame<PacketInnerLength, _, _> = WithFrame {", "value: Part(&self.inner),",
+      "value: WholePart(&self.end),",
+      "impl<'a, C: Context, T: ReadFrom<&'a [u8], C>> ReadFrom<&'a [u8], C> for Holder<T> {"]),
     ("a module, and what is no type", "mod inner { use speedy::*;\n" + DERIVES + "pub enum A { B, C(u8) } }\n",
      ["mod inner {", "ghost use Rattle.my_crate.specs.declared.messages.inner.A.{A};"]),
     ("constants of each kind", DERIVES + "struct A(" + ", ".join(

@@ -12,7 +12,7 @@ from refusal import Refusal
 class Generics:
     """What a type is generic in."""
 
-    def __init__(self, item, scope, kinds):
+    def __init__(self, item, scope, kinds, reads_lent=False):
         self.item = item
         self.scope = scope
         self.parameters = item.parameters
@@ -29,6 +29,8 @@ class Generics:
         fresh = Fresh(scope.fresh.taken)
         fresh.take(*set().union(*(names_in(it) for it in kinds)))
         self.lent, self.context, self.reader, self.writer = (fresh.name(it) for it in "LCRW")
+        # The lifetime of what a reader lends, or None where that may be anything.
+        self.lending = self.lifetimes[0] if self.lifetimes else "'a" if reads_lent else None
 
     def add(self, name, role):
         """Adds the bounds of a role to a parameter, where the declaration has them not."""
@@ -101,9 +103,13 @@ class Generics:
 
     # The trait impls' own.
 
+    def lender(self):
+        """What a reader lends."""
+        return f"&{self.lending} [u8]" if self.lending else self.lent
+
     def reading(self):
         """What bounds ask of parameters in reading: of a part, of an item, and whether a lifetime is asked for."""
-        lent = f"&{self.lifetimes[0]} [u8]" if self.lifetimes else self.lent
+        lent = self.lender()
         return {PART: ("ReadFrom", f"<{lent}, {self.context}>"), ITEM: ("ReadMany", f"<{lent}, {self.context}>"),
                 HASHER: ("BuildHasher", "Default", "Drop"), DEFAULTED: "Default", HELD: "Drop", "outlives": True}
 

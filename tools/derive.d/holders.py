@@ -28,7 +28,7 @@ def find(items, scope):
 def follow(line, path, owner, field, scope, found):
     """Takes the fields that a path names, of which the last one is a number."""
     for name, label in zip(path, path[1:]):
-        struct = struct_of(line, name, converted(field, owner, scope), scope)
+        struct = struct_of(line, name, scope.of_field(field, owner), scope)
         held = next((it for place, it in enumerate(struct.fields) if (it.name or str(place)) == label), None)
         if held is None:
             raise Refusal(line, f"`{struct.name}` has no field `{label}`")
@@ -36,14 +36,9 @@ def follow(line, path, owner, field, scope, found):
             raise Refusal(line, f"`{label}` of `{struct.name}` has no bytes, and so tells no length")
         found.setdefault(struct.name, set()).add(label)
         owner, field = struct, held
-    kind = "u64" if field.options.varint else type_text(converted(field, owner, scope))
+    kind = "u64" if field.options.varint else type_text(scope.of_field(field, owner))
     if kind not in BITS:
         raise Refusal(line, f"`{path[-1]}` tells no length: its type is none of {TAKEN}")
-
-
-def converted(field, owner, scope):
-    """The type of a field as Rattle has it."""
-    return scope.convert(field.type, owner.parameters, not owner.readable)
 
 
 def struct_of(line, name, kind, scope):

@@ -15,7 +15,11 @@ class Shape:
         parts = [part for taken in takens for part in taken.parts]
         skipped = [it for taken in takens for it in taken.skipped]
         self.kinds = [part.type for part in parts]
-        self.generics = Generics(item, scope, self.kinds + [kind for kind, _ in skipped])
+        names = set().union(*(names_in(kind) for kind in self.kinds))
+        reads_lent = item.readable and bool(names & scope.reads_lent)
+        if reads_lent:
+            scope.reads_lent.add(item.name)
+        self.generics = Generics(item, scope, self.kinds + [kind for kind, _ in skipped], reads_lent)
         self.asked = of_impls(item, scope, parts, skipped)
         self.self_type = item.name + self.generics.arguments()
         # What the parts are read and written as, by its name.
@@ -54,14 +58,15 @@ class Shape:
 
     def lent(self):
         """What a reader lends."""
-        generics = self.generics
-        return f"&{generics.lifetimes[0]} [u8]" if generics.lifetimes else generics.lent
+        return self.generics.lender()
 
     def reading(self, module, trait, body):
         """An impl of a trait that reads."""
         generics, scope = self.generics, self.scope
         front = [f"{generics.context}: {scope.need('speedy', 'Context')}"]
-        if not generics.lifetimes:
+        if generics.lending and not generics.lifetimes:
+            front.insert(0, generics.lending)
+        elif not generics.lifetimes:
             bound = f"{scope.need('std::convert', 'AsSlice')}<u8> + {scope.prelude('Drop')}"
             front.insert(0, f"{generics.lent}: {bound}")
         return impl(generics.of_impl(self.asked, generics.reading(), front),
@@ -129,7 +134,7 @@ class Shape:
         else:
             body = self.least_of(self.parts_type)
         ensures = []
-        if self.generics.lifetimes:
+        if self.generics.lending:
             self.scope.ghosts.add("◌≡◌")
             ensures = [f"result ≡ {self.quoted(self.parts_type)}.layout.least"]
         return function(f"fn {name}()", "usize", body, ensures)

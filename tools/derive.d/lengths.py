@@ -7,7 +7,7 @@ import syntax
 from arithmetic import BITS, TAKEN, Computed, Term, number, refused
 from expressions import mentions, path_of
 from names import Fresh, camel, parameter
-from rattle import Build, Call, Let, Listed, is_listed, parts_of, tuple_of, type_text
+from rattle import Build, Call, Foreign, Let, Listed, Own, is_listed, names_in, parts_of, tuple_of, type_text
 from refusal import Refusal
 
 TEXTS_AND_LISTS = ("String", "Vec", "BoxedStr", "BoxedSlice", "CowStr", "CowSlice")
@@ -39,13 +39,35 @@ class Item:
         return self.field.name or f"t{self.access.label}"
 
 
-def check_type(field, kind):
-    """Refuses a length of what is no text, no list, no map and no set."""
+def is_framed(kind):
+    """Whether a type with a length is no text and no list, and so stands in a frame of so many bytes."""
+    return isinstance(kind, (Own, Foreign))
+
+
+def check_type(field, kind, item, scope):
+    """Refuses a length of what is no text, no list, no map, no set and no struct or enum."""
+    if is_framed(kind):
+        if item.readable:
+            check_framed(field, kind, item, scope)
+        return
     lent = kind.target if isinstance(kind, syntax.Reference) else None
     is_lent = isinstance(lent, syntax.Slice) or is_listed(lent, "str")
     if not is_listed(kind, *TEXTS_AND_LISTS, *MAPS) and not is_lent:
         raise Refusal(field.line, "`length` is taken of `String`, `Vec<T>`, `Box<str>`, `Box<[T]>`, `&str`, `&[u8]`, "
-                                  "`Cow<str>`, `Cow<[T]>`, maps and sets")
+                                  "`Cow<str>`, `Cow<[T]>`, maps, sets, structs and enums")
+
+
+def check_framed(field, kind, item, scope):
+    """Refuses a value that cannot be read in a frame of a told length: it is counted as it would be written."""
+    own = scope.items[kind.name] if isinstance(kind, Own) else None
+    if own is not None and not own.writable:
+        raise Refusal(field.line, f"`{kind.name}` has to derive `Writable`: its bytes are counted in reading too")
+    if any(it.options.may_be_missing for it in getattr(own, "fields", ())):
+        raise Refusal(field.line, f"`{kind.name}` is made of the parts that are read: hold it behind the number of its "
+                                  "bytes by hand, as these parts in a `Framed`")
+    if names_in(kind) & {it.name for it in item.parameters if it.kind == "type"}:
+        raise Refusal(field.line, "a value of a told length that is generic here is not taken, since it would have to "
+                                  "be written in reading too: write the impls of this type by hand")
 
 
 # What stands in one `WithLength` is a tree: of numbers, structs that hold some, other parts, pairs, and what has a
@@ -255,7 +277,7 @@ class Pair:
 
 class Behind:
     """Parts, and behind them a text, a list, a map or a set of the length that their numbers tell, as the type `length`
-    says."""
+    says; or a value that fills so many bytes."""
 
     def __init__(self, before, item, length, scope):
         self.before = before
@@ -263,14 +285,19 @@ class Behind:
         self.scope = scope
         self.length = length
         self.bound = None
-        line, name = item.field.line, scope.need("speedy::lengths", "WithLength")
-        self.type = Listed(line, "WithLength", (Listed(line, length), before.type, item.part.type), name)
+        self.ends = isinstance(item.part.type, Own) and item.part.type.name in scope.ending
+        line, plain = item.field.line, "WithFrame" if is_framed(item.part.type) else "WithLength"
+        name = scope.need("speedy::lengths", plain)
+        scope.reads_lent |= {name} if plain == "WithFrame" else set()
+        self.type = Listed(line, plain, (Listed(line, length), before.type, item.part.type), name)
 
     def stated(self):
         """The variables that it is written by, each a name, a type and a value, and the name of the last."""
         found, before = self.before.stated()
         name, phantom = self.item.access.bound, self.scope.need("std::marker", "PhantomData")
-        value = self.item.part.among(self.scope)
+        part = self.item.part
+        value = Call(self.scope.need("speedy::whole", "WholePart"), (part.alone,)) if self.ends \
+            else part.among(self.scope)
         made = Build(self.type.local, (("before", before), ("value", value), ("length", phantom)))
         return found + [(name, f"{self.type.local}<{self.length}, _, _>", made)], name
 

@@ -90,9 +90,9 @@ class ModuleMaker:
                 self.notes.append((item.line, f"the module `{item.name}` is left out of what is made"))
                 del self.scope.items[item.name]
                 return False
-        if isinstance(item, syntax.Declared) and item.refusal and (not is_plain(item) or item.name in self.plain):
+        if isinstance(item, syntax.Declared) and item.refusal and (not syntax.is_plain(item) or item.name in self.plain):
             raise item.refusal
-        if isinstance(item, syntax.Declared) and is_plain(item):
+        if isinstance(item, syntax.Declared) and syntax.is_plain(item):
             left = "is made without impls, since a field with `skip` holds it" if item.name in self.plain else \
                 "is left out of what is made: it stays in this file"
             self.notes.append((item.line, f"`{item.name}` derives neither `Readable` nor `Writable`, and {left}"))
@@ -129,7 +129,7 @@ class ModuleMaker:
         if isinstance(item, syntax.Struct) and ends_with_input(item):
             self.scope.ending.add(item.name)
         declared = Declaration(item, self.scope, self.of_cast).lines()
-        if is_plain(item):
+        if syntax.is_plain(item):
             asked.of_plain(item, self.scope)
             return declared + [""]
         if isinstance(item, syntax.Enum):
@@ -184,21 +184,16 @@ def is_default(variant):
     return any(it.name == "default" for it in variant.attributes)
 
 
-def is_plain(item):
-    """Whether a type derives neither of the two traits."""
-    return not item.readable and not item.writable
-
-
 def plain_types(items):
     """The names of those types that derive neither trait and are held by fields that are skipped, or by such types."""
     by_name = {item.name: item for item in items if isinstance(item, (syntax.Declared, syntax.Alias))}
-    waiting = [name for item in items if isinstance(item, syntax.Declared) and not is_plain(item)
+    waiting = [name for item in items if isinstance(item, syntax.Declared) and not syntax.is_plain(item)
                for name in held_if(item, attributes.is_skipped)]
     found = set()
     while waiting:
         name = waiting.pop()
         item = by_name.get(name)
-        if item is not None and name not in found and (isinstance(item, syntax.Alias) or is_plain(item)):
+        if item is not None and name not in found and (isinstance(item, syntax.Alias) or syntax.is_plain(item)):
             found.add(name)
             waiting += held_if(item, lambda _: True)
     return found
@@ -281,8 +276,7 @@ class Declaration:
 
     def field_type(self, field):
         """The type of a field."""
-        is_skipped = field.options.skip or is_plain(self.item)
-        return self.scope.convert(field.type, self.item.parameters, not self.item.readable, is_skipped)
+        return self.scope.of_field(field, self.item)
 
     def field(self, field):
         """The lines of a field."""
@@ -326,7 +320,7 @@ def with_skipped(items, holds):
 
 def held_by(item):
     """The names of types that an item holds, but for fields that are skipped."""
-    return held_if(item, lambda field: is_plain(item) or not attributes.is_skipped(field))
+    return held_if(item, lambda field: syntax.is_plain(item) or not attributes.is_skipped(field))
 
 
 def held_if(item, holds):

@@ -148,7 +148,7 @@ class PartMaker:
         found = Taken(self.item, fields, accesses)
         items = found.items
         for place, (it, access) in enumerate(zip(fields, accesses)):
-            kind = self.scope.convert(it.type, self.item.parameters, not self.item.readable, it.options.skip)
+            kind = self.scope.of_field(it, self.item)
             asked.check(kind, self.scope, it, self.item.readable)
             if it.options.skip:
                 value, defaulted = defaults.default(kind, self.scope, it.line) if self.item.readable else ("", ())
@@ -172,7 +172,7 @@ class PartMaker:
         if it.options.length_type:
             return self.prefixed(it, access, kind)
         if it.options.length is not None:
-            lengths.check_type(it, kind)
+            lengths.check_type(it, kind, self.item, self.scope)
         written = access.value if is_copied(kind) else None
         return Part(kind, access.bound, access.seen, "", written, access.reference), access.bound
 
@@ -270,7 +270,9 @@ def accesses_of_variant(fields, scope):
 
 def seen_of(part, scope):
     """What is seen of a part by itself."""
-    return part.seen_alone or f"⟦<{type_text(part.type)} as {scope.need('speedy', 'Layout')}>⟧.seen {part.seen}"
+    ends = isinstance(part.type, Own) and part.type.name in scope.ending
+    trait = scope.need("speedy::whole", "Whole") if ends else scope.need("speedy", "Layout")
+    return part.seen_alone or f"⟦<{type_text(part.type)} as {trait}>⟧.seen {part.seen}"
 
 
 def seen_of_parts(taken, quoted, scope):

@@ -36,8 +36,8 @@ CHANCES = {
 } | {f"item_{name}": 0.008 for name in OTHERS}
 
 # What the generator refuses today, by its reasons or until it is done.
-REFUSED = frozenset("""pub_in foreign_names const_defaults depth peek_tag length_of_value length_of_option
-    length_field_of_field skip_arc skip_cell system_time atomic static_loan hashers""".split())
+REFUSED = frozenset("""pub_in foreign_names const_defaults depth peek_tag length_of_option
+    skip_arc skip_cell system_time atomic static_loan hashers""".split())
 
 # What is rare in a file of one other production, so that nothing else fails there.
 ODD = ("odd_docs", "odd_fields", "odd_types", "odd_parameters", "odd_variants", "odd_derives", "serde", "collisions",

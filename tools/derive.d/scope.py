@@ -36,6 +36,8 @@ class Scope:
         self.derives = Derives(self)
         # The names of the types of this file that end where the bytes do, which have no layout.
         self.ending = set()
+        # Those of the types that are read from borrowed bytes alone, since they hold a frame.
+        self.reads_lent = set()
         # The types of this file as keys, by their names.
         self.keys = {}
         # What clauses import: from `Prelude`, and by the paths of others.
@@ -141,6 +143,14 @@ class Scope:
         self.nodes = 0
         return Converter(self, parameters, written_alone, is_skipped).convert(kind)
 
+    def of_field(self, field, item):
+        """The type of a field of an item. One whose length is told may end where its bytes do."""
+        self.nodes = 0
+        is_skipped = field.options.skip or syntax.is_plain(item)
+        converter = Converter(self, item.parameters, not item.readable, is_skipped)
+        converter.framed = field.type if field.options.length is not None else None
+        return converter.convert(field.type)
+
     def of_constant(self, kind):
         """The type of a constant, as Rattle writes it: here a float is one."""
         if isinstance(kind, syntax.Named) and kind.path[0] in FLOATS and kind.path[0] not in self.uses:
@@ -214,6 +224,8 @@ class Converter:
         self.parameters = parameters
         self.written_alone = written_alone
         self.is_skipped = is_skipped
+        # The type that stands in a frame, or None.
+        self.framed = None
 
     def convert(self, kind):
         """A type as Rattle has it."""
@@ -344,9 +356,10 @@ class Converter:
                                      "declare it in a `.rt` file by hand, and import it here")
         if not self.written_alone and not item.readable and not self.is_skipped:
             raise Refusal(kind.line, f"`{item.name}` does not derive `Readable`")
-        if item.name in self.scope.ending and not self.is_skipped:
+        if item.name in self.scope.ending and not self.is_skipped and kind is not self.framed:
             raise Refusal(kind.line, f"`{item.name}` ends where the bytes do, so it has no layout: hold it behind the "
-                                     "number of its bytes, by hand, as a `Prefixed` of a `Framed`")
+                                     "number of its bytes, by a field with `length`, or by hand, as a `Prefixed` of a "
+                                     "`Framed`")
         return Own(kind.line, item.name, self.arguments(kind, item))
 
     def arguments(self, kind, item):

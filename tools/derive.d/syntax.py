@@ -246,6 +246,11 @@ class Enum(Declared):
     tag_type: str = "u32"
 
 
+def is_plain(item):
+    """Whether a type derives neither of the two traits."""
+    return not item.readable and not item.writable
+
+
 def variants_of(item):
     """What an item has fields in: an enum in its variants, a struct in itself, and others nowhere."""
     return item.variants if isinstance(item, Enum) else [item] if isinstance(item, Struct) else []

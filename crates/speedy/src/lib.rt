@@ -57,6 +57,8 @@ mod tests_ranges;
 #[cfg(test)]
 mod tests_readers;
 #[cfg(test)]
+mod tests_told_frames;
+#[cfg(test)]
 mod tests_tuples;
 #[cfg(test)]
 mod tests_varint;
@@ -66,6 +68,7 @@ mod tests_views;
 mod tests_whole;
 #[cfg(test)]
 mod tests_writers;
+pub mod told_frames;
 pub mod varints;
 pub mod whole;
 pub mod writable_impl;

@@ -20,4 +20,5 @@ pub mod struct_lengths;
 pub mod structs;
 pub mod sums;
 pub mod tags;
+pub mod told_frames;
 pub mod told_lengths;

@@ -334,9 +334,10 @@ impl<
     }
 }
 
-// The parts, and the length that their numbers tell.
+/// Reads the parts, and answers the length that their numbers tell too. Where they tell none, the error is
+/// `OutOfRangeLength`.
 #[inline]
-fn read_told<
+pub fn read_told<
     K: Length<B::Numbers>,
     B: ReadHolds<L, C>,
     L: AsSlice<u8> + Drop,

@@ -17,10 +17,10 @@ impl<C: Context, T: WriteWhole<C>> WriteTold<C> for Framed<T> {
     }
 }
 
-// Writes a value that takes `length` bytes. A writer that counts is told of these at once, so that a frame within
-// frames is counted once.
+/// Writes a value that takes `length` bytes. A writer that counts is told of these at once, so that a frame within
+/// frames is counted once.
 #[inline]
-fn write_counted_value<C: Context, T: WriteWhole<C>, W: Writer<C>>(
+pub fn write_counted_value<C: Context, T: WriteWhole<C>, W: Writer<C>>(
     value: &T,
     length: usize,
     writer: &mut W,
