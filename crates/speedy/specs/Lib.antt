@@ -98,3 +98,6 @@ pub use Rattle.speedy_write.proofs.ListLemmas as WriteItems
 pub mod Levels
 pub mod ReadLevels
 pub mod WriteLevels
+pub mod Layers
+pub mod ReadLayers
+pub mod WriteLayers
