@@ -212,6 +212,8 @@ class Declared:
     kept: list = field(default_factory=list)
     readable: bool = False
     writable: bool = False
+    # How many levels its values have at most, where they hold values of the type itself.
+    depth: int = 0
 
 
 @dataclass

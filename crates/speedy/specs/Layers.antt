@@ -93,7 +93,8 @@ unfolding at_level
 at_bottom layer zero h = refl
 at_bottom layer (suc n) h = absurd (omega (arith, h))
 
-pub at_above : {T : Type 0} (layer : Layer T T) (n m : ℕ) → n ≡ suc m → at_level layer n ≡ above layer (at_level layer m)
+pub at_above : {T : Type 0} (layer : Layer T T) (n m : ℕ) → n ≡ suc m
+    → at_level layer n ≡ above layer (at_level layer m)
 unfolding at_level
 at_above layer zero m h = absurd (omega (arith, h))
 at_above layer (suc n) m h = let same : n ≡ m = omega (arith, h) in ap (λ k. above layer (at_level layer k)) same

@@ -14,6 +14,7 @@ pub mod lengths;
 pub mod lent;
 pub mod many;
 pub mod names;
+pub mod recursive;
 pub mod skips;
 pub mod structs;
 pub mod sums;

@@ -109,7 +109,6 @@ impl<L: AsSlice<u8> + Drop, C: Context> ReadFrom<L, C> for Node {
         ReadLevel::<Node>::read_level::<L, C, R>(NODE_LEVELS, reader)
     }
 
-    #[tactic(auto, unfolding(speedy::specs::Layers::at_level, speedy::specs::Layers::layer_of, speedy::specs::Layers::pair_layer, speedy::specs::Layers::own_layer, speedy::specs::Layers::list_layer))]
     fn minimum_bytes_needed() -> usize {
         <((u8, String), Vec<()>) as ReadFrom<L, C>>::minimum_bytes_needed()
     }
