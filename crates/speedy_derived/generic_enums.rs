@@ -25,7 +25,7 @@ where
 /// Generic in a number.
 #[derive(Readable, Writable)]
 #[speedy(tag_type = u8)]
-pub enum Chunk<const N: usize> {
+pub enum Piece<const N: usize> {
     Raw([u8; N]),
     Numbered { id: u16, items: [u16; N] },
 }

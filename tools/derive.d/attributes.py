@@ -11,8 +11,11 @@ WIDTHS = ("u7", "u8", "u16", "u32", "u64", "u64_varint")
 # What only the compiler of the original reads, and means nothing here.
 LINTS = ("allow", "warn", "deny", "forbid", "expect", "must_use")
 OF_FIELDS = ("length", "length_type", "varint", "constant_prefix", "skip", "default_on_eof")
-OF_ENUMS = ("tag_type", "peek_tag")
+OF_STRUCTS = ("depth",)
+OF_ENUMS = ("tag_type", "peek_tag", "depth")
 OF_VARIANTS = ("tag",)
+# A depth past this is refused.
+MOST_LEVELS = 64
 # The traits of std that a type may derive.
 DERIVED = ("Debug", "Clone", "Copy", "PartialEq", "Eq", "PartialOrd", "Ord", "Hash", "Default")
 
@@ -225,13 +228,29 @@ def of_item(item, scope):
     if not item.readable and not item.writable:
         return
     others(rest, scope.notes)
-    found = settings(item.attributes, OF_ENUMS if is_enum else (), "an enum" if is_enum else "a struct")
+    found = settings(item.attributes, OF_ENUMS if is_enum else OF_STRUCTS, "an enum" if is_enum else "a struct")
     if "peek_tag" in found:
         raise Refusal(found["peek_tag"][0], "an enum with `peek_tag` leaves its tag to be read again, so it has no "
                       "encoding of its own: leave `peek_tag` out, and in the code that calls a reader take the tag by "
                       "`let tag = reader.peek_u8()?;` before `reader.read_value()?`")
     if "tag_type" in found:
         item.tag_type = found["tag_type"][1]
+    if "depth" in found:
+        if is_enum:
+            raise Refusal(found["depth"][0], f"`depth` is taken of structs alone: write the impls of `{item.name}` by "
+                                             "hand")
+        item.depth = depth(item, *found["depth"], scope)
+
+
+def depth(item, line, value, scope):
+    """How many levels the values of a type have at most that hold values of the type itself."""
+    found = expressions.number(value, scope.constants)
+    if not 1 <= found <= MOST_LEVELS:
+        raise Refusal(line, f"`depth` is a number of levels from 1 to {MOST_LEVELS}, of which each takes room on the "
+                            "stack")
+    if item.parameters:
+        raise Refusal(line, f"a type with `depth` has no parameters: write the impls of `{item.name}` by hand")
+    return found
 
 
 def derive(item, attribute, scope):

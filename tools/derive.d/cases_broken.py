@@ -14,6 +14,14 @@ def told(length, number, kind="Vec<u8>", before=""):
     return struct(f"    {before}n: {number},\n    #[speedy(length = {length})]\n    a: {kind}")
 
 
+DEPTH = "#[speedy(depth = 16)]\n"
+
+
+def deep(fields, depth="16"):
+    """A struct `A` of these fields, which begin in line 5, with a depth."""
+    return f"{HEAD}{DERIVES}#[speedy(depth = {depth})]\nstruct A {{\n{fields}\n}}\n"
+
+
 BROKEN = [
     # Syntax.
     ("a text without an end", struct('    #[speedy(constant_prefix = "ab)]\n    a: u8'), 4, "no end"),
@@ -153,8 +161,30 @@ BROKEN = [
     ("a type without a size in a bound", HEAD + DERIVES + "struct A<T: ?Sized>(Box<T>);", 3, "`?Sized`"),
     ("a default of a const parameter", HEAD + DERIVES + "struct A<const N: usize = 2>([u8; N]);", 3,
      "const parameter"),
-    ("a type that holds itself", struct("    a: Vec<A>"), 3, "holds itself"),
-    ("types that hold each other", struct("    a: Option<Box<B>>") + DERIVES + "struct B(Vec<A>);", 3, "holds itself"),
+    ("a type that holds itself", struct("    a: Vec<A>"), 3, "set it at the type, as `#[speedy(depth = 16)]`"),
+    ("a type that holds itself by `Self`", struct("    a: Vec<Self>"), 4, "needs a bound on its depth"),
+    ("types that hold each other", struct("    a: Option<Box<B>>") + DERIVES + "struct B(Vec<A>);", 3,
+     "holds itself through `B`"),
+    ("types with a depth that hold each other", deep("    a: Option<Box<B>>") + DERIVES + "struct B(Vec<A>);", 4,
+     "holds itself through `B`"),
+    ("a depth of none that holds itself", deep("    a: Vec<u8>"), 4, "leave `depth` out"),
+    ("a depth of 0", deep("    a: Vec<A>", "0"), 3, "from 1 to 64"),
+    ("a depth past the stack", deep("    a: Vec<A>", "65"), 3, "from 1 to 64"),
+    ("a depth that is no number", deep("    a: Vec<A>", "\"a\""), 3, "no number that this file tells"),
+    ("a depth of an enum", HEAD + DERIVES + DEPTH + "enum A { B, C(Box<A>) }", 3, "of structs alone"),
+    ("a depth of a type with parameters", f"{HEAD}{DERIVES}{DEPTH}struct A<T>(T, Vec<A<T>>);", 3, "no parameters"),
+    ("a depth of a type with a lifetime", f"{HEAD}{DERIVES}{DEPTH}struct A<'a>(&'a str, Vec<A<'a>>);", 3,
+     "no parameters"),
+    ("a depth through a map", "use std::collections::BTreeMap;\n" + deep("    a: BTreeMap<u8, A>"), 6,
+     "by `Box`, `Option`, `Vec` and pairs alone"),
+    ("a depth through three parts", deep("    a: Vec<(u8, u16, A)>"), 5, "in pairs alone"),
+    ("a depth without an end", deep("    a: u8,\n    b: Box<A>"), 6, "no value of `A` ends"),
+    ("a depth with a setting of a field", deep("    #[speedy(varint)]\n    a: u64,\n    b: Vec<A>"), 6,
+     "takes `skip` alone"),
+    ("a depth with a length", deep("    n: u8,\n    #[speedy(length = n)]\n    a: Vec<A>"), 7, "takes `skip` alone"),
+    ("a depth of a key", "use std::collections::BTreeSet;\n" + HEAD + DEPTH
+     + "#[derive(PartialEq, Eq, PartialOrd, Ord, Readable, Writable)]\nstruct A(Vec<A>);\n" + DERIVES
+     + "struct B(BTreeSet<A>);", 7, "to have no `depth`"),
     # What only looks like Rust, or is past each limit.
     ("a file without types", HEAD + "fn f() {}\nconst A: u8 = 1;", 1, "declares no type"),
     ("names that differ in case alone", struct("    a: u8", "Wire") + "const WIRE: u8 = 1;", 6, "in case alone"),

@@ -324,6 +324,29 @@ struct Index<K: Ord, V> {
      ["{ 195 ∷ 169 ∷ [] }", "{ 255 ∷ [] }", "{ 1 ∷ [] }", "{ 120 ∷ [] }", "{ 7 ∷ [] }"]),
 ]
 
+MADE += [
+    ("a type that holds itself", """#[derive(Debug, PartialEq, Readable, Writable)]
+#[speedy(depth = 10)]
+struct A(u8, Option<Box<Self>>, [u8; 3], Vec<(String, A)>, #[speedy(skip)] u8);
+#[derive(Readable)]
+#[speedy(depth = 3)]
+struct B { text: String, all: Vec<Vec<B>> }
+#[derive(Writable)]
+#[speedy(depth = 1)]
+struct C { all: Vec<C> }
+""", ["#[derive(Debug, PartialEq, Drop)]", "struct A(u8, Option<Box<A>>, [u8; 3], Vec<(String, A)>, u8);",
+      "    Both<Optional<Boxed<Itself>>, Both<Own<AOwn3>, Listed<Both<Own<AOwn>, Itself>>>>,",
+      "    type Parts = String;", "impl ReadOwn for AOwn {", "impl WriteOwn for AOwn {", "    type Parts = u8;",
+      "ghost use Rattle.my_crate.specs.declared.messages.ALevel.{fold-ALevel};",
+      "const A_LEVELS: &ALevel = level_chain!(8, ALevel, level_chain!(2, ALevel));",
+      "(λ value. let it = out-A value in (", "ghost Seen = { (at_level ⟦<A as Recursive>⟧.layer 10).Value };",
+      "                let (t0, parts2) = parts3;", "Ok(A(t0, t1, t2, t3, Default::default()))",
+      "        9\n", "let parts = (value.0, (&value.1, (Part(&value.2), &value.3)));",
+      "WriteBelow::<A, ALent<'_>>::write_below::<C2, W>(below, &parts, writer)",
+      "Both<Own<BOwn>, Listed<Listed<Itself>>>", "level_chain!(2, BLevel, level_chain!(1, BLevel));",
+      "type CParts = Listed<Itself>;", "            return Err(error_out_of_range_length());"]),
+]
+
 # Each has a line of the source that is noted, words of the note, and lines of what is made.
 NOTED = [
     ("a derive that the kit has not",

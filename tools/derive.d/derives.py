@@ -94,8 +94,9 @@ class Derives:
         for line, name in item.left_out:
             self.scope.notes.append((line, f"`{name}` of `{item.name}` is left out: Rattle derives none"))
         kept = dict.fromkeys(item.derives)
+        own = {**self.kept, item.name: (*item.derives, "Drop")}
         for name in item.derives:
-            lacking = next((found for found in (prevents(name, kind, self.kept) for kind in kinds) if found), None)
+            lacking = next((found for found in (prevents(name, kind, own) for kind in kinds) if found), None)
             if lacking:
                 del kept[name]
                 self.scope.notes.append((item.line, f"`{name}` of `{item.name}` is left out: in Rattle `{lacking}` has "

@@ -161,7 +161,8 @@ class Clause:
             both = " ".join(self.function(it, given) for it in arguments)
             return f"list_tells (same_pairs {both}) {x}.entries {y}.entries"
         if name not in self.own:
-            own = f"`{name}` has to derive `PartialEq`, `Eq`, and `PartialOrd` and `Ord`, or `Hash`"
+            own = f"`{name}` has to derive `PartialEq`, `Eq`, and `PartialOrd` and `Ord`, or `Hash`, and to have no " \
+                  "`depth`"
             reason = f", since {NO_KEYS[name]}" if name in NO_KEYS else ""
             raise NoKey(x, name, own if isinstance(kind, rattle.Own) else f"`{name}` has no `SameKey`{reason}")
         own = self.own[name]

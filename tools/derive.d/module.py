@@ -1,4 +1,6 @@
 """Makes the module: the types as Rattle has them, and their impls."""
+from dataclasses import replace
+
 import asked
 import attributes
 import expressions
@@ -51,7 +53,7 @@ class Made:
             by_module.setdefault(module, []).append(name)
         ordered = sorted(by_module.items(), key=lambda it: not it[0].endswith(".Prelude"))
         return [f"ghost use {module}.{{{', '.join(some)}}};" for module, names in ordered
-                for some in in_lines(names, rattle.CLAUSE_WIDTH - len(module))]
+                for some in rattle.in_lines(names, rattle.CLAUSE_WIDTH - len(f"ghost use {module}.{{}};"))]
 
     @property
     def text(self):
@@ -75,6 +77,8 @@ class ModuleMaker:
         for item in file.items:
             if isinstance(item, syntax.Declared):
                 attributes.of_item(item, self.scope)
+                if item.depth:
+                    name_itself(item)
         # Those that derive neither trait, and are made without impls, since fields that are skipped hold them.
         self.plain = plain_types(file.items)
         file.items = [item for item in file.items if self.is_made(item)]
@@ -135,7 +139,7 @@ class ModuleMaker:
         if isinstance(item, syntax.Enum):
             made = enum_lines(item, self.scope, self.place)
         else:
-            made = struct_lines(item, self.scope)
+            made = struct_lines(item, self.scope, self.place)
         return declared + [""] + self.scope.beside + made
 
     def alias_lines(self, item):
@@ -167,16 +171,25 @@ class ModuleMaker:
             field.options = attributes.of_field(field, self.notes)
 
 
-def in_lines(names, room):
-    """Names in lists that each have room on a line."""
-    found, length = [[]], 0
-    for name in names:
-        length += len(name) + 2
-        if length > room - len("ghost use .{};") and found[-1]:
-            found.append([])
-            length = len(name) + 2
-        found[-1].append(name)
-    return found
+def name_itself(item):
+    """Puts the name of a type in place of `Self` in its fields."""
+    for variant in item.variants if isinstance(item, syntax.Enum) else [item]:
+        for field in variant.fields:
+            field.type = renamed(field.type, item.name)
+
+
+def renamed(kind, name):
+    """A type of the source with a name in place of `Self`."""
+    if isinstance(kind, syntax.Tuple):
+        return replace(kind, parts=tuple(renamed(it, name) for it in kind.parts))
+    if isinstance(kind, (syntax.Array, syntax.Slice)):
+        return replace(kind, item=renamed(kind.item, name))
+    if isinstance(kind, syntax.Reference):
+        return replace(kind, target=renamed(kind.target, name))
+    if isinstance(kind, syntax.Named):
+        path = (name,) if kind.path == ("Self",) else kind.path
+        return replace(kind, path=path, arguments=tuple(renamed(it, name) for it in kind.arguments))
+    return kind
 
 
 def is_default(variant):
@@ -208,7 +221,8 @@ def in_order(items):
         waiting = [first] if first.name not in ordered else []
         while waiting:
             item = waiting[-1]
-            held = [by_name[it] for it in sorted(holds[item.name]) if it not in ordered]
+            held = [by_name[it] for it in sorted(holds[item.name]) if it not in ordered
+                    and not (it == item.name and getattr(item, "depth", 0))]
             if item.name in ordered or not held:
                 waiting.pop()
                 ordered[item.name] = item
@@ -216,10 +230,18 @@ def in_order(items):
             open_names.add(item.name)
             for it in held:
                 if it.name in open_names:
-                    raise Refusal(it.line, f"`{it.name}` holds itself, so its values need a bound on their depth: "
-                                           "write its impls by hand, with `Levels`, as `Tree` has them")
+                    raise holds_itself(item, it)
             waiting.append(held[0])
     return list(ordered.values())
+
+
+def holds_itself(item, held):
+    """The refusal of a type that an item of those that it holds holds again."""
+    if item.name != held.name:
+        return Refusal(held.line, f"`{held.name}` holds itself through `{item.name}`, and types that hold each other "
+                                  "are not taken: put the parts of the one into the other, or write the impls by hand")
+    return Refusal(held.line, f"`{held.name}` holds itself, so its values need a bound on their depth: set it at the "
+                              "type, as `#[speedy(depth = 16)]`")
 
 
 def has_types(file):

@@ -175,6 +175,18 @@ def clause_text(tree):
     return "(" + ", ".join(clause_text(it) for it in tree) + ")" if isinstance(tree, list) else tree
 
 
+def in_lines(names, room):
+    """Names in lists that each have room on a line."""
+    found, length = [[]], 0
+    for name in names:
+        length += len(name) + 2
+        if length > room:
+            found.append([])
+            length = len(name) + 2
+        found[-1].append(name)
+    return found
+
+
 def clause_lines(indent, before, tree, behind):
     """A tuple of clauses, with one a line where they do not fit."""
     one = " " * indent + before + clause_text(tree) + behind

@@ -304,8 +304,8 @@ class Converter:
                 raise Refusal(kind.line, f"the parameter `{path[0]}` is applied to nothing")
             return self.bound.get(path[0]) or Variable(kind.line, path[0])
         if path[0] == "Self":
-            raise Refusal(kind.line, "a type that holds itself needs a bound on its depth: write its impls by hand, "
-                                     "with `Levels`")
+            raise Refusal(kind.line, "a type that holds itself needs a bound on its depth: set it at the type, as "
+                                     "`#[speedy(depth = 16)]`")
         if len(path) == 1 and path[0] in self.scope.items:
             return self.own(kind)
         full = self.scope.full_path(path)

@@ -5,6 +5,7 @@ import whole
 from impls import Shape
 from parts import (PartMaker, accesses_of_struct, built, outline, read_arm, seen_of_parts, write_statements, written)
 from rattle import Block, Call, Match, clause_lines, type_text
+from recursive_structs import RecursiveStructShape
 from sizes import least
 
 
@@ -55,7 +56,9 @@ class StructShape(Shape):
         return str(Match(read, ((Call(ok, (pattern,)), value), (f"{err}(error)", f"{err}(error)"))))
 
 
-def struct_lines(item, scope):
-    """The impls of a struct."""
+def struct_lines(item, scope, place):
+    """The impls of a struct. `place` is the path of the module that holds it."""
+    if item.depth:
+        return RecursiveStructShape(item, scope, place).lines()
     shape = whole.WholeShape if whole.ends_with_input(item) else StructShape
     return shape(item, scope).lines()

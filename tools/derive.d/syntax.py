@@ -230,6 +230,8 @@ class Declared:
     asked: list = field(default_factory=list)
     # Why it is not read further, where it is not.
     refusal: object = None
+    # How many levels its values have at most, where they hold values of the type itself.
+    depth: int = 0
 
 
 @dataclass

@@ -99,3 +99,6 @@ pub mod Levels
 pub mod ReadLevels
 pub mod WriteLevels
 pub mod ToldFrames
+pub mod Layers
+pub mod ReadLayers
+pub mod WriteLayers

@@ -13,6 +13,7 @@ pub mod ext;
 pub mod laws;
 pub mod layout;
 pub mod lengths;
+pub mod levels;
 pub mod prefixed;
 pub mod private;
 pub mod readable_impl;

@@ -224,46 +224,46 @@ where
 
 /// Generic in a number.
 #[derive(Drop)]
-pub enum Chunk<const N: usize> {
+pub enum Piece<const N: usize> {
     Raw([u8; N]),
     Numbered { id: u16, items: [u16; N] },
 }
 
-/// The cases of [`Chunk`], each with its tag.
-type ChunkCases<const N: usize> = Either<Case<0, [u8; N]>, Case<1, (u16, [u16; N])>>;
+/// The cases of [`Piece`], each with its tag.
+type PieceCases<const N: usize> = Either<Case<0, [u8; N]>, Case<1, (u16, [u16; N])>>;
 
-impl<const N: usize> Cases for Chunk<N> {
-    ghost use Rattle.speedy_derived.specs.declared.generic_enums.Chunk.{Chunk};
+impl<const N: usize> Cases for Piece<N> {
+    ghost use Rattle.speedy_derived.specs.declared.generic_enums.Piece.{Piece};
 
-    ghost Seen = { ⟦<ChunkCases<N> as CaseTree>⟧.Seen };
+    ghost Seen = { ⟦<PieceCases<N> as CaseTree>⟧.Seen };
 
     ghost seen = { λ it. elim it [
-      | Chunk.Raw t0 ↦ inl (⟦<[u8; N] as Layout>⟧.seen t0)
-      | Chunk.Numbered t0 t1 ↦ inr (⟦<(u16, [u16; N]) as Layout>⟧.seen (t0, t1))
+      | Piece.Raw t0 ↦ inl (⟦<[u8; N] as Layout>⟧.seen t0)
+      | Piece.Numbered t0 t1 ↦ inr (⟦<(u16, [u16; N]) as Layout>⟧.seen (t0, t1))
     ] };
 
-    ghost choices = { ⟦<ChunkCases<N> as CaseTree>⟧.choices };
+    ghost choices = { ⟦<PieceCases<N> as CaseTree>⟧.choices };
 }
 
-impl<const N: usize> Layout for Chunk<N> {
-    ghost Seen = { ⟦<Prefixed<u8, Chunk<N>> as Layout>⟧.Seen };
+impl<const N: usize> Layout for Piece<N> {
+    ghost Seen = { ⟦<Prefixed<u8, Piece<N>> as Layout>⟧.Seen };
 
-    ghost seen = { ⟦<Chunk<N> as Cases>⟧.seen };
+    ghost seen = { ⟦<Piece<N> as Cases>⟧.seen };
 
-    ghost layout = { ⟦<Prefixed<u8, Chunk<N>> as Layout>⟧.layout };
+    ghost layout = { ⟦<Prefixed<u8, Piece<N>> as Layout>⟧.layout };
 }
 
-impl<L: AsSlice<u8> + Drop, C: Context, const N: usize> ReadCases<L, C> for Chunk<N> {
-    fn read_case<R: LendingReader<L, C>>(tag: usize, reader: &mut R) -> Result<Chunk<N>, C::Error> {
+impl<L: AsSlice<u8> + Drop, C: Context, const N: usize> ReadCases<L, C> for Piece<N> {
+    fn read_case<R: LendingReader<L, C>>(tag: usize, reader: &mut R) -> Result<Piece<N>, C::Error> {
         match tag {
             0 => match reader.read_value() {
-                Ok(t0) => Ok(Chunk::Raw(t0)),
+                Ok(t0) => Ok(Piece::Raw(t0)),
                 Err(error) => Err(error),
             },
             1 => match reader.read_value() {
                 Ok(parts) => {
                     let (id, items) = parts;
-                    Ok(Chunk::Numbered { id, items })
+                    Ok(Piece::Numbered { id, items })
                 }
                 Err(error) => Err(error),
             },
@@ -272,10 +272,10 @@ impl<L: AsSlice<u8> + Drop, C: Context, const N: usize> ReadCases<L, C> for Chun
     }
 }
 
-impl<L: AsSlice<u8> + Drop, C: Context, const N: usize> ReadFrom<L, C> for Chunk<N> {
+impl<L: AsSlice<u8> + Drop, C: Context, const N: usize> ReadFrom<L, C> for Piece<N> {
     type Strategy = ItemByItem<C>;
 
-    fn read_from<R: LendingReader<L, C>>(reader: &mut R) -> Result<Chunk<N>, C::Error> {
+    fn read_from<R: LendingReader<L, C>>(reader: &mut R) -> Result<Piece<N>, C::Error> {
         read_tagged::<u8, Self, L, C, R>(reader)
     }
 
@@ -284,23 +284,23 @@ impl<L: AsSlice<u8> + Drop, C: Context, const N: usize> ReadFrom<L, C> for Chunk
     }
 }
 
-impl<C: Context, const N: usize> WriteCases<C> for Chunk<N> {
+impl<C: Context, const N: usize> WriteCases<C> for Piece<N> {
     fn tag(&self) -> usize {
         match self {
-            Chunk::Raw(..) => 0,
-            Chunk::Numbered { .. } => 1,
+            Piece::Raw(..) => 0,
+            Piece::Numbered { .. } => 1,
         }
     }
 
     fn write_case<W: Writer<C>>(&self, writer: &mut W) -> Result<(), C::Error> {
         match self {
-            Chunk::Raw(t0) => writer.write_value(t0),
-            Chunk::Numbered { id, items } => writer.write_value(&(*id, Part(items))),
+            Piece::Raw(t0) => writer.write_value(t0),
+            Piece::Numbered { id, items } => writer.write_value(&(*id, Part(items))),
         }
     }
 }
 
-impl<C: Context, const N: usize> Writable<C> for Chunk<N> {
+impl<C: Context, const N: usize> Writable<C> for Piece<N> {
     fn write_to<W: Writer<C>>(&self, writer: &mut W) -> Result<(), C::Error> {
         write_tagged::<u8, Self, C, W>(self, writer)
     }

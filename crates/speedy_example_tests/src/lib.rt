@@ -7,6 +7,8 @@
 mod callers;
 pub mod first;
 #[cfg(test)]
+mod own_tree;
+#[cfg(test)]
 mod own_types;
 #[cfg(test)]
 mod tasks;

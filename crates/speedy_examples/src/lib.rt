@@ -19,6 +19,7 @@ pub mod own_maps;
 pub mod own_numbers;
 pub mod own_parts;
 pub mod own_struct;
+pub mod own_tree;
 pub mod own_types;
 pub mod readme;
 pub mod records;

@@ -1,0 +1,22 @@
+//! Types whose values hold values of their own type, each with a bound on its levels.
+use speedy::{Readable, Writable};
+
+/// A value with a name, and the nodes below it.
+#[derive(Debug, PartialEq, Readable, Writable)]
+#[speedy(depth = 16)]
+pub struct Node {
+    pub value: u8,
+    pub name: String,
+    pub children: Vec<Node>,
+}
+
+/// A step, what may follow it, a mark, and other steps by their names.
+#[derive(Debug, PartialEq, Readable, Writable)]
+#[speedy(depth = 10)]
+pub struct Step(
+    pub u16,
+    pub Option<Box<Self>>,
+    pub [u8; 3],
+    pub Vec<(String, Step)>,
+    #[speedy(skip)] pub u8,
+);

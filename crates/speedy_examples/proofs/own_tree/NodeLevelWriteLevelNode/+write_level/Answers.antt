@@ -1,0 +1,16 @@
+use Rattle.std.proofs.Common.{rules}
+use Rattle.speedy.specs.Layers.{layer_of, pair_layer, own_layer, list_layer, its_layer}
+use Rattle.speedy.specs.WriteLayers.{none_written, value_written}
+use Rattle.speedy_examples.specs.declared.own_tree.NodeLevel.{the_lemmas as level_lemmas}
+use Rattle.speedy_examples.proofs.own_tree.NodeLevelWriteLevelNode.+write_level.Goals as goal
+
+pub returns-in_default : goal.returns-in_default
+returns-in_default g t c =
+    let last = c.in_default.is in
+    none_written _ _ (search (rules, level_lemmas)) c.error_out_of_range_length.ensures
+
+pub returns : goal.returns
+unfolding layer_of pair_layer own_layer list_layer its_layer
+returns g t c =
+    let above = c.in-Some.is in
+    value_written _ _ c.write_below.ensures (search (rules, level_lemmas))
