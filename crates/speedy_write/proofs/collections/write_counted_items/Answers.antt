@@ -1,9 +1,6 @@
 use Rattle.std.proofs.Common.{sym}
-use Rattle.speedy_layout.specs.Lists.{vector}
 use Rattle.speedy_layout.specs.Sequences.{so_many}
 use Rattle.speedy_write.specs.Sequences.{is_sequence, first_refused, second_written}
-use Rattle.speedy_write.proofs.CollectionLemmas.{shown_items_written}
-use Rattle.speedy_write.proofs.OwnedLemmas.{owned_written}
 use Rattle.speedy_write.proofs.collections.write_counted_items.Goals as goal
 
 pub returns-in_err-write_number : goal.returns-in_err-write_number
@@ -11,7 +8,6 @@ returns-in_err-write_number g c = λ shown same always.
     first_refused is_sequence (so_many _ shown (sym same)) c.from_residual.ensures.1 c.in_err-write_number.ensures
 
 pub returns : goal.returns
-unfolding vector
 returns g c = λ shown same always.
     second_written is_sequence (so_many _ shown (sym same)) g.N.Prefix.numbers.codec.laws
     (g.met.W.Writer.additive _ _ _) c.in_ok-write_number.ensures
