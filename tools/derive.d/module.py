@@ -94,9 +94,10 @@ class ModuleMaker:
                 self.notes.append((item.line, f"the module `{item.name}` is left out of what is made"))
                 del self.scope.items[item.name]
                 return False
-        if isinstance(item, syntax.Declared) and item.refusal and (not syntax.is_plain(item) or item.name in self.plain):
+        is_plain = isinstance(item, syntax.Declared) and syntax.is_plain(item)
+        if isinstance(item, syntax.Declared) and item.refusal and (not is_plain or item.name in self.plain):
             raise item.refusal
-        if isinstance(item, syntax.Declared) and syntax.is_plain(item):
+        if is_plain:
             left = "is made without impls, since a field with `skip` holds it" if item.name in self.plain else \
                 "is left out of what is made: it stays in this file"
             self.notes.append((item.line, f"`{item.name}` derives neither `Readable` nor `Writable`, and {left}"))
