@@ -217,6 +217,23 @@ BROKEN = [
     ("a key with a field that is skipped", "use std::collections::BTreeSet;\n" + struct("    a: BTreeSet<B>")
      + "#[derive(PartialEq, Eq, PartialOrd, Ord, Readable, Writable)]\nstruct B(u8, #[speedy(skip)] u8);", 5,
      "a field is skipped"),
+    # Arrays that get no proof.
+    ("an array of cows", "use std::borrow::Cow;\n" + HEAD + DERIVES + "struct A<'a>([Cow<'a, str>; 2], u8);", 4,
+     "both owns memory and borrows, which finds no proof: hold it in a `Box`"),
+    ("an array that borrows in a variant", HEAD + DERIVES + "enum A<'a> { B(Option<[&'a str; 2]>), C }", 3,
+     "borrows, and stands in a variant"),
+    ("a struct with an array that borrows in a variant", HEAD + DERIVES + "struct A<'a>([&'a str; 2]);\n" + DERIVES
+     + "enum B<'a> { C(u8, A<'a>) }", 5, "borrows, and stands in a variant"),
+    ("an array of a parameter beside a text that is borrowed", HEAD + DERIVES + "struct A<'a, T>(&'a str, [T; 2]);", 3,
+     "a parameter beside what borrows, which finds no proof: hold it in a tuple of one part"),
+    ("a list of arrays of any length", HEAD + DERIVES + "struct A<const N: usize>(Vec<(u8, [u8; N])>);", 3,
+     "whose size a parameter says, which finds no proof"),
+    ("a box of a struct with an array of a parameter", HEAD + DERIVES + "struct A<T>([T; 2]);\n" + DERIVES
+     + "struct B<T>(u8, Box<A<T>>);", 5, "whose size a parameter says, which finds no proof"),
+    ("an array as long as no `usize`", struct("    a: [u8; 4_u8]"), 4, "`4_u8` is a `u8`"),
+    ("an array of any length beside a text that is borrowed", HEAD + DERIVES
+     + "struct A<'a, const N: usize>(&'a str, [String; N]);", 3, "as long as a parameter says"),
+    ("an array of nothing", struct("    a: [(); 2]"), 4, "of what has no bytes"),
     ("an alias of what is no part", "use std::sync::Arc;\ntype B = Arc<u8>;\n" + struct("    a: B"), 2, "`Arc`"),
     ("a skipped field of what is not read", "struct B(fn(u8));\n" + struct("    #[speedy(skip)]\n    a: Option<B>"), 1,
      "a function pointer"),

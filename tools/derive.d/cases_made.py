@@ -77,6 +77,14 @@ pub struct Contact {
      ["ghost use Rattle.speedy.specs.Equality.{ip_tells, option_tells, order_tells};",
       "(ip_tells ⟦<IpAddr as SameKey>⟧.eq (λ v w. refl) (λ v w. refl) (λ v w. refl) (λ v w. refl) x.0 y.0)",
       "(option_tells (λ v1 w1. order_tells ⟦<Endianness as SameKey>⟧.eq refl refl refl refl v1 w1) x.1 y.1)"]),
+    ("casts that lose bits", "const A: u8 = 300u16 as u8 + 1;\nconst B: i64 = (200 + A as i32) as i8 as i64;\n"
+     + DERIVES + "enum C { D = (260u32 as u8) as isize, E = 256 as u16 as isize }\n",
+     ["const A: u8 = 44 + 1;", "const B: i64 = -11 as i64;", "    D = 4 as isize,\n    E = 256 as u16 as isize,"]),
+    ("arrays beside what borrows", "use std::borrow::Cow;\n" + DERIVES
+     + "struct A<'a, T>([&'a str; 2], [String; 2], Box<[Cow<'a, str>; 2]>, ([T; 2],), Vec<T>);\n" + DERIVES
+     + "enum B<'a, T> { C([String; 2], Box<[&'a str; 2]>), D(Option<[T; 2]>), E([u8; 2], &'a str) }\n" + DERIVES
+     + "struct C<T>([T; 2]);\n" + DERIVES + "struct D<T>(Vec<C<u8>>, Option<C<T>>);\n",
+     ["let (t0, t1, t2, t3, t4) = parts;", "let (t0, t1) = parts;"]),
     ("keys that borrow", "use std::collections::{BTreeMap, BTreeSet};\n" + DERIVES
      + "struct A<'a>(BTreeMap<&'a str, u8>, BTreeSet<&'a [u8]>);\n",
      ["struct A<'a>(BTreeMap<&'a str, u8>, BTreeSet<&'a [u8]>);"]),
@@ -432,7 +440,7 @@ class Random:
         if depth == 0 or self.random.random() < 0.4:
             return self.random.choice(leaves)
         form = self.random.choice(["Vec<{}>", "Option<{}>", "({}, {})", "BTreeMap<u16, {}>", "HashMap<String, {}>",
-                                   "[{}; 31]", "Result<{}, {}>", "Box<[{}]>", "Box<str>", "Box<{}>", "({}, {}, {})",
+                                   "[u16; 31]", "Result<{}, {}>", "Box<[{}]>", "Box<str>", "Box<{}>", "({}, {}, {})",
                                    "Range<{}>"])
         return form.format(*(self.kind(depth - 1, borrows, parameters) for _ in range(form.count("{}"))))
 

@@ -1,6 +1,9 @@
 """The expressions of constants, lengths and tags: read, evaluated and written."""
+from dataclasses import replace
+
 import syntax
 from refusal import Refusal
+from tokens import Token
 
 # How tightly a sign binds. Comparisons stand in no row.
 COMPARED = ("==", "!=", "<", ">", "<=", ">=")
@@ -222,6 +225,27 @@ def binary_number(value, left, right):
     if found.bit_length() > MOST_BITS:
         raise Refusal(value.line, "this number is past each type")
     return found
+
+
+def without_lost_bits(value, constants):
+    """An expression with the number in place of each cast that loses bits, which Rattle refuses in a constant."""
+    if isinstance(value, syntax.Binary):
+        left, right = (without_lost_bits(it, constants) for it in (value.left, value.right))
+        return replace(value, left=left, right=right)
+    if isinstance(value, syntax.Items):
+        return replace(value, items=tuple(without_lost_bits(it, constants) for it in value.items))
+    if isinstance(value, syntax.Cast):
+        try:
+            found = number(value, constants)
+            is_kept = found == number(value.inner, constants)
+        except Refusal:
+            is_kept = True
+        if not is_kept:
+            literal = syntax.Literal(Token("integer", str(abs(found)), value.line, abs(found)))
+            return literal if found >= 0 else syntax.Unary(value.line, "-", literal)
+    if isinstance(value, (syntax.Cast, syntax.Unary)):
+        return replace(value, inner=without_lost_bits(value.inner, constants))
+    return value
 
 
 def written(value, of_type, names=lambda path: "::".join(path), outer=0):

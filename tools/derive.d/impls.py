@@ -112,7 +112,8 @@ class Shape:
         return f"<{kind} as {trait}<{self.lent()}, {self.generics.context}>>::minimum_bytes_needed()"
 
     def sum_of_least(self, kind):
-        """The least size of a tuple, part by part: a call at the tuple would owe that an array in it has a size."""
+        """The least size of a tuple, part by part: a call at the tuple would owe that an array in it has a size, which
+        a parameter says."""
         known = least(kind, self.scope)
         if known is not None:
             return f"{known}_usize"
@@ -129,7 +130,7 @@ class Shape:
         known = self.scope.least[self.item.name]
         if known is not None:
             body = str(known)
-        elif any(isinstance(kind, syntax.Array) for kind in self.kinds):
+        elif self.item.name in self.scope.with_open_arrays:
             body = self.sum_of_least(self.tuple_type)
         else:
             body = self.least_of(self.parts_type)

@@ -125,7 +125,8 @@ class ModuleMaker:
             return [*docs(item), f"{item.visibility}mod {item.name} {{", *head, *inner, "}", ""]
         if isinstance(item, syntax.Constant):
             kind = type_text(self.scope.of_constant(item.type))
-            value = expressions.written(item.value, self.of_cast)
+            value = expressions.without_lost_bits(item.value, self.scope.constants)
+            value = expressions.written(value, self.of_cast)
             return [*docs(item), f"{item.visibility}const {item.name}: {kind} = {value};", ""]
         if isinstance(item, syntax.Alias):
             return self.alias_lines(item)
@@ -319,7 +320,8 @@ class Declaration:
             and not any(it.name == "repr" for it in self.item.attributes)
         if variant.discriminant is None or not is_plain:
             return ""
-        return " = " + expressions.written(variant.discriminant, self.of_cast)
+        value = expressions.without_lost_bits(variant.discriminant, self.scope.constants)
+        return " = " + expressions.written(value, self.of_cast)
 
 
 def with_skipped(items, holds):

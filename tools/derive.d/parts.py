@@ -1,6 +1,7 @@
 """The parts of a struct or of a variant: how each is read, seen and written."""
 from dataclasses import dataclass, field
 
+import arrays
 import asked
 import defaults
 import lengths
@@ -150,6 +151,7 @@ class PartMaker:
         for place, (it, access) in enumerate(zip(fields, accesses)):
             kind = self.scope.of_field(it, self.item)
             asked.check(kind, self.scope, it, self.item.readable)
+            arrays.check(self.item, self.scope, it, kind)
             if it.options.skip:
                 value, defaulted = defaults.default(kind, self.scope, it.line) if self.item.readable else ("", ())
                 found.values.append(value)

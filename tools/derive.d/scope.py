@@ -45,6 +45,11 @@ class Scope:
         self.ghost_paths = made.ghost_paths
         # The least sizes of the types of this file that are made, and of the bytes before fields, by their names.
         self.least = {}
+        # Which types of this file hold an array whose type names a lifetime, or whose size a parameter says, and
+        # whether each owns memory.
+        self.with_lent_arrays = set()
+        self.with_open_arrays = set()
+        self.owning = {}
         # What asks of the parameters of each type of this file, by its name.
         self.asked = {}
         # The labels of the fields that lengths of others name, and how their structs hold them, by the structs' names.
@@ -251,6 +256,8 @@ class Converter:
         if isinstance(value, syntax.Named) and not value.arguments:
             value = syntax.Mention(value.line, value.path)
         if isinstance(value, syntax.Literal) and value.token.kind == "integer":
+            if value.token.suffix not in ("", None, "usize"):
+                raise Refusal(line, f"here stands a `usize`, and `{value.token.text}` is a `{value.token.suffix}`")
             text = value.token.text.removesuffix("usize").removesuffix("_")
             return str(value.token.value) if text.isdigit() and text.startswith("0") else text
         if isinstance(value, syntax.Mention) and len(value.path) == 1:

@@ -1,4 +1,5 @@
 """The impls of a struct that ends where the bytes do: by a rest without a length, or parts that may be missing."""
+import arrays
 import asked
 import defaults
 import rattle
@@ -45,6 +46,7 @@ class WholeShape(Shape):
                      for it, access in zip(item.fields[place:], accesses[place:])]
         for it, _, kind in self.last:
             asked.check(kind, scope, it, item.readable)
+            arrays.check(item, scope, it, kind)
         self.check_last()
         kinds = [Part(kind, access.bound) for it, access, kind in self.last]
         ends = Taken(item, [], [], parts=kinds)
