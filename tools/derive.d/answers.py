@@ -1,9 +1,10 @@
 """The proofs of enums of many variants or parts, which the source determines: a search finds the same for few."""
 import rattle
 
-# An enum of fewer variants, whose parts are made of fewer types, needs none.
-MANY_VARIANTS = 12
-MANY_TYPES = 20
+# An enum of fewer variants, whose parts are made of fewer types, needs none. A type of the same file stands for its own.
+MANY_VARIANTS = 6
+MANY_TYPES = 12
+TYPES_OF_OWN = 4
 
 
 def answers(shape, place):
@@ -57,4 +58,5 @@ def read_answers(shape):
 
 def types_in(kind):
     """How many types a type is made of."""
-    return 1 + sum(types_in(it) for it in rattle.parts_of(kind))
+    own = TYPES_OF_OWN if isinstance(kind, rattle.Own) else 1
+    return own + sum(types_in(it) for it in rattle.parts_of(kind))

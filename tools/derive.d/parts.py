@@ -55,7 +55,7 @@ class Part:
     tree: object = None
 
     def is_signed(self):
-        """Whether it is a signed number, of which a tuple holds one and is short, or it gets no proof as it is."""
+        """Whether it is a signed number, which in a tuple gets no proof as it is, beside some others."""
         return is_listed(self.type, *SIGNED)
 
     def lent(self, scope):
@@ -356,11 +356,8 @@ def written(taken, scope):
 
 def written_among(taken, scope):
     """The same, as a value that other parts stand beside."""
-    count = sum(part.is_signed() for part in taken.parts)
-    is_bare = count == 1 and not is_nested(taken.tree) and len(taken.parts) <= PARTS_OF_MANY
-
     def among(part):
         """A part among others."""
-        return part.lent(scope) if part.is_signed() and not is_bare else part.among(scope)
+        return part.lent(scope) if part.is_signed() else part.among(scope)
 
     return fold(taken.tree, among, lambda its: Call("", tuple(its)))

@@ -86,7 +86,7 @@ impl<'a, C: Context> ReadToEnd<&'a [u8], C> for Line<'a> {
 
 impl<'a, C: Context> WriteToEnd<C> for Line<'a> {
     fn write_to_end<W: Writer<C>>(&self, writer: &mut W) -> Result<(), C::Error> {
-        Followed((Part(&self.key), self.level), Rest(Part(&self.text))).write_to_end(writer)
+        Followed((Part(&self.key), Part(&self.level)), Rest(Part(&self.text))).write_to_end(writer)
     }
 }
 

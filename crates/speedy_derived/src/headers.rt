@@ -244,7 +244,7 @@ impl<C: Context> WriteCases<C> for Sample {
 
     fn write_case<W: Writer<C>>(&self, writer: &mut W) -> Result<(), C::Error> {
         match self {
-            Sample::Load(t0, t1) => writer.write_value(&(Part(t0), *t1)),
+            Sample::Load(t0, t1) => writer.write_value(&(Part(t0), Part(t1))),
             Sample::Named { key, name } => writer.write_value(&(Part(key), Part(name))),
         }
     }

@@ -61,7 +61,7 @@ impl<L: AsSlice<u8> + Drop, C: Context> ReadFrom<L, C> for Place {
 
 impl<C: Context> Writable<C> for Place {
     fn write_to<W: Writer<C>>(&self, writer: &mut W) -> Result<(), C::Error> {
-        writer.write_value(&(self.row, self.column))
+        writer.write_value(&(self.row, Part(&self.column)))
     }
 }
 

@@ -188,7 +188,7 @@ impl<L: AsSlice<u8> + Drop, C: Context> ReadFrom<L, C> for Reading {
 
 impl<C: Context> Writable<C> for Reading {
     fn write_to<W: Writer<C>>(&self, writer: &mut W) -> Result<(), C::Error> {
-        writer.write_value(&(self.second, self.value))
+        writer.write_value(&(self.second, Part(&self.value)))
     }
 }
 
