@@ -137,6 +137,9 @@ BROKEN = [
     ("a number with a length", told("n", "u8", "u64").replace("length", "varint, length"), 5, "a number has no length"),
     ("an option between a number and a length",
      told("n", "u8,\n    #[speedy(length_type = u8)]\n    b: Option<String>"), 6, "a struct of its own"),
+    ("a wide tuple and a list of options before a length",
+     struct("    n: u8,\n    b: Vec<Option<u32>>,\n    c: (u8, u8, u8, u8, u8),\n    #[speedy(length = n)]\n"
+            "    a: Vec<u8>"), 8, "nests too deep"),
     # Types.
     ("a reference to floats", HEAD + DERIVES + "struct A<'a>(&'a [f64]);", 3, "SliceView<'a, F64>"),
     ("an atomic", "use std::sync::atomic::AtomicU8;\n" + struct("    a: AtomicU8"), 5, "hold the number"),
