@@ -1,7 +1,8 @@
 """The proofs of enums of many variants or parts, which the source determines: a search finds the same for few."""
 import rattle
 
-# An enum of fewer variants, whose parts are made of fewer types, needs none. A type of the same file stands for its own.
+# An enum of fewer variants, whose parts are made of fewer types, needs none. A type of the same file stands for the
+# types that it is made of.
 MANY_VARIANTS = 6
 MANY_TYPES = 12
 TYPES_OF_OWN = 4
