@@ -11,7 +11,7 @@ TYPES_OF_OWN = 4
 def answers(shape, place):
     """The answers of an enum's `write_case` and `read_case`: the path of each file below the crate's folder, and its
     text."""
-    if len(shape.cases) < MANY_VARIANTS and sum(types_in(kind) for kind in shape.kinds) < MANY_TYPES:
+    if not needs_answers(shape):
         return {}
     crate, *modules = place
     name, lent = shape.item.name, "RefSliceU8" if shape.generics.lending else ""
@@ -33,10 +33,15 @@ def write_answers(shape):
         # The first call has its name alone; each later one names the arm that it stands in.
         name = case.variant.name
         step = f"write_value-in-{name}" if place else "write_value"
-        if not any(part.statements() for part in case.taken.parts):
+        if not case_branches(case):
             found += ["", f"pub returns-in-{name} : goal.returns-in-{name}",
                       f"returns-in-{name} g c = rw c.in-{name}.is c.{step}.ensures"]
     return found
+
+
+def case_branches(case):
+    """Whether an arm makes an option by a `match` of its own, after which goals have other names."""
+    return any(part.is_option and part.statements() for part in case.taken.parts)
 
 
 def read_answers(shape):
@@ -55,6 +60,16 @@ def read_answers(shape):
                       f"    let read = rw c.in-{arm}{end}.is at c.{step}.ensures in rw c.in-{tag}.is (read.kept, "
                       "read.answer)"]
     return found
+
+
+def needs_answers(shape):
+    """Whether a search may meet its limit: in many variants or parts, or where a part is written by a value that is
+    bound before."""
+    if len(shape.cases) == 1:
+        return False
+    types = sum(types_in(kind) for kind in shape.kinds)
+    bound = any(part.statements() for case in shape.cases for part in case.taken.parts)
+    return bound or len(shape.cases) >= MANY_VARIANTS or types >= MANY_TYPES
 
 
 def types_in(kind):
