@@ -170,8 +170,12 @@ class WholeShape(Shape):
                               (Call(some, (Call("", (bound, behind)),)), self.unless_end(place + 1, [*values, bound]))))
 
     def default(self, it, kind):
-        """The default of a part that is missing."""
-        return defaults.default(kind, self.scope, it.line)[0].replace(defaults.ALLOC, "alloc")
+        """The default of a part that is missing. One that may find no memory is refused: no error says so there."""
+        value = defaults.default(kind, self.scope, it.line)[0]
+        if "error_out_of_memory" in value:
+            raise Refusal(it.line, "the default of this type takes memory, for want of which `from_parts` has no "
+                                   "answer: hold it in an `Option`, whose default takes none")
+        return value.replace(defaults.ALLOC, "alloc")
 
     # Writing.
 
