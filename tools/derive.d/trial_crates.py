@@ -59,6 +59,13 @@ class Repository:
             self.write_list()
         return crate
 
+    def lay_proofs(self, name, answers):
+        """Writes the proofs that are made with the modules of a crate, by their paths below its folder."""
+        for path, text in answers.items():
+            file = self.folder / "crates" / name / path
+            file.parent.mkdir(parents=True, exist_ok=True)
+            file.write_text(text, encoding="utf-8")
+
     def compiled(self, name, modules):
         """Compiles the modules of a crate, and says of each that fails why. The compiler shows some errors at a time,
         so what they name is left out, and the others are compiled again."""
