@@ -16,6 +16,7 @@ pub use Rattle.speedy_layout.specs.Addresses
 pub use Rattle.speedy_layout.specs.Choices
 pub use Rattle.speedy_layout.specs.Codecs
 pub use Rattle.speedy_layout.specs.Codes
+pub use Rattle.speedy_layout.specs.CollectionLengths
 pub mod Encoding
 pub use Rattle.speedy_layout.specs.GathersToLemmas
 pub use Rattle.speedy_layout.specs.GathersTo
@@ -28,6 +29,7 @@ pub use Rattle.speedy_layout.specs.Floats
 pub use Rattle.speedy_layout.specs.Format
 pub use Rattle.speedy_layout.specs.Frames
 pub use Rattle.speedy_layout.specs.GatheredLemmas
+pub use Rattle.speedy_layout.specs.GatheredLengths
 pub use Rattle.speedy_layout.specs.Gathering
 pub use Rattle.speedy_layout.specs.Equality
 pub mod Keys
