@@ -133,13 +133,14 @@ class Cursor:
             self.open_nodes = kept
 
     def mark(self):
-        """What to return to."""
-        return self.at, self.end, self.order, dict(self.levels)
+        """What to return to, but for the place."""
+        return self.end, self.order, dict(self.levels)
 
-    def reset(self, mark):
-        """Returns there."""
-        self.at, self.end, self.order, levels = mark
+    def reset(self, mark, at):
+        """Returns there, at this place."""
+        self.end, self.order, levels = mark
         self.levels = dict(levels)
+        self.at = at
 
 
 def count_of(number, what):

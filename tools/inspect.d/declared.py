@@ -6,6 +6,7 @@ from composed import total
 from cursor import Cursor, count_of
 from faults import Fault, Kind
 from layouts import Layout, joined
+from leaves import Number, Varint
 from lists import Counted
 
 
@@ -79,7 +80,7 @@ class Skipped(Part):
         return 0
 
     def read(self, cursor, numbers):
-        return cursor.leaf(self.label, Absent(self.layout.name, self.default, "skipped"), cursor.at, None)
+        return absent(cursor, self, "skipped")
 
     def skip(self, cursor, numbers):
         pass
@@ -94,7 +95,14 @@ class Absent(Layout):
         self.why = why
 
     def pieces(self, node, data):
-        return [f"({self.why})" if self.default is None else self.default]
+        return ["its default" if self.default is None else self.default]
+
+
+def absent(cursor, part, why):
+    """A field of no bytes, in the tree."""
+    node = cursor.leaf(part.label, Absent(part.layout.name, part.default, why), cursor.at, None)
+    node.note = f"{why}: no bytes"
+    return node
 
 
 class ToldPart(Part):
@@ -153,7 +161,7 @@ class FramePart(ToldPart):
                 fault.kind = Kind.OUT_OF_RANGE_LENGTH
                 fault.why += f" of the frame of {count_of(length, 'byte')}"
             raise
-        finish_whole(cursor, self.label, f"the frame of {count_of(length, 'byte')}")
+        finish_whole(cursor, self.label, f"in the frame of {count_of(length, 'byte')}")
         cursor.end = end
         if self.layout.can_shrink and not cursor.strict:
             self.look_at_written(cursor, begin, length)
@@ -170,12 +178,12 @@ class FramePart(ToldPart):
                                f"this value is written in {count_of(count, 'byte')}, and {length} are told")
 
 
-def finish_whole(cursor, label, what):
+def finish_whole(cursor, label, where):
     """Refuses bytes that are left behind a value that has all of them."""
-    if cursor.left():
+    count = cursor.left()
+    if count:
         raise cursor.fault(Kind.OUT_OF_RANGE_LENGTH, cursor.at, label, cursor.at,
-                           f"{count_of(cursor.left(), 'byte')} of {what} {'is' if cursor.left() == 1 else 'are'} "
-                           "left over")
+                           f"{count_of(count, 'byte')} {'is' if count == 1 else 'are'} left over {where}")
 
 
 class Rest(Part):
@@ -201,7 +209,7 @@ class RestLayout(Counted):
 
     def read(self, cursor, label):
         node = cursor.open(label, self)
-        node.value = cursor.left()
+        node.value = cursor.left() if self.content.is_bytes else None
         self.content.fill_rest(cursor, node)
         return cursor.close(node)
 
@@ -221,7 +229,7 @@ class Missing(Part):
     def read(self, cursor, numbers):
         at = cursor.at
         if cursor.left() == 0:
-            return cursor.leaf(self.label, Absent(self.layout.name, self.default, "missing"), at, None)
+            return absent(cursor, self, "missing")
         node = self.layout.read(cursor, self.label)
         if cursor.at == at:
             raise cursor.fault(Kind.OUT_OF_RANGE_LENGTH, at, self.label, at, "a part of no bytes is never missing")
@@ -263,16 +271,38 @@ class Parts:
             for path, labels in self.telling.get(part.label, ()):
                 numbers[path] = number_in(node, labels)
 
+    @cached_property
+    def steps(self):
+        """How they are passed over, under a plain and under a strict order: runs of parts of a known size as how many
+        bytes they have, and the others."""
+        found = []
+        for strict in (False, True):
+            steps = []
+            for part in self.parts:
+                size = None if part.label in self.telling else part.size(strict)
+                if size is not None and steps and isinstance(steps[-1], int):
+                    steps[-1] += size
+                else:
+                    steps.append(part if size is None else size)
+            found.append(steps)
+        return found
+
     def skip(self, cursor):
         """Passes over them."""
         numbers = {}
-        for part in self.parts:
-            if part.label not in self.telling:
-                part.skip(cursor, numbers)
+        for step in self.steps[cursor.strict]:
+            if isinstance(step, int):
+                cursor.take(step, "a struct")
                 continue
-            node = cursor.apart(part.read, cursor, numbers)
-            for path, labels in self.telling[part.label]:
-                numbers[path] = number_in(node, labels)
+            told = self.telling.get(step.label)
+            if told is None:
+                step.skip(cursor, numbers)
+            elif isinstance(step.layout, (Number, Varint)):
+                numbers[told[0][0]] = step.layout.value(cursor, "")
+            else:
+                node = cursor.apart(step.read, cursor, numbers)
+                for path, labels in told:
+                    numbers[path] = number_in(node, labels)
 
 
 def number_in(node, labels):
@@ -367,13 +397,14 @@ class Struct(Layout):
 
 
 class Variant:
-    """A variant: its name, its tag, its shape, and its parts."""
+    """A variant: its name, its tag, its shape, its parts, and by what it is compared."""
 
-    def __init__(self, name, tag, shape, parts):
+    def __init__(self, name, tag, shape, parts, rank):
         self.name = name
         self.tag = tag
         self.shape = shape
         self.parts = parts
+        self.rank = rank
 
 
 class Choice(Layout):
@@ -433,8 +464,7 @@ class Choice(Layout):
         return [variant.name, *field_pieces(variant.shape, node.parts, data)]
 
     def key(self, node, data):
-        """Variants are compared in the order in which they are declared."""
-        return list(self.variants).index(node.value), tuple(it.layout.key(it, data) for it in node.parts)
+        return self.variant(node).rank, tuple(it.layout.key(it, data) for it in node.parts)
 
     def written(self, node, data, order):
         return self.number.encoded(node.value, order) + written_fields(node.parts, data, order)

@@ -27,8 +27,8 @@ class Kind(Enum):
 
 
 class Fault(Exception):
-    """The bytes are refused. `at` is the byte at which that shows, `begin` where the part begins that is refused, `path`
-    is that part, `why` says what was wrong there, and `fields` are those that the kind has in the library."""
+    """The bytes are refused. `at` is the byte at which that shows, `begin` where the part begins that is refused,
+    `path` is that part, `why` says what was wrong there, and `fields` are those that the kind has in the library."""
 
     def __init__(self, kind, at, begin, path, why, fields=None):
         super().__init__(why)

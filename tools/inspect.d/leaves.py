@@ -54,6 +54,11 @@ class Number(Leaf):
         at = cursor.take(self.least, f"a `{self.name}`", label)
         return int.from_bytes(cursor.data[at:cursor.at], cursor.order)
 
+    def value(self, cursor, label):
+        """Takes the value alone."""
+        at = cursor.take(self.least, f"a `{self.name}`", label)
+        return int.from_bytes(cursor.data[at:cursor.at], cursor.order, signed=self.is_signed)
+
     def encoded(self, number, order):
         """The bytes that a number is written in."""
         return number.to_bytes(self.least, order)
@@ -96,6 +101,10 @@ class Varint(Layout):
 
     def skip(self, cursor):
         self.number(cursor, "")
+
+    def value(self, cursor, label):
+        """Takes the value alone."""
+        return self.number(cursor, label)
 
     def number(self, cursor, label):
         """Takes the number alone, as a length or a tag."""

@@ -1,6 +1,6 @@
 """Layouts of texts, bytes, lists, arrays, maps and sets: what stands behind a count, or has a length that is told."""
 import texts
-from cursor import MOST_SHOWN, Gap, Node, Run, count_of, is_shown
+from cursor import AT_END, MOST_SHOWN, Gap, Node, Run, count_of, is_shown
 from faults import Fault, Kind
 from layouts import Layout, Unordered, joined
 
@@ -52,7 +52,9 @@ class Content:
         return node.value
 
     def written(self, node, data, order):
-        """The bytes that it is written in, without its length."""
+        """The bytes that it is written in, without its length. Items of no bytes may be very many."""
+        if any(isinstance(part, Run) and part.size == 0 for part in node.parts):
+            return b""
         return b"".join(part.layout.written(part, data, order) for part in parts_of(node, data))
 
 
@@ -91,10 +93,10 @@ class Octets(Content):
     is_bytes = True
 
     def fill(self, cursor, node, count, is_told):
-        cursor.take(count, "these bytes")
+        cursor.take(count, "a list of bytes")
 
     def skip(self, cursor, count, is_told):
-        cursor.take(count, "these bytes")
+        cursor.take(count, "a list of bytes")
 
     def pieces(self, node, data):
         return ["[" + ", ".join(str(byte) for byte in data[node.head:node.end]) + "]"]
@@ -145,20 +147,21 @@ class Items(Content):
 
     def fold(self, cursor, first, count):
         """Passes over the items that are not shown, and answers which one stands behind them."""
-        begin, last = cursor.at, first
-        while last < count and not is_shown(last, count):
-            mark = cursor.mark()
-            try:
-                self.item.skip(cursor)
-            except Fault:
-                # Read once more, so that the tree shows where it is refused.
-                cursor.reset(mark)
-                cursor.keep(Gap(first, last - first, begin, cursor.at))
-                self.item.read(cursor, f"[{last}]")
-                raise
-            last += 1
-        cursor.keep(Gap(first, last - first, begin, cursor.at))
-        return last
+        begin, behind, skip = cursor.at, max(count - AT_END, first), self.item.skip
+        # Between two items nothing but the place changes.
+        mark = cursor.mark()
+        try:
+            for last in range(first, behind):
+                at = cursor.at
+                skip(cursor)
+        except Fault:
+            # Read once more, so that the tree shows where it is refused.
+            cursor.reset(mark, at)
+            cursor.keep(Gap(first, last - first, begin, at))
+            self.item.read(cursor, f"[{last}]")
+            raise
+        cursor.keep(Gap(first, behind - first, begin, cursor.at))
+        return behind
 
     def skip(self, cursor, count, is_told):
         if self.tests_count:
@@ -175,34 +178,30 @@ class Items(Content):
         place = cursor.left() // size if size else 0
         if place:
             self.fill_run(cursor, place, size)
-        folded = None
-        while cursor.left() > 0:
-            if cursor.shows_all or place < MOST_SHOWN or size:
-                self.read_some(cursor, f"[{place}]")
-            else:
-                folded = self.fold_one(cursor, place, folded)
-            place += 1
-        if folded:
-            # The last one is shown.
-            begin, mark = folded
-            cursor.reset(mark)
-            cursor.keep(Gap(MOST_SHOWN, place - 1 - MOST_SHOWN, begin, cursor.at))
-            self.item.read(cursor, f"[{place - 1}]")
-        node.value = place
-
-    def fold_one(self, cursor, place, folded):
-        """Passes over an item that is not shown, unless it is the last one. Answers where the first of these begins, and
-        where this one does, to return there."""
-        mark = cursor.mark()
-        begin = folded[0] if folded else cursor.at
-        try:
-            self.skip_some(cursor)
-        except Fault:
-            cursor.reset(mark)
-            cursor.keep(Gap(MOST_SHOWN, place - MOST_SHOWN, begin, cursor.at))
+        while cursor.left() > 0 and (cursor.shows_all or place < MOST_SHOWN or size):
             self.read_some(cursor, f"[{place}]")
+            place += 1
+        node.value = self.fold_rest(cursor, place) if cursor.left() > 0 else place
+
+    def fold_rest(self, cursor, first):
+        """Passes over the items that are not shown, reads the last one, and answers how many there are."""
+        begin, mark, last = cursor.at, cursor.mark(), first - 1
+        try:
+            while cursor.left() > 0:
+                at, last = cursor.at, last + 1
+                self.skip_some(cursor)
+        except Fault:
+            self.show_last(cursor, mark, (first, last, begin, at))
             raise
-        return begin, mark
+        self.show_last(cursor, mark, (first, last, begin, at))
+        return last + 1
+
+    def show_last(self, cursor, mark, folded):
+        """Folds items, and reads the one behind them."""
+        first, last, begin, at = folded
+        cursor.reset(mark, at)
+        cursor.keep(Gap(first, last - first, begin, at))
+        self.read_some(cursor, f"[{last}]")
 
     def skip_some(self, cursor):
         """Passes over an item, which takes bytes."""
@@ -257,18 +256,18 @@ class Entries(Content):
 
     def passed(self, cursor, place):
         """An entry that is not shown, by itself."""
-        mark = cursor.mark()
+        begin, mark = cursor.at, cursor.mark()
         try:
             part = cursor.apart(self.item.read, cursor, "")
         except Fault:
-            cursor.reset(mark)
+            cursor.reset(mark, begin)
             self.item.read(cursor, f"[{place}]")
             raise
         last = cursor.open_nodes[-1].parts[-1]
         if isinstance(last, Gap):
             last.count, last.end = last.count + 1, cursor.at
         else:
-            cursor.keep(Gap(place, 1, mark[0], cursor.at))
+            cursor.keep(Gap(place, 1, begin, cursor.at))
         return part
 
     def look_at(self, cursor, key, seen, last, label, begin):

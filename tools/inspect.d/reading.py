@@ -29,7 +29,7 @@ def inspect(layout, data, order="little", strict=False, shows_all=False, begin=0
         label = re.match(r"\w*", layout.name).group() or "value"
         layout.read(cursor, label)
         if ends:
-            finish_whole(cursor, label, "all")
+            finish_whole(cursor, label, "behind a value that has all bytes")
     except Fault as found:
         fault = found
     if not ends and len(data) - begin < layout.least:

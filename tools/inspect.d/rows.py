@@ -4,7 +4,7 @@ from enum import Enum
 
 import texts
 from cursor import Gap, Run, count_of, is_shown
-from declared import Absent, Choice, Magic, Struct
+from declared import Choice, Magic, Struct
 from lists import Array, Counted
 
 # So many bytes stand in a row of a field, and in a row of bytes that follow.
@@ -81,7 +81,7 @@ class Table:
         text = self.in_one_row(node, in_list)
         if text is not None:
             value = f"{text}  ({node.note})" if node.note else text
-            self.row(node.at, node.at if isinstance(node.layout, Absent) else node.end, node.label, value, depth)
+            self.row(node.at, node.end, node.label, value, depth)
             return
         shown = path if len(path) <= MOST_OF_PATH else ".." + path[-MOST_OF_PATH:]
         if is_bytes(node) and node.end is not None and node.head == node.at and node.end > node.at:

@@ -26,8 +26,8 @@ from tokens import cut
 
 U8, U32 = leaves.Number("u8", 1), leaves.Number("u32", 4)
 # The numbers of lengths and tags, by the names of the attributes.
-WIDTHS = {"u7": leaves.U7("u7", 1), "u8": U8, "u16": leaves.Number("u16", 2), "u32": U32, "u64": leaves.Number("u64", 8),
-          "u64_varint": leaves.Varint()}
+WIDTHS = {"u7": leaves.U7("u7", 1), "u8": U8, "u16": leaves.Number("u16", 2), "u32": U32,
+          "u64": leaves.Number("u64", 8), "u64_varint": leaves.Varint()}
 # A lifetime that the type that is asked for may leave out.
 LENT = "'a"
 
@@ -67,7 +67,7 @@ def gathered(name, family, arguments):
     return lists.Counted(title, U32, lists.Entries(title, item, is_map, family))
 
 
-# The layouts of types that are applied to others, of the layouts of these, by the names that the generator has for them.
+# The layouts of types that are applied to others, made of the layouts of these, by the names that the generator has.
 APPLIED = {
     "Vec": lambda item: listed(f"Vec<{item.name}>", item),
     "BoxedSlice": lambda item: listed(f"Box<[{item.name}]>", item),
@@ -199,9 +199,22 @@ class Module:
 
     def choice(self, item, name, bound):
         """An enum."""
+        ranks = self.ranks(item)
         return Choice(name, item.name, WIDTHS[item.tag_type],
-                      lambda: [Variant(it.name, it.tag, it.shape, self.parts(item, it.fields, bound))
-                               for it in item.variants])
+                      lambda: [Variant(it.name, it.tag, it.shape, self.parts(item, it.fields, bound), rank)
+                               for it, rank in zip(item.variants, ranks)])
+
+    def ranks(self, item):
+        """By what the variants of an enum are compared: by their discriminants, where the made enum has these."""
+        if any(it.shape != "unit" for it in item.variants) or any(it.name == "repr" for it in item.attributes):
+            return list(range(len(item.variants)))
+        found, following = [], 0
+        for it in item.variants:
+            if it.discriminant is not None:
+                following = expressions.number(it.discriminant, self.scope.constants)
+            found.append(following)
+            following += 1
+        return found
 
     # Fields.
 

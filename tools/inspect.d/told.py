@@ -20,8 +20,8 @@ class Term:
 
 
 class Told:
-    """The length that an expression tells. `kinds` has the types of the numbers by their paths, `constants` those of the
-    constants with their values."""
+    """The length that an expression tells. `kinds` has the types of the numbers by their paths, `constants` those of
+    the constants with their values."""
 
     def __init__(self, expression, kinds, constants):
         self.expression = expression
