@@ -1,7 +1,7 @@
 //! What the types and callers of FORMATS.md answer to bytes of real files.
 use crate::callers::assert_refused;
 use crate::holding::{assert_bytes, assert_changes, assert_cuts};
-use speedy::error::Error;
+use speedy::{Buffer, Error, LittleEndian};
 use speedy_examples::capture::Packet;
 use speedy_examples::dns_flags::{header_bytes, read_header};
 use speedy_examples::locating::entries;
@@ -149,6 +149,15 @@ fn a_broken_entry_is_found(rt: HostRuntime) -> Result<(), Error> {
         .expect(&rt, "the second is no text");
     assert!(rt; broken.entry == 1 && broken.begins == 8 && broken.reached == 15);
     assert!(rt; entries(alloc, &bytes[..8]).expect(&rt, "one").len() == 1);
+    let long = entries(alloc, b"\x01\0\xff\0\0\0Hi")
+        .err()
+        .expect(&rt, "its count is too long");
+    assert!(rt; long.begins == 0 && long.reached == 6);
+    let (outcome, count) = b"\x09\0\0\0\0"
+        .as_slice()
+        .read_with_length::<Theme>(alloc, LittleEndian {});
+    assert_refused(&rt, alloc, outcome, "InvalidEnumVariant");
+    assert!(rt; count == 4);
     Ok(())
 }
 
