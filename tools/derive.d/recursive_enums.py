@@ -179,14 +179,12 @@ class RecursiveEnumShape(LevelShape):
     def read_arm(self, case):
         """What reads the parts of a case."""
         head = (f"{self.item.name}::{case.variant.name}", case.variant.shape)
-        pattern, made = case.fields.read(Fresh(it.bound for it in case.fields.accesses), head)
-        if not case.parts:
-            return made
-        read = self.read_below(case.read_shape) if case.holds() else "reader.read_value()"
-        if not case.holds():
-            pattern, made = read_arm(case.taken, lambda: Call(self.scope.variant("Ok"), (built(*head, case.taken),)))
-        case.pattern = pattern
-        return self.read_match(read, pattern, made)
+        if case.parts and not case.holds():
+            ok = self.scope.variant("Ok")
+            case.pattern, made = read_arm(case.taken, lambda: Call(ok, (built(*head, case.taken),)))
+            return self.read_match("reader.read_value()", case.pattern, made)
+        case.pattern, made = case.fields.read(Fresh(it.bound for it in case.fields.accesses), head)
+        return self.read_match(self.read_below(case.read_shape), case.pattern, made) if case.parts else made
 
     # Writing.
 
