@@ -137,6 +137,9 @@ BROKEN = [
     ("a length behind a reference", HEAD + "#[derive(Writable)]\n"
      "struct A<'a> {\n    n: u8,\n    #[speedy(length = n)]\n    a: &'a String,\n}", 6, "`length` is taken of"),
     ("a number with a length", told("n", "u8", "u64").replace("length", "varint, length"), 5, "a number has no length"),
+    ("a box that is skipped beside a length that is told",
+     struct("    n: u8,\n    #[speedy(length = n)]\n    a: Vec<u8>,\n    #[speedy(skip)]\n    b: Box<u32>"), 8,
+     "hold it in an `Option`"),
     ("lists in lists", struct("    a: Vec<Vec<Vec<Vec<Vec<u8>>>>>"), 3, "gives up its search"),
     ("many types behind a length of another width", "use std::collections::HashMap;\n"
      + struct("    a: HashMap<u32, u32>,\n    b: Vec<Vec<(u8, bool, u8, f32, u64)>>,\n    #[speedy(length_type = u8)]\n"

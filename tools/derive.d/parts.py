@@ -171,7 +171,16 @@ class PartMaker:
         joined = lengths.joined(items, self.scope, self.owner)
         found.parts = [it if isinstance(it, Part) else self.told(it) for it in joined]
         found.tree = split(found.parts)
+        self.refuse_memory(found)
         return found
+
+    def refuse_memory(self, taken):
+        """Refuses a field that is skipped and takes memory beside a length that is told: reading may end there, between
+        the statements that take apart what was read, and then the search for proofs meets its limit."""
+        for it, value in zip(taken.fields, taken.values):
+            if it.options.skip and "error_out_of_memory" in value and any(part.tree for part in taken.parts):
+                raise Refusal(it.line, "the default of this field takes memory, which finds no proof beside a length "
+                                       "that fields tell: hold it in an `Option`, whose default takes none")
 
     def part(self, it, access, kind):
         """The part of one field, and the value of the field in reading."""
