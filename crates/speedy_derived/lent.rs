@@ -3,16 +3,6 @@ use speedy::{Readable, Writable};
 use std::borrow::Cow;
 use std::collections::BTreeMap;
 
-#[derive(Readable, Writable)]
-pub struct CowOfBytes<'a> {
-    pub bytes: Cow<'a, [u8]>,
-}
-
-#[derive(Readable, Writable)]
-pub struct CowOfText<'a> {
-    pub inner: Cow<'a, str>,
-}
-
 /// Two cows of different types.
 #[derive(Readable, Writable)]
 pub struct TwoCows<'a> {
@@ -22,6 +12,3 @@ pub struct TwoCows<'a> {
 
 #[derive(Readable, Writable)]
 pub struct LentText<'a>(pub &'a str);
-
-#[derive(Readable, Writable)]
-pub struct LentBytes<'a>(pub &'a [u8]);

@@ -1,4 +1,4 @@
-//! Structs of each form, parts that may be missing or are left out, and numbers of few bytes.
+//! Structs of several forms, a part that is left out, and a number of few bytes.
 use speedy::{Readable, Writable};
 
 /// Named parts.
@@ -9,14 +9,6 @@ pub struct Numbers {
     pub b: u16,
     pub c: u32,
 }
-
-/// Parts without names.
-#[derive(Readable, Writable)]
-pub struct Triple(pub u8, pub u16, pub u32);
-
-/// No part, and no braces.
-#[derive(Readable, Writable)]
-pub struct Unit;
 
 /// No part between braces.
 #[derive(Readable, Writable)]
@@ -30,16 +22,6 @@ pub struct Newtype(pub u16);
 #[derive(Readable, Writable)]
 pub struct Holder {
     pub field: Vec<Empty>,
-}
-
-#[derive(Readable, Writable)]
-pub struct Optional {
-    pub data: Option<u16>,
-}
-
-#[derive(Readable, Writable)]
-pub struct Outcome {
-    pub data: Result<u16, u16>,
 }
 
 #[derive(Readable, Writable)]

@@ -7,15 +7,6 @@ pub struct Body {
     pub name: String,
 }
 
-/// A body behind its size, and a flag between them.
-#[derive(Readable, Writable)]
-pub struct SizedBody {
-    pub size: u16,
-    pub is_last: bool,
-    #[speedy(length = size)]
-    pub body: Body,
-}
-
 /// A size that counts its own header too.
 #[derive(Readable, Writable)]
 pub struct SegmentHeader {

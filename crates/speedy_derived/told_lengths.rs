@@ -1,4 +1,4 @@
-//! Texts and lists of a length that one field before them tells.
+//! Texts and lists of a length that one field before them tells; `rows` has more of them.
 use speedy::{Readable, Writable};
 use std::borrow::Cow;
 
@@ -7,20 +7,6 @@ pub struct ToldList {
     pub length: u8,
     #[speedy(length = length * 2)]
     pub data: Vec<bool>,
-}
-
-#[derive(Readable, Writable)]
-pub struct ToldText {
-    pub length: u8,
-    #[speedy(length = length * 2)]
-    pub data: String,
-}
-
-#[derive(Readable, Writable)]
-pub struct ToldCow<'a> {
-    pub length: u8,
-    #[speedy(length = length * 2)]
-    pub data: Cow<'a, [bool]>,
 }
 
 #[derive(Readable, Writable)]
@@ -35,21 +21,4 @@ pub struct ToldBytes<'a> {
     pub length: u8,
     #[speedy(length = length * 2)]
     pub data: &'a [u8],
-}
-
-#[derive(Readable, Writable)]
-pub struct ToldLentText<'a> {
-    pub length: u8,
-    #[speedy(length = length * 2)]
-    pub data: &'a str,
-}
-
-#[derive(Readable, Writable)]
-pub struct ToldTuple(pub u8, #[speedy(length = t0 * 2)] pub Vec<bool>);
-
-#[derive(Readable, Writable)]
-pub struct ToldWords {
-    pub byte_count: u8,
-    #[speedy(length = byte_count / 4)]
-    pub data: Vec<u32>,
 }

@@ -1,78 +1,118 @@
-"""The proofs of enums of many variants or parts, which the source determines: a search finds the same for few."""
-import rattle
-
-# An enum of fewer variants, whose parts are made of fewer types, needs none. A type of the same file stands for the
-# types that it is made of.
-MANY_VARIANTS = 6
-MANY_TYPES = 12
-TYPES_OF_OWN = 4
+"""Proofs that the source determines: of the arms of enums, and of options behind a length. A search finds the same for
+few variants and parts."""
+import lengths
+from parts import is_nested, moves_array
 
 
 def answers(shape, place):
     """The answers of an enum's `write_case` and `read_case`: the path of each file below the crate's folder, and its
     text."""
-    if not needs_answers(shape):
+    if len(shape.cases) == 1:
+        return {}
+    name = shape.item.name
+    return file_of(place, f"{name}WriteCases", "write_case", write_answers(shape)) \
+        | file_of(place, f"{name}ReadCases{lending(shape)}", "read_case", read_answers(shape))
+
+
+def answers_of_struct(shape, taken, place):
+    """The answers of the functions by which a struct reads and writes its parts, if one of these is an option behind a
+    length."""
+    lent, read = options_of(taken, "lent_by", set(), None), options_of(taken, "taken_by", set(), None)
+    if place is None or not lent:
+        return {}
+    name, found = shape.item.name, {}
+    if shape.item.writable:
+        trait, function, called = ("WriteToEnd", "write_to_end", "write_to_end") if shape.ends_with_input \
+            else ("Writable", "write_to", "write_value")
+        lines = ["", "pub returns : goal.returns", *rewritten("returns", lent, f"c.{called}.ensures", None)]
+        found |= file_of(place, name + trait, function, lines)
+    if shape.item.readable and not shape.ends_with_input and not moves_array(taken):
+        found |= file_of(place, f"{name}ReadFrom{lending(shape)}", "read_from",
+                         answered("returns-in-Ok", "Ok", "read_value", read, None))
+    return found
+
+
+def lending(shape):
+    """What the name of an impl of reading has at its end."""
+    return "RefSliceU8" if shape.generics.lending else ""
+
+
+def answered(goal, arm, step, taken, tag):
+    """The answer of a goal by what was read, of which some options are taken: as the value of a tag, or of a struct."""
+    found, answer = [f"    let read = rw c.in-{arm}.is at c.{step}.ensures in"], "read.answer"
+    for place, ensured in enumerate(taken):
+        name = "answer" + "'" * place
+        found.append(f"    let {name} = rw {ensured} at {answer} in")
+        answer = name
+    found[-1] += f" rw c.in-{tag}.is (read.kept, {answer})" if tag is not None \
+        else f" record {{ kept = read.kept; answer = {answer} }}"
+    return ["", f"pub {goal} : goal.{goal}", f"{goal} g c =", *found]
+
+
+def file_of(place, trait, function, lines):
+    """A file of answers of a function of an impl, which `place` says the module of: by its path, its text."""
+    if not lines:
         return {}
     crate, *modules = place
-    name, lent = shape.item.name, "RefSliceU8" if shape.generics.lending else ""
-    found = {}
-    for trait, function, lines in ((f"{name}WriteCases", "write_case", write_answers(shape)),
-                                   (f"{name}ReadCases{lent}", "read_case", read_answers(shape))):
-        if lines:
-            path = [*modules, trait, function]
-            use = f"use Rattle.{crate}.proofs.{'.'.join(path)}.Goals as goal"
-            found["/".join(["proofs", *path, "Answers.antt"])] = "\n".join([use, *lines]) + "\n"
+    path = [*modules, trait, function]
+    use = f"use Rattle.{crate}.proofs.{'.'.join(path)}.Goals as goal"
+    return {"/".join(["proofs", *path, "Answers.antt"]): "\n".join([use, *lines]) + "\n"}
+
+
+def options_of(taken, by, known, arm):
+    """What the calls ensure by which options behind a length are lent or taken. The first call for a variable of a name
+    has that alone; each later one names the arm that it stands in."""
+    found = []
+    for part in lengths.leaf_parts(taken.parts):
+        if getattr(part, by):
+            name = f"{getattr(part, by)}-{part.bound}"
+            found.append(f"c.{name}-in-{arm}.ensures" if name in known else f"c.{name}.ensures")
+            known.add(name)
     return found
+
+
+def rewritten(goal, steps, fact, matched):
+    """The answer of a goal by a fact, which is rewritten by some steps, one after another, and then as the value that
+    an arm matches."""
+    found, last = [], fact if matched is None else f"rw {matched} {fact}"
+    for place, step in enumerate(steps):
+        name = "written" + "'" * place
+        if matched is None and place + 1 == len(steps):
+            last = f"rw {step} at {fact}"
+        else:
+            found.append(f"    let {name} = rw {step} at {fact} in")
+            fact, last = name, f"rw {matched} {name}"
+    return [f"{goal} g c =", *found, f"    {last}"] if found else [f"{goal} g c = {last}"]
 
 
 def write_answers(shape):
     """What is promised of an arm is what the call in it promises, at the variant that the arm matches."""
-    found = []
+    found, known = [], set()
     cases = [case for case in shape.cases if case.taken.parts and shape.item.writable]
     for place, case in enumerate(cases):
         # The first call has its name alone; each later one names the arm that it stands in.
         name = case.variant.name
         step = f"write_value-in-{name}" if place else "write_value"
-        if not case_branches(case):
-            found += ["", f"pub returns-in-{name} : goal.returns-in-{name}",
-                      f"returns-in-{name} g c = rw c.in-{name}.is c.{step}.ensures"]
+        goal, steps = f"returns-in-{name}", options_of(case.taken, "lent_by", known, name)
+        found += ["", f"pub {goal} : goal.{goal}", *rewritten(goal, steps, f"c.{step}.ensures", f"c.in-{name}.is")]
     return found
-
-
-def case_branches(case):
-    """Whether an arm makes an option by a `match` of its own, after which goals have other names."""
-    return any(part.is_option and part.statements() for part in case.taken.parts)
 
 
 def read_answers(shape):
-    """The same of reading, where no arm names the type of its parts."""
-    cases = [case for case in shape.cases if case.taken.parts and shape.item.readable]
-    if not all(case.taken.is_told() for case in cases):
-        return []
-    found = []
-    for place, case in enumerate(cases):
+    """The same of reading."""
+    found, known = [], set()
+    for place, case in enumerate(case for case in shape.cases if case.taken.parts and shape.item.readable):
         tag = case.variant.tag
         end = "" if place == 0 else "-read_value" if place == 1 else f"-read_value-{place}"
         step = f"read_value-in-{tag}" if place else "read_value"
-        for arm in ("Ok", "Err"):
-            goal = f"returns-in-{arm}{end}"
-            found += ["", f"pub {goal} : goal.{goal}", f"{goal} g c =",
-                      f"    let read = rw c.in-{arm}{end}.is at c.{step}.ensures in rw c.in-{tag}.is (read.kept, "
-                      "read.answer)"]
+        taken = options_of(case.taken, "taken_by", known, f"Ok{end}")
+        if not takes_apart(case.taken):
+            found += answered(f"returns-in-Ok{end}", f"Ok{end}", step, taken, tag)
+        found += answered(f"returns-in-Err{end}", f"Err{end}", step, [], tag)
     return found
 
 
-def needs_answers(shape):
-    """Whether a search may meet its limit: in many variants or parts, or where a part is written by a value that is
-    bound before."""
-    if len(shape.cases) == 1:
-        return False
-    types = sum(types_in(kind) for kind in shape.kinds)
-    bound = any(part.statements() for case in shape.cases for part in case.taken.parts)
-    return bound or len(shape.cases) >= MANY_VARIANTS or types >= MANY_TYPES
-
-
-def types_in(kind):
-    """How many types a type is made of."""
-    own = TYPES_OF_OWN if isinstance(kind, rattle.Own) else 1
-    return own + sum(types_in(it) for it in rattle.parts_of(kind))
+def takes_apart(taken):
+    """Whether what was read is taken apart behind the pattern: the result has another form then, in which a search
+    finds it."""
+    return any(part.tree is not None for part in taken.parts) or is_nested(taken.tree) or moves_array(taken)

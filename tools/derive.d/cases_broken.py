@@ -137,8 +137,18 @@ BROKEN = [
     ("a length behind a reference", HEAD + "#[derive(Writable)]\n"
      "struct A<'a> {\n    n: u8,\n    #[speedy(length = n)]\n    a: &'a String,\n}", 6, "`length` is taken of"),
     ("a number with a length", told("n", "u8", "u64").replace("length", "varint, length"), 5, "a number has no length"),
-    ("an option between a number and a length",
-     told("n", "u8,\n    #[speedy(length_type = u8)]\n    b: Option<String>"), 6, "a struct of its own"),
+    ("a box that is skipped beside a length that is told",
+     struct("    n: u8,\n    #[speedy(length = n)]\n    a: Vec<u8>,\n    #[speedy(skip)]\n    b: Box<u32>"), 8,
+     "hold it in an `Option`"),
+    ("lists in lists", struct("    a: Vec<Vec<Vec<Vec<Vec<u8>>>>>"), 3, "gives up its search"),
+    ("many types behind a length of another width", "use std::collections::HashMap;\n"
+     + struct("    a: HashMap<u32, u32>,\n    b: Vec<Vec<(u8, bool, u8, f32, u64)>>,\n    #[speedy(length_type = u8)]\n"
+              "    c: Box<str>"), 4, "gives up its search"),
+    ("an enum of one variant of many parts", HEAD + DERIVES + "enum A {\n    B(u8, u16, String, u8, bool),\n}\n", 3,
+     "which has the same bytes"),
+    ("many types in a variant", "use std::collections::BTreeMap;\n" + HEAD + DERIVES + "enum A {\n"
+     "    B(#[speedy(varint)] u64, Vec<(char, bool)>, Vec<Box<Vec<i64>>>, "
+     "Box<BTreeMap<bool, BTreeMap<(u64, u64), Vec<(char, u8)>>>>),\n}\n", 4, "gives up its search"),
     ("a wide tuple and a list of options before a length",
      struct("    n: u8,\n    b: Vec<Option<u32>>,\n    c: (u8, u8, u8, u8, u8),\n    #[speedy(length = n)]\n"
             "    a: Vec<u8>"), 8, "nests too deep"),

@@ -92,6 +92,35 @@ pub struct Contact {
      ["impl<T: Layout, const N: usize> Layout for A<T, N> {"]),
 ]
 
+# The proofs that are made of a source, by the functions that they are of.
+ANSWERED = [
+    ("options behind a length", DERIVES + """struct A<'a> {
+    #[speedy(length_type = u8)]
+    a: Option<&'a str>,
+    n: u8,
+    #[speedy(length_type = u16)]
+    b: Option<Vec<u8>>,
+}
+""", {"AWritable/write_to": ["let written = rw c.lent_option-a.ensures at c.write_value.ensures in",
+                             "rw c.lent_option-b.ensures at written"],
+      "AReadFromRefSliceU8/read_from": ["pub returns-in-Ok : goal.returns-in-Ok",
+                                        "let answer = rw c.option_value-a.ensures at read.answer in",
+                                        "at answer in record { kept = read.kept; answer = answer' }"]}),
+    ("variants", DERIVES + """enum A {
+    B,
+    C(#[speedy(length_type = u8)] Option<String>),
+    D { t0: u8, #[speedy(length_type = u8)] t1: Option<String> },
+    E([u8; 4], #[speedy(length_type = u8)] Option<String>),
+}
+""", {"AWriteCases/write_case": ["let written = rw c.lent_option-t0.ensures at c.write_value.ensures in",
+                                 "rw c.in-C.is written", "let written = rw c.lent_option-t1.ensures at",
+                                 "let written = rw c.lent_option-t1-in-E.ensures at c.write_value-in-E.ensures in"],
+      "AReadCases/read_case": ["let read = rw c.in-Ok.is at c.read_value.ensures in",
+                               "let answer = rw c.option_value-t0.ensures at read.answer in rw c.in-1.is (read.kept",
+                               "pub returns-in-Err-read_value-2 : goal.returns-in-Err-read_value-2"]}),
+    ("one variant, and variants without parts", DERIVES + "enum A { B(u8) }\n" + DERIVES + "enum C { D, E }\n", {}),
+]
+
 MADE += [
     ("an enum", """#[derive(Debug, Readable, Writable)]
 pub enum Message {
@@ -174,11 +203,19 @@ struct Index<K: Ord, V> {
 """ + DERIVES + "struct C { #[speedy(length_type = u16)] text: Option<Vec<u8>> }\n",
      ["type NoteAParts = (Option<Prefixed<u8, String>>, u8);", "Case<0, NoteAParts>",
       "            0 => match reader.read_value::<NoteAParts>() {",
-      "Note::A(\n                    match t0 {\n                        Some(t0) => Some(t0.value),",
-      "text: match text {\n                        Some(text) => Some(text.value),",
-      "let text: Option<Prefixed<u16, _>> = match text {\n                    Some(text) => Some(Prefixed {",
-      "type CParts = Option<Prefixed<u16, Vec<u8>>>;",
-      "let text: Option<Prefixed<u16, _>> = match &self.text {\n            Some(text) => Some(Prefixed {"]),
+      "let t0 = option_value(t0);\n                    Ok(Note::A(t0, t1))", "let text = option_value(text);",
+      "let text: Option<Prefixed<u16, _>> = lent_option(text);",
+      "type CParts = Option<Prefixed<u16, Vec<u8>>>;", "let text = option_value(text);",
+      "let text: Option<Prefixed<u16, _>> = lent_option(&self.text);"]),
+    ("an option between a number and a length", DERIVES + """struct A {
+    n: u8,
+    #[speedy(length_type = u8)]
+    a: Option<String>,
+    #[speedy(length = n)]
+    b: Vec<u8>,
+}
+""", ["(u8, Other<Option<Prefixed<u8, String>>>)", "let (n, a) = before;", "let a = a.0;",
+      "let a = option_value(a);", "before: (self.n, Other(a)),"]),
     ("a length that a field tells", DERIVES + """struct Counted {
     length: u8,
     #[speedy(length = length * 2)]
@@ -272,13 +309,21 @@ struct Index<K: Ord, V> {
       "contracts.messages.Kind.{the_type};", "unit_cases_tell the_type tt told", "          | Kind.B ↦ refl"]),
     ("a rest without a length", DERIVES + "struct A<'a> { a: u8, b: [u8; 4], #[speedy(length = ..)] c: &'a str }\n",
      ["type AParts<'a> = Followed<(u8, [u8; 4]), Rest<&'a str>>;", "impl<'a> Whole for A<'a> {",
-      "    type Ends = EndsWithInput;", "⟦<&'a str as OfLength>⟧.seen it.c) };", "Ok(Followed(parts, Rest(c))) => {",
+      "    type Ends = EndsWithInput;", "⟦<&'a str as OfLength>⟧.seen it.c) };", "let Followed(parts, Rest(c)) = read;",
       "Followed((self.a, Part(&self.b)), Rest(Part(&self.c))).write_to_end(writer)"]),
     ("parts that may be missing", DERIVES + "pub struct A { a: u8, #[speedy(default_on_eof)] b: u16, "
      "#[speedy(default_on_eof)] c: String }\n",
      ["pub type AParts = Followed<u8, UnlessEnd<u16, UnlessEnd<String, ()>>>;", "Some (",
-      "pub fn from_parts(alloc: Global, parts: AParts) -> A {", "let Followed(a, UnlessEnd(more)) = parts;",
+      "pub fn from_parts(alloc: Global, parts: AParts) -> A\n        ensures first { ⟦<u8 as Layout>⟧.seen result.a",
+      "ensures b { UnwrapsOrElse (option_map (λ more. more.0) parts.1.0)", "⟦<u16 as Default>⟧.is_default result.b }",
+      "⟦<String as MadeWith<Global>>⟧.is_made_with result.c }", "let Followed(a, UnlessEnd(more)) = parts;",
       "c: String::new(alloc),", "UnlessEnd(Some((self.b, UnlessEnd(Some((Part(&self.c), ()))))))"]),
+    ("names that the parts at the end have", DERIVES + "pub struct A { first: u8, #[speedy(default_on_eof)] more: u16, "
+     "#[speedy(default_on_eof)] result: Option<u8> }\n",
+     ["ensures first {", "ensures more2 {", "ensures result_ {", "let Followed(first, UnlessEnd(more2)) = parts;",
+      "Some((more, UnlessEnd(more2))) => match more2 {"]),
+    ("a rest behind several parts", DERIVES + "struct A { a: String, b: Vec<u8>, #[speedy(length = ..)] c: String }\n",
+     ["Ok(read) => {", "let Followed((a, b), Rest(c)) = read;"]),
     ("a length that a signed number tells", DERIVES
      + "struct A { n: i16, #[speedy(length = n)] a: Vec<u8>, b: i8, c: i8 }\n",
      ["ghost is_told = { λ n. pos 0 ≤ℤ n };", "ghost told = { λ n. unsigned_abs n };", "usize::try_from(n).ok()",
@@ -304,7 +349,7 @@ struct Index<K: Ord, V> {
       "before: (Part(&self.outer), Other(self.is_last)),"]),
     ("lengths of fields of a struct in a variant, whose parts have lengths too", DERIVES
      + "struct A(u8, #[speedy(length = t0)] String, i16);\n" + DERIVES
-     + "enum B { C { a_1: u8, a: A, #[speedy(length = a.2 - a_1 as i16 - a.0 as i16)] d: Vec<u8> } }\n",
+     + "enum B { C { a_1: u8, a: A, #[speedy(length = a.2 - a_1 as i16 - a.0 as i16)] d: Vec<u8> }, D }\n",
      ["    type Numbers = ((u8, ()), i16);", "{ λ it. ((it.0.0, tt), it.1) };", "((self.0, ()), self.2)",
       "fn length((a_1, ((a_0, _), a_2)): (u8, ((u8, ()), i16)))", "before: (*a_1, Part(a)),"]),
     ("a value in a frame whose length is told", DERIVES + "struct In(u8, String);\n" + DERIVES

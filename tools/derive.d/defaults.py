@@ -1,7 +1,7 @@
 """What a field that is skipped is given in reading."""
 import derives
 import syntax
-from rattle import Foreign, Listed, Own, Variable, is_listed, parts_of
+from rattle import Foreign, Listed, Own, Variable, is_listed, parts_of, type_text
 from refusal import Refusal
 
 ALLOC = "reader.alloc()"
@@ -35,6 +35,28 @@ def parameters_of_default(kind):
     if isinstance(kind, (syntax.Tuple, syntax.Array)):
         return [name for it in parts_of(kind) for name in parameters_of_default(it)]
     return []
+
+
+def clause(kind, scope):
+    """What holds of each default of a type, as a clause has it: a function of the value."""
+    if derives.prevents("Default", kind, scope.derives.kept) is None:
+        return f"⟦<{type_text(kind)} as {scope.prelude('Default')}>⟧.is_default"
+    if is_listed(kind, *EMPTY, *HASHED):
+        made = f"{scope.need('std::default', 'MadeWith')}<{scope.need('std::alloc', 'Global')}>"
+        return f"⟦<{type_text(kind)} as {made}>⟧.is_made_with"
+    if is_listed(kind, "BoxedStr", "BoxedSlice", "CowStr", "CowSlice"):
+        scope.ghosts |= {"◌≡◌", "[]"}
+        return f"(λ it. ⟦<{type_text(kind)} as {scope.need('speedy', 'Layout')}>⟧.seen it ≡ [])"
+    if is_listed(kind, "Range"):
+        inner = clause(kind.arguments[0], scope)
+        return f"(λ it. {inner} it.start × {inner} it.end)"
+    if isinstance(kind, syntax.Tuple):
+        inner = " × ".join(f"{clause(it, scope)} it.{place}" for place, it in enumerate(kind.parts))
+        return f"(λ it. {inner})"
+    if isinstance(kind, syntax.Array):
+        scope.ghosts.add("All")
+        return f"(All {clause(kind.item, scope)})"
+    return "(λ _. ⊤)"
 
 
 class Default:

@@ -1,6 +1,7 @@
 """The impls of an enum: it has the layout of its cases, each behind its tag, and is read and written case by case."""
 import attributes
 import expressions
+import impl_search
 import keys
 import syntax
 import whole
@@ -8,13 +9,18 @@ from answers import answers
 from impls import Shape
 from parts import (NUMBERS, PartMaker, accesses_of_variant, built, number_of, read_arm, seen_of_parts,
                    variant_pattern, write_statements, written)
-from rattle import Block, Build, Call, Listed, Match, clause_lines, names_in, type_text
+from rattle import Block, Build, Call, Listed, Match, Own, clause_lines, names_in, parts_of, type_text
 from recursive_enums import RecursiveEnumShape
 from refusal import Refusal
 from trees import halved, leaves
 
 # Rattle has no enum of more variants.
 MOST_VARIANTS = 256
+# An enum of one variant has at most so many parts, made of so many types, of which one of the same file stands for
+# several: its arms have no goals of their own, which could be answered, and the search meets its limit.
+PARTS_OF_ONE = 4
+TYPES_OF_ONE = 8
+TYPES_OF_OWN = 4
 
 
 class Case:
@@ -59,6 +65,8 @@ class EnumShape(Shape):
         super().__init__(item, scope, [case.taken for case in self.cases])
         scope.least[item.name] = NUMBERS[item.tag_type][2]
         for case in self.cases:
+            if item.readable:
+                impl_search.check(item, case.taken)
             if not case.taken.is_told():
                 names = set().union(*(names_in(part.type) for part in case.taken.parts))
                 case.parts_type = self.alias(f"{item.name}{case.variant.name}Parts",
@@ -183,6 +191,19 @@ class EnumShape(Shape):
         return variant_pattern(name, variant, case.taken.accesses)
 
 
+def refuse_one_variant(shape):
+    """Refuses an enum whose only variant has many parts."""
+    item, kinds = shape.item, shape.kinds
+    if len(shape.cases) == 1 and (len(kinds) > PARTS_OF_ONE or sum(map(types_in, kinds)) > TYPES_OF_ONE):
+        raise Refusal(item.line, f"`{item.name}` has one variant, and that has many parts, which finds no proof: put "
+                                 "its fields into a struct of their own, which has the same bytes")
+
+
+def types_in(kind):
+    """How many types a type is made of."""
+    return (TYPES_OF_OWN if isinstance(kind, Own) else 1) + sum(types_in(it) for it in parts_of(kind))
+
+
 def enum_lines(item, scope, place):
     """The impls of an enum."""
     if not item.variants:
@@ -197,6 +218,7 @@ def enum_lines(item, scope, place):
     if item.depth:
         return RecursiveEnumShape(item, scope, place).lines()
     shape = EnumShape(item, scope, place)
+    refuse_one_variant(shape)
     found = shape.lines()
     scope.answers.update(answers(shape, place))
     return found

@@ -8,6 +8,7 @@ from sizes import least
 
 class Shape:
     """What the impls of a type are made of: `takens` are its fields, those of each variant or of the struct."""
+    ends_with_input = False
 
     def __init__(self, item, scope, takens):
         self.item = item
@@ -137,5 +138,5 @@ class Shape:
         ensures = []
         if self.generics.lending:
             self.scope.ghosts.add("◌≡◌")
-            ensures = [f"result ≡ {self.quoted(self.parts_type)}.layout.least"]
+            ensures = [("", f"result ≡ {self.quoted(self.parts_type)}.layout.least")]
         return function(f"fn {name}()", "usize", body, ensures)

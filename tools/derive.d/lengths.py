@@ -174,11 +174,6 @@ class Others:
 
     def stated(self):
         """The variables that they are written by, and what is written of them then."""
-        for item in self.items:
-            if item.part.is_option:
-                raise Refusal(item.field.line, "an option with `length_type` that stands between a number and what has "
-                                               "the length that it tells finds no proof: put this field into a struct "
-                                               "of its own")
         statements = [it for item in self.items for it in item.part.statements()]
         written = [item.part.lent(self.scope) if item.part.is_signed() else item.part.among(self.scope)
                    for item in self.items]
@@ -201,15 +196,17 @@ class Others:
         return "_"
 
     def taken(self, name, names, values):
-        """A tuple is taken apart; an array is bound, since it is not moved out of a field."""
+        """A tuple is taken apart; an array is bound, since it is not moved out of a field, and an option, which is
+        named twice."""
         if not self.items:
             return []
         found = [Let(tuple_of([bound_of(item) for item in self.items]), f"{name}.0")]
-        is_alone = len(self.items) == 1 and not isinstance(self.items[0].part.type, syntax.Array)
-        for item in self.items:
-            if item.field is not None and is_alone:
-                values[item.place] = renamed(item, f"{name}.0")
-        return [] if is_alone else found
+        alone = self.items[0] if len(self.items) == 1 else None
+        if alone is None or isinstance(alone.part.type, syntax.Array) or alone.part.taken_by:
+            return found + [item.part.option_taken() for item in self.items if item.part.taken_by]
+        if alone.field is not None:
+            values[alone.place] = renamed(alone, f"{name}.0")
+        return []
 
     def outline(self):
         """The parts, or the only one."""
@@ -422,6 +419,15 @@ def tree(items, scope, owner):
     if depth_of(found.type) > MOST_DEEP or any(is_too_deep(part) for part in leaves_of(found)):
         raise Refusal(line, "what stands between this field and the numbers that tell its length nests too deep for "
                             "Rattle's compiler: put some of it into a struct of its own")
+    return found
+
+
+def leaf_parts(parts):
+    """Parts, and in place of a tree of parts those that stand in it, but for what has a length."""
+    found = []
+    for part in parts:
+        found += [part] if part.tree is None else [item.part for leaf in leaves_of(part.tree)
+                                                   for item in getattr(leaf, "items", ())]
     return found
 
 

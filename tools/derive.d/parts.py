@@ -8,7 +8,7 @@ import lengths
 import rattle
 import syntax
 from names import camel, variables
-from rattle import Build, Call, Let, Listed, Match, Own, is_listed, tuple_of, type_text
+from rattle import Build, Call, Let, Listed, Own, is_listed, tuple_of, type_text
 from refusal import Refusal
 from scope import member
 from sizes import SIGNED, is_copied
@@ -49,14 +49,20 @@ class Part:
     alone: str = ""
     # The variable that it is written by, which says its type: its name, its type and its value.
     statement: object = None
-    # Whether it is an option of what stands behind a length.
-    is_option: bool = False
+    # By what functions it is lent to be written and taken when it is read, where it is an option of what stands behind
+    # a length.
+    lent_by: str = ""
+    taken_by: str = ""
     # The tree that it is where a length is told of it, by what stands in the tree before it.
     tree: object = None
 
     def is_signed(self):
         """Whether it is a signed number, which in a tuple gets no proof as it is, beside some others."""
         return is_listed(self.type, *SIGNED)
+
+    def option_taken(self):
+        """The statement that takes it when it is read."""
+        return Let(self.bound, Call(self.taken_by, (self.bound,)))
 
     def lent(self, scope):
         """A `Part` of it."""
@@ -165,7 +171,16 @@ class PartMaker:
         joined = lengths.joined(items, self.scope, self.owner)
         found.parts = [it if isinstance(it, Part) else self.told(it) for it in joined]
         found.tree = split(found.parts)
+        self.refuse_memory(found)
         return found
+
+    def refuse_memory(self, taken):
+        """Refuses a field that is skipped and takes memory beside a length that is told: reading may end there, between
+        the statements that take apart what was read, and then the search for proofs meets its limit."""
+        for it, value in zip(taken.fields, taken.values):
+            if it.options.skip and "error_out_of_memory" in value and any(part.tree for part in taken.parts):
+                raise Refusal(it.line, "the default of this field takes memory, which finds no proof beside a length "
+                                       "that fields tell: hold it in an `Option`, whose default takes none")
 
     def part(self, it, access, kind):
         """The part of one field, and the value of the field in reading."""
@@ -211,12 +226,10 @@ class PartMaker:
         if not is_option:
             made = Build(name, (("value", Call(part, (access.reference,))), number_field))
             return Part(behind, bound, access.seen, seen, bound, f"&{bound}", (bound, before, made)), f"{bound}.value"
-        option, some, none = scope.prelude("Option"), scope.variant("Some"), scope.variant("None")
-        made = Build(name, (("value", Call(part, (bound,))), number_field))
-        made = Match(access.reference, ((Call(some, (bound,)), Call(some, (made,))), (none, none)))
-        value = Match(bound, ((Call(some, (bound,)), Call(some, (f"{bound}.value",))), (none, none)))
+        option, lend = scope.prelude("Option"), scope.need("speedy::prefixed", "lent_option")
+        take = scope.need("speedy::prefixed", "option_value")
         return Part(Listed(it.line, "Option", (behind,), option), bound, access.seen, seen, bound, f"&{bound}",
-                    (bound, f"{option}<{before}>", made), True), value
+                    (bound, f"{option}<{before}>", Call(lend, (access.reference,))), lend, take), bound
 
     def constant(self, it, access):
         """The bytes before a field, as a part of their own."""
@@ -297,6 +310,7 @@ def read_pattern(taken):
     fresh = lengths.Names(access.bound for access in taken.accesses)
     told = [part for part in taken.parts if part.tree is not None]
     behind = [let for part in told for let in part.tree.taken(part.bound, fresh, taken.values)]
+    behind += [part.option_taken() for part in taken.parts if part.taken_by]
     if not taken.parts:
         return "()", ()
     if is_nested(taken.tree) or moves_array(taken):

@@ -126,14 +126,17 @@ class Fields:
         found = []
         for place in range(count):
             found.append(self.field(place, is_last and place == count - 1))
+        if count > 1 and "default_on_eof" in found[-1].settings:
+            places = range(count, count + self.random.choice([0, 1, 2]))
+            found += [self.field(place, True, ["default_on_eof"]) for place in places]
         return found
 
-    def field(self, place, is_last):
-        """One field."""
+    def field(self, place, is_last, set_before=None):
+        """One field, with these settings where they are given."""
         words = self.source.words
         name = words.pick(FIELDS, ODD_FIELDS, "odd_fields", self.names) if self.shape == "named" else None
         called = name or f"t{place}"
-        settings, kind = self.settings(is_last)
+        settings, kind = (set_before, self.with_default()) if set_before else self.settings(is_last)
         if "skip" not in settings:
             self.remember(called, kind)
         shown = "" if self.item.is_enum else self.item.visibility_of_field()

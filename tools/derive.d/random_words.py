@@ -13,7 +13,7 @@ FIELDS = ("id name kind flags count size width height items bytes text label fir
 ODD_FIELDS = ("writer reader error tag parts before ghost ensures requires data record open ruleset result value "
               "length it t0 n self_ seen elim layout format least bytes_needed alloc now new old x L C a_b ab a__b "
               "A T match_ some none ok err parts1 parts2 before2 step1 step2 tt inl inr u8 String_ _unused r "
-              "a_length codes rw search using module import").split()
+              "a_length codes rw search using module import more read").split()
 VARIANTS = ("Ping Pong Hello Data Close Open Red Green Blue Move Text Empty Leaf Branch A B C D Get Put Login "
             "Logout Start Stop Unknown Point Line Circle V4 V6").split()
 ODD_VARIANTS = ("Ok Err Some None Default Self_ Result Parts Cases Case Tag Ghost Seen Drop Vec String U8 "

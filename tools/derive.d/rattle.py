@@ -211,8 +211,9 @@ def impl(parameters, trait, kind, wheres, body):
 
 
 def function(head, result, body, ensures=()):
-    """The lines of a function."""
-    clauses = "".join(f"\n        ensures {{ {it} }}\n   " for it in ensures)
+    """The lines of a function. Clauses are pairs of a name, or nothing for the only one, and a text."""
+    clauses = "".join(f"\n        ensures {name}{' ' if name else ''}{{ {it} }}" for name, it in ensures)
+    clauses += "\n   " if ensures else ""
     return [f"    {head} -> {result}{clauses} {{ {body} }}"]
 
 

@@ -1,7 +1,9 @@
 """The impls of a struct: it has the layout of the tuple of its parts, is read as that and written as it."""
 import holders
+import impl_search
 import keys
 import whole
+from answers import answers_of_struct
 from impls import Shape
 from parts import (PartMaker, accesses_of_struct, built, outline, read_arm, seen_of_parts, write_statements, written)
 from rattle import Block, Call, Match, clause_lines, type_text
@@ -16,6 +18,8 @@ class StructShape(Shape):
         accesses = accesses_of_struct(item.fields, scope)
         self.taken = PartMaker(item, scope, item.name).taken(item.fields, accesses)
         super().__init__(item, scope, [self.taken])
+        if item.readable:
+            impl_search.check(item, self.taken)
         kind = self.tuple_type = self.taken.type()
         scope.least[item.name] = least(kind, scope)
         # A single part of a short type needs no other name.
@@ -60,5 +64,11 @@ def struct_lines(item, scope, place):
     """The impls of a struct. `place` is the path of the module that holds it."""
     if item.depth:
         return RecursiveStructShape(item, scope, place).lines()
-    shape = whole.WholeShape if whole.ends_with_input(item) else StructShape
-    return shape(item, scope).lines()
+    if whole.ends_with_input(item):
+        shape = whole.WholeShape(item, scope)
+        found = answers_of_struct(shape, shape.first, place)
+    else:
+        shape = StructShape(item, scope)
+        found = answers_of_struct(shape, shape.taken, place)
+    scope.answers.update(found)
+    return shape.lines()

@@ -2,10 +2,12 @@
 import arrays
 import asked
 import defaults
+import impl_search
 import rattle
 import syntax
 from impls import Shape
 from lengths import TEXTS_AND_LISTS
+from names import Fresh, parameter
 from parts import (Part, PartMaker, Taken, accesses_of_struct, built, is_lent_list, read_pattern, seen_of_parts,
                    write_statements, written_among)
 from rattle import Block, Call, Let, Match, clause_lines, clause_text, is_listed, type_text
@@ -33,6 +35,7 @@ def refuse_in_variant(variant):
 
 class WholeShape(Shape):
     """What the impls of such a struct are made of: the parts with a layout that stand first, and those at the end."""
+    ends_with_input = True
 
     def __init__(self, item, scope):
         accesses = accesses_of_struct(item.fields, scope)
@@ -48,9 +51,13 @@ class WholeShape(Shape):
             asked.check(kind, scope, it, item.readable)
             arrays.check(item, scope, it, kind)
         self.check_last()
+        # What is bound to the parts at the end that are there.
+        self.more = Fresh(access.bound for access in accesses).name("more")
         kinds = [Part(kind, access.bound) for it, access, kind in self.last]
         ends = Taken(item, [], [], parts=kinds)
         super().__init__(item, scope, [self.first, ends])
+        if item.readable:
+            impl_search.check_each(item, [syntax.Tuple(item.line, tuple(self.kinds))])
         end = "Rest" if self.is_rest() else "UnlessEnd"
         self.names_of_whole = {name: scope.need("speedy::whole", name)
                                for name in ("Followed", "Whole", "EndsWithInput", end)}
@@ -129,8 +136,11 @@ class WholeShape(Shape):
         ok, err = self.scope.variant("Ok"), self.scope.variant("Err")
         bound, lets = read_pattern(self.first)
         rest = Call(self.names_of_whole["Rest"], (self.last[0][1].bound,))
-        pattern = Call(ok, (Call(self.names_of_whole["Followed"], (bound, rest)),))
-        made = Block(lets, Call(ok, (self.value([self.last[0][1].bound]),)))
+        # No pattern of a `match` moves two parts out of a value in another.
+        read = Fresh(["parts", *(it.bound for it in self.first.accesses), self.last[0][1].bound]).name("read")
+        taken = Let(Call(self.names_of_whole["Followed"], (bound, rest)), read)
+        pattern = Call(ok, (read,))
+        made = Block((taken, *lets), Call(ok, (self.value([self.last[0][1].bound]),)))
         trait = self.scope.need("speedy::whole", "ReadToEnd")
         generics = self.generics
         read = f"<{self.parts_type} as {trait}<{self.lent()}, {generics.context}>>::read_to_end(reader)"
@@ -144,18 +154,44 @@ class WholeShape(Shape):
         """The struct of its parts: what is missing has its default."""
         alloc = self.scope.need("std::alloc", "Global")
         bound, lets = read_pattern(self.first)
-        head = Call(self.names_of_whole["Followed"], (bound, Call(self.names_of_whole["UnlessEnd"], ("more",))))
+        head = Call(self.names_of_whole["Followed"], (bound, Call(self.names_of_whole["UnlessEnd"], (self.more,))))
         body = Block((Let(head, "parts"), *lets), self.unless_end(0, []))
         wheres = self.generics.wheres_text()
         needed = {name for it, _, kind in self.last for name in defaults.default(kind, self.scope, it.line)[1]}
-        bounds = {it.name: [self.scope.prelude("Default")] if it.name in needed else []
+        bounds = {it.name: self.generics.bounds_of(self.asked[it.name], self.generics.laying_out())
+                  + [self.scope.prelude("Default")] * (it.name in needed)
                   for it in self.item.parameters if it.kind == "type"}
         listed = rattle.listed(self.generics.of_keys(bounds))
         text = " ".join(map(str, body.statements)) + " " + str(body.value)
-        return [f"impl{listed} {self.self_type}{wheres} {{",
-                "    /// The value of the parts that were read. What is missing at the end has its default.",
-                f"    pub fn from_parts(alloc: {alloc}, parts: {self.parts_type}) -> {self.self_type} {{",
-                text, "    }", "}", ""]
+        made = rattle.function(f"pub fn from_parts(alloc: {alloc}, parts: {self.parts_type})", self.self_type, text,
+                               self.clauses_of_parts())
+        about = "    /// The value of the parts that were read. What is missing at the end has its default."
+        return [f"impl{listed} {self.self_type}{wheres} {{", about, *made, "}", ""]
+
+    def clauses_of_parts(self):
+        """What is promised of it: the parts that stand first, and each of the last ones, or its default."""
+        found, scope, names = [], self.scope, Fresh(["result", "more"])
+        # What may borrow has a value where the function begins, and another where it ends.
+        parts = "parts.entry" if self.generics.lifetimes else "parts"
+        if self.first.parts:
+            before, tree = seen_of_parts(self.first, type_text(self.first.type()), scope)
+            first = (before + clause_text(tree)).replace(" it.", " result.").replace("(it.", "(result.")
+            scope.ghosts.add("◌≡◌")
+            quoted = self.quoted(self.parts_type, "Whole", "speedy::whole")
+            found.append((names.name("first"), f"{first}\n            ≡ ({quoted}.seen {parts}).0"))
+        option = "Rattle.std.specs.Option"
+        scope.ghost_paths |= {f"{option}.UnwrapsOrElse", f"{option}.option_map"}
+        more = f"{parts}.1.0"
+        for place, (_, access, kind) in enumerate(self.last):
+            if place:
+                scope.ghost_paths.add(f"{option}.option_and_then")
+                more = f"(option_and_then (λ more. more.1.0)\n            {more})"
+            value = access.seen.replace("it.", "result.", 1)
+            default = defaults.clause(kind, scope)
+            default = default.replace(" × ", "\n            × ") if len(default) > 90 else default
+            found.append((names.name(parameter(access.bound)),
+                          f"UnwrapsOrElse (option_map (λ more. more.0) {more})\n            {default} {value}"))
+        return found
 
     def unless_end(self, place, values):
         """The struct, where so many of the last parts are there."""
@@ -165,8 +201,8 @@ class WholeShape(Shape):
         missing = [self.default(it, kind) for it, _, kind in self.last[place:]]
         bound = self.last[place][1].bound
         is_last = place + 1 == len(self.last)
-        behind = "_" if is_last else Call(self.names_of_whole["UnlessEnd"], ("more",))
-        return Match("more", ((none, self.value(values + missing)),
+        behind = "_" if is_last else Call(self.names_of_whole["UnlessEnd"], (self.more,))
+        return Match(self.more, ((none, self.value(values + missing)),
                               (Call(some, (Call("", (bound, behind)),)), self.unless_end(place + 1, [*values, bound]))))
 
     def default(self, it, kind):

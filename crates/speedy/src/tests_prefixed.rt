@@ -5,7 +5,7 @@ use crate::asserting::{assert_bytes, assert_refused, assert_same, make_text};
 use crate::context::LittleEndian;
 use crate::endianness::Endianness;
 use crate::magic::{Constant, Magic};
-use crate::prefixed::{Prefixed, ReadPrefix, U7, WritePrefix};
+use crate::prefixed::{Prefixed, ReadPrefix, U7, WritePrefix, lent_option, option_value};
 use crate::readable::{BufferReader, CopyingBufferReader};
 use crate::reader::LendingReader;
 use crate::varint::VarInt64;
@@ -47,6 +47,21 @@ fn a_list_stands_behind_a_length_of_variable_width(rt: HostRuntime) {
     let mut reader = BufferReader::new(alloc, LittleEndian {}, &bytes);
     let again: Prefixed<VarInt64, Vec<u8>> = reader.read_value().expect(&rt, "a list");
     assert_bytes(&rt, again.value.as_slice(), list.value.as_slice());
+}
+
+#[test]
+fn an_option_is_lent_behind_the_length_of_its_value(rt: HostRuntime) {
+    let alloc = rt.alloc();
+    let text = Some(make_text(&rt, alloc, "Hi"));
+    let lent: Option<Prefixed<u16, _>> = lent_option(&text);
+    let bytes = lent
+        .write_to_vec_with_ctx(alloc, LittleEndian {})
+        .expect(&rt, "bytes");
+    assert_bytes(&rt, bytes.as_slice(), &[1, 2, 0, 72, 105]);
+    let mut reader = BufferReader::new(alloc, LittleEndian {}, &bytes);
+    let read: Option<Prefixed<u16, String>> = reader.read_value().expect(&rt, "an option");
+    let again = option_value(read).expect(&rt, "a text");
+    assert_same(&rt, again.as_str(), "Hi");
 }
 
 /// A text of `length` bytes.

@@ -1,8 +1,9 @@
 //! Types that end where the bytes do, and lengths that signed numbers tell.
 //!
 //! Made from `endings.rs` by `tools/derive`: change that, and make this again.
-ghost use Rattle.std.specs.Prelude.{FitsSigned, Some, codes, pos, unsigned_abs, ◌*ℤ◌, ◌-ℤ◌, ◌≤ℤ◌};
+ghost use Rattle.std.specs.Prelude.{FitsSigned, Some, codes, pos, unsigned_abs, ◌*ℤ◌, ◌-ℤ◌, ◌≡◌, ◌≤ℤ◌};
 ghost use Rattle.std.specs.Int.{w16};
+ghost use Rattle.std.specs.Option.{UnwrapsOrElse, option_and_then, option_map};
 
 use speedy::lengths::{Length, OfLength, Other, WithLength};
 use speedy::whole::{
@@ -11,6 +12,7 @@ use speedy::whole::{
 use speedy::{Context, ItemByItem, Layout, LendingReader, Part, ReadFrom, Writable, Writer};
 use std::alloc::Global;
 use std::convert::AsSlice;
+use std::default::MadeWith;
 use std::marker::PhantomData;
 
 /// A number, and the rest of the bytes as numbers.
@@ -36,7 +38,10 @@ impl Whole for Packet {
 impl<L: AsSlice<u8> + Drop, C: Context> ReadToEnd<L, C> for Packet {
     fn read_to_end<R: MemoryReader<L, C>>(reader: &mut R) -> Result<Packet, C::Error> {
         match <PacketParts as ReadToEnd<L, C>>::read_to_end(reader) {
-            Ok(Followed(kind, Rest(samples))) => Ok(Packet { kind, samples }),
+            Ok(read) => {
+                let Followed(kind, Rest(samples)) = read;
+                Ok(Packet { kind, samples })
+            }
             Err(error) => Err(error),
         }
     }
@@ -75,7 +80,8 @@ impl<'a> Whole for Line<'a> {
 impl<'a, C: Context> ReadToEnd<&'a [u8], C> for Line<'a> {
     fn read_to_end<R: MemoryReader<&'a [u8], C>>(reader: &mut R) -> Result<Line<'a>, C::Error> {
         match <LineParts<'a> as ReadToEnd<&'a [u8], C>>::read_to_end(reader) {
-            Ok(Followed(parts, Rest(text))) => {
+            Ok(read) => {
+                let Followed(parts, Rest(text)) = read;
                 let (key, level) = parts;
                 Ok(Line { key, level, text })
             }
@@ -119,7 +125,15 @@ impl Whole for Grown {
 
 impl Grown {
     /// The value of the parts that were read. What is missing at the end has its default.
-    pub fn from_parts(alloc: Global, parts: GrownParts) -> Grown {
+    pub fn from_parts(alloc: Global, parts: GrownParts) -> Grown
+        ensures first { ⟦<u16 as Layout>⟧.seen result.id
+            ≡ (⟦<GrownParts as Whole>⟧.seen parts).0 }
+        ensures port { UnwrapsOrElse (option_map (λ more. more.0) parts.1.0)
+            ⟦<u16 as Default>⟧.is_default result.port }
+        ensures name { UnwrapsOrElse (option_map (λ more. more.0) (option_and_then (λ more. more.1.0)
+            parts.1.0))
+            ⟦<String as MadeWith<Global>>⟧.is_made_with result.name }
+    {
         let Followed(id, UnlessEnd(more)) = parts;
         match more {
             None => Grown {

@@ -6,7 +6,7 @@ ghost use Rattle.std.proofs.Common.{inl, inr};
 use speedy::cases::{
     Case, CaseTree, Cases, Either, ReadCases, UnitCase, WriteCases, read_tagged, write_tagged,
 };
-use speedy::prefixed::{Prefixed, U7};
+use speedy::prefixed::{Prefixed, U7, lent_option, option_value};
 use speedy::private::error_invalid_enum_variant;
 use speedy::varint::VarInt64;
 use speedy::{Context, ItemByItem, Layout, LendingReader, Part, ReadFrom, Writable, Writer};
@@ -87,12 +87,10 @@ impl<L: AsSlice<u8> + Drop, C: Context> ReadFrom<L, C> for LengthOfOption {
 
     fn read_from<R: LendingReader<L, C>>(reader: &mut R) -> Result<LengthOfOption, C::Error> {
         match reader.read_value::<LengthOfOptionParts>() {
-            Ok(data) => Ok(LengthOfOption {
-                data: match data {
-                    Some(data) => Some(data.value),
-                    None => None,
-                },
-            }),
+            Ok(data) => {
+                let data = option_value(data);
+                Ok(LengthOfOption { data })
+            }
             Err(error) => Err(error),
         }
     }
@@ -104,13 +102,7 @@ impl<L: AsSlice<u8> + Drop, C: Context> ReadFrom<L, C> for LengthOfOption {
 
 impl<C: Context> Writable<C> for LengthOfOption {
     fn write_to<W: Writer<C>>(&self, writer: &mut W) -> Result<(), C::Error> {
-        let data: Option<Prefixed<u16, _>> = match &self.data {
-            Some(data) => Some(Prefixed {
-                value: Part(data),
-                number: PhantomData,
-            }),
-            None => None,
-        };
+        let data: Option<Prefixed<u16, _>> = lent_option(&self.data);
         writer.write_value(&data)
     }
 }
@@ -164,22 +156,17 @@ impl<L: AsSlice<u8> + Drop, C: Context> ReadCases<L, C> for LengthsInCases {
         match tag {
             0 => Ok(LengthsInCases::A),
             1 => match reader.read_value::<LengthsInCasesBParts>() {
-                Ok((t0, t1)) => Ok(LengthsInCases::B(
-                    match t0 {
-                        Some(t0) => Some(t0.value),
-                        None => None,
-                    },
-                    t1,
-                )),
+                Ok((t0, t1)) => {
+                    let t0 = option_value(t0);
+                    Ok(LengthsInCases::B(t0, t1))
+                }
                 Err(error) => Err(error),
             },
             2 => match reader.read_value::<LengthsInCasesCParts>() {
-                Ok(held) => Ok(LengthsInCases::C {
-                    held: match held {
-                        Some(held) => Some(held.value),
-                        None => None,
-                    },
-                }),
+                Ok(held) => {
+                    let held = option_value(held);
+                    Ok(LengthsInCases::C { held })
+                }
                 Err(error) => Err(error),
             },
             _ => Err(error_invalid_enum_variant()),
@@ -212,23 +199,11 @@ impl<C: Context> WriteCases<C> for LengthsInCases {
         match self {
             LengthsInCases::A => Ok(()),
             LengthsInCases::B(t0, t1) => {
-                let t0: Option<Prefixed<u16, _>> = match t0 {
-                    Some(t0) => Some(Prefixed {
-                        value: Part(t0),
-                        number: PhantomData,
-                    }),
-                    None => None,
-                };
+                let t0: Option<Prefixed<u16, _>> = lent_option(t0);
                 writer.write_value(&(t0, *t1))
             }
             LengthsInCases::C { held } => {
-                let held: Option<Prefixed<U7, _>> = match held {
-                    Some(held) => Some(Prefixed {
-                        value: Part(held),
-                        number: PhantomData,
-                    }),
-                    None => None,
-                };
+                let held: Option<Prefixed<U7, _>> = lent_option(held);
                 writer.write_value(&held)
             }
         }

@@ -4,82 +4,8 @@
 ghost use Rattle.std.specs.Prelude.{◌≡◌};
 
 use speedy::{Context, ItemByItem, Layout, LendingReader, Part, ReadFrom, Writable, Writer};
-use std::borrow::{Cow, CowSlice, CowStr};
+use std::borrow::{Cow, CowSlice};
 use std::collections::BTreeMap;
-
-#[derive(Drop)]
-pub struct CowOfBytes<'a> {
-    pub bytes: CowSlice<'a, u8>,
-}
-
-impl<'a> Layout for CowOfBytes<'a> {
-    ghost Seen = { ⟦<CowSlice<'a, u8> as Layout>⟧.Seen };
-
-    ghost seen = { λ it. ⟦<CowSlice<'a, u8> as Layout>⟧.seen it.bytes };
-
-    ghost layout = { ⟦<CowSlice<'a, u8> as Layout>⟧.layout };
-}
-
-impl<'a, C: Context> ReadFrom<&'a [u8], C> for CowOfBytes<'a> {
-    type Strategy = ItemByItem<C>;
-
-    fn read_from<R: LendingReader<&'a [u8], C>>(
-        reader: &mut R,
-    ) -> Result<CowOfBytes<'a>, C::Error> {
-        match reader.read_value() {
-            Ok(bytes) => Ok(CowOfBytes { bytes }),
-            Err(error) => Err(error),
-        }
-    }
-
-    fn minimum_bytes_needed() -> usize
-        ensures { result ≡ ⟦<CowSlice<'a, u8> as Layout>⟧.layout.least }
-    {
-        4
-    }
-}
-
-impl<'a, C: Context> Writable<C> for CowOfBytes<'a> {
-    fn write_to<W: Writer<C>>(&self, writer: &mut W) -> Result<(), C::Error> {
-        writer.write_value(&self.bytes)
-    }
-}
-
-#[derive(Drop)]
-pub struct CowOfText<'a> {
-    pub inner: CowStr<'a>,
-}
-
-impl<'a> Layout for CowOfText<'a> {
-    ghost Seen = { ⟦<CowStr<'a> as Layout>⟧.Seen };
-
-    ghost seen = { λ it. ⟦<CowStr<'a> as Layout>⟧.seen it.inner };
-
-    ghost layout = { ⟦<CowStr<'a> as Layout>⟧.layout };
-}
-
-impl<'a, C: Context> ReadFrom<&'a [u8], C> for CowOfText<'a> {
-    type Strategy = ItemByItem<C>;
-
-    fn read_from<R: LendingReader<&'a [u8], C>>(reader: &mut R) -> Result<CowOfText<'a>, C::Error> {
-        match reader.read_value() {
-            Ok(inner) => Ok(CowOfText { inner }),
-            Err(error) => Err(error),
-        }
-    }
-
-    fn minimum_bytes_needed() -> usize
-        ensures { result ≡ ⟦<CowStr<'a> as Layout>⟧.layout.least }
-    {
-        4
-    }
-}
-
-impl<'a, C: Context> Writable<C> for CowOfText<'a> {
-    fn write_to<W: Writer<C>>(&self, writer: &mut W) -> Result<(), C::Error> {
-        writer.write_value(&self.inner)
-    }
-}
 
 /// Two cows of different types.
 #[derive(Drop)]
@@ -151,40 +77,6 @@ impl<'a, C: Context> ReadFrom<&'a [u8], C> for LentText<'a> {
 }
 
 impl<'a, C: Context> Writable<C> for LentText<'a> {
-    fn write_to<W: Writer<C>>(&self, writer: &mut W) -> Result<(), C::Error> {
-        writer.write_value(&self.0)
-    }
-}
-
-#[derive(Drop)]
-pub struct LentBytes<'a>(pub &'a [u8]);
-
-impl<'a> Layout for LentBytes<'a> {
-    ghost Seen = { ⟦<&'a [u8] as Layout>⟧.Seen };
-
-    ghost seen = { λ it. ⟦<&'a [u8] as Layout>⟧.seen it.0 };
-
-    ghost layout = { ⟦<&'a [u8] as Layout>⟧.layout };
-}
-
-impl<'a, C: Context> ReadFrom<&'a [u8], C> for LentBytes<'a> {
-    type Strategy = ItemByItem<C>;
-
-    fn read_from<R: LendingReader<&'a [u8], C>>(reader: &mut R) -> Result<LentBytes<'a>, C::Error> {
-        match reader.read_value() {
-            Ok(t0) => Ok(LentBytes(t0)),
-            Err(error) => Err(error),
-        }
-    }
-
-    fn minimum_bytes_needed() -> usize
-        ensures { result ≡ ⟦<&'a [u8] as Layout>⟧.layout.least }
-    {
-        4
-    }
-}
-
-impl<'a, C: Context> Writable<C> for LentBytes<'a> {
     fn write_to<W: Writer<C>>(&self, writer: &mut W) -> Result<(), C::Error> {
         writer.write_value(&self.0)
     }

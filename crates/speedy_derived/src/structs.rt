@@ -1,4 +1,4 @@
-//! Structs of each form, parts that may be missing or are left out, and numbers of few bytes.
+//! Structs of several forms, a part that is left out, and a number of few bytes.
 //!
 //! Made from `structs.rs` by `tools/derive`: change that, and make this again.
 use speedy::varints::Varint;
@@ -43,75 +43,6 @@ impl<L: AsSlice<u8> + Drop, C: Context> ReadFrom<L, C> for Numbers {
 impl<C: Context> Writable<C> for Numbers {
     fn write_to<W: Writer<C>>(&self, writer: &mut W) -> Result<(), C::Error> {
         writer.write_value(&(self.a, self.b, self.c))
-    }
-}
-
-/// Parts without names.
-#[derive(Drop)]
-pub struct Triple(pub u8, pub u16, pub u32);
-
-/// What [`Triple`] is read and written as.
-type TripleParts = (u8, u16, u32);
-
-impl Layout for Triple {
-    ghost Seen = { ⟦<TripleParts as Layout>⟧.Seen };
-
-    ghost seen = { λ it. ⟦<TripleParts as Layout>⟧.seen (it.0, it.1, it.2) };
-
-    ghost layout = { ⟦<TripleParts as Layout>⟧.layout };
-}
-
-impl<L: AsSlice<u8> + Drop, C: Context> ReadFrom<L, C> for Triple {
-    type Strategy = ItemByItem<C>;
-
-    fn read_from<R: LendingReader<L, C>>(reader: &mut R) -> Result<Triple, C::Error> {
-        match reader.read_value() {
-            Ok((t0, t1, t2)) => Ok(Triple(t0, t1, t2)),
-            Err(error) => Err(error),
-        }
-    }
-
-    fn minimum_bytes_needed() -> usize {
-        7
-    }
-}
-
-impl<C: Context> Writable<C> for Triple {
-    fn write_to<W: Writer<C>>(&self, writer: &mut W) -> Result<(), C::Error> {
-        writer.write_value(&(self.0, self.1, self.2))
-    }
-}
-
-/// No part, and no braces.
-#[derive(Drop)]
-pub struct Unit;
-
-impl Layout for Unit {
-    ghost Seen = { ⟦<() as Layout>⟧.Seen };
-
-    ghost seen = { λ _. tt };
-
-    ghost layout = { ⟦<() as Layout>⟧.layout };
-}
-
-impl<L: AsSlice<u8> + Drop, C: Context> ReadFrom<L, C> for Unit {
-    type Strategy = ItemByItem<C>;
-
-    fn read_from<R: LendingReader<L, C>>(reader: &mut R) -> Result<Unit, C::Error> {
-        match reader.read_value() {
-            Ok(()) => Ok(Unit),
-            Err(error) => Err(error),
-        }
-    }
-
-    fn minimum_bytes_needed() -> usize {
-        0
-    }
-}
-
-impl<C: Context> Writable<C> for Unit {
-    fn write_to<W: Writer<C>>(&self, writer: &mut W) -> Result<(), C::Error> {
-        writer.write_value(&())
     }
 }
 
@@ -213,74 +144,6 @@ impl<L: AsSlice<u8> + Drop, C: Context> ReadFrom<L, C> for Holder {
 impl<C: Context> Writable<C> for Holder {
     fn write_to<W: Writer<C>>(&self, writer: &mut W) -> Result<(), C::Error> {
         writer.write_value(&self.field)
-    }
-}
-
-#[derive(Drop)]
-pub struct Optional {
-    pub data: Option<u16>,
-}
-
-impl Layout for Optional {
-    ghost Seen = { ⟦<Option<u16> as Layout>⟧.Seen };
-
-    ghost seen = { λ it. ⟦<Option<u16> as Layout>⟧.seen it.data };
-
-    ghost layout = { ⟦<Option<u16> as Layout>⟧.layout };
-}
-
-impl<L: AsSlice<u8> + Drop, C: Context> ReadFrom<L, C> for Optional {
-    type Strategy = ItemByItem<C>;
-
-    fn read_from<R: LendingReader<L, C>>(reader: &mut R) -> Result<Optional, C::Error> {
-        match reader.read_value() {
-            Ok(data) => Ok(Optional { data }),
-            Err(error) => Err(error),
-        }
-    }
-
-    fn minimum_bytes_needed() -> usize {
-        1
-    }
-}
-
-impl<C: Context> Writable<C> for Optional {
-    fn write_to<W: Writer<C>>(&self, writer: &mut W) -> Result<(), C::Error> {
-        writer.write_value(&self.data)
-    }
-}
-
-#[derive(Drop)]
-pub struct Outcome {
-    pub data: Result<u16, u16>,
-}
-
-impl Layout for Outcome {
-    ghost Seen = { ⟦<Result<u16, u16> as Layout>⟧.Seen };
-
-    ghost seen = { λ it. ⟦<Result<u16, u16> as Layout>⟧.seen it.data };
-
-    ghost layout = { ⟦<Result<u16, u16> as Layout>⟧.layout };
-}
-
-impl<L: AsSlice<u8> + Drop, C: Context> ReadFrom<L, C> for Outcome {
-    type Strategy = ItemByItem<C>;
-
-    fn read_from<R: LendingReader<L, C>>(reader: &mut R) -> Result<Outcome, C::Error> {
-        match reader.read_value() {
-            Ok(data) => Ok(Outcome { data }),
-            Err(error) => Err(error),
-        }
-    }
-
-    fn minimum_bytes_needed() -> usize {
-        1
-    }
-}
-
-impl<C: Context> Writable<C> for Outcome {
-    fn write_to<W: Writer<C>>(&self, writer: &mut W) -> Result<(), C::Error> {
-        writer.write_value(&self.data)
     }
 }
 

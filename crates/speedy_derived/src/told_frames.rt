@@ -7,9 +7,7 @@ ghost use Rattle.std.proofs.Common.{inl, inr};
 use speedy::cases::{
     Case, CaseTree, Cases, Either, ReadCases, UnitCase, WriteCases, read_tagged, write_tagged,
 };
-use speedy::lengths::{
-    Holds, Length, OfLength, Other, ReadHolds, WithFrame, WithLength, WriteHolds,
-};
+use speedy::lengths::{Holds, Length, OfLength, ReadHolds, WithFrame, WithLength, WriteHolds};
 use speedy::prefixed::Prefixed;
 use speedy::private::error_invalid_enum_variant;
 use speedy::whole::{
@@ -54,84 +52,6 @@ impl<L: AsSlice<u8> + Drop, C: Context> ReadFrom<L, C> for Body {
 impl<C: Context> Writable<C> for Body {
     fn write_to<W: Writer<C>>(&self, writer: &mut W) -> Result<(), C::Error> {
         writer.write_value(&(self.kind, Part(&self.name)))
-    }
-}
-
-/// A body behind its size, and a flag between them.
-#[derive(Drop)]
-pub struct SizedBody {
-    pub size: u16,
-    pub is_last: bool,
-    pub body: Body,
-}
-
-/// The length of [`SizedBody::body`].
-struct SizedBodyBodyLength {}
-
-impl Length<(u16, ())> for SizedBodyBodyLength {
-    ghost is_told = { λ _. Unit {0} };
-
-    ghost told = { λ it. it.0 };
-
-    ghost field = { codes "body" };
-
-    fn length((size, _): (u16, ())) -> Option<usize> {
-        Some(size as usize)
-    }
-
-    fn field() -> &'static str {
-        "body"
-    }
-}
-
-/// What [`SizedBody`] is read and written as.
-type SizedBodyParts = WithFrame<SizedBodyBodyLength, (u16, Other<bool>), Body>;
-
-impl Layout for SizedBody {
-    ghost Seen = { ⟦<SizedBodyParts as Layout>⟧.Seen };
-
-    ghost seen = { λ it. ((it.size, ⟦<bool as Layout>⟧.seen it.is_last), ⟦<Body as Layout>⟧.seen it.body) };
-
-    ghost layout = { ⟦<SizedBodyParts as Layout>⟧.layout };
-}
-
-impl<'a, C: Context> ReadFrom<&'a [u8], C> for SizedBody {
-    type Strategy = ItemByItem<C>;
-
-    fn read_from<R: LendingReader<&'a [u8], C>>(reader: &mut R) -> Result<SizedBody, C::Error> {
-        match reader.read_value::<SizedBodyParts>() {
-            Ok(body) => {
-                let WithFrame {
-                    before,
-                    value: body,
-                    length: _,
-                } = body;
-                let (size, is_last) = before;
-                Ok(SizedBody {
-                    size,
-                    is_last: is_last.0,
-                    body,
-                })
-            }
-            Err(error) => Err(error),
-        }
-    }
-
-    fn minimum_bytes_needed() -> usize
-        ensures { result ≡ ⟦<SizedBodyParts as Layout>⟧.layout.least }
-    {
-        3
-    }
-}
-
-impl<C: Context> Writable<C> for SizedBody {
-    fn write_to<W: Writer<C>>(&self, writer: &mut W) -> Result<(), C::Error> {
-        let body: WithFrame<SizedBodyBodyLength, _, _> = WithFrame {
-            before: (self.size, Other(self.is_last)),
-            value: Part(&self.body),
-            length: PhantomData,
-        };
-        writer.write_value(&body)
     }
 }
 
@@ -296,7 +216,10 @@ impl Whole for Tail {
 impl<L: AsSlice<u8> + Drop, C: Context> ReadToEnd<L, C> for Tail {
     fn read_to_end<R: MemoryReader<L, C>>(reader: &mut R) -> Result<Tail, C::Error> {
         match <TailParts as ReadToEnd<L, C>>::read_to_end(reader) {
-            Ok(Followed(kind, Rest(samples))) => Ok(Tail { kind, samples }),
+            Ok(read) => {
+                let Followed(kind, Rest(samples)) = read;
+                Ok(Tail { kind, samples })
+            }
             Err(error) => Err(error),
         }
     }
