@@ -3,8 +3,8 @@
 
 usage: tools/bench/draw.py [--overview] JSON.. > FILE
 
-With --overview each way is one line, with a dot a case and order, its mean and its worst case; and so are the documents
-beside each other crate, of which there is a dot for what is read and one for what is written.
+With --overview each way is one line, with a dot a case and order, its mean, its worst and its best case; and so are the
+documents beside each other crate, of which there is a dot for what is read and one for what is written.
 
 Of several files the least figures count. A bar begins at 1, where both take the same time: one to the right says that
 this crate takes longer than the original, one to the left that it takes less. The scale is logarithmic, and the same in
@@ -194,10 +194,13 @@ def strip(y, name, rows, scale):
         yield f'<circle cx="{left + scale.at(ratio):.1f}" cy="{at:.1f}" r="3.2" fill="{ink}" fill-opacity="0.55"/>'
     ratios = [ratio for _, _, ratio in rows]
     mean, (case, _, worst) = mean_of(ratios), max(rows, key=lambda row: row[2])
+    of_best, _, best = min(rows, key=lambda row: row[2])
     at = left + scale.at(mean)
     yield stroke(at, f"{middle - 11:.1f}", f"{middle + 11:.1f}", INK, 2)
     yield text(left - 14, middle + 4, name, 12, anchor="end")
-    yield text(left + scale.width + 16, middle + 4, f"mean {mean:.2f}; worst {shown(worst)}, {case}", 11, SOFT)
+    beside = left + scale.width + 16
+    yield text(beside, middle - 2, f"mean {mean:.2f}; worst {shown(worst)}, {case}", 11, SOFT)
+    yield text(beside, middle + 11, f"best {shown(best)}, {of_best}", 11, SOFT)
 
 
 def draw_overview(ratios):

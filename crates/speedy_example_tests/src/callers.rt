@@ -1,4 +1,4 @@
-//! What the callers of `CALLING.md` and of the README answer.
+//! What the callers of the pages on calling and proving return, and those of the README.
 use speedy::device::VecSink;
 use speedy::error::get_error_kind;
 use speedy::readable::{BufferReader, CopyingBufferReader};

@@ -7,6 +7,12 @@
 mod callers;
 pub mod first;
 #[cfg(test)]
+mod formats;
+#[cfg(test)]
+mod hello;
+#[cfg(test)]
+mod holding;
+#[cfg(test)]
 mod own_tree;
 #[cfg(test)]
 mod own_types;

@@ -1,4 +1,4 @@
-//! The program that the README opens with: it writes and reads messages of `speedy_protocol`, and meets hostile bytes.
+//! The program of `PROTOCOL.md`: it writes and reads messages of `speedy_protocol`, and meets hostile bytes.
 //!
 //! It writes to a vector and to a sink, and reads from a buffer and from a stream.
 #![tactic(auto)]

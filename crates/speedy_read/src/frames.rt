@@ -68,7 +68,7 @@ impl<C: Context, T: ReadWhole<NothingLent, C>> ReadFramed<NothingLent, C> for T 
     }
 }
 
-// What a proof knows of a reader's context without a lifetime, it is told here for readers that lend for one.
+// Gives its caller two facts: a reader's state has its context's mode, and another context changes that mode alone.
 #[inline]
 fn keeps_context<L: AsSlice<u8> + Drop, C: Context, R: LendingReader<L, C>>(_reader: &R)
     ensures at { (r : R) → (R.state r).mode ≡ C.mode (R.at r) }

@@ -1,10 +1,10 @@
 //! Reading: readers, and the types that are read.
 //!
-//! Which way the modules lean: a reader reads any type, and a type reads from any reader, so `reader` and `readable`
-//! name each other; the modules with the bodies of a reader's methods name the reader (`digits`, `lent`, `room`) or
-//! both (`many`, `collections`, `until_end`). The four readers lean on `reader`, and the functions of `readable` make
-//! them. Reading in bulk (`bulk`, and `arrays` beside it), `prefixed`, `lengths` and `codes` lean on these. A family of
-//! types leans on those four and on no other family. `utf8` leans on none.
+//! Which modules use which: a reader reads any type, and a type reads from any reader, so `reader` and `readable` use
+//! each other. The modules with the bodies of a reader's methods use `reader` (`digits`, `lent`, `room`) or both
+//! (`many`, `collections`, `until_end`). The functions of `readable` make the four readers; those over memory also use
+//! `memory_reader`, and `whole` and `frames` stand on it. `bulk`, `arrays`, `prefixed`, `lengths` and `codes` use the
+//! above, and each family of types uses some of these and no other family. `utf8` uses none.
 #![tactic(auto)]
 
 pub mod addresses;

@@ -16,7 +16,7 @@ use speedy_layout::view_items::FixedSize;
 use std::alloc::AllocError;
 use std::convert::AsSlice;
 
-/// How many items room is asked for at a time where nobody says that the items are there.
+/// The most items that room is requested for at once, where it is not known that their bytes remain.
 pub(crate) const STEP: usize = 1024;
 
 /// The chunk of digits that numbers are read through, in bytes: no less than the ring of a new buffered reader holds,

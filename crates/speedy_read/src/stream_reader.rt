@@ -171,8 +171,8 @@ fn ended<E: From<Error>>(alloc: Global) -> E
     error_end_of_stream(alloc)
 }
 
-// The answer of a call, passed on by its parts, so that a function that the call stands in has its own answer in
-// registers where nothing was called.
+// Returns the result that it is given. Taken apart and made again, it leaves its caller's own result in registers on
+// the way that makes no call.
 #[inline(always)]
 fn by_parts<E>(answer: Result<(), E>) -> Result<(), E>
     ensures { result ≡ answer }

@@ -61,7 +61,7 @@ impl<'b> Waiting<'b> {
         count <= self.room.len() - self.end
     }
 
-    // Has these wait too.
+    // Appends the bytes to those that wait to be pushed.
     #[inline(always)]
     fn add(&mut self, slice: &[u8])
         requires { self.old.end + length slice.now ≤ length self.old.room.now }
@@ -72,7 +72,7 @@ impl<'b> Waiting<'b> {
         self.end = end;
     }
 
-    // Has the bytes of these values wait too.
+    // Appends the bytes of these values to those that wait.
     #[inline(always)]
     fn add_values<T: Layout, P: FixedBytes<T>>(&mut self, values: &[T], order: Endianness)
         requires { self.old.end + length values.now * P.BYTES ≤ length self.old.room.now }
@@ -81,7 +81,7 @@ impl<'b> Waiting<'b> {
         self.end = put_values_at::<T, P>(values, order, &mut *self.room, self.end);
     }
 
-    // Has this item wait too, if it has room, and says whether it has.
+    // Appends the bytes of this item to those that wait, if they fit, and says whether they did.
     #[inline(always)]
     fn add_whole<C: Context, T: Layout, P: FillsFront<T, C>>(
         &mut self,

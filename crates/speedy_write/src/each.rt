@@ -26,8 +26,8 @@ pub(crate) fn write_items<C: Context, T: Writable<C>, W: Writer<C>>(
     T::write_many(items, writer)
 }
 
-// Writes an item of a collection. A writer that counts is told of it at once, so that it adds once, and one that puts
-// items whole is asked to.
+// Writes an item of a collection. A writer that only counts gets its size in one call, and one that has room for all
+// of it gets it whole.
 #[inline]
 pub(crate) fn write_item<C: Context, T: Writable<C>, W: Writer<C>>(
     item: &T,

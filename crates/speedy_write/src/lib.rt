@@ -1,9 +1,9 @@
 //! Writing: writers, and the types that are written.
 //!
-//! Which way the modules lean: a writer writes any type, and a type writes to any writer, so `writer` and `writable`
-//! name each other, and so do the bodies of a writer's methods (`each`, `fixed`). The writers lean on these
-//! (`collectors`, `buffering`, `counting`), and the functions of `writable` make them. `prefixed` and `collections`
-//! lean on all of these, and a family of types on these two; only cows write as lists and texts do.
+//! Which modules use which: a writer writes any type, and a type writes to any writer, so `writer` and `writable` use
+//! each other, and the bodies of a writer's methods use both (`each`, `fixed`, `filling`). The functions of `writable`
+//! make the writers (`collectors`, `buffering`, `counting`). `prefixed`, `collections`, `lengths` and `part` use these,
+//! and each family of types uses some of the above; only cows use two other families, `lists` and `texts`.
 #![tactic(auto)]
 
 pub mod addresses;
