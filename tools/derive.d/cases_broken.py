@@ -58,6 +58,9 @@ BROKEN = [
      "`length = ..` is taken of"),
     ("a rest behind a part that may be missing", struct("    #[speedy(default_on_eof)]\n    a: u8,\n"
      "    #[speedy(length = ..)]\n    b: Vec<u8>"), 5, "is the last field"),
+    ("a skipped part whose default takes memory, beside one that may be missing",
+     struct("    #[speedy(skip)]\n    a: Box<u32>,\n    #[speedy(default_on_eof)]\n    b: u8"), 5,
+     "the default of this type takes memory"),
     ("a missing part whose default takes memory", struct("    #[speedy(default_on_eof)]\n    a: Box<u32>"), 5,
      "the default of this type takes memory"),
     ("a missing part of two settings", struct("    #[speedy(default_on_eof, varint)]\n    a: u64"), 4,

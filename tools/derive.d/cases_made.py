@@ -378,6 +378,10 @@ struct Index<K: Ord, V> {
 ]
 
 MADE += [
+    ("skipped parts beside one that may be missing", DERIVES + "struct A(#[speedy(skip)] String, u8, "
+     "#[speedy(skip)] Box<str>, #[speedy(default_on_eof)] u16);\n",
+     ["            None => A(\n                String::new(alloc),\n                t1,\n"
+      "                String::new(alloc).into_boxed_str(),\n                Default::default(),\n            ),"]),
     ("a type that holds itself", """#[derive(Debug, PartialEq, Readable, Writable)]
 #[speedy(depth = 10)]
 struct A(u8, Option<Box<Self>>, [u8; 3], Vec<(String, A)>, #[speedy(skip)] u8);

@@ -126,9 +126,9 @@ class WholeShape(Shape):
 
     # Reading.
 
-    def value(self, values):
-        """The struct, with these values of the fields at the end."""
-        whole = Taken(self.item, self.item.fields, [], values=[*self.first.values, *values])
+    def value(self, first, last):
+        """The struct, with these values of the first fields and of those at the end."""
+        whole = Taken(self.item, self.item.fields, [], values=[*first, *last])
         return built(self.item.name, self.item.shape, whole)
 
     def read_to_end(self):
@@ -140,7 +140,7 @@ class WholeShape(Shape):
         read = Fresh(["parts", *(it.bound for it in self.first.accesses), self.last[0][1].bound]).name("read")
         taken = Let(Call(self.names_of_whole["Followed"], (bound, rest)), read)
         pattern = Call(ok, (read,))
-        made = Block((taken, *lets), Call(ok, (self.value([self.last[0][1].bound]),)))
+        made = Block((taken, *lets), Call(ok, (self.value(self.first.values, [self.last[0][1].bound]),)))
         trait = self.scope.need("speedy::whole", "ReadToEnd")
         generics = self.generics
         read = f"<{self.parts_type} as {trait}<{self.lent()}, {generics.context}>>::read_to_end(reader)"
@@ -155,7 +155,8 @@ class WholeShape(Shape):
         alloc = self.scope.need("std::alloc", "Global")
         bound, lets = read_pattern(self.first)
         head = Call(self.names_of_whole["Followed"], (bound, Call(self.names_of_whole["UnlessEnd"], (self.more,))))
-        body = Block((Let(head, "parts"), *lets), self.unless_end(0, []))
+        first = [self.without_reader(it, value) for it, value in zip(self.first.fields, self.first.values)]
+        body = Block((Let(head, "parts"), *lets), self.unless_end(first, 0, []))
         wheres = self.generics.wheres_text()
         needed = {name for it, _, kind in self.last for name in defaults.default(kind, self.scope, it.line)[1]}
         bounds = {it.name: self.generics.bounds_of(self.asked[it.name], self.generics.laying_out())
@@ -193,21 +194,26 @@ class WholeShape(Shape):
                           f"UnwrapsOrElse (option_map (λ more. more.0) {more})\n            {default} {value}"))
         return found
 
-    def unless_end(self, place, values):
-        """The struct, where so many of the last parts are there."""
+    def unless_end(self, first, place, values):
+        """The struct, with these values of its first fields, where so many of the last parts are there."""
         if place == len(self.last):
-            return self.value(values)
+            return self.value(first, values)
         some, none = self.scope.variant("Some"), self.scope.variant("None")
-        missing = [self.default(it, kind) for it, _, kind in self.last[place:]]
+        missing = [self.without_reader(it, defaults.default(kind, self.scope, it.line)[0])
+                   for it, _, kind in self.last[place:]]
         bound = self.last[place][1].bound
         is_last = place + 1 == len(self.last)
         behind = "_" if is_last else Call(self.names_of_whole["UnlessEnd"], (self.more,))
-        return Match(self.more, ((none, self.value(values + missing)),
-                              (Call(some, (Call("", (bound, behind)),)), self.unless_end(place + 1, [*values, bound]))))
+        more = self.unless_end(first, place + 1, [*values, bound])
+        return Match(self.more, ((none, self.value(first, values + missing)),
+                                 (Call(some, (Call("", (bound, behind)),)), more)))
 
-    def default(self, it, kind):
-        """The default of a part that is missing. One that may find no memory is refused: no error says so there."""
-        value = defaults.default(kind, self.scope, it.line)[0]
+    @staticmethod
+    def without_reader(it, value):
+        """The value of a field where there is no reader, but an allocator. A default that may find no memory is
+        refused: no error says so there."""
+        if not isinstance(value, str):
+            return value
         if "error_out_of_memory" in value:
             raise Refusal(it.line, "the default of this type takes memory, for want of which `from_parts` has no "
                                    "answer: hold it in an `Option`, whose default takes none")
