@@ -3,7 +3,7 @@ from dataclasses import dataclass
 from enum import Enum
 
 import texts
-from cursor import Gap, Run, count_of, is_shown
+from cursor import MOST_SHOWN, Gap, Run, count_of, is_shown
 from declared import Choice, Magic, Struct
 from lists import Array, Counted
 
@@ -147,7 +147,8 @@ class Table:
         if self.shows_all and run.size:
             shown = range(run.count)
         else:
-            shown = [it for it in (*range(min(run.count, 8)), run.count - 1) if is_shown(it, run.count) and it >= 0]
+            ends = (*range(min(run.count, MOST_SHOWN)), run.count - 1)
+            shown = [it for it in ends if it >= 0 and is_shown(it, run.count)]
         last = -1
         for place in dict.fromkeys(shown):
             if place > last + 1:
