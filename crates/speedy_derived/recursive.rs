@@ -20,3 +20,15 @@ pub struct Step(
     pub Vec<(String, Step)>,
     #[speedy(skip)] pub u8,
 );
+
+/// A value of JSON.
+#[derive(Debug, PartialEq, Readable, Writable)]
+#[speedy(depth = 16, tag_type = u8)]
+pub enum Json {
+    Null,
+    Bool(bool),
+    Number(f64),
+    Text(String),
+    List(Vec<Json>),
+    Object(Vec<(String, Json)>),
+}

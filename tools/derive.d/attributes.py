@@ -236,9 +236,6 @@ def of_item(item, scope):
     if "tag_type" in found:
         item.tag_type = found["tag_type"][1]
     if "depth" in found:
-        if is_enum:
-            raise Refusal(found["depth"][0], f"`depth` is taken of structs alone: write the impls of `{item.name}` by "
-                                             "hand")
         item.depth = depth(item, *found["depth"], scope)
 
 

@@ -353,6 +353,39 @@ struct C { all: Vec<C> }
       "WriteBelow::<A, ALent<'_>>::write_below::<C2, W>(below, &parts, writer)",
       "Both<Own<BOwn>, Listed<Listed<Itself>>>", "level_chain!(2, BLevel, level_chain!(1, BLevel));",
       "type CParts = Listed<Itself>;", "            return Err(error_out_of_range_length());"]),
+    ("an enum that holds itself", """#[derive(Debug, PartialEq, Readable, Writable)]
+#[speedy(depth = 8, tag_type = u16)]
+enum A {
+    #[speedy(tag = 7)]
+    None,
+    Some { data: Box<Self>, is: u8 },
+    Point(u8, [i16; 2], String, Vec<u8>),
+    #[speedy(tag = 3)]
+    Ok(#[speedy(skip)] u8, Vec<A>),
+    Err(#[speedy(skip)] u8),
+}
+#[derive(Readable)]
+#[speedy(depth = 2)]
+enum B { All(Vec<B>), None }
+""", ["enum A {\n    None,\n    Some { data: Box<A>, is: u8 },", "type ASomeParts = Both<Boxed<Itself>, Own<AOwn>>;",
+      "type ASomeLent<'t> = Both<Lent<'t, Boxed<Itself>>, Own<AOwn>>;",
+      "type APointParts = (u8, [i16; 2], String, Vec<u8>);",
+      "ghost use Rattle.my_crate.specs.declared.messages.A.TheOpen.{A-F};",
+      "    ghost layer = { tagged_layer ⟦<u16 as Prefix>⟧.numbers\n        (either_branch\n"
+      "        (either_branch (unit_branch 7) (one_branch 8 ⟦<ASomeParts as Shape<A>>⟧.layer))\n",
+      "(one_branch 9 (own_layer ⟦<APointParts as Layout>⟧.seen ⟦<APointParts as Layout>⟧.layout))\n"
+      "        (either_branch (one_branch 3 ⟦<Listed<Itself> as Shape<A>>⟧.layer) (unit_branch 4))))",
+      "          | A-F.Some t0 t1 ↦ inl (inr (t0, t1))\n", "          | A-F.Ok t0 t1 ↦ inr (inr (inl t1))\n",
+      "        let tag = match u16::read_number(reader) {", "            7 => Ok(A::None),",
+      "                    let (data_, is_) = parts;", "                Ok(t1) => Ok(A::Ok(Default::default(), t1)),",
+      "            4 => Ok(A::Err(Default::default())),", "            _ => Err(error_invalid_enum_variant()),",
+      "    fn minimum_bytes_needed() -> usize {\n        2\n", "            A::None => u16::write_number(7, writer),",
+      "            A::Some {\n                data: data_,\n                is: is_,\n            } => {\n"
+      "                u16::write_number(8, writer)?;\n                let parts = (data_, *is_);",
+      "WriteBelow::<A, ASomeLent<'_>>::write_below::<C, W>(below, &parts, writer)",
+      "            A::Err(_) => u16::write_number(4, writer),",
+      "(either_branch (one_branch 0 ⟦<Listed<Itself> as Shape<B>>⟧.layer) (unit_branch 1))\n",
+      "          | B-F.All t0 ↦ inl t0\n          | B-F.None ↦ inr tt\n"]),
 ]
 
 # Each has a line of the source that is noted, words of the note, and lines of what is made.

@@ -7,10 +7,11 @@ import whole
 from answers import answers
 from impls import Shape
 from parts import (NUMBERS, PartMaker, accesses_of_variant, built, number_of, read_arm, seen_of_parts,
-                   write_statements, written)
+                   variant_pattern, write_statements, written)
 from rattle import Block, Build, Call, Listed, Match, clause_lines, names_in, type_text
+from recursive_enums import RecursiveEnumShape
 from refusal import Refusal
-from scope import member
+from trees import halved, leaves
 
 # Rattle has no enum of more variants.
 MOST_VARIANTS = 256
@@ -25,21 +26,6 @@ class Case:
         self.path = path
         # The type of the parts, as reading and clauses name it.
         self.parts_type = type_text(taken.type())
-
-
-def halved(items):
-    """A tree of pairs, as deep as it has to be."""
-    if len(items) == 1:
-        return items[0]
-    half = len(items) // 2
-    return (halved(items[:half]), halved(items[half:]))
-
-
-def leaves(tree):
-    """Its leaves in order, each with its place: `0` for left and `1` for right."""
-    if not isinstance(tree, tuple):
-        return [("", tree)]
-    return [(side + path, leaf) for side, half in zip("01", tree) for path, leaf in leaves(half)]
 
 
 def tags_of(item, scope):
@@ -190,17 +176,11 @@ class EnumShape(Shape):
     def pattern(self, case, is_bare=False):
         """The pattern of a variant, with its fields bound, or with none."""
         variant, name = case.variant, f"{self.item.name}::{case.variant.name}"
-        if variant.shape == "unit":
-            return name
         if is_bare and variant.shape == "tuple":
             return f"{name}(..)" if variant.fields else f"{name}()"
-        if is_bare:
+        if is_bare and variant.shape != "unit":
             return Build(name, (), bool(variant.fields))
-        pairs = list(zip(variant.fields, case.taken.accesses))
-        if variant.shape == "tuple":
-            return Call(name, tuple("_" if it.options.skip else access.bound for it, access in pairs))
-        kept = tuple((member(it, 0), access.bound) for it, access in pairs if not it.options.skip)
-        return Build(name, kept, len(kept) < len(pairs))
+        return variant_pattern(name, variant, case.taken.accesses)
 
 
 def enum_lines(item, scope, place):
@@ -214,6 +194,8 @@ def enum_lines(item, scope, place):
         raise Refusal(item.line, "clauses name an enum by the module that holds it: put this file into the folder of "
                                  "the crate, or say `--module my_crate::messages`")
     tags_of(item, scope)
+    if item.depth:
+        return RecursiveEnumShape(item, scope, place).lines()
     shape = EnumShape(item, scope, place)
     found = shape.lines()
     scope.answers.update(answers(shape, place))

@@ -262,10 +262,10 @@ def accesses_of_struct(fields, scope):
     return found
 
 
-def accesses_of_variant(fields, scope):
-    """How the fields of a variant are named: in a clause by their place."""
+def accesses_of_variant(fields, scope, avoided=frozenset()):
+    """How the fields of a variant are named: in a clause by their place. None is bound to what is avoided."""
     return [Access(bound, f"t{place}", bound, f"*{bound}", it.name or str(place))
-            for place, (it, bound) in enumerate(zip(fields, variables(fields, scope.values())))]
+            for place, (it, bound) in enumerate(zip(fields, variables(fields, scope.values() | avoided)))]
 
 
 # What is seen.
@@ -339,6 +339,17 @@ def built(name, shape, taken):
 
 
 # What is written.
+
+def variant_pattern(name, variant, accesses):
+    """The pattern of a variant, with its fields bound."""
+    if variant.shape == "unit":
+        return name
+    pairs = list(zip(variant.fields, accesses))
+    if variant.shape == "tuple":
+        return Call(name, tuple("_" if it.options.skip else access.bound for it, access in pairs))
+    kept = tuple((member(it, 0), access.bound) for it, access in pairs if not it.options.skip)
+    return Build(name, kept, len(kept) < len(pairs))
+
 
 def write_statements(taken):
     """The variables that parts are written by."""

@@ -139,6 +139,12 @@ class Fields:
         shown = "" if self.item.is_enum else self.item.visibility_of_field()
         return Field(settings, name, shown, kind, words.docs("    "), words.noise("    ", "field"))
 
+    def held_field(self, place, ends):
+        """A field that holds values of the item itself, and of which some hold none where it `ends`."""
+        made = self.field(place, False)
+        made.settings, made.kind = [], self.kinds.held(self.item.name, ends)
+        return made
+
     def remember(self, called, kind):
         """Keeps what later lengths may name."""
         if called.startswith("r#"):
@@ -156,6 +162,8 @@ class Fields:
             return [], self.kinds.key("ordered")
         if draws("skip"):
             return ["skip"], self.skipped()
+        if self.item.recursive:
+            return [], self.kinds.kind(self.random.choice([0, 0, 1, 1, 2]))
         settings = self.prefix()
         if is_last and draws("default_on_eof"):
             return self.shuffled(settings + ["default_on_eof"]), self.with_default()

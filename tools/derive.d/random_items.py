@@ -49,12 +49,14 @@ class Declared:
 class Item:
     """Draws one type."""
 
-    def __init__(self, source, name, is_enum, keyed=False):
+    def __init__(self, source, name, is_enum, keyed=False, recursive=False):
         self.source = source
         self.random = source.random
         self.name = name
         self.is_enum = is_enum
         self.keyed = keyed
+        # Whether its values hold values of its own type.
+        self.recursive = recursive
         self.lifetime = None
         self.parameters = []
         self.fields, self.variants, self.shape = [], [], ""
@@ -62,7 +64,7 @@ class Item:
         self.discriminants = self.tagged = False
         self.derived, self.wheres = [], []
         self.readable = self.writable = True
-        if not keyed:
+        if not keyed and not recursive:
             self.set_generics()
 
     def set_generics(self):
@@ -118,7 +120,7 @@ class Item:
 
     def draw_fields(self):
         """The fields of a struct."""
-        self.shape = "named" if self.keyed else self.source.one_of(SHAPES)
+        self.shape = "named" if self.keyed else self.source.one_of(SHAPES, ("unit", "empty") * self.recursive)
         count = self.random.choice([1, 1, 2, 2, 3, 3, 4, 4, 5, 6])
         if self.source.draws("many_fields"):
             count = self.random.choice([7, 8, 9, 10, 11, 12, 13, 14])
@@ -128,6 +130,8 @@ class Item:
             return
         made = Fields(self, self.shape)
         self.fields = made.all(0 if self.source.draws("no_fields") and not self.keyed else count, True)
+        if self.recursive:
+            self.fields.append(made.held_field(len(self.fields), True))
         free = [it for it in self.parameters if not it.role]
         if free and self.source.draws("skip_marker"):
             free[0].become("plain", False)
@@ -143,7 +147,7 @@ class Item:
     def draw_variants(self):
         """The variants of an enum."""
         source = self.source
-        count = self.random.choice([1, 2, 2, 3, 3, 4, 4, 5, 6, 8, 10, 12])
+        count = self.random.choice([1, 2, 2, 3, 3, 4, 4, 5, 6, 8, 10, 12]) + self.recursive
         if source.draws("many_variants") and not self.keyed:
             count = self.random.choice([24, 40])
         if source.draws("tag_type"):
@@ -160,6 +164,19 @@ class Item:
             tag += self.random.choice([1, 1, 1, 2, 3])
             self.variants.append({"name": name, "shape": shape, "fields": fields, "tag": tag, "docs":
                                   source.words.docs("    ")})
+        if self.recursive:
+            self.hold_others()
+
+    def hold_others(self):
+        """Has variants hold values of the enum, the last one at least. The first one does so that its values end."""
+        for place, variant in enumerate(self.variants):
+            shape = variant["shape"].removeprefix("variant_")
+            is_wanted = shape in ("tuple", "named") and self.random.random() < 0.5
+            if is_wanted or place == len(self.variants) - 1:
+                variant["shape"] = "variant_named" if shape == "named" else "variant_tuple"
+                made = Fields(self, variant["shape"].removeprefix("variant_"))
+                made.names |= {it.name for it in variant["fields"] if it.name}
+                variant["fields"].append(made.held_field(len(variant["fields"]), place == 0))
 
     # What stands before it.
 
@@ -238,7 +255,9 @@ class Item:
             found.append(f"tag_type = {self.tag_type}")
         if self.is_enum and source.draws("peek_tag"):
             found.append("peek_tag")
-        if source.draws("depth"):
+        if self.recursive:
+            found.append(f"depth = {self.random.choice([2, 5, 8, 16, 64])}")
+        elif source.draws("depth"):
             found.append("depth = 16")
         return [f"#[speedy({', '.join(found)})]"] if found else []
 

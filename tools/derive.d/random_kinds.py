@@ -63,6 +63,8 @@ SKIPPED = prefixed("skip",
                             "tuple": 1, "isize": 1, "arc": 0.7, "cell": 0.7, "parameter": 2, "own": 1, "f64": 1,
                             "box_str": 1,
                             "cow_str": 0.5, "array": 1, "range": 0.5})
+# How a type holds values of itself. In a box alone there is always one more.
+HELD = {"held_vec": 4, "held_option": 3, "held_box": 3, "held_pairs": 2, "held_lists": 1}
 
 
 @dataclass(frozen=True)
@@ -210,6 +212,34 @@ class Kinds:
     def make_range_inclusive(self, _):
         """A range with its end."""
         return self.named("std::ops", "RangeInclusive", [self.kind(0)], RANGE - {"Default"})
+
+    # What holds the item itself.
+
+    def held(self, name, ends):
+        """What holds values of the item of this name: none at times, where it `ends`."""
+        itself = Kind(self.random.choice([name, name, "Self"]), OWNED - {"Default"})
+        return getattr(self, f"make_{self.source.one_of(HELD, ('held_box',) * ends)}")(itself)
+
+    def make_held_vec(self, itself):
+        """A list of itself."""
+        return self.named("std::vec", "Vec", [itself], OWNED)
+
+    def make_held_box(self, itself):
+        """Itself in a box."""
+        return self.named("std::boxed", "Box", [itself], OWNED, holds=True)
+
+    def make_held_option(self, itself):
+        """Itself in a box, or nothing."""
+        return self.named("std::option", "Option", [self.make_held_box(itself)], EVERY)
+
+    def make_held_pairs(self, itself):
+        """A list of itself with other parts."""
+        part = self.of(self.source.one_of(LEAF_WEIGHTS))
+        return self.make_held_vec(self.holding(f"({part.text}, {itself.text})", [part, itself], EVERY))
+
+    def make_held_lists(self, itself):
+        """Lists of lists of itself."""
+        return self.make_held_vec(self.make_held_vec(itself))
 
     # Maps and sets.
 

@@ -18,6 +18,7 @@ CHANCES = {
     "derives": 0.75, "odd_derives": 0.12, "serde": 0.08, "serde_attributes": 0.5, "split_derives": 0.15,
     "repr_c": 0.05, "repr_transparent": 0.4, "repr_packed": 0.02, "repr_number": 0.1, "non_exhaustive": 0.04,
     "readable_alone": 0.04, "writable_alone": 0.06, "depth": 0.01, "one_line": 0.15,
+    "recursive_structs": 0.06, "recursive_enums": 0.08,
     # Of enums.
     "enums": 0.45, "many_variants": 0.04, "odd_variants": 0.1, "tag_type": 0.4, "discriminants": 0.3, "tags": 0.2,
     "tag_sums": 0.2, "tag_constants": 0.2, "tag_casts": 0.05, "tag_bases": 0.2, "peek_tag": 0.02,

@@ -7,7 +7,7 @@ that is wanted which the generator takes.
 """
 from random_fields import PREFIXES, WIDTHS, Fields
 from random_items import SHAPES, VARIANT_SHAPES, Item
-from random_kinds import COUNTED, COUNTED_LOANS, FORMS, KEYS, LEAVES, SKIPPED, TOLD, TOLD_MAPS
+from random_kinds import COUNTED, COUNTED_LOANS, FORMS, HELD, KEYS, LEAVES, SKIPPED, TOLD, TOLD_MAPS
 from random_source import CHANCES, OF_TYPES, REFUSED, Source
 from random_words import CONSTANTS, ODD_TYPES, TYPES
 
@@ -38,6 +38,10 @@ class File:
         if self.source.draws("key_types"):
             name = self.words.pick(["Key", "Place", "Code"], ["Key"], "odd_types", self.source.names)
             found.append(Item(self.source, name, self.random.random() < 0.5, keyed=True).text())
+        for is_enum in [it == "recursive_enums" for it in ("recursive_structs", "recursive_enums")
+                        if self.source.draws(it)]:
+            name = self.words.pick(["Node", "Tree", "Expr"], ["Node"], "odd_types", self.source.names)
+            found.append(Item(self.source, name, is_enum, recursive=True).text())
         found += [Item(self.source, name, is_enum).text() for name, is_enum in plan]
         found += self.words.other_items([it.name for it in self.source.types if not it.parameters and not it.loans])
         self.random.shuffle(found)
@@ -108,9 +112,8 @@ def random_file(seed, only_taken=False, features=None):
 
 def productions():
     """The names of all productions."""
-    tables = (CHANCES, LEAVES, FORMS, KEYS, COUNTED, COUNTED_LOANS, TOLD, TOLD_MAPS, SKIPPED, SHAPES, VARIANT_SHAPES,
-              WIDTHS,
-              PREFIXES)
+    tables = (CHANCES, LEAVES, FORMS, KEYS, COUNTED, COUNTED_LOANS, TOLD, TOLD_MAPS, SKIPPED, HELD, SHAPES,
+              VARIANT_SHAPES, WIDTHS, PREFIXES)
     return list(dict.fromkeys(name for table in tables for name in table))
 
 

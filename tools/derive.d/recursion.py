@@ -7,7 +7,7 @@ from impls import Shape
 from names import Fresh
 from parts import PartMaker, Taken, built, fold, read_pattern, written_among
 from rattle import Block, Call, Let, Listed, Match, Own, function, impl, is_listed, parts_of, type_text
-from recursive_answers import LAYERS, answers
+from recursive_answers import LAYERS
 from refusal import Refusal
 
 # Which definitions a proof unfolds where a part holds the type so.
@@ -60,7 +60,8 @@ class Holding:
     def __init__(self, item, scope):
         self.item = item
         self.scope = scope
-        self.used = {"layer_of"}
+        # The library's definitions that proofs unfold.
+        self.used = set()
         self.markers = {}
         fresh = Fresh(scope.fresh.taken)
         self.lent, self.context, self.reader, self.writer = (fresh.name(it) for it in "LCRW")
@@ -139,6 +140,14 @@ class Holding:
         return function(f"fn {name}<{self.bound()}, {self.writer}: {bound}>({before}, writer: &mut {self.writer})",
                         self.result("()"), body)
 
+    def read_arguments(self):
+        """The arguments of a function that reads."""
+        return f"{self.lent}, {self.context}, {self.reader}"
+
+    def write_arguments(self):
+        """The arguments of a function that writes."""
+        return f"{self.context}, {self.writer}"
+
     def bound(self):
         """The parameter that is the context."""
         return f"{self.context}: {self.scope.need('speedy', 'Context')}"
@@ -194,17 +203,15 @@ class Fields:
 
     # Types.
 
-    def shapes(self):
-        """How the parts are read, and how they are written, as types."""
-        read, lent = [], []
-        for it in self.parts():
-            if isinstance(it, Held):
-                read.append(it.shape)
-                lent.append(self.holding.of_lent(it.shape))
-            else:
-                read.append(self.holding.marked(type_text(it.type()), True, False))
-                lent.append(self.run_lent(it))
-        return self.holding.both(read), self.holding.both(lent)
+    def read_shape(self):
+        """How the parts are read, as a type."""
+        return self.holding.both([it.shape if isinstance(it, Held)
+                                  else self.holding.marked(type_text(it.type()), True, False) for it in self.parts()])
+
+    def lent_shape(self):
+        """How they are written, as a type."""
+        return self.holding.both([self.holding.of_lent(it.shape) if isinstance(it, Held) else self.run_lent(it)
+                                  for it in self.parts()])
 
     def run_lent(self, taken):
         """A run of parts that are lent."""
@@ -233,18 +240,24 @@ class Fields:
 
     def seen(self):
         """The parts of a value, as a tuple of clauses."""
-        found = [it.access.seen if isinstance(it, Held) else fold(it.tree, lambda part: part.seen, list)
-                 for it in self.parts()]
+        return self.each(lambda it: it.seen)
+
+    def each(self, of):
+        """The same tuple, of what each field has."""
+        found = [of(it.access) if isinstance(it, Held) else fold(it.tree, of, list) for it in self.parts()]
         return nested(found, lambda first, rest: [first, rest])
 
     def read(self, names, head):
         """The pattern of what was read, the statements that take it apart, and what is made of it."""
         pattern, lets = self.apart(self.parts(), names)
+        return pattern, Block(tuple(lets), Call(self.holding.scope.variant("Ok"), (built(*head, self.whole()),)))
+
+    def whole(self):
+        """All that is taken of the fields, with the value of each."""
         values = []
         for it in self.items:
             values += [it.access.bound] if isinstance(it, Held) else it.values
-        whole = Taken(self.holding.item, self.fields, self.accesses, values=values)
-        return pattern, Block(tuple(lets), Call(self.holding.scope.variant("Ok"), (built(*head, whole),)))
+        return Taken(self.holding.item, self.fields, self.accesses, values=values)
 
     def apart(self, parts, names):
         """What parts are bound to, and the statements that take that apart, pair by pair."""
@@ -274,6 +287,8 @@ def emptied(kind, name):
     """A type of the same least size that does not hold the type."""
     if is_listed(kind, "Option", "Vec"):
         return Listed(kind.line, kind.name, (syntax.Tuple(kind.line, ()),), kind.local)
+    if is_listed(kind, "Box"):
+        return emptied(kind.arguments[0], name)
     if isinstance(kind, syntax.Tuple):
         return syntax.Tuple(kind.line, tuple(emptied(it, name) if holds(it, name) else it for it in kind.parts))
     raise Refusal(kind.line, f"no value of `{name}` ends: hold it in an `Option` or a `Vec`")
@@ -290,7 +305,6 @@ class LevelShape(Shape):
         self.holding = Holding(item, scope)
         self.level = scope.fresh.name(f"{item.name}Level")
         self.levels = scope.fresh.name(f"{upper(item.name)}_LEVELS")
-        self.read_shape = self.lent_shape = ""
 
     def shaped(self, all_fields, scope):
         """Takes the fields, of each variant or of the struct."""
@@ -303,19 +317,24 @@ class LevelShape(Shape):
 
     def lines(self):
         """The impls."""
-        name = self.item.name
-        read, lent = self.shapes()
-        self.read_shape = self.alias(f"{name}Parts", f"How a [`{name}`] holds others.", read, ())
+        self.shapes()
         found = self.recursive() + self.layout_by_levels()
         if self.item.readable:
             found += self.read_level()
         if self.item.writable:
-            alias = self.scope.fresh.name(f"{name}Lent")
-            self.scope.beside += ["/// The same of what is lent.", f"type {alias}<'t> = {lent};", ""]
-            self.lent_shape = f"{alias}<'_>"
             found += self.write_level()
-        self.scope.answers.update(answers(self))
+        self.scope.answers.update(self.answers())
         return self.holding.lines() + self.level_lines() + found
+
+    def lent_alias(self, wanted, shape):
+        """A name of what lent parts are written as: what it is applied to here."""
+        name = self.scope.fresh.name(wanted)
+        self.scope.beside += ["/// The same of what is lent.", f"type {name}<'t> = {shape};", ""]
+        return f"{name}<'_>"
+
+    def quoted_shape(self, shape):
+        """What an impl says of a shape, as a clause quotes it."""
+        return f"⟦<{shape} as {self.holding.need('Shape')}<{self.item.name}>>⟧"
 
     # What says the levels.
 
@@ -328,7 +347,7 @@ class LevelShape(Shape):
         """The type that counts levels, and the constant that has them all."""
         scope, level, name = self.scope, self.level, self.item.name
         scope.ghosts.add("ℕ")
-        scope.ghost_paths |= {f"{LAYERS}.levels_above", f"{LAYERS}.at_level", f"{LAYERS}.layer_of"}
+        scope.ghost_paths |= {f"{LAYERS}.levels_above", f"{LAYERS}.at_level"}
         return [f"/// The levels that are left for a [`{name}`].", f"#[derive({scope.prelude('Drop')})]",
                 f"struct {level}({scope.prelude('Option')}<&'static {level}>);", "",
                 *impl([], self.holding.need("Levels"), level, "", [
@@ -346,10 +365,7 @@ class LevelShape(Shape):
 
     def recursive(self):
         """`impl Recursive`."""
-        name = self.item.name
-        layer = f"⟦<{self.read_shape} as {self.holding.need('Shape')}<{name}>>⟧.layer"
-        return impl([], self.holding.need("Recursive"), name, "",
-                    [self.declared(name, f"out-{name}"), *self.layer_lines(layer)])
+        return impl([], self.holding.need("Recursive"), self.item.name, "", self.recursive_lines())
 
     def layout_by_levels(self):
         """`impl Layout`."""
@@ -363,24 +379,33 @@ class LevelShape(Shape):
     def read_level(self):
         """`impl ReadLevel` and `impl ReadFrom`."""
         name, trait = self.item.name, self.holding.need("ReadLevel")
-        arguments = f"{self.holding.lent}, {self.holding.context}, {self.holding.reader}"
-        read = f"{self.holding.need('ReadBelow')}::<{name}, {self.read_shape}>::read_below::<{arguments}>"
-        err = self.scope.variant("Err")
-        body = Match(f"{read}({self.below}, reader)", (*self.read_arms(), (f"{err}(error)", f"{err}(error)")))
-        lines = self.holding.reading("read_level", "&self, ", name, f"{self.take_level()} {body}")
-        return impl([], f"{trait}<{name}>", self.level, "", lines) \
-            + self.read_from(f"{trait}::<{name}>::read_level::<{arguments}>({self.levels}, reader)")
+        lines = self.holding.reading("read_level", "&self, ", name, f"{self.take_level()} {self.read_body()}")
+        read = f"{trait}::<{name}>::read_level::<{self.holding.read_arguments()}>({self.levels}, reader)"
+        return impl([], f"{trait}<{name}>", self.level, "", lines) + self.read_from(read)
+
+    def read_below(self, shape):
+        """A read of what holds the type."""
+        read = f"{self.holding.need('ReadBelow')}::<{self.item.name}, {shape}>::read_below"
+        return f"{read}::<{self.holding.read_arguments()}>({self.below}, reader)"
+
+    def read_match(self, read, pattern, made):
+        """A read, and what is made of what it reads."""
+        ok, err = self.scope.variant("Ok"), self.scope.variant("Err")
+        return Match(read, ((Call(ok, (pattern,)), made), (f"{err}(error)", f"{err}(error)")))
 
     def write_level(self):
         """`impl WriteLevel` and `impl Writable`."""
         name, trait = self.item.name, self.holding.need("WriteLevel")
-        arguments = f"{self.holding.context}, {self.holding.writer}"
-        write = f"{self.holding.need('WriteBelow')}::<{name}, {self.lent_shape}>::write_below::<{arguments}>"
-        body = f"{self.take_level()} {self.write_body(f'{write}({self.below}, &parts, writer)')}"
-        lines = self.holding.writing("write_level", f"&self, value: &{name}", body)
-        body = f"{trait}::<{name}>::write_level::<{arguments}>({self.levels}, self, writer)"
+        lines = self.holding.writing("write_level", f"&self, value: &{name}",
+                                     f"{self.take_level()} {self.write_body()}")
+        write = f"{trait}::<{name}>::write_level::<{self.holding.write_arguments()}>({self.levels}, self, writer)"
         return impl([], f"{trait}<{name}>", self.level, "", lines) \
-            + self.writing("speedy", "Writable", self.writer("write_to", body))
+            + self.writing("speedy", "Writable", self.writer("write_to", write))
+
+    def write_below(self, shape, parts):
+        """A write of what holds the type."""
+        write = f"{self.holding.need('WriteBelow')}::<{self.item.name}, {shape}>::write_below"
+        return f"{write}::<{self.holding.write_arguments()}>({self.below}, {parts}, writer)"
 
     def take_level(self):
         """The level below, or else an error."""

@@ -1,26 +1,31 @@
 """The proofs of types with `depth`, which the source determines: a search does not find them."""
 
 LAYERS = "Rattle.speedy.specs.Layers"
+RULES = "use Rattle.std.proofs.Common.{rules}"
 # That the level is the last, or that there is one below.
 LEVELS = "(search (rules, level_lemmas))"
 
 
 def answers(shape):
-    """The proofs of a type, which a search does not find: the path of each file below the crate's folder, and its
+    """The proofs of a struct, which a search does not find: the path of each file below the crate's folder, and its
     text."""
+    return files(shape, read_answers, least_answer, write_answers)
+
+
+def files(shape, read, least, write):
+    """The files of the proofs of reading, of the least size and of writing: what is imported, and the answers."""
     crate, *modules = shape.place
     level, name = shape.level, shape.item.name
-    found, files = {}, []
+    found, wanted = {}, []
     if shape.item.readable:
-        files += [(f"{level}ReadLevel{name}", "+read_level", read_answers(shape)),
-                  (f"{name}ReadFrom", "minimum_bytes_needed", least_answer(shape))]
+        wanted += [(f"{level}ReadLevel{name}", "+read_level", read), (f"{name}ReadFrom", "minimum_bytes_needed", least)]
     if shape.item.writable:
-        files.append((f"{level}WriteLevel{name}", "+write_level", write_answers(shape)))
-    for trait, function_, (uses, proofs) in files:
+        wanted.append((f"{level}WriteLevel{name}", "+write_level", write))
+    for trait, function_, proofs in wanted:
         path = [*modules, trait, function_]
         goals = f"use Rattle.{'.'.join([crate, 'proofs', *path])}.Goals as goal"
-        lines = ["use Rattle.std.proofs.Common.{rules}", *uses, goals, *proofs]
-        found["/".join(["proofs", *path, "Answers.antt"])] = "\n".join(lines) + "\n"
+        uses, lines = proofs(shape)
+        found["/".join(["proofs", *path, "Answers.antt"])] = "\n".join([*uses, goals, *lines]) + "\n"
     return found
 
 
@@ -40,7 +45,7 @@ def answer(goal, fact, term, unfolded=()):
 
 def read_answers(shape):
     """Those of reading: what is imported, and the answers."""
-    uses = ["use Rattle.speedy.specs.ReadLayers.{none_read, value_read, value_refused}",
+    uses = [RULES, "use Rattle.speedy.specs.ReadLayers.{none_read, value_read, value_refused}",
             lemmas_of(shape, shape.item.name), lemmas_of(shape, shape.level, " as level_lemmas")]
     return uses, [
         *answer("returns-in_default", "c.in_default.is", f"none_read _ _ {LEVELS} c.error_out_of_range_length.ensures"),
@@ -52,14 +57,15 @@ def read_answers(shape):
 def least_answer(shape):
     """That of the least size."""
     used = sorted({"at_level"} | shape.holding.used - {"its_layer"})
-    return [f"use {LAYERS}.{{{', '.join(used)}}}"], [
+    return [RULES, f"use {LAYERS}.{{{', '.join(used)}}}"], [
         "", "pub returns : goal.returns", f"unfolding {' '.join(used)}", "returns g c = search rules"]
 
 
 def write_answers(shape):
     """Those of writing."""
     used = sorted(shape.holding.used)
-    uses = [f"use {LAYERS}.{{{', '.join(used)}}}", "use Rattle.speedy.specs.WriteLayers.{none_written, value_written}",
+    uses = [RULES, f"use {LAYERS}.{{{', '.join(used)}}}",
+            "use Rattle.speedy.specs.WriteLayers.{none_written, value_written}",
             lemmas_of(shape, shape.level, " as level_lemmas")]
     return uses, [
         *answer("returns-in_default", "c.in_default.is",

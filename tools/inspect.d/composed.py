@@ -22,7 +22,7 @@ class Chosen(Layout):
 
     def chosen(self, cursor, label):
         """Takes the flag, and answers which case it chooses."""
-        at = cursor.take(1, f"the flag of an `{self.name}`", label)
+        at = cursor.take(1, f"the flag of `{self.name}`", label)
         return 0 if flag_of(cursor, at, cursor.data[at], label) else 1
 
     def read(self, cursor, label):

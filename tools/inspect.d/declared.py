@@ -327,10 +327,30 @@ def written_fields(nodes, data, order):
     return b"".join(it.layout.written(it, data, order) for it in nodes if not isinstance(it.layout, Absent))
 
 
-class Struct(Layout):
-    """A struct. `depth` is how many levels its values have at most, where they hold values of their own type; `ends`
-    says whether it ends where the bytes do. Its parts are made when they are asked for, since they may hold it."""
+class Levelled(Layout):
+    """A type of the file. `depth` is how many levels its values have at most, where they hold values of their own type.
+    Its parts are made when they are asked for, since they may hold it."""
     has_rows = True
+    depth = 0
+
+    def enter(self, cursor, label):
+        """Goes a level down, of which there are no more than the bound."""
+        if not self.depth:
+            return
+        level = cursor.levels.get(self, 0)
+        if level == self.depth:
+            raise cursor.fault(Kind.OUT_OF_RANGE_LENGTH, cursor.at, label, cursor.at,
+                               f"`{self.name}` has at most {count_of(self.depth, 'level')}")
+        cursor.levels[self] = level + 1
+
+    def leave(self, cursor):
+        """Goes a level up."""
+        if self.depth:
+            cursor.levels[self] -= 1
+
+
+class Struct(Levelled):
+    """A struct. `ends` says whether it ends where the bytes do."""
 
     def __init__(self, name, title, shape, make, depth=0, ends=False):
         self.name = name
@@ -359,12 +379,10 @@ class Struct(Layout):
         return None if self.depth or self.ends else self.parts.sizes[strict]
 
     def read(self, cursor, label):
-        if self.depth:
-            self.enter(cursor, label)
+        self.enter(cursor, label)
         node = cursor.open(label, self)
         self.parts.read(cursor)
-        if self.depth:
-            cursor.levels[self] -= 1
+        self.leave(cursor)
         return cursor.close(node)
 
     def skip(self, cursor):
@@ -372,19 +390,9 @@ class Struct(Layout):
         if size is not None:
             cursor.take(size, self.name)
             return
-        if self.depth:
-            self.enter(cursor, "")
+        self.enter(cursor, "")
         self.parts.skip(cursor)
-        if self.depth:
-            cursor.levels[self] -= 1
-
-    def enter(self, cursor, label):
-        """Goes a level down, of which there are no more than the bound."""
-        level = cursor.levels.get(self, 0)
-        if level == self.depth:
-            raise cursor.fault(Kind.OUT_OF_RANGE_LENGTH, cursor.at, label, cursor.at,
-                               f"`{self.name}` has at most {count_of(self.depth, 'level')}")
-        cursor.levels[self] = level + 1
+        self.leave(cursor)
 
     def pieces(self, node, data):
         return [self.title, *field_pieces(self.shape, node.parts, data)]
@@ -407,16 +415,16 @@ class Variant:
         self.rank = rank
 
 
-class Choice(Layout):
+class Choice(Levelled):
     """An enum: a tag, and the parts of the variant that has it."""
-    has_rows = True
 
-    def __init__(self, name, title, number, make):
+    def __init__(self, name, title, number, make, depth=0):
         self.name = name
         self.title = title
         self.number = number
         self.least = number.least
         self.make = make
+        self.depth = depth
 
     @cached_property
     def variants(self):
@@ -426,7 +434,7 @@ class Choice(Layout):
     @cached_property
     def can_shrink(self):
         """Whether it may be written in fewer bytes."""
-        return self.number.can_shrink or any(it.parts.can_shrink for it in self.variants.values())
+        return bool(self.depth) or self.number.can_shrink or any(it.parts.can_shrink for it in self.variants.values())
 
     def chosen(self, cursor, label):
         """Takes the tag, and answers the variant that has it."""
@@ -445,15 +453,19 @@ class Choice(Layout):
         return listed + (f", and {len(known) - 6} more" if len(known) > 6 else "")
 
     def read(self, cursor, label):
+        self.enter(cursor, label)
         node = cursor.open(label, self)
         variant = self.chosen(cursor, "")
         node.value, node.head = variant.tag, cursor.at
         node.within = f"::{variant.name}"
         variant.parts.read(cursor)
+        self.leave(cursor)
         return cursor.close(node)
 
     def skip(self, cursor):
+        self.enter(cursor, "")
         self.chosen(cursor, "").parts.skip(cursor)
+        self.leave(cursor)
 
     def variant(self, node):
         """The variant of a value."""

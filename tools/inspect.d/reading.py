@@ -1,10 +1,15 @@
 """Bytes read as a type: the tree of what was read, and the error if there is one."""
 import re
+import sys
 from dataclasses import dataclass
 
 from cursor import Cursor
 from declared import finish_whole
 from faults import Fault, Kind
+
+
+# Types nest as deep as the generator takes them, and values of a type that holds itself 64 levels.
+sys.setrecursionlimit(20_000)
 
 
 @dataclass

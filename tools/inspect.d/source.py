@@ -20,7 +20,7 @@ from known import KNOWN
 from lengths import is_framed
 from module import Made, ModuleMaker
 from refusal import Refusal
-from scope import Converter, member
+from scope import Converter
 from told import Told
 from tokens import cut
 
@@ -202,7 +202,7 @@ class Module:
         ranks = self.ranks(item)
         return Choice(name, item.name, WIDTHS[item.tag_type],
                       lambda: [Variant(it.name, it.tag, it.shape, self.parts(item, it.fields, bound), rank)
-                               for it, rank in zip(item.variants, ranks)])
+                               for it, rank in zip(item.variants, ranks)], item.depth)
 
     def ranks(self, item):
         """By what the variants of an enum are compared: by their discriminants, where the made enum has these."""

@@ -1,7 +1,7 @@
 -- Types whose values hold values of the type itself: what is seen of one, and which bytes encode it, level by level.
 use Rattle.std.specs.Prelude.{◌≡◌, ℕ, zero, suc, List, map, Option, Some, None, refl}
 use Rattle.std.specs.Option.{option_map}
-use Rattle.std.proofs.Common.{ap, ◌∙◌, arith, Bor}
+use Rattle.std.proofs.Common.{ap, arith, Bor}
 use Rattle.speedy_base.specs.declared.error.ErrorKind.TheVariants as kinds
 use Rattle.speedy_layout.specs.Codecs.{Codec, owned_codec, option_codec, list_codec, pair_codec}
 use Rattle.speedy.specs.Levels.{no_value, no_value_laws}

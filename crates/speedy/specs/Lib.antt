@@ -104,3 +104,4 @@ pub mod ToldFrames
 pub mod Layers
 pub mod ReadLayers
 pub mod WriteLayers
+pub mod TaggedLayers

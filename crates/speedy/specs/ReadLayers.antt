@@ -31,16 +31,16 @@ module _ {E : Type 0} {gives : Error → E → Type 0} {eof : E → Bool} {T : T
         });
       })
 
-  module _ {A : Type 0} (layer : Layer T A) (parts_of : T → A) (mode : Mode) {old new : ReaderState} {m : ℕ} where
-    level_read : {result : Result T E} → n ≡ suc m
-        → (let whole = above (layer_of layer parts_of) (at_level (layer_of layer parts_of) m) in
-        Reads gives eof whole.view (whole.codec.format mode) result old new)
-        → (let whole = at_level (layer_of layer parts_of) n in
-        Reads gives eof whole.view (whole.codec.format mode) result old new)
-    level_read {result = result} is r =
-        subst (λ (seen : Seen T). Reads gives eof seen.view (seen.codec.format mode) result old new)
-        (sym (at_above (layer_of layer parts_of) n m is)) r
+  -- a value is read as it is on the level above one
+  pub level_read : (layer : Layer T T) (mode : Mode) {old new : ReaderState} {m : ℕ} {result : Result T E} → n ≡ suc m
+      → (let whole = above layer (at_level layer m) in
+      Reads gives eof whole.view (whole.codec.format mode) result old new)
+      → (let whole = at_level layer n in Reads gives eof whole.view (whole.codec.format mode) result old new)
+  level_read layer mode {old = old} {new = new} {m = m} {result = result} is r =
+      subst (λ (seen : Seen T). Reads gives eof seen.view (seen.codec.format mode) result old new)
+      (sym (at_above layer n m is)) r
 
+  module _ {A : Type 0} (layer : Layer T A) (parts_of : T → A) (mode : Mode) {old new : ReaderState} {m : ℕ} where
     -- a value is read as its parts are on the level below
     pub value_read : {parts : A} {value : T}
         → (let below = at_level (layer_of layer parts_of) m in
@@ -50,7 +50,8 @@ module _ {E : Type 0} {gives : Error → E → Type 0} {eof : E → Bool} {T : T
         Reads gives eof whole.view (whole.codec.format mode) (Ok value) old new)
     unfolding layer_of
     value_read r is same =
-        level_read is (got_as (ap (layer.view (at_level (layer_of layer parts_of) m).view) same) r)
+        level_read (layer_of layer parts_of) mode is
+        (got_as (ap (layer.view (at_level (layer_of layer parts_of) m).view) same) r)
 
     -- and refused as these are
     pub value_refused : {e : E}
@@ -60,4 +61,4 @@ module _ {E : Type 0} {gives : Error → E → Type 0} {eof : E → Bool} {T : T
         → (let whole = at_level (layer_of layer parts_of) n in
         Reads gives eof whole.view (whole.codec.format mode) (Err e) old new)
     unfolding layer_of
-    value_refused r is = level_read is (record { kept = r.kept; answer = r.answer })
+    value_refused r is = level_read (layer_of layer parts_of) mode is (record { kept = r.kept; answer = r.answer })

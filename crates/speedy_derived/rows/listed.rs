@@ -86,6 +86,15 @@ pub struct Ranked {
     pub names: BTreeMap<Rank, u8>,
 }
 
+/// An enum whose tags are of variable length.
+#[derive(Readable, Writable)]
+#[speedy(tag_type = u64_varint)]
+pub enum ListedTags {
+    None,
+    #[speedy(tag = 300)]
+    One(u8),
+}
+
 /// A map in a frame: a key that comes twice is written once.
 #[derive(Readable, Writable)]
 pub struct FramedMap {

@@ -2,15 +2,18 @@
 //!
 //! Made from `recursive.rs` by `tools/derive`: change that, and make this again.
 ghost use Rattle.std.specs.Prelude.{ℕ};
-ghost use Rattle.speedy.specs.Layers.{at_level, layer_of, levels_above};
+ghost use Rattle.speedy.specs.Layers.{at_level, layer_of, levels_above, own_layer};
+ghost use Rattle.speedy.specs.TaggedLayers.{either_branch, one_branch, tagged_layer, unit_branch};
+ghost use Rattle.std.proofs.Common.{inl, inr};
 
 use speedy::levels::{
     Both, Boxed, Itself, Lent, Levels, Listed, Optional, Own, OwnParts, ReadBelow, ReadLevel,
     ReadOwn, Recursive, Shape, WriteBelow, WriteLevel, WriteOwn,
 };
-use speedy::private::error_out_of_range_length;
+use speedy::prefixed::{Prefix, ReadPrefix, WritePrefix};
+use speedy::private::{error_invalid_enum_variant, error_out_of_range_length};
 use speedy::{
-    Context, ItemByItem, Layout, LendingReader, Part, ReadFrom, Writable, Writer, level_chain,
+    Context, F64, ItemByItem, Layout, LendingReader, Part, ReadFrom, Writable, Writer, level_chain,
 };
 use std::convert::AsSlice;
 use std::marker::PhantomData;
@@ -326,5 +329,184 @@ impl WriteLevel<Step> for StepLevel {
 impl<C: Context> Writable<C> for Step {
     fn write_to<W: Writer<C>>(&self, writer: &mut W) -> Result<(), C::Error> {
         WriteLevel::<Step>::write_level::<C, W>(STEP_LEVELS, self, writer)
+    }
+}
+
+/// A value of JSON.
+#[derive(Debug, PartialEq, Drop)]
+pub enum Json {
+    Null,
+    Bool(bool),
+    Number(F64),
+    Text(String),
+    List(Vec<Json>),
+    Object(Vec<(String, Json)>),
+}
+
+/// How [`Json::Object`] holds others.
+type JsonObjectParts = Listed<Both<Own<JsonOwn>, Itself>>;
+
+/// The same of what is lent.
+type JsonObjectLent<'t> = Lent<'t, Listed<Both<Own<JsonOwn>, Itself>>>;
+
+/// Parts of a [`Json`] that hold no other.
+struct JsonOwn {}
+
+impl OwnParts for JsonOwn {
+    type Parts = String;
+}
+
+impl ReadOwn for JsonOwn {
+    fn read_own<L: AsSlice<u8> + Drop, C: Context, R: LendingReader<L, C>>(
+        reader: &mut R,
+    ) -> Result<String, C::Error> {
+        reader.read_value()
+    }
+}
+
+impl WriteOwn for JsonOwn {
+    fn write_own<C: Context, W: Writer<C>>(parts: &String, writer: &mut W) -> Result<(), C::Error> {
+        writer.write_value(parts)
+    }
+}
+
+/// The levels that are left for a [`Json`].
+#[derive(Drop)]
+struct JsonLevel(Option<&'static JsonLevel>);
+
+impl Levels for JsonLevel {
+    ghost use Rattle.speedy_derived.specs.declared.recursive.JsonLevel.{fold-JsonLevel};
+
+    ghost levels = { fold-JsonLevel ℕ (λ level. levels_above level.0) };
+}
+
+/// A [`Json`] has at most so many levels.
+const JSON_LEVELS: &JsonLevel = level_chain!(16, JsonLevel);
+
+impl Recursive for Json {
+    ghost use Rattle.speedy_derived.specs.declared.recursive.Json.{out-Json};
+    ghost use Rattle.speedy_derived.specs.declared.recursive.Json.TheOpen.{Json-F};
+
+    ghost layer = { tagged_layer ⟦<u8 as Prefix>⟧.numbers
+        (either_branch
+        (either_branch
+        (unit_branch 0)
+        (either_branch
+        (one_branch 1 (own_layer ⟦<bool as Layout>⟧.seen ⟦<bool as Layout>⟧.layout))
+        (one_branch 2 (own_layer ⟦<F64 as Layout>⟧.seen ⟦<F64 as Layout>⟧.layout))))
+        (either_branch
+        (one_branch 3 (own_layer ⟦<String as Layout>⟧.seen ⟦<String as Layout>⟧.layout))
+        (either_branch
+        (one_branch 4 ⟦<Listed<Itself> as Shape<Json>>⟧.layer)
+        (one_branch 5 ⟦<JsonObjectParts as Shape<Json>>⟧.layer))))
+        (λ it. elim (out-Json it) [
+          | Json-F.Null ↦ inl (inl tt)
+          | Json-F.Bool t0 ↦ inl (inr (inl t0))
+          | Json-F.Number t0 ↦ inl (inr (inr t0))
+          | Json-F.Text t0 ↦ inr (inl t0)
+          | Json-F.List t0 ↦ inr (inr (inl t0))
+          | Json-F.Object t0 ↦ inr (inr (inr t0))
+        ]) };
+}
+
+impl Layout for Json {
+    ghost Seen = { (at_level ⟦<Json as Recursive>⟧.layer 16).Value };
+
+    ghost seen = { (at_level ⟦<Json as Recursive>⟧.layer 16).view };
+
+    ghost layout = { (at_level ⟦<Json as Recursive>⟧.layer 16).codec };
+}
+
+impl ReadLevel<Json> for JsonLevel {
+    fn read_level<L: AsSlice<u8> + Drop, C: Context, R: LendingReader<L, C>>(
+        &self,
+        reader: &mut R,
+    ) -> Result<Json, C::Error> {
+        let Some(below) = &self.0 else {
+            return Err(error_out_of_range_length());
+        };
+        let tag = match u8::read_number(reader) {
+            Ok(tag) => tag,
+            Err(error) => return Err(error),
+        };
+        match tag {
+            0 => Ok(Json::Null),
+            1 => match reader.read_value() {
+                Ok(t0) => Ok(Json::Bool(t0)),
+                Err(error) => Err(error),
+            },
+            2 => match reader.read_value() {
+                Ok(t0) => Ok(Json::Number(t0)),
+                Err(error) => Err(error),
+            },
+            3 => match reader.read_value() {
+                Ok(t0) => Ok(Json::Text(t0)),
+                Err(error) => Err(error),
+            },
+            4 => match ReadBelow::<Json, Listed<Itself>>::read_below::<L, C, R>(below, reader) {
+                Ok(t0) => Ok(Json::List(t0)),
+                Err(error) => Err(error),
+            },
+            5 => match ReadBelow::<Json, JsonObjectParts>::read_below::<L, C, R>(below, reader) {
+                Ok(t0) => Ok(Json::Object(t0)),
+                Err(error) => Err(error),
+            },
+            _ => Err(error_invalid_enum_variant()),
+        }
+    }
+}
+
+impl<L: AsSlice<u8> + Drop, C: Context> ReadFrom<L, C> for Json {
+    type Strategy = ItemByItem<C>;
+
+    fn read_from<R: LendingReader<L, C>>(reader: &mut R) -> Result<Json, C::Error> {
+        ReadLevel::<Json>::read_level::<L, C, R>(JSON_LEVELS, reader)
+    }
+
+    fn minimum_bytes_needed() -> usize {
+        1
+    }
+}
+
+impl WriteLevel<Json> for JsonLevel {
+    fn write_level<C: Context, W: Writer<C>>(
+        &self,
+        value: &Json,
+        writer: &mut W,
+    ) -> Result<(), C::Error> {
+        let Some(below) = &self.0 else {
+            return Err(error_out_of_range_length());
+        };
+        match value {
+            Json::Null => u8::write_number(0, writer),
+            Json::Bool(t0) => {
+                u8::write_number(1, writer)?;
+                writer.write_value(t0)
+            }
+            Json::Number(t0) => {
+                u8::write_number(2, writer)?;
+                writer.write_value(t0)
+            }
+            Json::Text(t0) => {
+                u8::write_number(3, writer)?;
+                writer.write_value(t0)
+            }
+            Json::List(t0) => {
+                u8::write_number(4, writer)?;
+                WriteBelow::<Json, Lent<'_, Listed<Itself>>>::write_below::<C, W>(
+                    below, &t0, writer,
+                )
+            }
+            Json::Object(t0) => {
+                u8::write_number(5, writer)?;
+                WriteBelow::<Json, JsonObjectLent<'_>>::write_below::<C, W>(below, &t0, writer)
+            }
+        }
+    }
+}
+
+impl<C: Context> Writable<C> for Json {
+    fn write_to<W: Writer<C>>(&self, writer: &mut W) -> Result<(), C::Error> {
+        WriteLevel::<Json>::write_level::<C, W>(JSON_LEVELS, self, writer)
     }
 }

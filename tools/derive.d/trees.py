@@ -1,0 +1,16 @@
+"""Trees of pairs, whose halves are about equal."""
+
+
+def halved(items):
+    """A tree of pairs, as deep as it has to be."""
+    if len(items) == 1:
+        return items[0]
+    half = len(items) // 2
+    return (halved(items[:half]), halved(items[half:]))
+
+
+def leaves(tree):
+    """Its leaves in order, each with its place: `0` for left and `1` for right."""
+    if not isinstance(tree, tuple):
+        return [("", tree)]
+    return [(side + path, leaf) for side, half in zip("01", tree) for path, leaf in leaves(half)]
