@@ -2,9 +2,8 @@
 ghost use Rattle.std.specs.Option.{option_map};
 ghost use Rattle.std.specs.Prelude.{◌≡◌};
 
-use speedy_layout::part::Part;
-
 pub use speedy_layout::frames::Framed;
+use speedy_layout::part::Part;
 pub use speedy_layout::prefixed::{Prefix, Prefixed, Told, U7};
 pub use speedy_read::prefixed::{ReadPrefix, ReadTold};
 pub use speedy_write::prefixed::{WritePrefix, WriteTold};

@@ -1,0 +1,9 @@
+use Rattle.speedy_examples.proofs.settings.ThemeReadCases.read_case.Goals as goal
+
+pub returns-in-Ok : goal.returns-in-Ok
+returns-in-Ok g c =
+    let read = rw c.in-Ok.is at c.read_value.ensures in rw c.in-1.is (read.kept, read.answer)
+
+pub returns-in-Err : goal.returns-in-Err
+returns-in-Err g c =
+    let read = rw c.in-Err.is at c.read_value.ensures in rw c.in-1.is (read.kept, read.answer)
