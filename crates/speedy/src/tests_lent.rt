@@ -21,6 +21,20 @@ fn a_text_is_not_borrowed_where_nothing_is_lent(rt: HostRuntime) {
 }
 
 #[test]
+fn an_option_without_a_text_is_read_where_nothing_is_lent(rt: HostRuntime) {
+    let alloc = rt.alloc();
+    for (bytes, is_read) in [(&[0][..], true), (&[1, 2, 0, 0, 0, 72, 105], false)] {
+        let outcome = <Option<&str> as Readable<LittleEndian>>::read_from_buffer_copying_data(
+            alloc, bytes,
+        );
+        match is_read {
+            true => assert_ok(&rt, outcome, None),
+            false => assert_refused(&rt, alloc, outcome, "Unsized"),
+        }
+    }
+}
+
+#[test]
 fn an_array_is_not_borrowed_where_nothing_is_lent(rt: HostRuntime) {
     let alloc = rt.alloc();
     let mut context = LittleEndian {};

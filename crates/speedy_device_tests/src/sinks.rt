@@ -105,14 +105,19 @@ fn make_tally() -> Tally {
     }
 }
 
-#[test]
-fn a_list_of_numbers_is_pushed_by_stretches(rt: HostRuntime) {
-    let alloc = rt.alloc();
-    let numbers = vec![in alloc; 7_u16; 5_000].expect(&rt, "a vector");
+/// How often a list of so many numbers is pushed to a sink that takes all it is given.
+fn count_pushes(rt: &impl Abort, alloc: Global, count: usize) -> usize {
+    let numbers = vec![in alloc; 7_u16; count].expect(rt, "a vector");
     let mut sink = make_tally();
     let outcome = Writable::<LittleEndian>::write_to_stream(&numbers, alloc, &mut sink);
-    assert_ok(&rt, outcome, ());
-    assert_same(&rt, sink.pushes, 6);
+    assert_ok(rt, outcome, ());
+    sink.pushes
+}
+
+#[test]
+fn a_list_of_numbers_is_pushed_by_stretches(rt: HostRuntime) {
+    assert!(rt; count_pushes(&rt, rt.alloc(), 513) <= 3);
+    assert_same(&rt, count_pushes(&rt, rt.alloc(), 5_000), 6);
 }
 
 #[test]

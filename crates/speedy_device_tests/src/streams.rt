@@ -1,4 +1,6 @@
 //! Reading from sources and files: what is answered, and what the source has left.
+ghost use Rattle.speedy.specs.MemoryDevices.{bytes_source};
+
 use crate::asserting::{
     assert_bytes, assert_end, assert_failed_call, assert_kind, assert_ok, assert_refused,
     assert_same, device_kind,
@@ -158,6 +160,48 @@ fn a_list_of_numbers_is_pulled_by_stretches(rt: HostRuntime) {
     for most in [1, 2, 3, 7] {
         count_pulls(&rt, rt.alloc(), most, false);
         count_pulls(&rt, rt.alloc(), most, true);
+    }
+}
+
+/// Bytes in memory as a source, which may say how many are left. It keeps how many the last pull asked for.
+#[derive(Drop)]
+struct Asked<'a> {
+    bytes: &'a [u8],
+    says: bool,
+    asked: usize,
+}
+
+impl<'a> Source for Asked<'a> {
+    ghost source = { λ s. bytes_source s.bytes.now };
+
+    fn pull(&mut self, output: &mut [u8]) -> Result<usize, io::Error> {
+        self.asked = output.len();
+        self.bytes.pull(output)
+    }
+
+    fn can_pull_at_least(&self, size: usize) -> bool {
+        self.says && self.bytes.can_pull_at_least(size)
+    }
+}
+
+/// Asserts how many bytes a new buffered reader asks a source of so many for, where it says how many it has or not.
+fn assert_asked(rt: &impl Abort, alloc: Global, count: usize, says: bool, asked: usize) {
+    let bytes = vec![in alloc; 7; count].expect(rt, "a buffer");
+    let mut source = Asked {
+        bytes: &bytes,
+        says,
+        asked: 0,
+    };
+    let mut reader = make_reader(rt, alloc, &mut source, true);
+    assert_ok(rt, reader.read_u8(), 7);
+    assert_same(rt, reader.into_source().asked, asked);
+}
+
+#[test]
+fn a_source_that_says_how_little_it_has_is_asked_for_little(rt: HostRuntime) {
+    for (count, asked) in [(3, 256), (257, 1_024), (1_025, 4_096), (4_097, 8_192)] {
+        assert_asked(&rt, rt.alloc(), count, true, asked);
+        assert_asked(&rt, rt.alloc(), count, false, 8_192);
     }
 }
 

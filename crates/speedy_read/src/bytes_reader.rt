@@ -61,7 +61,7 @@ pub struct BytesReader<'a, 'c, U, C> {
 
 /// A reader of bytes in memory that lends none of them, under a context that it borrows.
 ///
-/// Nothing is lent for longer than until its next use, so a value that borrows is the error `Unsized`.
+/// Nothing is lent for longer than until its next use, so a value that has to borrow is the error `Unsized`.
 pub type CopyingBufferReader<'a, C> = BytesReader<'a, 'a, Copied, C>;
 
 // A reader of the bytes of a frame, which lends parts of them.

@@ -45,6 +45,9 @@ pub trait ReadFrom<L: AsSlice<u8> + Drop, C: Context>: Layout + Sized + Drop {
 }
 
 /// Types that can be read from a buffer, a source or a file, with the ways of doing so. They may borrow for `'a`.
+///
+/// Only the forms over a buffer that do not copy lend its bytes. By the others a `&str` is the error `Unsized`, and an
+/// `Option<&str>` is where it is not `None`, which has nothing to borrow.
 pub trait Readable<'a, C: Context>: ReadMany<&'a [u8], C> {
     /// Decodes a value from a prefix of the buffer, in little endian.
     ///
@@ -103,8 +106,8 @@ pub trait Readable<'a, C: Context>: ReadMany<&'a [u8], C> {
         buffer.read_with_length(alloc, context)
     }
 
-    /// As [`read_from_buffer`](Self::read_from_buffer), but nothing of the buffer is borrowed: a type
-    /// that borrows is the error `Unsized`.
+    /// As [`read_from_buffer`](Self::read_from_buffer), but nothing of the buffer is borrowed: a value that has to
+    /// borrow is the error `Unsized`.
     final fn read_from_buffer_copying_data(alloc: Global, buffer: &[u8]) -> Result<Self, C::Error>
     where
         C: PlainContext,
@@ -115,7 +118,7 @@ pub trait Readable<'a, C: Context>: ReadMany<&'a [u8], C> {
     }
 
     /// As [`read_with_length_from_buffer`](Self::read_with_length_from_buffer), but nothing of the buffer is
-    /// borrowed: a type that borrows is the error `Unsized`.
+    /// borrowed: a value that has to borrow is the error `Unsized`.
     ///
     /// Beside an error the count says what it says there, and is at most the number of bytes of the buffer.
     final fn read_with_length_from_buffer_copying_data(
@@ -131,7 +134,7 @@ pub trait Readable<'a, C: Context>: ReadMany<&'a [u8], C> {
     }
 
     /// As [`read_from_buffer_with_ctx`](Self::read_from_buffer_with_ctx), but nothing of the buffer is
-    /// borrowed: a type that borrows is the error `Unsized`.
+    /// borrowed: a value that has to borrow is the error `Unsized`.
     final fn read_from_buffer_copying_data_with_ctx(
         alloc: Global,
         context: C,
@@ -144,7 +147,7 @@ pub trait Readable<'a, C: Context>: ReadMany<&'a [u8], C> {
     }
 
     /// As [`read_with_length_from_buffer_with_ctx`](Self::read_with_length_from_buffer_with_ctx), but nothing
-    /// of the buffer is borrowed: a type that borrows is the error `Unsized`.
+    /// of the buffer is borrowed: a value that has to borrow is the error `Unsized`.
     ///
     /// Beside an error the count says what it says there, and is at most the number of bytes of the buffer.
     final fn read_with_length_from_buffer_copying_data_with_ctx(
@@ -160,7 +163,7 @@ pub trait Readable<'a, C: Context>: ReadMany<&'a [u8], C> {
     }
 
     /// Decodes a value from a prefix of the buffer, under the context, and says how many bytes that prefix has. Nothing
-    /// is borrowed: a type that borrows is the error `Unsized`.
+    /// is borrowed: a value that has to borrow is the error `Unsized`.
     ///
     /// A buffer that is shorter than the type's least size is the error `InputBufferIsTooSmall`, with the count 0.
     /// Beside another error the count is how many bytes were taken before it, at most all, and tells of no value.
@@ -186,8 +189,8 @@ pub trait Readable<'a, C: Context>: ReadMany<&'a [u8], C> {
 
     /// Decodes a value from the next bytes of the source, in little endian, and takes just these.
     ///
-    /// Nothing is borrowed: a type that borrows is the error `Unsized`. An end of the source is an `IoError` of kind
-    /// `UnexpectedEof`.
+    /// Nothing is borrowed: a value that has to borrow is the error `Unsized`. An end of the source is an `IoError` of
+    /// kind `UnexpectedEof`.
     final fn read_from_stream_unbuffered<S: Source>(
         alloc: Global,
         source: &mut S,
@@ -215,8 +218,8 @@ pub trait Readable<'a, C: Context>: ReadMany<&'a [u8], C> {
     /// Decodes a value from the next bytes of the source, in little endian. It takes at most 8,191 bytes more, which
     /// are lost: it is for sources of one value.
     ///
-    /// Nothing is borrowed: a type that borrows is the error `Unsized`. An end of the source is `UnexpectedEndOfInput`
-    /// or, in a read of 8,192 bytes and more, an `IoError` of kind `UnexpectedEof`.
+    /// Nothing is borrowed: a value that has to borrow is the error `Unsized`. An end of the source is
+    /// `UnexpectedEndOfInput` or, in a read of 8,192 bytes and more, an `IoError` of kind `UnexpectedEof`.
     final fn read_from_stream_buffered<S: Source>(
         alloc: Global,
         source: &mut S,

@@ -31,7 +31,7 @@ const BUFFERED_CAPACITY: usize = 8192;
 ///
 /// A buffered reader asks for more bytes than are read, and keeps what is left over, 8,191 bytes at most, for its next
 /// reads. An unbuffered one asks for just what is read. Only a peek may hold more, and ask for memory. Nothing is lent,
-/// so a value that borrows is the error `Unsized`.
+/// so a value that has to borrow is the error `Unsized`.
 ///
 /// The error of a failed call of the source is answered, and the call is not tried again. An end that is met while
 /// bytes are gathered for a read is `UnexpectedEndOfInput`. One that is met while they go straight to the output, as in
