@@ -144,6 +144,8 @@ BROKEN = [
      struct("    n: u8,\n    #[speedy(length = n)]\n    a: Vec<u8>,\n    #[speedy(skip)]\n    b: Box<u32>"), 8,
      "hold it in an `Option`"),
     ("lists in lists", struct("    a: Vec<Vec<Vec<Vec<Vec<u8>>>>>"), 3, "gives up its search"),
+    ("options in too many fields", struct(",\n".join(f"    f{it}: Option<Option<u16>>" for it in range(28))), 3,
+     "gives up its search"),
     ("many types behind a length of another width", "use std::collections::HashMap;\n"
      + struct("    a: HashMap<u32, u32>,\n    b: Vec<Vec<(u8, bool, u8, f32, u64)>>,\n    #[speedy(length_type = u8)]\n"
               "    c: Box<str>"), 4, "gives up its search"),

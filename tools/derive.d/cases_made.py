@@ -25,6 +25,8 @@ pub struct Contact {
       "impl<T: Layout> Layout for Labelled<T> {",
       "impl<L: AsSlice<u8> + Drop, C: Context, T: ReadMany<L, C>> ReadFrom<L, C> for Labelled<T> {",
       "impl<C: Context, T: Writable<C>> Writable<C> for Labelled<T> {"]),
+    ("options in many fields, which tell their types", DERIVES + "pub struct Wide {\n"
+     + "".join(f"    f{it}: Option<Option<u16>>,\n" for it in range(22)) + "}\n", ["match reader.read_value() {"]),
     ("one that borrows", "use std::borrow::Cow;\n" + DERIVES + "pub struct Entry<'a>(&'a str, Cow<'a, [u8]>);\n",
      ["use std::borrow::CowSlice;", "pub struct Entry<'a>(&'a str, CowSlice<'a, u8>);",
       "impl<'a, C: Context> ReadFrom<&'a [u8], C> for Entry<'a> {", "Ok((t0, t1)) => Ok(Entry(t0, t1)),",

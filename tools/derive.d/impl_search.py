@@ -7,8 +7,10 @@ from parts import is_nested, moves_array
 from rattle import Foreign, Listed, Own, is_listed
 from refusal import Refusal
 
-# Nested options, tuples and numbers are found up to 735, and not from 757 on.
+# Nested options, tuples and numbers are found up to 735, and not from 757 on. Where the fields tell the types of the
+# parts, one thing alone is asked of all parts together, which is found up to 1,593, and not from 1,630 on.
 LIMIT = 735
+LIMIT_TOLD = 1470
 NUMBER = 1.07
 # A number that is checked is read by way of another; these are found by way of their parts.
 SLOWER = {"bool": 1.52, "char": 1.52, "usize": 1.52, "Ipv4Addr": 1.52, "Endianness": 1.52, "Magic": 1.52,
@@ -20,15 +22,17 @@ LISTS = ("Vec", "BoxedSlice", "SmallVec", "CowSlice", "BTreeSet", "HashSet", "In
 def check(item, taken):
     """Refuses parts for which the compiler would search too long. Those of a short tuple whose types the fields tell
     are searched for one by one."""
-    kinds = [part.type for part in taken.parts]
-    if not taken.is_told() or is_nested(taken.tree) or moves_array(taken):
-        kinds = [taken.type()]
-    check_each(item, kinds)
+    if not taken.is_told():
+        check_each(item, [taken.type()])
+    elif is_nested(taken.tree) or moves_array(taken):
+        check_each(item, [taken.type()], LIMIT_TOLD)
+    else:
+        check_each(item, [part.type for part in taken.parts])
 
 
-def check_each(item, kinds):
+def check_each(item, kinds, limit=LIMIT):
     """Refuses types for one of which the compiler would search too long."""
-    if any(weight(kind) > LIMIT for kind in kinds):
+    if any(weight(kind) > limit for kind in kinds):
         raise Refusal(item.line, f"the types within the parts of `{item.name}` are so many, or nest so deep, that "
                                  "Rattle's compiler gives up its search for their impls: put the deepest of them, or "
                                  "some of the fields, into a struct of its own")
