@@ -69,5 +69,5 @@ def write_answers(shape):
             lemmas_of(shape, shape.level, " as level_lemmas")]
     return uses, [
         *answer("returns-in_default", "c.in_default.is",
-                f"none_written _ _ {LEVELS} c.error_out_of_range_length.ensures"),
+                f"none_written _ _ {LEVELS} c.error_out_of_range_length.ensures (g.met.W.Writer.nothing _)"),
         *answer("returns", "c.in-Some.is", f"value_written _ _ c.write_below.ensures {LEVELS}", used)]

@@ -37,11 +37,11 @@ class Answers:
                        *(f"    let {it} in" for it in ("level = c.in-Some.is", left, *lets)),
                        *lines]
 
-    def last_level(self, lemma):
-        """Adds that of no level."""
+    def last_level(self, lemma, *behind):
+        """Adds that of no level, whose lemma takes what stands behind the error too."""
         self.found += ["", "pub returns-in_default : goal.returns-in_default", "returns-in_default g t c =",
                        "    let level = c.in_default.is in",
-                       f"    {lemma} _ _ {LEVELS} c.error_out_of_range_length.ensures"]
+                       " ".join([f"    {lemma} _ _ {LEVELS} c.error_out_of_range_length.ensures", *behind])]
 
     def uses(self, module, lemma):
         """What they import."""
@@ -107,7 +107,7 @@ def write_answers(shape):
     units = [case for case in shape.cases if not case.parts]
     cited = ["tag_unwritten", "tagged_written"] * (len(units) < len(shape.cases)) + ["unit_written"] * bool(units)
     made = Answers(shape, shape.holding.used, shape.branches - {"tagged_layer"}, cited)
-    made.last_level("none_written")
+    made.last_level("none_written", "(g.met.W.Writer.nothing _)")
     calls = set()
 
     def step(call, place):

@@ -1,5 +1,5 @@
 -- A value whose number of bytes is told is read as what fills these, and written as it is.
-use Rattle.std.specs.Prelude.{◌≡◌, ◌≢◌, ℕ, ◌-◌, ◌^◌, ◌<◌, List, length, Bool, Result, Ok, Err, IsErrAnd, refl}
+use Rattle.std.specs.Prelude.{◌≡◌, ◌≢◌, ℕ, ◌-◌, ◌^◌, ◌<◌, List, [], length, Bool, Result, Ok, Err, IsErrAnd, refl}
 use Rattle.std.proofs.Common.{sym, ◌∙◌, subst, arith, inl, inr}
 use Rattle.speedy_base.specs.declared.error.ErrorKind.{ErrorKind}
 use Rattle.speedy_base.specs.declared.error.ErrorKind.TheVariants as kinds
@@ -13,7 +13,7 @@ use Rattle.speedy_layout.specs.Frames.{frame_asks}
 use Rattle.speedy_layout.specs.Lengths.{told_codec, told_length, IsOtherLength}
 use Rattle.speedy_layout.specs.Sequences.{asks_same, sequence}
 use Rattle.speedy_layout.specs.Texts.{raw_bytes}
-use Rattle.speedy_layout.specs.Wholes.{WholeLaws, WholeCodec}
+use Rattle.speedy_layout.specs.Wholes.{Misfits, WholeLaws, WholeCodec}
 use Rattle.speedy_read.specs.Codes.{Covers, got_covered, unaccepted}
 use Rattle.speedy_read.specs.Frames.{filling}
 use Rattle.speedy_read.specs.Reading.{ReaderState, Reads, Undecodable}
@@ -30,22 +30,24 @@ use Rattle.speedy.specs.ToldFrames.{with_frame_codec}
 -- ---- reading
 
 -- where no value fills n bytes, none does that is written in as many
-pub filling_covers : {V : Type 0} (f : Mode) {F : Format V} → WholeLaws f.strict F → (n : ℕ)
-    → Covers (filling f F n) (told_frame f F n)
+pub filling_covers : {V : Type 0} (f : Mode) {F : Format V} (misfits : Misfits) → WholeLaws f.strict F → (n : ℕ)
+    → Covers (filling f F misfits n) (told_frame f F misfits n)
 unfolding told_frame coding
-filling_covers f laws n = record {
-  under = λ v s h. (v, told_frame_fills f laws n v s h);
+filling_covers f misfits laws n = record {
+  under = λ v s h. (v, told_frame_fills f misfits laws n v s h);
   names = λ kind h. h;
   malformed = λ bytes are h.
+      elim h [ inl x ↦ inl x | inr x ↦ inr (x.value, x.prefix, x.rest, x.whole_is, x.fills) ];
+  wrong_length = λ bytes are h.
       elim h [ inl x ↦ inl x | inr x ↦ inr (x.value, x.prefix, x.rest, x.whole_is, x.fills) ];
   asks = asks_same;
 }
 
 -- a value that fills n bytes, and is written in as many
-filling_told : {V : Type 0} (f : Mode) {F : Format V} → WholeLaws f.strict F → (n : ℕ) (v : V) → Takes F v n
-    → (s : List ℕ) → (filling f F n).encodes v s → (told_frame f F n).encodes v s
+filling_told : {V : Type 0} (f : Mode) {F : Format V} (misfits : Misfits) → WholeLaws f.strict F → (n : ℕ) (v : V)
+    → Takes F v n → (s : List ℕ) → (filling f F misfits n).encodes v s → (told_frame f F misfits n).encodes v s
 unfolding told_frame coding raw_bytes
-filling_told f {F = F} laws n v takes s h =
+filling_told f {F = F} misfits laws n v takes s h =
     let means = filling_means f laws v h.code h.stands in
     let long = raw_length n h.code s h.code_is in
     record {
@@ -58,8 +60,8 @@ filling_told f {F = F} laws n v takes s h =
 
 -- what fills bytes that are counted is written in bytes that are
 pub filling_needs : {E A V : Type 0} {gives : Error → E → Type 0} {eof : E → Bool} {seen : A → V} (f : Mode)
-    {F : Format V} → WholeLaws f.strict F → (n : ℕ) {x : A} {e : E} {old new : ReaderState}
-    → NeedsIn gives F (seen x) (Err e) → Reads gives eof seen (filling f F n) (Ok x) old new → ⊥
+    {F : Format V} {misfits : Misfits} → WholeLaws f.strict F → (n : ℕ) {x : A} {e : E} {old new : ReaderState}
+    → NeedsIn gives F (seen x) (Err e) → Reads gives eof seen (filling f F misfits n) (Ok x) old new → ⊥
 unfolding coding
 filling_needs {seen = seen} f laws n {x = x} needs r =
     let h = r.answer.prefix_is in
@@ -70,19 +72,21 @@ filling_needs {seen = seen} f laws n {x = x} needs r =
     needs.answers w.0 w.1 (omega arith)
 
 module _ {E A V : Type 0} {gives : Error → E → Type 0} {eof : E → Bool} {seen : A → V} (f : Mode) {F : Format V}
-    (laws : WholeLaws f.strict F) (n : ℕ) {x : A} {old mid new : ReaderState} where
+    {misfits : Misfits} (laws : WholeLaws f.strict F) (n : ℕ) {x : A} {old mid new : ReaderState} where
   -- what fills n bytes was read, and is written in as many
   pub told_frame_read : {written : ℕ} → NeedsIn gives F (seen x) (Ok written) → written ≡ n → new ≡ mid
-      → Reads gives eof seen (filling f F n) (Ok x) old mid → Reads gives eof seen (told_frame f F n) (Ok x) old new
+      → Reads gives eof seen (filling f F misfits n) (Ok x) old mid
+      → Reads gives eof seen (told_frame f F misfits n) (Ok x) old new
   told_frame_read needs same stays r =
       let takes = needs.written in
-      subst (λ (s : ReaderState). Reads gives eof seen (told_frame f F n) (Ok x) old s) (sym stays)
-      (got_covered (filling_told f laws n (seen x) (takes.0, takes.1, sym same ∙ takes.2)) r)
+      subst (λ (s : ReaderState). Reads gives eof seen (told_frame f F misfits n) (Ok x) old s) (sym stays)
+      (got_covered (filling_told f misfits laws n (seen x) (takes.0, takes.1, sym same ∙ takes.2)) r)
 
   -- what fills n bytes was read, and is written in another number of them
   pub told_frame_unread : {written : ℕ} {e : E} → NeedsIn gives F (seen x) (Ok written) → written ≢ n
       → new ≡ mid → gives (error_of kinds.OutOfRangeLength) e
-      → Reads gives eof seen (filling f F n) (Ok x) old mid → Reads gives eof seen (told_frame f F n) (Err e) old new
+      → Reads gives eof seen (filling f F misfits n) (Ok x) old mid
+      → Reads gives eof seen (told_frame f F misfits n) (Err e) old new
   unfolding told_frame coding
   told_frame_unread {e = e} needs other stays given r =
       let h = r.answer.prefix_is in
@@ -95,7 +99,7 @@ module _ {E A V : Type 0} {gives : Error → E → Type 0} {eof : E → Bool} {s
       let own = needs.written in
       let lengths = one_whole_length laws (seen x) own.0 takes.0 own.1 takes.1 in
       other (own.2 ∙ (lengths ∙ (sym takes.2 ∙ long))) in
-      subst (λ (s : ReaderState). Reads gives eof seen (told_frame f F n) (Err e) old s) (sym stays) (record {
+      subst (λ (s : ReaderState). Reads gives eof seen (told_frame f F misfits n) (Err e) old s) (sym stays) (record {
         kept = r.kept;
         answer = inr (record {
           no_fault = r.answer.no_fault;
@@ -109,6 +113,7 @@ module _ {E A V : Type 0} {gives : Error → E → Type 0} {eof : E → Bool} {s
                 no_prefix = un.no_prefix;
                 too_short = un.too_short;
                 malformed = λ _. (kinds.OutOfRangeLength, inr (inl (inr refl)), given);
+                wrong_length = λ _. given;
               };
         });
       })
@@ -116,18 +121,20 @@ module _ {E A V : Type 0} {gives : Error → E → Type 0} {eof : E → Bool} {s
 -- the parts that tell the length are read, and then the value
 pub with_frame_composes : {N B V : Type 0} (is_told : N → Type 0) (told : N → ℕ) (numbers : B → N) (field : List ℕ)
     (before : Codec B) (value : WholeCodec V) (f : Mode)
-    → Composes ((told_codec is_told numbers before).format f) (λ b. told_frame f (value.format f) (told (numbers b)))
+    → Composes ((told_codec is_told numbers before).format f)
+    (λ b. told_frame f (value.format f) (value.misfits f) (told (numbers b)))
     ((with_frame_codec is_told told numbers field before value).format f) (λ b v. (b, v))
 with_frame_composes {B = B} {V = V} is_told told numbers field before value f =
     let c = sequence_composes (λ (p : B × V). p) {join = λ (b : B) (v : V). (b, v)}
-    {M = λ b. told_length field (told_frame f (value.format f) (told (numbers b)))}
-    (λ b. told_frame_asks f (value.format f) (told (numbers b))) (λ b v s h. refl) in
+    {M = λ b. told_length field (told_frame f (value.format f) (value.misfits f) (told (numbers b)))}
+    (λ b. told_frame_asks f (value.format f) (value.misfits f) (told (numbers b))) (λ b v s h. refl) in
     record {
       joins = c.joins;
       splits = c.splits;
       names_first = c.names_first;
       names_second = c.names_second;
       malformed = c.malformed;
+      wrong_length = c.wrong_length;
       asks_first = c.asks_first;
       asks_second = c.asks_second;
     }
@@ -145,7 +152,8 @@ pub told_frame_written : {E V : Type 0} {gives : Error → E → Type 0} (value 
     {result : Result (Unit {0}) E} {old new : WriterState} {appended : List ℕ → Type 0} (field : List ℕ)
     → NeedsIn gives (value.format old.mode) v (Ok written) → written ≡ n
     → Writes gives value.format v result old new appended
-    → Writes gives (λ f. told_length field (told_frame f (value.format f) n)) v result old new appended
+    → Writes gives (λ f. told_length field (told_frame f (value.format f) (value.misfits f) n)) v result old new
+    appended
 unfolding told_frame coding raw_bytes
 told_frame_written value {v = v} {written = written} {n = n} {old = old} field needs same w =
     let f = old.mode in
@@ -203,26 +211,27 @@ module _ {N B V : Type 0} (is_told : N → Type 0) (told : N → ℕ) (numbers :
       {appended : List ℕ → Type 0} where
     -- a value whose bytes cannot be counted is refused as it is
     pub uncounted_refused : {result : Result (Unit {0}) E} → IsErrAnd result (λ x. x ≡ e)
-        → NeedsIn gives (value.format old.mode) v (Err e)
+        → NeedsIn gives (value.format old.mode) v (Err e) → appended []
         → Writes gives (with_frame_codec is_told told numbers field before value).format (b, v) result old old appended
-    uncounted_refused {result = result} passed needs =
+    uncounted_refused {result = result} passed needs nothing =
         subst (λ (r : Result (Unit {0}) E). Writes gives whole.format (b, v) r old old appended)
         (passed_on result e passed)
         (undecodable_refused {F = whole.format} (whole.laws old.mode)
         (other_undecodable old.mode b v
         (λ takes counted. let long = takes.2 in needs.answers takes.0 takes.1 (omega arith)))
-        (IsOutOfRange-more gives e (value_refuses old.mode b) needs.refused))
+        (IsOutOfRange-more gives e (value_refuses old.mode b) needs.refused) nothing)
 
     -- so is one that is written in another number
     pub other_refused : {written : ℕ} → NeedsIn gives (value.format old.mode) v (Ok written)
         → (written ≡ told (numbers b) → ⊥)
         → IsNamed gives ((with_frame_codec is_told told numbers field before value).format old.mode).refuses_writing e
+        → appended []
         → Writes gives (with_frame_codec is_told told numbers field before value).format (b, v) (Err e) old old
         appended
-    other_refused needs other named =
+    other_refused needs other named nothing =
         undecodable_refused {F = whole.format} (whole.laws old.mode)
         (other_undecodable old.mode b v
         (λ takes counted.
         let own = needs.written in
         other (own.2 ∙ (one_whole_length (value.laws old.mode) v own.0 takes.0 own.1 takes.1 ∙ sym takes.2))))
-        (inr named)
+        (inr named) nothing

@@ -4,6 +4,7 @@ use Rattle.std.specs.Option.{option_map}
 use Rattle.std.proofs.Common.{ap, arith, Bor}
 use Rattle.speedy_base.specs.declared.error.ErrorKind.TheVariants as kinds
 use Rattle.speedy_layout.specs.Codecs.{Codec, owned_codec, option_codec, list_codec, pair_codec}
+use Rattle.speedy_layout.specs.Laws.{writes_itself}
 use Rattle.speedy.specs.Levels.{no_value, no_value_laws}
 
 -- How an A holds values of T: what is seen of one where a V is seen of each of these, and how it is encoded where these
@@ -72,6 +73,7 @@ none_seen = record {
     least = 0;
     format = λ _. no_value kinds.OutOfRangeLength;
     laws = λ _. no_value_laws kinds.OutOfRangeLength tt;
+    same_written = λ _ _. writes_itself;
   };
 }
 

@@ -27,6 +27,7 @@ module _ {E : Type 0} {gives : Error → E → Type 0} {eof : E → Bool} {T : T
             no_prefix = λ v prefix rest is h. h;
             too_short = λ v more h. absurd h;
             malformed = λ _. (kinds.OutOfRangeLength, refl, given);
+            wrong_length = λ h. absurd h;
           };
         });
       })

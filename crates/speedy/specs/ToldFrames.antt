@@ -8,11 +8,11 @@ use Rattle.speedy_layout.specs.Codecs.{Codec}
 use Rattle.speedy_layout.specs.Codes.{Accepts, Accepts-is, Accepts-means, Code, IsCode, coding, coding_laws}
 use Rattle.speedy_layout.specs.Format.{Asks, Format, IsOwnKind}
 use Rattle.speedy_layout.specs.Frames.{AreCounted, frame_asks, frame_code}
-use Rattle.speedy_layout.specs.Laws.{Laws, Laws-asking, Laws-less}
-use Rattle.speedy_layout.specs.Lengths.{told_codec, told_length, told_length_laws}
-use Rattle.speedy_layout.specs.Sequences.{AsksAtMost, asks_same, sequence, sequence_laws}
+use Rattle.speedy_layout.specs.Laws.{Laws, Laws-asking, Laws-less, WritesToo}
+use Rattle.speedy_layout.specs.Lengths.{told_codec, told_length, told_length_laws, told_length_written}
+use Rattle.speedy_layout.specs.Sequences.{AsksAtMost, asks_same, sequence, sequence_laws, sequence_written}
 use Rattle.speedy_layout.specs.Texts.{raw_bytes, raw_bytes_laws}
-use Rattle.speedy_layout.specs.Wholes.{WholeLaws, WholeCodec}
+use Rattle.speedy_layout.specs.Wholes.{Misfits, WholeLaws, WholeCodec}
 use Rattle.speedy_read.specs.Frames.{filling}
 
 -- the value is written in n bytes
@@ -32,20 +32,22 @@ told_frame_code F = record {
 }
 
 -- bytes at whose start stands a value that fills n bytes, and is written in no n
-pub record Overlong {V : Type 0} (f : Mode) (F : Format V) (n : ℕ) (bytes : List ℕ) : Type 0 where
+pub record Overlong {V : Type 0} (f : Mode) (F : Format V) (misfits : Misfits) (n : ℕ) (bytes : List ℕ) : Type 0 where
   pub value : V
   pub prefix : List ℕ
   pub rest : List ℕ
   pub whole_is : bytes ≡ prefix ++ rest
-  pub fills : (filling f F n).encodes value prefix
+  pub fills : (filling f F misfits n).encodes value prefix
   pub other : Takes F value n → ⊥
 
--- A value that fills n bytes, and is written in as many. It is refused as one that fills them is.
-unfoldable pub told_frame : {V : Type 0} → Mode → Format V → ℕ → Format V
-told_frame f F n = record (coding f (told_frame_code F) (bytes_asking (frame_asks F.asks) n)) {
-  names = (filling f F n).names;
+-- A value that fills n bytes, and is written in as many. It is refused as one that fills them is, and one that is
+-- written in fewer as a length that is wrong.
+unfoldable pub told_frame : {V : Type 0} → Mode → Format V → Misfits → ℕ → Format V
+told_frame f F misfits n = record (coding f (told_frame_code F) (bytes_asking (frame_asks F.asks) n)) {
+  names = (filling f F misfits n).names;
   refuses_writing = F.refuses_writing;
-  malformed = λ bytes. (filling f F n).malformed bytes ⊎ Overlong f F n bytes;
+  malformed = λ bytes. (filling f F misfits n).malformed bytes ⊎ Overlong f F misfits n bytes;
+  wrong_length = λ bytes. (filling f F misfits n).wrong_length bytes ⊎ Overlong f F misfits n bytes;
 }
 
 -- ---- laws
@@ -97,10 +99,10 @@ told_frame_is_code laws n = record {
 }
 
 -- what encodes a value in its frame fills that
-pub told_frame_fills : {V : Type 0} (f : Mode) {F : Format V} → WholeLaws f.strict F → (n : ℕ) (v : V) (s : List ℕ)
-    → (told_frame f F n).encodes v s → (filling f F n).encodes v s
+pub told_frame_fills : {V : Type 0} (f : Mode) {F : Format V} (misfits : Misfits) → WholeLaws f.strict F → (n : ℕ)
+    (v : V) (s : List ℕ) → (told_frame f F misfits n).encodes v s → (filling f F misfits n).encodes v s
 unfolding told_frame coding
-told_frame_fills f {F = F} laws n v s h =
+told_frame_fills f {F = F} misfits laws n v s h =
     let means = told_frame_means f laws v h.code h.stands in
     record {
       code = h.code;
@@ -110,17 +112,18 @@ told_frame_fills f {F = F} laws n v s h =
     }
 
 -- bytes that are refused begin with no value in its frame
-malformed_alone : {V : Type 0} (f : Mode) {F : Format V} → WholeLaws f.strict F → (n : ℕ) (v : V)
-    (prefix rest : List ℕ) → (told_frame f F n).malformed (prefix ++ rest) → (told_frame f F n).encodes v prefix → ⊥
+malformed_alone : {V : Type 0} (f : Mode) {F : Format V} (misfits : Misfits) → WholeLaws f.strict F → (n : ℕ) (v : V)
+    (prefix rest : List ℕ) → (told_frame f F misfits n).malformed (prefix ++ rest)
+    → (told_frame f F misfits n).encodes v prefix → ⊥
 unfolding told_frame coding
-malformed_alone f {F = F} laws n v prefix rest (inl (inl bad)) h =
+malformed_alone f {F = F} misfits laws n v prefix rest (inl (inl bad)) h =
     (raw_bytes_laws {strict = f.strict} n).malformed_undecodable h.code prefix rest bad h.code_is
-malformed_alone f {F = F} laws n v prefix rest (inl (inr x)) h =
-    let fills = told_frame_fills f laws n v prefix h in
+malformed_alone f {F = F} misfits laws n v prefix rest (inl (inr x)) h =
+    let fills = told_frame_fills f misfits laws n v prefix h in
     let same = (raw_bytes_laws {strict = f.strict} n).decodes x.code fills.code x.prefix prefix x.rest rest x.code_is
     fills.code_is (sym x.whole_is) in
     x.nothing v (subst (λ u. Accepts f.strict (frame_code F) u v) (sym same.0) fills.stands)
-malformed_alone f {F = F} laws n v prefix rest (inr x) h =
+malformed_alone f {F = F} misfits laws n v prefix rest (inr x) h =
     let same = (raw_bytes_laws {strict = f.strict} n).decodes x.fills.code h.code x.prefix prefix x.rest rest
     x.fills.code_is h.code_is (sym x.whole_is) in
     let means = told_frame_means f laws v h.code h.stands in
@@ -130,18 +133,25 @@ malformed_alone f {F = F} laws n v prefix rest (inr x) h =
     let long = raw_length n h.code prefix h.code_is in
     x.other (takes.0, takes.1, sym long ∙ takes.2)
 
-named_own : {V : Type 0} (f : Mode) {F : Format V} → WholeLaws f.strict F → (n : ℕ) (kind : ErrorKind)
-    → (told_frame f F n).names kind → IsOwnKind kind
+named_own : {V : Type 0} (f : Mode) {F : Format V} (misfits : Misfits) → WholeLaws f.strict F → (n : ℕ)
+    (kind : ErrorKind) → (told_frame f F misfits n).names kind → IsOwnKind kind
 unfolding told_frame coding
-named_own f laws n kind (inl h) = (raw_bytes_laws {strict = f.strict} n).names_own kind h
-named_own f laws n kind (inr (inl (inl h))) = laws.names_own kind h
-named_own f laws n kind (inr (inl (inr is))) = subst IsOwnKind (sym is) tt
-named_own f laws n kind (inr (inr demand)) = subst IsOwnKind (sym demand.1) tt
+named_own f misfits laws n kind (inl h) = (raw_bytes_laws {strict = f.strict} n).names_own kind h
+named_own f misfits laws n kind (inr (inl (inl h))) = laws.names_own kind h
+named_own f misfits laws n kind (inr (inl (inr is))) = subst IsOwnKind (sym is) tt
+named_own f misfits laws n kind (inr (inr demand)) = subst IsOwnKind (sym demand.1) tt
 
-pub told_frame_laws : {V : Type 0} (f : Mode) {F : Format V} → WholeLaws f.strict F → (n : ℕ)
-    → Laws f.strict 0 (told_frame f F n)
+-- and bytes of a wrong length are refused
+wrong_malformed : {V : Type 0} (f : Mode) (F : Format V) (misfits : Misfits) (n : ℕ) (b : List ℕ)
+    → (told_frame f F misfits n).wrong_length b → (told_frame f F misfits n).malformed b
+unfolding told_frame coding
+wrong_malformed f F misfits n b (inl wrong) = inl (inr wrong.nothing)
+wrong_malformed f F misfits n b (inr over) = inr over
+
+pub told_frame_laws : {V : Type 0} (f : Mode) {F : Format V} (misfits : Misfits) → WholeLaws f.strict F → (n : ℕ)
+    → Laws f.strict 0 (told_frame f F misfits n)
 unfolding told_frame
-told_frame_laws f {F = F} laws n =
+told_frame_laws f {F = F} misfits laws n =
     let coded = coding_laws f (bytes_asking_laws (frame_asks F.asks) n) (told_frame_is_code laws n) in
     record {
       decodes = coded.decodes;
@@ -152,15 +162,25 @@ told_frame_laws f {F = F} laws n =
       least_size = coded.least_size;
       has_written = coded.has_written;
       one_written = coded.one_written;
-      malformed_undecodable = malformed_alone f laws n;
-      names_own = named_own f laws n;
+      malformed_undecodable = malformed_alone f misfits laws n;
+      wrong_length_malformed = wrong_malformed f F misfits n;
+      names_own = named_own f misfits laws n;
       refuses_own = laws.refuses_own;
     }
 
-pub told_frame_asks : {V : Type 0} (f : Mode) (F : Format V) (n : ℕ)
-    → AsksAtMost (told_frame f F n).asks (frame_asks F.asks)
+pub told_frame_asks : {V : Type 0} (f : Mode) (F : Format V) (misfits : Misfits) (n : ℕ)
+    → AsksAtMost (told_frame f F misfits n).asks (frame_asks F.asks)
 unfolding told_frame coding
-told_frame_asks f F n = asks_same
+told_frame_asks f F misfits n = asks_same
+
+-- a value is written in its frame as it is without one
+pub told_frame_same_written : {V : Type 0} (f g : Mode) {F G : Format V} (misfits others : Misfits) (n : ℕ)
+    → WritesToo F G → WritesToo (told_frame f F misfits n) (told_frame g G others n)
+unfolding told_frame coding raw_bytes
+told_frame_same_written f g misfits others n same = record {
+  too = λ v b h.
+      record { code = h.code; code_is = h.code_is; stands = (same.too v h.code h.stands.0, h.stands.1) };
+}
 
 -- Parts whose numbers tell a length, and behind them a value that fills so many bytes.
 abbrev pub with_frame_codec : {N B V : Type 0} → (N → Type 0) → (N → ℕ) → (B → N) → List ℕ → Codec B → WholeCodec V
@@ -169,9 +189,14 @@ with_frame_codec {B = B} {V = V} is_told told numbers field before value = recor
   least = before.least;
   format = λ f. sequence (λ (p : B × V). p) ((told_codec is_told numbers before).format f)
       (frame_asks (value.format f).asks)
-      (λ b. told_length field (told_frame f (value.format f) (told (numbers b))));
+      (λ b. told_length field (told_frame f (value.format f) (value.misfits f) (told (numbers b))));
   laws = λ f. Laws-less {n = before.least + 0} (omega arith)
       (sequence_laws {n = before.least} {m = 0} ((told_codec is_told numbers before).laws f)
-      (λ b. told_length_laws field (told_frame_laws f (value.laws f) (told (numbers b))))
-      (λ b. told_frame_asks f (value.format f) (told (numbers b))) (λ v w e. e));
+      (λ b. told_length_laws field (told_frame_laws f (value.misfits f) (value.laws f) (told (numbers b))))
+      (λ b. told_frame_asks f (value.format f) (value.misfits f) (told (numbers b))) (λ v w e. e));
+  same_written = λ f strict. sequence_written (λ (p : B × V). p) _ _
+      ((told_codec is_told numbers before).same_written f strict)
+      (λ b. told_length_written field
+      (told_frame_same_written f (record f { strict = strict }) (value.misfits f)
+      (value.misfits (record f { strict = strict })) (told (numbers b)) (value.same_written f strict)));
 }

@@ -1,5 +1,5 @@
 -- How recursive types are written, level by level.
-use Rattle.std.specs.Prelude.{◌≡◌, ℕ, suc, List, length, map, Result, Err, refl}
+use Rattle.std.specs.Prelude.{◌≡◌, ℕ, suc, List, [], length, map, Result, Err, refl}
 use Rattle.std.proofs.Common.{sym, subst, inr}
 use Rattle.speedy_base.specs.declared.error.ErrorKind.TheVariants as kinds
 use Rattle.speedy_base.specs.declared.error.Error.{Error}
@@ -20,15 +20,16 @@ counts_same seen items slice same =
 module _ {E : Type 0} {gives : Error → E → Type 0} {T : Type 0} (layer : Layer T T) {n : ℕ} {old : WriterState}
     {appended : List ℕ → Type 0} where
   -- where no level is left, no value is written
-  pub none_written : (value : T) {e : E} → n ≡ 0 → gives (error_of kinds.OutOfRangeLength) e
+  pub none_written : (value : T) {e : E} → n ≡ 0 → gives (error_of kinds.OutOfRangeLength) e → appended []
       → (let whole = at_level layer n in Writes gives whole.codec.format (whole.view value) (Err e) old old appended)
   unfolding no_value
-  none_written value {e = e} none given =
+  none_written value {e = e} none given nothing =
       subst (λ (seen : Seen T). Writes gives seen.codec.format (seen.view value) (Err e) old old appended)
       (sym (at_bottom layer n none)) (record {
         kept = same_writer old;
         answer = record {
           beginning = λ b k. absurd k;
+          appends = ([], nothing);
           because = inr (record {
             no_fault = refl;
             no_fit = λ b k fit. k;

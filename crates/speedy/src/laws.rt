@@ -2,7 +2,8 @@
 pub use speedy_layout::laws::{
     canonical_alone, encoded_is_written, equal_as_seen, newer_frame_is_read,
     no_encoding_begins_another, no_encoding_is_below_least, older_frame_is_read,
-    one_canonical_encoding, one_prefix, one_value, one_whole_value, written_is_shortest,
+    one_canonical_encoding, one_prefix, one_value, one_whole_value, strict_is_canonical,
+    written_is_shortest,
 };
 pub use speedy_read::laws::{
     copied_is_answered, until_end_is_decided, until_end_of_cow_is_decided, written_is_answered,

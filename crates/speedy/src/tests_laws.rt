@@ -3,8 +3,8 @@ use crate::context::LittleEndian;
 use crate::laws::{
     canonical_alone, copied_is_answered, encoded_is_written, equal_as_seen,
     no_encoding_begins_another, no_encoding_is_below_least, one_canonical_encoding, one_prefix,
-    one_value, until_end_is_decided, until_end_of_cow_is_decided, written_is_shortest,
-    written_is_streamed, written_length_is_read,
+    one_value, strict_is_canonical, until_end_is_decided, until_end_of_cow_is_decided,
+    written_is_shortest, written_is_streamed, written_length_is_read,
 };
 use indexmap::{IndexMap, IndexSet};
 use std::borrow::CowSlice;
@@ -30,6 +30,7 @@ fn canonical_encodings_have_their_laws() {
     encoded_is_written::<Vec<String>>();
     one_canonical_encoding::<BTreeMap<String, Vec<u16>>>();
     canonical_alone::<Vec<String>>();
+    strict_is_canonical::<HashMap<String, BTreeMap<u8, Option<bool>>>>();
 }
 
 #[test]

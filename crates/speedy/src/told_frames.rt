@@ -114,8 +114,8 @@ fn read_told_frame<
     C: Context,
     R: LendingReader<L, C>,
 >(reader: &mut R, length: usize) -> Result<T, C::Error>
-    ensures { ReadsAs C.Error.IsEof R.state T.seen (λ f. told_frame f (T.whole.format f) length) result
-        reader.old reader.new }
+    ensures { ReadsAs C.Error.IsEof R.state T.seen
+        (λ f. told_frame f (T.whole.format f) (T.whole.misfits f) length) result reader.old reader.new }
 {
     let value = T::read_framed(reader, length)?;
     let written = value.whole_bytes_needed(reader.context_mut())?;

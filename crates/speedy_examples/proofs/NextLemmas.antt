@@ -12,7 +12,7 @@ use Rattle.speedy.specs.Numbers.{unsigned_number}
 use Rattle.speedy.specs.Reading.{ReaderState, refusing_kinds, Excused, IsEnd, IsTold, PeekWants, Peeks, Reads, Refused}
 use Rattle.speedy.specs.Reading.{Undecodable}
 use Rattle.speedy_examples.proofs.Messages.{Message, message_in, message_lends_nothing, message_asks_memory}
-use Rattle.speedy_examples.proofs.Messages.{no_empty_message, nothing_malformed, end_kind}
+use Rattle.speedy_examples.proofs.Messages.{message_laws, no_empty_message, nothing_malformed, end_kind}
 use Rattle.speedy_examples.specs.Callers.{itself, IsFailure, IsRefusal}
 
 -- why the next message is refused
@@ -91,6 +91,9 @@ peek_refused {e = e} {old = old} {new = new} peeks = of peeks.answer where
     no_prefix = λ m prefix rest whole encoded. no_empty_message old.mode m prefix rest encoded (sym whole ∙ none);
     too_short = λ _ _ _. ends.1;
     malformed = λ bad. absurd (nothing_malformed old.mode (subst (message_in old.mode).malformed none bad));
+    wrong_length = λ wrong.
+        let bad = (message_laws old.mode).wrong_length_malformed old.remaining wrong in
+        absurd (nothing_malformed old.mode (subst (message_in old.mode).malformed none bad));
   }
 
   of : PeekWants itself e old new

@@ -6,10 +6,10 @@ use Rattle.std.proofs.lemmas.Bool.Decides.{eqb_tells}
 use Rattle.speedy_base.specs.declared.error.ErrorKind.TheVariants as kinds
 use Rattle.speedy_base.specs.Mode.{Mode}
 use Rattle.speedy_layout.specs.Format.{Asks, asks_nothing, either_asks, Format, IsOwnKind}
-use Rattle.speedy_layout.specs.Laws.{Laws, Laws-less, Codec, Decided}
+use Rattle.speedy_layout.specs.Laws.{Laws, Laws-less, Codec, Decided, SameWritten, writes_itself}
 use Rattle.speedy_layout.specs.Prefixed.{Numbers, Behind}
 use Rattle.speedy_layout.specs.Sequences.{AsksAtMost, asks_same, asks_nothing_more, asks_left, asks_right, asks_after}
-use Rattle.speedy_layout.specs.Sequences.{sequence, sequence_laws}
+use Rattle.speedy_layout.specs.Sequences.{sequence, sequence_laws, sequence_written}
 use Rattle.speedy_layout.specs.Tuples.{unit, unit_laws}
 
 -- a value that holds a part is known by that
@@ -40,6 +40,7 @@ no_value = record {
   names = λ kind. kind ≡ kinds.InvalidEnumVariant;
   refuses_writing = λ _. ⊥;
   malformed = λ _. Unit {0};
+  wrong_length = λ _. ⊥;
   asks = asks_nothing;
 }
 
@@ -51,6 +52,7 @@ holding {V = V} part F = record {
   names = F.names;
   refuses_writing = F.refuses_writing;
   malformed = F.malformed;
+  wrong_length = F.wrong_length;
   asks = F.asks;
 }
 
@@ -71,6 +73,7 @@ no_value_laws = record {
   has_written = λ v b h. absurd h;
   one_written = λ u v b c h k. absurd h;
   malformed_undecodable = λ v prefix rest m h. h;
+  wrong_length_malformed = λ b h. absurd h;
   names_own = λ kind h. subst IsOwnKind (sym h) tt;
   refuses_own = λ kind h. absurd h;
 }
@@ -104,6 +107,7 @@ holding_laws {F = F} part known laws = record {
   one_written = λ u v b c h k.
       laws.one_written u h.0 b c h.2 (subst (λ x. F.writes x c) (holds_one (part v) k.0 h.0 k.1 h.1) k.2);
   malformed_undecodable = λ v prefix rest m h. laws.malformed_undecodable h.0 prefix rest m h.2;
+  wrong_length_malformed = laws.wrong_length_malformed;
   names_own = laws.names_own;
   refuses_own = laws.refuses_own;
 }
@@ -314,10 +318,23 @@ tagged_laws {V = V} number choices f =
     (sequence_laws {n = number.least} {m = 0} (number.laws f) (λ n. case_laws (choices.case_of n) f)
     (choices.within f) (λ v w e. ap (λ (p : ℕ × V). p.1) e))
 
+pub case_written : {S : Type 0} (at_tag : AtTag S) → SameWritten (case_format at_tag)
+case_written no_case f strict = writes_itself
+case_written (a_unit part known) f strict = writes_itself
+case_written (a_case choice) f strict =
+    record { too = λ s b h. (h.0, h.1, (choice.codec.same_written f strict).too h.0 b h.2) }
+
+pub tagged_written : {V : Type 0} (number : Codec ℕ) (choices : Choices V)
+    → SameWritten (tagged number.format choices)
+tagged_written number choices f strict =
+    sequence_written (tagged_parts choices.tag) _ _ (number.same_written f strict)
+    (λ n. case_written (choices.case_of n) f strict)
+
 abbrev pub choices_behind : {V : Type 0} → Choices V → (numbers : Numbers) → Behind numbers V
 choices_behind choices numbers = record {
   format = tagged numbers.codec.format choices;
   laws = tagged_laws numbers.codec choices;
+  same_written = tagged_written numbers.codec choices;
 }
 
 -- what encodes a value of a case behind its tag

@@ -5,7 +5,7 @@ use Rattle.speedy_base.specs.declared.error.ErrorKind.{ErrorKind}
 use Rattle.speedy_base.specs.declared.error.ErrorKind.TheVariants as kinds
 use Rattle.speedy_base.specs.Mode.{Mode}
 use Rattle.speedy_layout.specs.Format.{Format, IsOwnKind}
-use Rattle.speedy_layout.specs.Laws.{Laws, Codec, Decided}
+use Rattle.speedy_layout.specs.Laws.{Laws, Codec, Decided, Laws-lengths, WritesToo}
 
 -- How values are coded as values of another type.
 pub record Code (U V : Type 0) : Type 1 where
@@ -59,6 +59,7 @@ coding mode c F = record {
   names = λ kind. F.names kind ⊎ (c.refusals kind ⊎ IsDemand mode.strict c kind);
   refuses_writing = F.refuses_writing;
   malformed = λ bytes. F.malformed bytes ⊎ MeansNothing F.encodes (Accepts mode.strict c) bytes;
+  wrong_length = F.wrong_length;
   asks = F.asks;
 }
 
@@ -150,6 +151,7 @@ coding_laws {U = U} {V = V} mode {c = c} {F = F} laws is = record {
             let same = laws.decodes x.code h.code x.prefix prefix x.rest rest x.code_is h.code_is (sym x.whole_is) in
             x.nothing v (subst (λ (u : U). Accepts strict c u v) (sym same.0) h.stands)
       ];
+  wrong_length_malformed = λ b h. inl (laws.wrong_length_malformed b h);
   names_own = λ kind n. elim n [
     | inl x ↦ laws.names_own kind x
     | inr x ↦ elim x [ inl y ↦ is.refusals_own kind y | inr y ↦ demand_own strict c kind y ]
@@ -179,12 +181,21 @@ coding_laws {U = U} {V = V} mode {c = c} {F = F} laws is = record {
             (subst (λ (z : V). c.chosen x.1.code z) e x.1.stands) y.1.stands))
       ]
 
+-- values are written as their codes are
+pub coding_written : {U V : Type 0} (f g : Mode) (c : Code U V) {F G : Format U} → WritesToo F G
+    → WritesToo (coding f c F) (coding g c G)
+unfolding coding
+coding_written f g c same = record {
+  too = λ v b h. record { code = h.code; code_is = same.too h.code b h.code_is; stands = h.stands };
+}
+
 abbrev pub coding_codec : {U V : Type 0} (c : Code U V) (codes : Codec U)
     → ((f : Mode) → IsCode c (codes.format f)) → Codec V
 coding_codec c codes is = record {
   least = codes.least;
   format = λ f. coding f c (codes.format f);
   laws = λ f. coding_laws f (codes.laws f) (is f);
+  same_written = λ f strict. coding_written f (record f { strict = strict }) c (codes.same_written f strict);
 }
 
 -- ---- one code for each value
@@ -249,3 +260,32 @@ subset_is_code pass refusal own =
 abbrev pub subset_codec : {V : Type 0} (pass : V → Type 0) (refusal : ErrorKind) → IsOwnKind refusal → Codec V → Codec V
 subset_codec pass refusal own whole =
     coding_codec (subset_code pass refusal) whole (λ f. subset_is_code pass refusal own)
+
+-- ---- values that a length is told of, which pass a test
+
+-- those that pass it; the others are refused as a length that is out of range
+abbrev pub length_subset : {V : Type 0} → Mode → (V → Type 0) → Format V → Format V
+length_subset mode pass F =
+    let code = subset_code pass kinds.OutOfRangeLength in
+    record (coding mode code F) {
+      wrong_length = λ bytes. F.wrong_length bytes ⊎ MeansNothing F.encodes (Accepts mode.strict code) bytes;
+    }
+
+pub length_subset_laws : {V : Type 0} (mode : Mode) (pass : V → Type 0) {least : ℕ} {F : Format V}
+    → Laws mode.strict least F → Laws mode.strict least (length_subset mode pass F)
+unfolding coding
+length_subset_laws mode pass {F = F} laws =
+    Laws-lengths (length_subset mode pass F).wrong_length
+    (λ b h. elim h [ inl x ↦ inl (laws.wrong_length_malformed b x) | inr x ↦ inr x ])
+    (coding_laws mode laws (subset_is_code pass kinds.OutOfRangeLength tt))
+
+abbrev pub length_subset_codec : {V : Type 0} (pass : V → Type 0) → Codec V → Codec V
+length_subset_codec pass whole = record {
+  least = whole.least;
+  format = λ f. length_subset f pass (whole.format f);
+  laws = λ f. length_subset_laws f pass (whole.laws f);
+  same_written = λ f strict. record {
+    too = (coding_written f (record f { strict = strict }) (subset_code pass kinds.OutOfRangeLength)
+        (whole.same_written f strict)).too;
+  };
+}

@@ -2,9 +2,10 @@
 use Rattle.std.specs.Prelude.{◌≡◌, List, ℕ, false, refl}
 use Rattle.std.proofs.Common.{sym, ◌∙◌, subst}
 use Rattle.speedy_base.specs.declared.error.ErrorKind.{ErrorKind}
+use Rattle.speedy_base.specs.declared.error.ErrorKind.TheVariants as kinds
 use Rattle.speedy_base.specs.Mode.{Mode}
 use Rattle.speedy_layout.specs.Codes.{Code, IsCode, Accepts-means, Accepts-exact_means, coding, coding_codec}
-use Rattle.speedy_layout.specs.Codes.{subset_codec}
+use Rattle.speedy_layout.specs.Codes.{subset_codec, length_subset_codec}
 use Rattle.speedy_layout.specs.Format.{IsOwnKind}
 use Rattle.speedy_layout.specs.Laws.{Codec}
 use Rattle.speedy_layout.specs.Numbers.{unsigned_codec, unsigned_number}
@@ -52,5 +53,12 @@ subset_encoded pass refusal own whole {u = u} {v = v} same passed = record {
       (b, subst (λ x. (whole.format mode).encodes x b) (is.0 ∙ sym same) h.code_is);
   refuses = λ mode kind h. h;
 }
+
+-- and so is one of which a length is told
+pub length_encoded : {V : Type 0} (pass : V → Type 0) (whole : Codec V) {u v : V} → u ≡ v → pass v
+    → Encodes whole (length_subset_codec pass whole) u v
+length_encoded pass whole same passed =
+    let is = subset_encoded pass kinds.OutOfRangeLength tt whole same passed in
+    record { written = is.written; has_encoding = is.has_encoding; refuses = is.refuses }
 
 pub ruleset encoded = (number_encoded, subset_encoded)

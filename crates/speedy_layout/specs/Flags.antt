@@ -8,7 +8,8 @@ use Rattle.speedy_layout.specs.Format.{either_asks, Format}
 use Rattle.speedy_layout.specs.Laws.{Codec, Laws-less}
 use Rattle.speedy_layout.specs.Codes.{ReadsWider, Code, IsCode, coding_codec}
 use Rattle.speedy_layout.specs.Numbers.{unsigned_number, unsigned_codec}
-use Rattle.speedy_layout.specs.Sequences.{AsksAtMost, sequence, sequence_laws, asks_left, asks_right, told_apart}
+use Rattle.speedy_layout.specs.Sequences.{AsksAtMost, sequence, sequence_laws, sequence_written, asks_left, asks_right}
+use Rattle.speedy_layout.specs.Sequences.{told_apart}
 use Rattle.speedy_layout.specs.Tuples.{unit, unit_codec}
 
 -- ---- flags
@@ -101,6 +102,8 @@ variant_codec split join suffix tags first second n in_first in_second = record 
   laws = λ f. sequence_laws (tags.laws f)
       (elim [ true ↦ Laws-less in_first (first.laws f) | false ↦ Laws-less in_second (second.laws f) ])
       (branch_asks (first.format f) (second.format f)) (told_apart split join suffix);
+  same_written = λ f strict. sequence_written split _ _ (tags.same_written f strict)
+      (elim [ true ↦ first.same_written f strict | false ↦ second.same_written f strict ]);
 }
 
 -- ---- options and results

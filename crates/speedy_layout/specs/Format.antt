@@ -35,6 +35,8 @@ pub record Format (V : Type 0) : Type 1 where
   pub refuses_writing : ErrorKind → Type 0
   -- bytes at whose start stands what the type itself refuses
   pub malformed : List ℕ → Type 0
+  -- those at whose start a length stands that is wrong, which is refused as out of range
+  pub wrong_length : List ℕ → Type 0
   pub asks : Asks
 
 -- a format whose encodings are all written, and which refuses nothing itself and asks for nothing
@@ -45,6 +47,7 @@ plain_format encodes = record {
   names = λ _. ⊥;
   refuses_writing = λ _. ⊥;
   malformed = λ _. ⊥;
+  wrong_length = λ _. ⊥;
   asks = asks_nothing;
 }
 

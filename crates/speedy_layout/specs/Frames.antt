@@ -1,19 +1,20 @@
 -- Frames: the number of a value's bytes, and then just these.
-use Rattle.std.specs.Prelude.{◌≡◌, ℕ, ◌+◌, ◌-◌, ◌^◌, ◌<◌, ◌≤◌, List, [], ◌++◌, length, Bool, true, false, ◌||◌, ◌⊎◌}
+use Rattle.std.specs.Prelude.{◌≡◌, ℕ, ◌+◌, ◌-◌, ◌^◌, ◌<◌, ◌≤◌, List, ◌++◌, length, Bool, true, false, ◌||◌, ◌⊎◌}
 use Rattle.std.specs.Prelude.{refl}
 use Rattle.std.proofs.Common.{sym, ◌∙◌, ap, subst, arith, inl, inr}
 use Rattle.std.proofs.lemmas.List.{length-append}
 use Rattle.speedy_base.specs.declared.error.ErrorKind.{ErrorKind}
 use Rattle.speedy_base.specs.declared.error.ErrorKind.TheVariants as kinds
 use Rattle.speedy_base.specs.Mode.{Mode}
-use Rattle.speedy_layout.specs.Codes.{Code, IsCode, coding, coding_laws}
+use Rattle.speedy_layout.specs.Codes.{Accepts, Code, IsCode, MeansNothing, coding, coding_laws, coding_written}
 use Rattle.speedy_layout.specs.Format.{Asks, Format, IsOwnKind, Parts-joined}
-use Rattle.speedy_layout.specs.Laws.{Laws, Laws-less, Laws-refusing}
+use Rattle.speedy_layout.specs.Laws.{Laws, Laws-less, Laws-lengths, Laws-refusing, WritesToo, writes_itself}
 use Rattle.speedy_layout.specs.Numbers.{WritesSmaller}
 use Rattle.speedy_layout.specs.Prefixed.{Numbers, Behind}
 use Rattle.speedy_layout.specs.Sequences.{AsksAtMost, asks_nothing_more, counted_parts, sequence, sequence_laws}
+use Rattle.speedy_layout.specs.Sequences.{sequence_written}
 use Rattle.speedy_layout.specs.Texts.{raw_bytes, raw_bytes_laws}
-use Rattle.speedy_layout.specs.Wholes.{WholeLaws, WholeCodec}
+use Rattle.speedy_layout.specs.Wholes.{Misfits, WholeLaws, WholeCodec}
 
 -- a number of bytes, which is encoded as a format of numbers says, and then the bytes
 abbrev pub prefixed_bytes : Format ℕ → Asks → Format (List ℕ)
@@ -35,6 +36,12 @@ frame_code F = record {
 -- what a frame asks: that of its value, and memory for bytes that are not lent
 abbrev pub frame_asks : Asks → Asks
 frame_asks asks = record asks { memory = true }
+
+-- bytes at whose start a frame stands that no value fills, since its bytes are too many or too few for one
+pub record IsMisfit {V : Type 0} (f : Mode) (encodes : List ℕ → List ℕ → Type 0) (F : Format V) (misfits : Misfits)
+    (bytes : List ℕ) : Type 0 where
+  pub nothing : MeansNothing encodes (Accepts f.strict (frame_code F)) bytes
+  pub misfit : misfits.too_many nothing.code ⊎ misfits.too_few nothing.code
 
 -- the bytes of a frame, as a value
 abbrev pub frame_coding : {V : Type 0} → Mode → Format ℕ → Format V → Format V
@@ -135,9 +142,42 @@ frame_laws f {number = number} {F = F} numbers smaller laws =
     Laws-refusing (λ kind. number.refuses_writing kind ⊎ F.refuses_writing kind) (refused_own numbers laws)
     (coding_laws f (prefixed_bytes_laws (frame_asks F.asks) numbers) (frame_is_code numbers smaller laws))
 
+-- in which a length is wrong: the number itself, or one of bytes that are too many or too few
+abbrev pub wrong_frame : {V : Type 0} → Mode → Format ℕ → Format V → Misfits → List ℕ → Type 0
+wrong_frame f number F misfits bytes =
+    let prefixed = prefixed_bytes number (frame_asks F.asks) in
+    prefixed.wrong_length bytes ⊎ IsMisfit f prefixed.encodes F misfits bytes
+
+pub wrong_frame_malformed : {V : Type 0} (f : Mode) {least : ℕ} {number : Format ℕ} (F : Format V) (misfits : Misfits)
+    → Laws f.strict least number → (b : List ℕ) → wrong_frame f number F misfits b → (frame f number F).malformed b
+unfolding frame coding
+wrong_frame_malformed f F misfits numbers b (inl h) =
+    inl ((prefixed_bytes_laws (frame_asks F.asks) numbers).wrong_length_malformed b h)
+wrong_frame_malformed f F misfits numbers b (inr h) = inr h.nothing
+
+pub frame_written : {V : Type 0} (f g : Mode) {number other : Format ℕ} {F G : Format V} → WritesToo number other
+    → WritesToo F G → WritesToo (frame f number F) (frame g other G)
+unfolding frame coding
+frame_written f g numbers same = record {
+  too = λ v b h. record {
+    code = h.code;
+    code_is = (sequence_written counted_parts _ _ numbers (λ n. writes_itself)).too h.code b h.code_is;
+    stands = (same.too v h.code h.stands.0, h.stands.1);
+  };
+}
+
 -- a value behind the number of its bytes
 abbrev pub frame_behind : {V : Type 0} → WholeCodec V → (numbers : Numbers) → Behind numbers V
 frame_behind value numbers = record {
-  format = λ f. frame f (numbers.codec.format f) (value.format f);
-  laws = λ f. frame_laws f (numbers.codec.laws f) (numbers.smaller f) (value.laws f);
+  format = λ f. record (frame f (numbers.codec.format f) (value.format f)) {
+    wrong_length = wrong_frame f (numbers.codec.format f) (value.format f) (value.misfits f);
+  };
+  laws = λ f.
+      Laws-lengths (wrong_frame f (numbers.codec.format f) (value.format f) (value.misfits f))
+      (wrong_frame_malformed f (value.format f) (value.misfits f) (numbers.codec.laws f))
+      (frame_laws f (numbers.codec.laws f) (numbers.smaller f) (value.laws f));
+  same_written = λ f strict. record {
+    too = (frame_written f (record f { strict = strict }) (numbers.codec.same_written f strict)
+        (value.same_written f strict)).too;
+  };
 }

@@ -5,8 +5,8 @@ use Rattle.std.proofs.Common.{sym, ◌∙◌, subst, inl, inr, arith}
 use Rattle.std.proofs.lemmas.List.{append_assoc, length-append}
 use Rattle.speedy_base.specs.declared.error.ErrorKind.TheVariants as kinds
 use Rattle.speedy_base.specs.Mode.{Mode}
-use Rattle.speedy_layout.specs.Codes.{Coded, IsCode, coding, coding_laws, subset, subset_codec, Accepts-exact}
-use Rattle.speedy_layout.specs.Codes.{Accepts-exact_means, Accepts-means}
+use Rattle.speedy_layout.specs.Codes.{Coded, IsCode, coding, coding_laws, coding_written, subset, subset_codec}
+use Rattle.speedy_layout.specs.Codes.{Accepts-exact, Accepts-exact_means, Accepts-means}
 use Rattle.speedy_layout.specs.Format.{Asks, Format, Each}
 use Rattle.speedy_layout.specs.Gathering.{IsGathering, gathering, encoded_within, forms_tell}
 use Rattle.speedy_layout.specs.Laws.{Laws, Codec, Laws-asking, Decided}
@@ -266,6 +266,8 @@ gathered_of_length_codec {hashed = hashed} {stands = stands} {written = written}
           coding_laws f (Laws-asking (asks_unordered hashed (items.format f).asks)
           (λ no. (neither hashed _ no).1) (omega arith) (items.laws f))
           (of_length_is_code f (item.laws f) is has n);
+      same_written = λ f strict. coding_written f (record f { strict = strict }) (gathering stands written)
+          (record { too = (items.same_written f strict).too });
     }
 
 module _ {E S : Type 0} {hashed : Bool} {stands : List E → S → Type 0} {written single : List E → Type 0}

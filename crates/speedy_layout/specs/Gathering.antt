@@ -4,13 +4,14 @@ use Rattle.std.proofs.Common.{sym, ◌∙◌, ap, subst, inl, inr, arith}
 use Rattle.std.proofs.lemmas.List.{length-append}
 use Rattle.speedy_base.specs.Mode.{Mode}
 use Rattle.speedy_layout.specs.Format.{Format, Each, Parts-joined}
-use Rattle.speedy_layout.specs.Laws.{Laws, Codec, Laws-asking, Decided}
-use Rattle.speedy_layout.specs.Codes.{Code, Coded, IsCode, coding, coding_laws}
+use Rattle.speedy_layout.specs.Laws.{Laws, Codec, Laws-asking, Decided, WritesToo}
+use Rattle.speedy_layout.specs.Codes.{Code, Coded, IsCode, coding, coding_laws, coding_written}
 use Rattle.speedy_layout.specs.Numbers.{WritesSmaller}
 use Rattle.speedy_layout.specs.Owned.{owned_content}
 use Rattle.speedy_layout.specs.Prefixed.{Numbers, Behind}
 use Rattle.speedy_layout.specs.Sequences.{sequence}
 use Rattle.speedy_layout.specs.Lists.{prefixed_list, prefixed_list_laws, repeat, vector, each_shortest, each_tells}
+use Rattle.speedy_layout.specs.Lists.{prefixed_list_written}
 use Rattle.speedy_layout.specs.Members.{IsIn, AreDistinct, IsIn-left, IsIn-right, IsIn-either, IsIn-around}
 
 -- What makes it lawful that lists stand for things, and that some lists are written. A list that stands for a thing and
@@ -277,6 +278,12 @@ pub items_of_laws : {E : Type 0} (hashed : Bool) {strict : Bool} {width least : 
 items_of_laws false numbers laws = prefixed_list_laws numbers laws
 items_of_laws true numbers laws = hashed_items_laws (prefixed_list_laws numbers laws)
 
+pub items_of_written : {E : Type 0} (hashed : Bool) {count number : Format ℕ} {L M : Format E} → WritesToo count number
+    → WritesToo L M → WritesToo (items_of hashed count L) (items_of hashed number M)
+unfolding hashed_items
+items_of_written false counts items = prefixed_list_written items counts
+items_of_written true counts items = record { too = (prefixed_list_written items counts).too }
+
 -- things behind the number of items that gather to them
 abbrev pub gathered_behind : {E S : Type 0} (hashed : Bool) {stands : List E → S → Type 0} {written : List E → Type 0}
     → IsGathering hashed stands written → (item : Codec E)
@@ -286,4 +293,6 @@ gathered_behind hashed {stands = stands} {written = written} is item has numbers
   laws = λ f.
       coding_laws f (items_of_laws hashed (numbers.codec.laws f) (item.laws f))
       (gathering_is_code hashed (numbers.codec.laws f) (numbers.smaller f) (item.laws f) is (has f));
+  same_written = λ f strict. coding_written f (record f { strict = strict }) (gathering stands written)
+      (items_of_written hashed (numbers.codec.same_written f strict) (item.same_written f strict));
 }

@@ -3,14 +3,13 @@ use Rattle.std.specs.Prelude.{◌≡◌, ℕ, ◌≤◌, List, [], ◌++◌, len
 use Rattle.std.proofs.Common.{sym, ◌∙◌, ap, arith, inl, inr}
 use Rattle.std.proofs.lemmas.List.{append-nil}
 use Rattle.speedy_base.specs.declared.error.ErrorKind.TheVariants as kinds
-use Rattle.speedy_base.specs.Mode.{Mode}
 use Rattle.speedy_layout.specs.Codes.{one_kind}
 use Rattle.speedy_layout.specs.Format.{Format, plain_format}
-use Rattle.speedy_layout.specs.Laws.{Laws, Codec, Decided}
+use Rattle.speedy_layout.specs.Laws.{Laws, Codec, Decided, WritesToo}
 use Rattle.speedy_layout.specs.Lists.{both_none}
-use Rattle.speedy_layout.specs.Sequences.{sequence}
+use Rattle.speedy_layout.specs.Sequences.{sequence, sequence_written}
 use Rattle.speedy_layout.specs.Tuples.{pair}
-use Rattle.speedy_layout.specs.Wholes.{WholeLaws, WholeCodec, followed_laws}
+use Rattle.speedy_layout.specs.Wholes.{Misfits, WholeLaws, WholeCodec, followed_laws, followed_misfits}
 
 -- the encodings of a format that have bytes; a value that takes none is refused
 unfoldable pub some_bytes : {V : Type 0} → Format V → Format V
@@ -34,6 +33,7 @@ unless_none F = record {
   names = F.names;
   refuses_writing = F.refuses_writing;
   malformed = λ _. ⊥;
+  wrong_length = λ _. ⊥;
   asks = F.asks;
 }
 
@@ -62,6 +62,7 @@ some_bytes_laws {F = F} laws = record {
       );
   one_written = λ unhashed v b c h k. laws.one_written unhashed v b c h.0 k.0;
   malformed_undecodable = λ v prefix rest bad h. laws.malformed_undecodable v prefix rest bad h.0;
+  wrong_length_malformed = laws.wrong_length_malformed;
   names_own = λ kind named. elim named [
     | inl h ↦ laws.names_own kind h
     | inr h ↦ one_kind kinds.OutOfRangeLength tt kind h
@@ -134,8 +135,32 @@ pub unless_end_laws : {U W : Type 0} {strict : Bool} {least : ℕ} {L : Format U
 unless_end_laws {L = L} {M = M} laws more =
     unless_none_laws (followed_laws (some_bytes_laws laws) more) (pair_some L M)
 
+-- what misfits them: some bytes that misfit a part and all behind it
+abbrev pub unless_end_misfits : {U : Type 0} → Format U → Misfits → Misfits
+unless_end_misfits L behind =
+    let parts = followed_misfits (some_bytes L) behind in
+    record {
+      too_many = λ bytes. (bytes ≡ [] → ⊥) × parts.too_many bytes;
+      too_few = λ bytes. (bytes ≡ [] → ⊥) × parts.too_few bytes;
+    }
+
+some_bytes_written : {V : Type 0} {F G : Format V} → WritesToo F G → WritesToo (some_bytes F) (some_bytes G)
+unfolding some_bytes
+some_bytes_written same = record { too = λ v b h. (same.too v b h.0, h.1) }
+
+unless_none_written : {V : Type 0} {F G : Format V} → WritesToo F G → WritesToo (unless_none F) (unless_none G)
+unfolding unless_none
+unless_none_written same = record { too = present_as same.too }
+
+pub unless_end_written : {U W : Type 0} {L K : Format U} {M N : Format W} → WritesToo L K → WritesToo M N
+    → WritesToo (unless_end L M) (unless_end K N)
+unless_end_written first second =
+    unless_none_written (sequence_written (λ p. p) _ _ (some_bytes_written first) (λ _. second))
+
 abbrev pub unless_end_codec : {U W : Type 0} → Codec U → WholeCodec W → WholeCodec (Option (U × W))
 unless_end_codec first second = record {
   format = λ f. unless_end (first.format f) (second.format f);
+  misfits = λ f. unless_end_misfits (first.format f) (second.misfits f);
   laws = λ f. unless_end_laws (first.laws f) (second.laws f);
+  same_written = λ f strict. unless_end_written (first.same_written f strict) (second.same_written f strict);
 }

@@ -1,5 +1,5 @@
 -- Formats that grow: what a newer form wrote to an older reader, and the other way round.
-use Rattle.std.specs.Prelude.{◌≡◌, List, ℕ, [], ◌++◌, length, None, refl}
+use Rattle.std.specs.Prelude.{◌≡◌, List, ℕ, [], length, None, refl}
 use Rattle.std.proofs.Common.{sym, ap, subst}
 use Rattle.std.proofs.lemmas.List.{append-nil}
 use Rattle.speedy_base.specs.Digits.{AreBytes}

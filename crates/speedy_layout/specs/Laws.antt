@@ -32,10 +32,23 @@ pub record Laws {V : Type 0} (strict : Bool) (least : ℕ) (F : Format V) : Type
   pub one_written : F.asks.hashed ≡ false → (v : V) (b c : List ℕ) → F.writes v b → F.writes v c → b ≡ c
   -- malformed bytes begin with no encoding
   pub malformed_undecodable : (v : V) (prefix rest : List ℕ) → F.malformed (prefix ++ rest) → F.encodes v prefix → ⊥
+  -- bytes with a wrong length are malformed
+  pub wrong_length_malformed : (b : List ℕ) → F.wrong_length b → F.malformed b
   -- the kinds that a type names are its own
   pub names_own : (kind : ErrorKind) → F.names kind → IsOwnKind kind
   -- and so are those that its writing is refused with
   pub refuses_own : (kind : ErrorKind) → F.refuses_writing kind → IsOwnKind kind
+
+-- What the first format writes of a value, the second one writes of it too.
+pub record WritesToo {V : Type 0} (F G : Format V) : Type 0 where
+  pub too : (v : V) (b : List ℕ) → F.writes v b → G.writes v b
+
+pub writes_itself : {V : Type 0} {F : Format V} → WritesToo F F
+writes_itself = record { too = λ v b h. h }
+
+-- the canonical encodings of a value are the same bytes, whether or not they alone are accepted
+abbrev pub SameWritten : {V : Type 0} → (Mode → Format V) → Type 0
+SameWritten format = (f : Mode) (strict : Bool) → WritesToo (format f) (format (record f { strict = strict }))
 
 -- A format under each mode, with its least size and its laws, as one value: what quotes a layout has its laws too.
 pub record Codec (V : Type 0) : Type 1 where
@@ -45,6 +58,8 @@ pub record Codec (V : Type 0) : Type 1 where
   pub format : Mode → Format V
   -- bytes encode at most one value, the encodings are prefix-free, and a shortest one is written
   pub laws : (f : Mode) → Laws f.strict least (format f)
+  -- which one is written, only the order says
+  pub same_written : SameWritten format
 
 -- whether two lists of bytes are the same is decided
 same_bytes : (s t : List ℕ) → Decided (s ≡ t)
@@ -81,6 +96,7 @@ plain_laws {encodes = encodes} decodes least_size one = record {
   has_written = λ _ b h. (b, h);
   one_written = λ _ v b c h k. one v b c h k;
   malformed_undecodable = λ _ _ _ h _. h;
+  wrong_length_malformed = λ _ h. h;
   names_own = λ kind h. absurd h;
   refuses_own = λ kind h. absurd h;
 }
@@ -99,8 +115,28 @@ Laws-refusing refuses own laws = record {
   has_written = laws.has_written;
   one_written = laws.one_written;
   malformed_undecodable = laws.malformed_undecodable;
+  wrong_length_malformed = laws.wrong_length_malformed;
   names_own = laws.names_own;
   refuses_own = own;
+}
+
+-- a format of the same bytes in which other lengths are wrong
+pub Laws-lengths : {V : Type 0} {strict : Bool} {least : ℕ} {F : Format V} (wrong : List ℕ → Type 0)
+    → ((b : List ℕ) → wrong b → F.malformed b) → Laws strict least F
+    → Laws strict least (record F { wrong_length = wrong })
+Laws-lengths wrong malformed laws = record {
+  decodes = laws.decodes;
+  tells = laws.tells;
+  written_encodes = laws.written_encodes;
+  written_alone = laws.written_alone;
+  shortest = laws.shortest;
+  least_size = laws.least_size;
+  has_written = laws.has_written;
+  one_written = laws.one_written;
+  malformed_undecodable = laws.malformed_undecodable;
+  wrong_length_malformed = malformed;
+  names_own = laws.names_own;
+  refuses_own = laws.refuses_own;
 }
 
 -- a smaller least size, of a format of the same bytes that asks otherwise, but is hashed where the first is
@@ -116,6 +152,7 @@ Laws-asking asks hashed less laws = record {
   has_written = laws.has_written;
   one_written = λ h. laws.one_written (hashed h);
   malformed_undecodable = laws.malformed_undecodable;
+  wrong_length_malformed = laws.wrong_length_malformed;
   names_own = laws.names_own;
   refuses_own = laws.refuses_own;
 }

@@ -5,14 +5,15 @@ use Rattle.std.proofs.Common.{ap, arith, inl, inr, sym, ◌∙◌}
 use Rattle.speedy_base.specs.Mode.{Mode}
 use Rattle.speedy_base.specs.declared.error.ErrorKind.{ErrorKind}
 use Rattle.speedy_base.specs.declared.error.ErrorKind.TheVariants as kinds
-use Rattle.speedy_layout.specs.Codecs.{Codec, borrowed_codec, subset_codec, vector_codec}
-use Rattle.speedy_layout.specs.Codes.{coding, Accepts-exact_means}
+use Rattle.speedy_layout.specs.Codecs.{Codec, borrowed_codec, vector_codec}
+use Rattle.speedy_layout.specs.Codes.{coding, length_subset_codec, Accepts-exact_means}
 use Rattle.speedy_layout.specs.Format.{Asks, asks_nothing, Format, IsOwnKind}
-use Rattle.speedy_layout.specs.Laws.{Laws, Laws-less, Laws-refusing}
+use Rattle.speedy_layout.specs.Laws.{Laws, Laws-less, Laws-refusing, WritesToo}
 use Rattle.speedy_layout.specs.Lists.{vector_asks, vector_ends, vector_length}
 use Rattle.speedy_layout.specs.Owned.{borrowed_content, owned_content}
-use Rattle.speedy_layout.specs.Sequences.{AsksAtMost, sequence, sequence_laws}
+use Rattle.speedy_layout.specs.Sequences.{AsksAtMost, sequence, sequence_laws, sequence_written}
 use Rattle.speedy_layout.specs.Texts.{raw_bytes, text_of_length, text_of_length_laws, text_asks}
+use Rattle.speedy_layout.specs.Texts.{text_of_length_written}
 
 -- Texts, lists, maps or sets of a length that their encoding does not say.
 pub record Counting (V : Type 0) : Type 1 where
@@ -48,9 +49,13 @@ told_length_laws {F = F} field laws =
     Laws-refusing (λ kind. IsOtherLength field kind ⊎ F.refuses_writing kind)
     (λ kind h. elim h [ inl x ↦ other_length_own field kind x | inr x ↦ laws.refuses_own kind x ]) laws
 
+pub told_length_written : {V : Type 0} {F G : Format V} (field : List ℕ) → WritesToo F G
+    → WritesToo (told_length field F) (told_length field G)
+told_length_written field same = record { too = same.too }
+
 -- Parts whose numbers tell a length. Where they tell none, they are refused as a length that is out of range.
 abbrev pub told_codec : {N B : Type 0} → (N → Type 0) → (B → N) → Codec B → Codec B
-told_codec is_told numbers before = subset_codec (λ b. is_told (numbers b)) kinds.OutOfRangeLength tt before
+told_codec is_told numbers before = length_subset_codec (λ b. is_told (numbers b)) before
 
 -- Parts whose numbers tell a length, and behind them a value of that length.
 abbrev pub with_length_codec : {N B V : Type 0} → (N → Type 0) → (N → ℕ) → (B → N) → List ℕ → Codec B → Counting V
@@ -63,6 +68,9 @@ with_length_codec {B = B} {V = V} is_told told numbers field before counting = r
       (sequence_laws {n = before.least} {m = 0} ((told_codec is_told numbers before).laws f)
       (λ b. Laws-less (omega arith) (told_length_laws field ((counting.of_length (told (numbers b))).laws f)))
       (λ b. counting.within f (told (numbers b))) (λ v w e. e));
+  same_written = λ f strict. sequence_written (λ (p : B × V). p) _ _
+      ((told_codec is_told numbers before).same_written f strict)
+      (λ b. told_length_written field ((counting.of_length (told (numbers b))).same_written f strict));
 }
 
 -- lists of n items
@@ -111,7 +119,12 @@ text_ends mode n m t u s h k = sym h.code_is.1 ∙ k.code_is.1
 abbrev pub text_counting : Counting (List ℕ)
 text_counting = record {
   count = length;
-  of_length = λ n. record { least = n; format = λ f. text_of_length f n; laws = λ f. text_of_length_laws f n };
+  of_length = λ n. record {
+    least = n;
+    format = λ f. text_of_length f n;
+    laws = λ f. text_of_length_laws f n;
+    same_written = text_of_length_written n;
+  };
   asks = λ _. record asks_nothing { memory = true };
   within = text_asks;
   is_count = text_length;

@@ -6,10 +6,11 @@ use Rattle.std.proofs.lemmas.List.{append_assoc, append-nil, length-append}
 use Rattle.speedy_base.specs.Mode.{Mode}
 use Rattle.speedy_layout.specs.Format.{Format, Each, Parts-joined}
 use Rattle.speedy_layout.specs.Laws.{Laws, Codec, Laws-less, saturated_size, saturated_laws, Decided}
-use Rattle.speedy_layout.specs.Numbers.{unsigned_number, unsigned_number_laws}
-use Rattle.speedy_layout.specs.Owned.{owned_content, owned_content_laws}
+use Rattle.speedy_layout.specs.Laws.{WritesToo}
+use Rattle.speedy_layout.specs.Numbers.{unsigned_number, unsigned_number_laws, unsigned_written}
+use Rattle.speedy_layout.specs.Owned.{owned_content, owned_content_laws, owned_written}
 use Rattle.speedy_layout.specs.Sequences.{AsksAtMost, asks_same, counted_parts, sequence, sequence_laws, across}
-use Rattle.speedy_layout.specs.Sequences.{Parts-as}
+use Rattle.speedy_layout.specs.Sequences.{Parts-as, sequence_written}
 
 -- n items, one after the other
 unfoldable pub repeat : {V : Type 0} → ℕ → Format V → Format (List V)
@@ -19,6 +20,7 @@ repeat n F = record {
   names = F.names;
   refuses_writing = F.refuses_writing;
   malformed = λ _. ⊥;
+  wrong_length = λ _. ⊥;
   asks = F.asks;
 }
 
@@ -185,6 +187,7 @@ module _ {V : Type 0} {strict : Bool} {least : ℕ} {F : Format V} (laws : Laws 
     has_written = λ v b h. let w = each_has_written v b h.1 in (w.0, (h.0, w.1));
     one_written = λ u v b c h k. each_one_written u v b c h.1 k.1;
     malformed_undecodable = λ _ _ _ h _. h;
+    wrong_length_malformed = λ _ h. h;
     names_own = laws.names_own;
     refuses_own = laws.refuses_own;
   }
@@ -209,11 +212,30 @@ pub list_laws : {V : Type 0} {least : ℕ} {F : Format V} (mode : Mode) → Laws
 unfolding list
 list_laws mode laws = prefixed_list_laws (unsigned_number_laws 4 mode) laws
 
+module _ {V : Type 0} {F G : Format V} (same : WritesToo F G) where
+  -- lists are written as their items are
+  pub repeat_written : (n : ℕ) → WritesToo (repeat n F) (repeat n G)
+  unfolding repeat
+  repeat_written n = record { too = λ vs b h. (h.0, each_as same.too vs b h.1) }
+
+  pub vector_written : (n : ℕ) → WritesToo (vector n F) (vector n G)
+  unfolding vector
+  vector_written n = owned_written (repeat_written n)
+
+  pub prefixed_list_written : {count number : Format ℕ} → WritesToo count number
+      → WritesToo (prefixed_list count F) (prefixed_list number G)
+  prefixed_list_written counts = sequence_written counted_parts _ _ counts vector_written
+
+  pub list_written : (f : Mode) (strict : Bool) → WritesToo (list f F) (list (record f { strict = strict }) G)
+  unfolding list
+  list_written f strict = prefixed_list_written (unsigned_written 4 f strict)
+
 abbrev pub vector_codec : {V : Type 0} → ℕ → Codec V → Codec (List V)
 vector_codec n item = record {
   least = saturated_size (n * item.least);
   format = λ f. vector n (item.format f);
   laws = λ f. saturated_laws (vector_laws (item.laws f) n);
+  same_written = λ f strict. vector_written (item.same_written f strict) n;
 }
 
 abbrev pub prefixed_list_codec : {V : Type 0} → Codec ℕ → Codec V → Codec (List V)
@@ -221,10 +243,16 @@ prefixed_list_codec count item = record {
   least = count.least;
   format = λ f. prefixed_list (count.format f) (item.format f);
   laws = λ f. prefixed_list_laws (count.laws f) (item.laws f);
+  same_written = λ f strict. prefixed_list_written (item.same_written f strict) (count.same_written f strict);
 }
 
 abbrev pub list_codec : {V : Type 0} → Codec V → Codec (List V)
-list_codec item = record { least = 4; format = λ f. list f (item.format f); laws = λ f. list_laws f (item.laws f) }
+list_codec item = record {
+  least = 4;
+  format = λ f. list f (item.format f);
+  laws = λ f. list_laws f (item.laws f);
+  same_written = λ f strict. list_written (item.same_written f strict) f strict;
+}
 
 -- n items are encoded
 pub vector_length : {V : Type 0} (n : ℕ) (F : Format V) (vs : List V) (bytes : List ℕ) → (vector n F).encodes vs bytes

@@ -10,8 +10,8 @@ use Rattle.speedy_base.specs.Mode.{Mode}
 use Rattle.speedy_base.specs.Signed.{EncodesSigned}
 use Rattle.speedy_base.specs.SignedLemmas.{EncodesSigned-same_value}
 use Rattle.speedy_layout.specs.Format.{Format, plain_format}
-use Rattle.speedy_layout.specs.Laws.{Laws, Codec, plain_laws}
-use Rattle.speedy_layout.specs.Codes.{subset_codec, coding, Accepts-exact_means}
+use Rattle.speedy_layout.specs.Laws.{Laws, Codec, SameWritten, plain_laws}
+use Rattle.speedy_layout.specs.Codes.{subset_codec, length_subset_codec, coding, Accepts-exact_means}
 
 -- numbers of n bytes
 unfoldable pub unsigned_number : ℕ → Mode → Format ℕ
@@ -59,11 +59,29 @@ signed_number_laws w mode =
     (λ z b h. laws.least_size (cast_unsigned w z) b h.digits)
     (λ z b c h k. EncodesNumber-same_bytes (byte_len w) mode.order (cast_unsigned w z) b c h.digits k.digits)
 
+pub unsigned_written : (width : ℕ) → SameWritten (unsigned_number width)
+unfolding unsigned_number
+unsigned_written width f strict = record { too = λ v b h. h }
+
+pub signed_written : (w : Width) → SameWritten (signed_number w)
+unfolding signed_number
+signed_written w f strict = record { too = λ v b h. h }
+
 abbrev pub unsigned_codec : ℕ → Codec ℕ
-unsigned_codec width = record { least = width; format = unsigned_number width; laws = unsigned_number_laws width }
+unsigned_codec width = record {
+  least = width;
+  format = unsigned_number width;
+  laws = unsigned_number_laws width;
+  same_written = unsigned_written width;
+}
 
 abbrev pub signed_codec : Width → Codec ℤ
-signed_codec w = record { least = byte_len w; format = signed_number w; laws = signed_number_laws w }
+signed_codec w = record {
+  least = byte_len w;
+  format = signed_number w;
+  laws = signed_number_laws w;
+  same_written = signed_written w;
+}
 
 -- numbers of eight digits that a `usize` holds
 abbrev pub usize_codec : Codec ℕ
@@ -74,7 +92,7 @@ usize_number = usize_codec.format
 
 -- numbers of w digits that are at most `greatest`; greater ones are refused as lengths
 abbrev pub length_codec : ℕ → ℕ → Codec ℕ
-length_codec width greatest = subset_codec (λ n. n ≤ greatest) kinds.OutOfRangeLength tt (unsigned_codec width)
+length_codec width greatest = length_subset_codec (λ n. n ≤ greatest) (unsigned_codec width)
 
 abbrev pub length_number : ℕ → ℕ → Mode → Format ℕ
 length_number width greatest = (length_codec width greatest).format

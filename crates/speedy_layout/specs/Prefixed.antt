@@ -3,7 +3,7 @@ use Rattle.std.specs.Prelude.{◌≡◌, ℕ, List, refl}
 use Rattle.speedy_base.specs.Mode.{Mode}
 use Rattle.speedy_layout.specs.Codes.{coding}
 use Rattle.speedy_layout.specs.Format.{asks_nothing, Format}
-use Rattle.speedy_layout.specs.Laws.{Laws, Codec}
+use Rattle.speedy_layout.specs.Laws.{Laws, Codec, SameWritten}
 use Rattle.speedy_layout.specs.Lists.{prefixed_list_codec}
 use Rattle.speedy_layout.specs.Numbers.{unsigned_number, unsigned_codec, length_number, length_codec}
 use Rattle.speedy_layout.specs.Numbers.{WritesSmaller, unsigned_smaller, length_smaller}
@@ -25,12 +25,14 @@ pub record Numbers : Type 1 where
 pub record Behind (numbers : Numbers) (V : Type 0) : Type 1 where
   pub format : Mode → Format V
   pub laws : (f : Mode) → Laws f.strict numbers.codec.least (format f)
+  pub same_written : SameWritten format
 
 abbrev pub prefixed_codec : {V : Type 0} {numbers : Numbers} → Behind numbers V → Codec V
 prefixed_codec {numbers = numbers} behind = record {
   least = numbers.codec.least;
   format = behind.format;
   laws = behind.laws;
+  same_written = behind.same_written;
 }
 
 pub unsigned_asks : (width : ℕ) (f : Mode) → (unsigned_number width f).asks ≡ asks_nothing
@@ -67,13 +69,17 @@ length_numbers width greatest = record {
 
 -- a text behind its number of bytes
 abbrev pub text_behind : (numbers : Numbers) → Behind numbers (List ℕ)
-text_behind numbers = let text = prefixed_text_codec numbers.codec in record { format = text.format; laws = text.laws }
+text_behind numbers =
+    let text = prefixed_text_codec numbers.codec in
+    record { format = text.format; laws = text.laws; same_written = text.same_written }
 
 -- a list behind its number of items
 abbrev pub list_behind : {V : Type 0} → Codec V → (numbers : Numbers) → Behind numbers (List V)
 list_behind item numbers =
-    let list = prefixed_list_codec numbers.codec item in record { format = list.format; laws = list.laws }
+    let list = prefixed_list_codec numbers.codec item in
+    record { format = list.format; laws = list.laws; same_written = list.same_written }
 
 abbrev pub borrowed_behind : {V : Type 0} {numbers : Numbers} → Behind numbers V → Behind numbers V
 borrowed_behind content =
-    let borrowed = borrowed_codec (prefixed_codec content) in record { format = borrowed.format; laws = borrowed.laws }
+    let borrowed = borrowed_codec (prefixed_codec content) in
+    record { format = borrowed.format; laws = borrowed.laws; same_written = borrowed.same_written }

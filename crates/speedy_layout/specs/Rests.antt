@@ -1,5 +1,5 @@
 -- Texts and lists that are the rest of the bytes, with no length.
-use Rattle.std.specs.Prelude.{◌≡◌, ℕ, List, [], ◌∷◌, ◌++◌, ◌⊎◌, refl}
+use Rattle.std.specs.Prelude.{◌≡◌, ℕ, ◌+◌, List, [], ◌∷◌, ◌++◌, ◌⊎◌, refl}
 use Rattle.std.proofs.Common.{sym, ◌∙◌, ap, subst, inl, inr}
 use Rattle.std.proofs.lemmas.Bool.{cases_eq}
 use Rattle.std.proofs.lemmas.List.{append-nil}
@@ -8,8 +8,9 @@ use Rattle.speedy_base.specs.Mode.{Mode}
 use Rattle.speedy_layout.specs.Codes.{one_kind}
 use Rattle.speedy_layout.specs.Format.{Format}
 use Rattle.speedy_layout.specs.Lengths.{Counting}
+use Rattle.speedy_layout.specs.Laws.{SameWritten}
 use Rattle.speedy_layout.specs.Sequences.{not_asked}
-use Rattle.speedy_layout.specs.Wholes.{WholeLaws, WholeCodec}
+use Rattle.speedy_layout.specs.Wholes.{Misfits, WholeLaws, WholeCodec}
 
 -- The values of all lengths, without their length: the bytes end where the value does. No bytes are those of a value
 -- of no length alone: so items that take no bytes are in no list.
@@ -23,6 +24,7 @@ rest f counting = record {
   refuses_writing = λ kind.
       ((n : ℕ) × ((counting.of_length n).format f).refuses_writing kind) ⊎ (kind ≡ kinds.OutOfRangeLength);
   malformed = λ _. ⊥;
+  wrong_length = λ _. ⊥;
   asks = counting.asks f;
 }
 
@@ -77,5 +79,34 @@ module _ {V : Type 0} (f : Mode) (counting : Counting V) where
     ];
   }
 
+-- Bytes that end within the item that would be the next one. Within a text none do: all of its bytes are one item each.
+pub record EndsInItem {V : Type 0} (f : Mode) (counting : Counting V) (bytes : List ℕ) : Type 0 where
+  pub n : ℕ
+  pub before : V
+  pub prefix : List ℕ
+  pub rest : List ℕ
+  pub whole_is : bytes ≡ prefix ++ rest
+  pub before_is : ((counting.of_length n).format f).encodes before prefix
+  pub some : rest ≡ [] → ⊥
+  pub after : V
+  pub more : List ℕ
+  pub after_is : ((counting.of_length (n + 1)).format f).encodes after (bytes ++ more)
+  pub lacks : more ≡ [] → ⊥
+
+-- what misfits the rest of the bytes
+abbrev pub rest_misfits : {V : Type 0} → Mode → Counting V → Misfits
+rest_misfits f counting = record { too_many = λ _. ⊥; too_few = EndsInItem f counting }
+
+pub rest_written : {V : Type 0} (counting : Counting V) → SameWritten (λ f. rest f counting)
+unfolding rest
+rest_written counting f strict = record {
+  too = λ v b h. (((counting.of_length (counting.count v)).same_written f strict).too v b h.0, h.1);
+}
+
 abbrev pub rest_codec : {V : Type 0} → Counting V → WholeCodec V
-rest_codec counting = record { format = λ f. rest f counting; laws = λ f. rest_laws f counting }
+rest_codec counting = record {
+  format = λ f. rest f counting;
+  misfits = λ f. rest_misfits f counting;
+  laws = λ f. rest_laws f counting;
+  same_written = rest_written counting;
+}

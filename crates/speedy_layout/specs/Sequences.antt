@@ -3,7 +3,7 @@ use Rattle.std.specs.Prelude.{◌≡◌, ℕ, ◌+◌, List, [], ◌++◌, lengt
 use Rattle.std.proofs.Common.{sym, ◌∙◌, ap, subst, arith, inl, inr}
 use Rattle.std.proofs.lemmas.List.{append_assoc, length-append}
 use Rattle.speedy_layout.specs.Format.{Asks, asks_nothing, either_asks, Format, Parts, Parts-joined}
-use Rattle.speedy_layout.specs.Laws.{Laws}
+use Rattle.speedy_layout.specs.Laws.{Laws, WritesToo}
 
 -- what is asked no more than that
 pub record AsksAtMost (few many : Asks) : Type 0 where
@@ -21,6 +21,7 @@ sequence {U = U} split L asks M = record {
   names = λ kind. L.names kind ⊎ ((u : U) × (M u).names kind);
   refuses_writing = λ kind. L.refuses_writing kind ⊎ ((u : U) × (M u).refuses_writing kind);
   malformed = λ bytes. L.malformed bytes ⊎ ((u : U) × Parts (L.encodes u) (M u).malformed bytes);
+  wrong_length = λ bytes. L.wrong_length bytes ⊎ ((u : U) × Parts (L.encodes u) (M u).wrong_length bytes);
   asks = either_asks L.asks asks;
 }
 
@@ -95,6 +96,15 @@ Parts-as f g h = record {
   whole_is = h.whole_is;
   first_is = f h.prefix h.first_is;
   second_is = g h.suffix h.second_is;
+}
+
+-- two parts are written as each of them is
+pub sequence_written : {U V : Type 0} {W : U → Type 0} (split : V → (u : U) × W u) (asks more : Asks) {L K : Format U}
+    {M N : (u : U) → Format (W u)} → WritesToo L K → ((u : U) → WritesToo (M u) (N u))
+    → WritesToo (sequence split L asks M) (sequence split K more N)
+unfolding sequence
+sequence_written split asks more first second = record {
+  too = λ v b h. Parts-as (first.too (split v).0) ((second (split v).0).too (split v).1) h;
 }
 
 -- once the first parts are the same, the second parts decode
@@ -192,6 +202,11 @@ module _ {U V : Type 0} {W : U → Type 0} {split : V → (u : U) × W u} {L : F
               (more (split v).0).malformed_undecodable (split v).1 k.suffix rest
               (subst (λ (x : List ℕ). (M (split v).0).malformed x) first.2
               (subst (λ (u : U). (M u).malformed h.1.suffix) first.0 h.1.second_is)) k.second_is
+        ];
+    wrong_length_malformed = λ b bad.
+        elim bad [
+          | inl h ↦ inl (laws.wrong_length_malformed b h)
+          | inr h ↦ inr (h.0, Parts-as (λ s k. k) (more h.0).wrong_length_malformed h.1)
         ];
     names_own = λ kind named.
         elim named [

@@ -10,11 +10,13 @@ use Rattle.speedy_base.specs.Digits.{EncodesNumber, AreBytes}
 use Rattle.speedy_base.specs.DigitsLemmas.{EncodesNumber-one_byte, EncodesNumber-is_one_byte}
 use Rattle.speedy_base.specs.Mode.{Mode}
 use Rattle.speedy_layout.specs.Format.{asks_nothing, Format, plain_format, Each, IsOwnKind, Parts-joined}
-use Rattle.speedy_layout.specs.Laws.{Laws, Codec, Laws-less, plain_laws}
-use Rattle.speedy_layout.specs.Codes.{subset, subset_codec, coding, coding_laws, exact_code, exact_is_code}
+use Rattle.speedy_layout.specs.Laws.{Laws, Codec, Laws-less, SameWritten, plain_laws, writes_itself}
+use Rattle.speedy_layout.specs.Codes.{subset, subset_codec, coding, coding_laws, coding_written, exact_code}
+use Rattle.speedy_layout.specs.Codes.{exact_is_code}
 use Rattle.speedy_layout.specs.Numbers.{unsigned_number, unsigned_codec, same_prefixes}
 use Rattle.speedy_layout.specs.Owned.{owned_content, owned_codec}
 use Rattle.speedy_layout.specs.Sequences.{AsksAtMost, asks_same, counted_parts, sequence, sequence_laws}
+use Rattle.speedy_layout.specs.Sequences.{sequence_written}
 
 -- n bytes, as they are
 unfoldable pub raw_bytes : ℕ → Format (List ℕ)
@@ -57,7 +59,12 @@ raw_bytes_laws n =
     (λ v b c h k. sym h.0 ∙ k.0)
 
 abbrev pub raw_bytes_codec : ℕ → Codec (List ℕ)
-raw_bytes_codec n = record { least = n; format = λ _. raw_bytes n; laws = λ _. raw_bytes_laws n }
+raw_bytes_codec n = record {
+  least = n;
+  format = λ _. raw_bytes n;
+  laws = λ _. raw_bytes_laws n;
+  same_written = λ _ _. writes_itself;
+}
 
 expected_own : (constant : List ℕ) (kind : ErrorKind) → IsExpected constant kind → IsOwnKind kind
 expected_own constant (kinds.ExpectedConstant c) h = tt
@@ -70,17 +77,26 @@ constant_bytes_laws mode constant =
     coding_laws mode (raw_bytes_laws (length constant))
     (exact_is_code (expected_own constant) (λ u v w h k. sym h.0 ∙ k.0) (λ u w v h k. h.0 ∙ sym k.0))
 
+pub constant_written : (constant : List ℕ) → SameWritten (λ f. constant_bytes f constant)
+unfolding constant_bytes
+constant_written constant f strict = coding_written f (record f { strict = strict }) _ writes_itself
+
 abbrev pub constant_codec : List ℕ → Codec (List ℕ)
 constant_codec bytes = record {
   least = length bytes;
   format = λ f. constant_bytes f bytes;
   laws = λ f. constant_bytes_laws f bytes;
+  same_written = constant_written bytes;
 }
 
 pub text_of_length_laws : (mode : Mode) (n : ℕ) → Laws mode.strict n (text_of_length mode n)
 unfolding text_of_length
 text_of_length_laws mode n =
     (owned_codec (subset_codec IsUtf8 kinds.InvalidUtf8 tt (raw_bytes_codec n))).laws mode
+
+pub text_of_length_written : (n : ℕ) → SameWritten (λ f. text_of_length f n)
+unfolding text_of_length
+text_of_length_written n = (owned_codec (subset_codec IsUtf8 kinds.InvalidUtf8 tt (raw_bytes_codec n))).same_written
 
 pub text_asks : (mode : Mode) (n : ℕ)
     → AsksAtMost (text_of_length mode n).asks (record asks_nothing { memory = true })
@@ -94,14 +110,20 @@ prefixed_text_codec count = record {
   laws = λ f. Laws-less {n = count.least + 0} (omega arith)
       (sequence_laws {n = count.least} {m = 0} (count.laws f) (λ n. Laws-less (omega arith) (text_of_length_laws f n))
       (text_asks f) (λ v w e. ap (λ (p : ℕ × List ℕ). p.1) e));
+  same_written = λ f strict. sequence_written counted_parts _ _ (count.same_written f strict)
+      (λ n. text_of_length_written n f strict);
 }
 
 pub text_laws : (mode : Mode) → Laws mode.strict 4 (text mode)
 unfolding text
 text_laws = (prefixed_text_codec (unsigned_codec 4)).laws
 
+pub text_written : SameWritten text
+unfolding text
+text_written = (prefixed_text_codec (unsigned_codec 4)).same_written
+
 abbrev pub text_codec : Codec (List ℕ)
-text_codec = record { least = 4; format = text; laws = text_laws }
+text_codec = record { least = 4; format = text; laws = text_laws; same_written = text_written }
 
 -- ---- bytes as numbers
 

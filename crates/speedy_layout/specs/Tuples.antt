@@ -3,8 +3,8 @@
 use Rattle.std.specs.Prelude.{◌≡◌, ◌+◌, [], ◌++◌, refl, Bool}
 use Rattle.std.proofs.Common.{sym, ◌∙◌, ap, arith}
 use Rattle.speedy_layout.specs.Format.{Format, plain_format}
-use Rattle.speedy_layout.specs.Laws.{Laws, Codec, plain_laws, saturated_size, saturated_laws}
-use Rattle.speedy_layout.specs.Sequences.{sequence, sequence_laws, asks_same}
+use Rattle.speedy_layout.specs.Laws.{Laws, Codec, plain_laws, saturated_size, saturated_laws, writes_itself}
+use Rattle.speedy_layout.specs.Sequences.{sequence, sequence_laws, sequence_written, asks_same}
 
 -- no bytes
 unfoldable pub unit : Format (Unit {0})
@@ -19,7 +19,7 @@ unit_laws =
     (λ v b c h k. h ∙ sym k)
 
 abbrev pub unit_codec : Codec (Unit {0})
-unit_codec = record { least = 0; format = λ _. unit; laws = λ _. unit_laws }
+unit_codec = record { least = 0; format = λ _. unit; laws = λ _. unit_laws; same_written = λ _ _. writes_itself }
 
 -- two values, one after the other
 abbrev pub pair : {U W : Type 0} → Format U → Format W → Format (U × W)
@@ -30,4 +30,6 @@ pair_codec first second = record {
   least = saturated_size (first.least + second.least);
   format = λ f. pair (first.format f) (second.format f);
   laws = λ f. saturated_laws (sequence_laws (first.laws f) (λ _. second.laws f) (λ _. asks_same) (λ v w e. e));
+  same_written = λ f strict. sequence_written (λ p. p) _ _ (first.same_written f strict)
+      (λ _. second.same_written f strict);
 }

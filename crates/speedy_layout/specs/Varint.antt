@@ -12,11 +12,12 @@ use Rattle.speedy_base.specs.DigitsLemmas.{EncodesNumber-below, EncodesNumber-di
 use Rattle.speedy_base.specs.DigitsLemmas.{EncodesNumber-is_one_byte}
 use Rattle.speedy_base.specs.Mode.{Mode}
 use Rattle.speedy_layout.specs.Format.{asks_nothing, Format, Parts-joined}
-use Rattle.speedy_layout.specs.Laws.{Laws, Codec, Laws-less}
+use Rattle.speedy_layout.specs.Laws.{Laws, Codec, Laws-less, SameWritten}
 use Rattle.speedy_layout.specs.Codes.{Code, IsCode, coding, coding_codec, exact_code, exact_is_code}
 use Rattle.speedy_layout.specs.Codes.{Accepts-exact_means, Accepts-is, Accepts-means}
-use Rattle.speedy_layout.specs.Numbers.{unsigned_number, unsigned_number_laws, unsigned_codec, WritesSmaller}
-use Rattle.speedy_layout.specs.Sequences.{AsksAtMost, asks_same, sequence, sequence_laws}
+use Rattle.speedy_layout.specs.Numbers.{unsigned_number, unsigned_number_laws, unsigned_written, unsigned_codec}
+use Rattle.speedy_layout.specs.Numbers.{WritesSmaller}
+use Rattle.speedy_layout.specs.Sequences.{AsksAtMost, asks_same, sequence, sequence_laws, sequence_written}
 
 -- a first byte: n leading one bits, and a low part below the first zero bit, which is 0 where no bit is left for
 -- it
@@ -210,6 +211,8 @@ prefixed_digits = record {
   format = λ f. sequence (λ p. p) (first_byte.format f) asks_nothing (λ p. unsigned_number p.0 (low_first f));
   laws = λ f. sequence_laws {n = 1} {m = 0} (first_byte.laws f)
       (λ p. Laws-less (omega arith) (unsigned_number_laws p.0 (low_first f))) (prefixed_asks f) (λ v w e. e);
+  same_written = λ f strict. sequence_written (λ p. p) _ _ (first_byte.same_written f strict)
+      (λ p. unsigned_written p.0 (low_first f) strict);
 }
 
 -- numbers of a variable length
@@ -325,8 +328,12 @@ pub varint_laws : (mode : Mode) → Laws mode.strict 1 (varint mode)
 unfolding varint
 varint_laws = (coding_codec varint_code prefixed_digits varint_is_code).laws
 
+pub varint_written : SameWritten varint
+unfolding varint
+varint_written = (coding_codec varint_code prefixed_digits varint_is_code).same_written
+
 abbrev pub varint_codec : Codec ℕ
-varint_codec = record { least = 1; format = varint; laws = varint_laws }
+varint_codec = record { least = 1; format = varint; laws = varint_laws; same_written = varint_written }
 
 pub varint_smaller : (mode : Mode) → WritesSmaller (varint mode)
 unfolding varint coding

@@ -5,8 +5,8 @@ use Rattle.std.proofs.lemmas.List.{length-append}
 use Rattle.speedy_base.specs.declared.error.ErrorKind.{ErrorKind}
 use Rattle.speedy_base.specs.Mode.{Mode}
 use Rattle.speedy_layout.specs.Format.{Format, IsOwnKind, Parts, Parts-joined}
-use Rattle.speedy_layout.specs.Laws.{Laws, Codec, Decided}
-use Rattle.speedy_layout.specs.Sequences.{neither, sequence, Parts-as}
+use Rattle.speedy_layout.specs.Laws.{Laws, Codec, Decided, SameWritten}
+use Rattle.speedy_layout.specs.Sequences.{neither, sequence, sequence_written, Parts-as}
 use Rattle.speedy_layout.specs.Tuples.{pair}
 
 -- The laws of a format of whole values, under a demand for the canonical encoding or none.
@@ -30,12 +30,23 @@ pub record WholeLaws {V : Type 0} (strict : Bool) (F : Format V) : Type 0 where
   -- and so are those that its writing is refused with
   pub refuses_own : (kind : ErrorKind) → F.refuses_writing kind → IsOwnKind kind
 
+-- Which bytes, all of them, are too many or too few for a value.
+pub record Misfits : Type 1 where
+  -- bytes are left behind a value, or a length in it is wrong: they are refused as a length that is out of range
+  pub too_many : List ℕ → Type 0
+  -- the bytes end within a value: they are refused as an end
+  pub too_few : List ℕ → Type 0
+
 -- A format of whole values under each mode, with its laws.
 pub record WholeCodec (V : Type 0) : Type 1 where
   -- which bytes, all of them, encode which values
   pub format : Mode → Format V
+  -- and which are too many or too few
+  pub misfits : Mode → Misfits
   -- bytes encode at most one value, and a shortest encoding is written
   pub laws : (f : Mode) → WholeLaws f.strict (format f)
+  -- which one is written, only the order says
+  pub same_written : SameWritten format
 
 -- the laws of a layout, where no byte stands behind a value
 pub whole_laws : {V : Type 0} {strict : Bool} {least : ℕ} {F : Format V} → Laws strict least F → WholeLaws strict F
@@ -51,9 +62,41 @@ whole_laws laws = record {
   refuses_own = laws.refuses_own;
 }
 
+-- bytes that end within an encoding
+pub record IsCut {V : Type 0} (F : Format V) (bytes : List ℕ) : Type 0 where
+  pub value : V
+  pub more : List ℕ
+  pub encoded : F.encodes value (bytes ++ more)
+  pub some : more ≡ [] → ⊥
+
+-- bytes that go on behind an encoding
+pub record GoesOn {V : Type 0} (F : Format V) (bytes : List ℕ) : Type 0 where
+  pub value : V
+  pub prefix : List ℕ
+  pub rest : List ℕ
+  pub whole_is : bytes ≡ prefix ++ rest
+  pub encoded : F.encodes value prefix
+  pub some : rest ≡ [] → ⊥
+
+-- what misfits a value of a layout, where no byte stands behind it
+abbrev pub value_misfits : {V : Type 0} → Format V → Misfits
+value_misfits F = record { too_many = λ bytes. F.wrong_length bytes ⊎ GoesOn F bytes; too_few = IsCut F }
+
+-- and what misfits parts with a layout that a whole value follows
+abbrev pub followed_misfits : {U : Type 0} → Format U → Misfits → Misfits
+followed_misfits {U = U} L behind = record {
+  too_many = λ bytes. L.wrong_length bytes ⊎ ((u : U) × Parts (L.encodes u) behind.too_many bytes);
+  too_few = λ bytes. IsCut L bytes ⊎ ((u : U) × Parts (L.encodes u) behind.too_few bytes);
+}
+
 -- the values of a layout, whole
 abbrev pub whole_codec : {V : Type 0} → Codec V → WholeCodec V
-whole_codec value = record { format = value.format; laws = λ f. whole_laws (value.laws f) }
+whole_codec value = record {
+  format = value.format;
+  misfits = λ f. value_misfits (value.format f);
+  laws = λ f. whole_laws (value.laws f);
+  same_written = value.same_written;
+}
 
 -- ---- parts with a layout, and then a whole value
 
@@ -109,5 +152,8 @@ module _ {U W : Type 0} {strict : Bool} {least : ℕ} {L : Format U} {M : Format
 abbrev pub followed_codec : {U W : Type 0} → Codec U → WholeCodec W → WholeCodec (U × W)
 followed_codec first second = record {
   format = λ f. pair (first.format f) (second.format f);
+  misfits = λ f. followed_misfits (first.format f) (second.misfits f);
   laws = λ f. followed_laws (first.laws f) (second.laws f);
+  same_written = λ f strict. sequence_written (λ p. p) _ _ (first.same_written f strict)
+      (λ _. second.same_written f strict);
 }

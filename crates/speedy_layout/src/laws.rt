@@ -1,13 +1,14 @@
 //! The laws of layouts, as functions with empty bodies that a user's proof can cite.
 ghost use Rattle.std.specs.Prelude.{◌≡◌, ◌≤◌, ◌↔◌, List, ◌++◌, ℕ, length, [], false, IsTrue, None};
 ghost use Rattle.speedy_base.specs.Digits.{AreBytes};
-ghost use Rattle.speedy_base.specs.Mode.{Mode};
+ghost use Rattle.speedy_base.specs.Mode.{Mode, plain_mode, strict_mode};
 
 use crate::frames::Framed;
 use crate::layout::Layout;
 use crate::prefixed::{Prefix, Prefixed};
 use crate::same_key::SameKey;
 use crate::whole::{Followed, Rest, UnlessEnd, Whole};
+use speedy_base::endianness::Endianness;
 
 /// Bytes encode at most one value.
 pub fn one_value<T: Layout>()
@@ -63,6 +64,20 @@ pub fn canonical_alone<T: Layout>()
     ensures same { (f : Mode) (v : T.Seen) (bytes others : List ℕ) →
         IsTrue f.strict → (T.layout.format f).asks.hashed ≡ false → (T.layout.format f).encodes v bytes
         → (T.layout.format f).writes v others → bytes ≡ others }
+{}
+
+/// A strict context decodes just the canonical encodings of its order: each as the value that the plain context decodes
+/// it as, and no other bytes. What is written under the two is the same.
+pub fn strict_is_canonical<T: Layout>()
+    ensures decodes { (order : Endianness) (v : T.Seen) (bytes : List ℕ) →
+        (T.layout.format (strict_mode order)).encodes v bytes
+        ↔ (T.layout.format (plain_mode order)).writes v bytes }
+    ensures no_others { (order : Endianness) (v : T.Seen) (bytes : List ℕ) →
+        (T.layout.format (strict_mode order)).encodes v bytes
+        → (T.layout.format (plain_mode order)).encodes v bytes }
+    ensures writes { (order : Endianness) (v : T.Seen) (bytes : List ℕ) →
+        (T.layout.format (strict_mode order)).writes v bytes
+        ↔ (T.layout.format (plain_mode order)).writes v bytes }
 {}
 
 /// All of the bytes encode at most one whole value.

@@ -20,7 +20,7 @@ use Rattle.speedy.specs.Error.{error_of, is_eof_error, IsNamed}
 use Rattle.speedy.specs.ErrorKind.{EndsInput}
 use Rattle.speedy.specs.Flags.{option}
 use Rattle.speedy.specs.Format.{Format}
-use Rattle.speedy.specs.Frames.{frame}
+use Rattle.speedy.specs.Frames.{frame, frame_behind}
 use Rattle.speedy.specs.Lists.{list, prefixed_list, repeat, vector}
 use Rattle.speedy.specs.Numbers.{unsigned_number, signed_number}
 use Rattle.speedy.specs.Owned.{owned_content, borrowed_content}
@@ -30,6 +30,7 @@ use Rattle.speedy.specs.Sequences.{sequence}
 use Rattle.speedy.specs.Texts.{raw_bytes, text_of_length, text}
 use Rattle.speedy.specs.Tuples.{pair, unit}
 use Rattle.speedy.specs.WaysOfReading.{AnswersBufferIf, Counts}
+use Rattle.speedy.specs.Wholes.{whole_codec}
 use Rattle.speedy_protocol.specs.Refusals.{IsBroken}
 
 abbrev pub little : Mode
@@ -181,7 +182,7 @@ last_cases_wrong =
     (without_wrong 255))
 
 abbrev pub framed : Format (FirstCases ⊎ LastCases)
-framed = frame little (unsigned_number 2 little) (message_codec.format little)
+framed = (prefixed_codec (frame_behind (whole_codec message_codec) (unsigned_numbers 2))).format little
 
 pub framed_wrong : NamesWrong framed
 framed_wrong =

@@ -1,5 +1,5 @@
 -- Bytes that begin with a value, as a message in its frame, and the errors that say why they begin with none.
-use Rattle.std.specs.Prelude.{◌≡◌, ℕ, ◌<◌, List, ◌++◌, length, IsTrue, ◌⊎◌, Result, IfErr}
+use Rattle.std.specs.Prelude.{◌≡◌, ℕ, ◌-◌, ◌^◌, ◌<◌, List, ◌++◌, length, IsTrue, ◌⊎◌, Result, IfErr}
 use Rattle.speedy.specs.declared.error.Error.{Error}
 use Rattle.speedy.specs.declared.error.ErrorKind.TheVariants as kinds
 use Rattle.speedy.specs.Codecs.{Codec}
@@ -14,6 +14,10 @@ BeginsWith format v bytes rest = (prefix : List ℕ) × format.encodes v prefix 
 -- no prefix of the bytes encodes a value
 abbrev pub BeginsWithNone : {V : Type 0} → Format V → List ℕ → Type 0
 BeginsWithNone {V = V} format bytes = (v : V) (rest : List ℕ) → BeginsWith format v bytes rest → ⊥
+
+-- no bytes encode the value that a `usize` counts
+abbrev pub HasNone : {V : Type 0} → Format V → V → Type 0
+HasNone format v = (bytes : List ℕ) → format.encodes v bytes → length bytes < 2 ^ 64 - 1 → ⊥
 
 -- no prefix of the bytes encodes a value, and one may where more bytes come
 abbrev pub MayGrow : {V : Type 0} → Format V → List ℕ → Type 0

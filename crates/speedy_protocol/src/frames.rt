@@ -1,10 +1,11 @@
 //! Messages in frames, each behind the number of its bytes: written, taken from a buffer and from a stream.
-ghost use Rattle.std.specs.Prelude.{◌≡◌, ◌∷◌, List, ℕ, IfOk, IfErr};
+ghost use Rattle.std.specs.Prelude.{◌≡◌, ◌∷◌, ◌⊎◌, List, ℕ, IfOk, IfErr};
 ghost use Rattle.std.specs.Option.{option_map};
+ghost use Rattle.speedy.specs.Error.{error_of};
 ghost use Rattle.speedy.specs.Mode.{plain_mode};
 ghost use Rattle.speedy.specs.WaysOfWriting.{WritesToStream, WritesToVec};
 ghost use Rattle.speedy_protocol.specs.NextFrame.{TakesNext, RefusesNext};
-ghost use Rattle.speedy_protocol.specs.Refusals.{BeginsWith, RefusesWhy};
+ghost use Rattle.speedy_protocol.specs.Refusals.{BeginsWith, HasNone, RefusesWhy};
 
 use crate::messages::Message;
 use speedy::cases::Cases;
@@ -63,17 +64,24 @@ pub fn tag_is_third<'a>()
         × (bytes ≡ low ∷ high ∷ ⟦<Message<'a> as Cases>⟧.choices.tag v ∷ more) }
 {}
 
-/// Encodes a message into the vector, and decodes it from there.
+/// Encodes a message into the vector, and decodes it from there. That fails only where memory lacks, or where the
+/// message has no frame.
 pub fn again<'a, 'b>(
     alloc: Global,
     message: &Message<'b>,
     bytes: &'a mut Vec<u8>,
 ) -> Result<Message<'a>, Error>
-    ensures { IfOk result (λ it. ⟦<Message<'a> as Layout>⟧.seen it ≡ ⟦<Message<'b> as Layout>⟧.seen message.now) }
+    ensures same { IfOk result (λ it. ⟦<Message<'a> as Layout>⟧.seen it ≡ ⟦<Message<'b> as Layout>⟧.seen message.now) }
+    ensures refused { let format = ⟦<Frame<'b> as Layout>⟧.layout.format (plain_mode Endianness.LittleEndian) in
+        IfErr result (λ e. (e ≡ error_of ErrorKind.OutOfMemory)
+        ⊎ HasNone format (⟦<Message<'b> as Layout>⟧.seen message.now)) }
 {
     written_is_shortest::<Frame<'a>>();
     one_prefix::<Frame<'a>>();
-    *bytes = encode(alloc, message)?;
+    match encode(alloc, message) {
+        Ok(written) => *bytes = written,
+        Err(error) => return Err(error),
+    }
     match decode(alloc, bytes) {
         Ok((message, _)) => Ok(message),
         Err(error) => Err(error),

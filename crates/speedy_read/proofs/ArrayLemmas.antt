@@ -77,5 +77,6 @@ module _ {V : Type 0} {F : Mode → Format V} {least width : ℕ}
       under = λ vss s h. (s, (refl, arrays_sized mode vss s h.1 ∙ (ap (λ k. k * size) h.0 ∙ sym all_is)));
       names = λ kind h. absurd h;
       malformed = λ bytes are h. absurd h;
+      wrong_length = λ bytes are h. absurd h;
       asks = asks_nothing_more;
     }

@@ -3,7 +3,7 @@ use Rattle.std.specs.Prelude.{◌≡◌, ℕ, ◌<◌, ◌≤◌, List, [], ◌+
 use Rattle.std.specs.Prelude.{Ok, Err, refl}
 use Rattle.std.specs.List.{IsSplitAt}
 use Rattle.std.specs.Borrow.{GName}
-use Rattle.std.proofs.Common.{sym, ◌∙◌, ap, arith, inr}
+use Rattle.std.proofs.Common.{sym, ◌∙◌, ap, arith, inl, inr}
 use Rattle.std.proofs.lemmas.List.{take-append-drop, length-take-le}
 use Rattle.speedy_base.specs.declared.error.Error.{Error}
 use Rattle.speedy_base.specs.Mode.{Mode}
@@ -102,7 +102,8 @@ module _ {E : Type 0} {gives : Error → E → Type 0} {eof : E → Bool} {A : T
   unfolding raw_bytes
   bytes_missed l ended = record {
     kept = Kept-same;
-    answer = inr (ends_early refl n (λ v s h. let k = h.1 in omega arith) (λ _ bad. bad) ended (λ _ _. l));
+    answer = inr (ends_early refl n (λ v s h. let k = h.1 in omega arith)
+        (λ _ bad. elim bad [ inl h ↦ h | inr h ↦ h ]) ended (λ _ _. l));
   }
 
   pub bytes_not_skipped : {seen : A → Unit {0}} {e : E} → length bytes < n → IsEnd gives eof false e
@@ -111,7 +112,8 @@ module _ {E : Type 0} {gives : Error → E → Type 0} {eof : E → Bool} {A : T
   unfolding any_bytes
   bytes_not_skipped l ended = record {
     kept = Kept-same;
-    answer = inr (ends_early refl n (λ v s h. omega arith) (λ _ bad. bad) ended (λ _ _. l));
+    answer = inr (ends_early refl n (λ v s h. omega arith) (λ _ bad. elim bad [ inl h ↦ h | inr h ↦ h ]) ended
+        (λ _ _. l));
   }
 
   pub bytes_not_peeked : {seen : A → List ℕ} {e : E} → length bytes < n → IsEnd gives eof false e
@@ -120,7 +122,8 @@ module _ {E : Type 0} {gives : Error → E → Type 0} {eof : E → Bool} {A : T
   unfolding raw_bytes
   bytes_not_peeked l ended = record {
     kept = KeptByPeek-same;
-    answer = inr (inr (ends_early refl n (λ v s h. let k = h.1 in omega arith) (λ _ bad. bad) ended (λ _ _. l)));
+    answer = inr (inr (ends_early refl n (λ v s h. let k = h.1 in omega arith)
+        (λ _ bad. elim bad [ inl h ↦ h | inr h ↦ h ]) ended (λ _ _. l)));
   }
 
 -- bytes that are lent until the next use are not there

@@ -65,6 +65,7 @@ any_bytes_cover n mode = record {
   under = λ v s h. (tt, ap length (sym (each_byte_is mode.order v s h.1)) ∙ h.0);
   names = λ kind h. absurd h;
   malformed = λ bytes are h. absurd h;
+  wrong_length = λ bytes are h. absurd h;
   asks = asks_memory;
 }
 
@@ -119,6 +120,7 @@ module _ {E : Type 0} {gives : Error → E → Type 0} {eof : E → Bool} {old m
                     ∙ omega (arith, short)),
               );
           malformed = λ bad. absurd bad;
+          wrong_length = λ wrong. absurd wrong;
         })
         read.answer;
   })
@@ -161,6 +163,7 @@ any_cover_raw n = record {
   under = λ v s h. (tt, h.1);
   names = λ kind h. absurd h;
   malformed = λ bytes are h. absurd h;
+  wrong_length = λ bytes are h. absurd h;
   asks = asks_same;
 }
 

@@ -39,6 +39,7 @@ holding_covers part F = record {
   under = λ s b h. (h.0, h.2);
   names = λ kind h. h;
   malformed = λ bytes are h. inl h;
+  wrong_length = λ bytes are h. inl h;
   asks = asks_same;
 }
 
@@ -68,6 +69,7 @@ module _ {E : Type 0} {gives : Error → E → Type 0} {eof : E → Bool} where
             no_prefix = λ v prefix rest is h. h;
             too_short = λ v more h. absurd h;
             malformed = λ _. named;
+            wrong_length = λ h. absurd h;
           };
         });
       }

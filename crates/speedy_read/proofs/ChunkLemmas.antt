@@ -82,6 +82,7 @@ module _ {V : Type 0} {F : Mode → Format V} {least width : ℕ}
     under = λ vs s h. (tt, each_sized mode vs s h.1 ∙ ap (λ m. m * width) h.0);
     names = λ kind h. absurd h;
     malformed = λ bytes are h. absurd h;
+    wrong_length = λ bytes are h. absurd h;
     asks = asks_nothing_more;
   }
 
@@ -197,6 +198,7 @@ module _ {E X A : Type 0} {gives : Error → E → Type 0} {eof : E → Bool} {s
               no_prefix = un.no_prefix;
               too_short = λ _ _ _. ended.1;
               malformed = λ bad. absurd bad;
+              wrong_length = λ wrong. absurd wrong;
             };
           })
         ];

@@ -214,6 +214,7 @@ module _ {T F V S : Type 0} {g : Gatherer T F V} (c : Code (List V) S)
   module _ {E : Type 0} {gives : Error → E → Type 0} {eof : E → Bool} {least : ℕ} {e : E} (M : Format (List V))
       (laws : Laws old.mode.strict least L)
       (items_of : (vs : List V) (s : List ℕ) → M.encodes vs s → (length vs ≡ n) × Each L.encodes vs s)
+      (none_wrong : (bytes : List ℕ) → M.wrong_length bytes → ⊥)
       (given : gives (error_of kinds.NotWrittenForm) e) where
     not_written_undecodable : IsTrue old.fixed.tells → Undecodable gives eof (coding old.mode c M) e old.remaining
     unfolding coding
@@ -228,6 +229,7 @@ module _ {T F V S : Type 0} {g : Gatherer T F V} (c : Code (List V) S)
           (sym (append-nil (old.remaining ++ more))) (h.ahead.stands tells)
           (Accepts-demanded old.mode.strict c k.code v h.demanded k.stands));
       malformed = λ _. (kinds.NotWrittenForm, inr (inr (h.demanded, refl, wider)), given);
+      wrong_length = λ wrong. absurd (none_wrong old.remaining wrong);
     }
 
     -- so no value of a code is read, whose codes are lists of such items
@@ -280,7 +282,8 @@ collected_read {V = V} {g = g} {c = c} {seen' = seen'} {L = L} {n = n} {gives = 
             code_refused old.mode c refl items
         | inr y ↦
             not_written_refused c is.first_chosen y.1 (seen' y.1.whole)
-            (is.meant y.1.items y.1.whole y.1.gathered) (vector n L) laws (vector_items L n) y.0 r.kept
+            (is.meant y.1.items y.1.whole y.1.gathered) (vector n L) laws (vector_items L n) (λ _ wrong. wrong) y.0
+            r.kept
       ]
     ]
 
@@ -298,6 +301,7 @@ gathered_composes true count L mode c =
       names_first = same.names_first;
       names_second = same.names_second;
       malformed = same.malformed;
+      wrong_length = same.wrong_length;
       asks_first = asks_after same.asks_first asks_hashed;
       asks_second = λ n. asks_after (same.asks_second n) asks_hashed;
     }

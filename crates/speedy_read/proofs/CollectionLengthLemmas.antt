@@ -5,6 +5,7 @@ use Rattle.std.proofs.lemmas.List.{length-map}
 use Rattle.speedy_base.specs.declared.error.ErrorKind.TheVariants as kinds
 use Rattle.speedy_base.specs.declared.error.Error.{Error}
 use Rattle.speedy_base.specs.Error.{error_of}
+use Rattle.speedy_base.specs.Mode.{Mode}
 use Rattle.speedy_layout.specs.Codecs.{Codec, vector_codec}
 use Rattle.speedy_layout.specs.Codes.{Accepts-is, coding, subset_code}
 use Rattle.speedy_layout.specs.Format.{Asks, Format}
@@ -81,8 +82,15 @@ asking_more more = record {
   under = λ v s h. (v, h);
   names = λ kind h. h;
   malformed = λ bytes are h. inl h;
+  wrong_length = λ bytes are h. inl h;
   asks = more;
 }
+
+-- in items of which nothing is repeated no length stands that could be wrong
+single_right : {V : Type 0} (f : Mode) (single : List V → Type 0) (n : ℕ) (L : Format V) (bytes : List ℕ)
+    → (single_items f single n L).wrong_length bytes → ⊥
+unfolding coding vector owned_content repeat
+single_right f single n L bytes wrong = wrong
 
 unordered_more : (hashed : Bool) (asks : Asks) → AsksAtMost asks (asks_unordered hashed asks)
 unordered_more hashed asks = record {
@@ -125,8 +133,8 @@ module _ {T F V S : Type 0} {seen : T → V} {gathers : List T → F → Type 0}
               Reads-passed passed (not_written_refused (gathering stands written)
               (λ items more s h. first (map seen items) more h.1) y.1 value.0 value.1
               (record M { asks = asks_unordered hashed M.asks }) (item.laws old.mode)
-              (λ vs s h. let k = single_encoded old.mode single n (item.format old.mode) vs s h in (k.0, k.1)) y.0
-              r.kept)
+              (λ vs s h. let k = single_encoded old.mode single n (item.format old.mode) vs s h in (k.0, k.1))
+              (single_right old.mode single n (item.format old.mode)) y.0 r.kept)
         ]
       ] where
         by_list : Reads gives eof (λ (vs : List V). vs) (vector n (item.format old.mode)) (Err e) old new

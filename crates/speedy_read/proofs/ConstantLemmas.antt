@@ -32,6 +32,7 @@ any_covers_constant mode constant = record {
   under = λ v s h. (tt, h.code_is.1);
   names = λ kind h. absurd h;
   malformed = λ bytes are h. elim h [ inl x ↦ absurd x | inr x ↦ inr (tt, x.prefix, x.rest, x.whole_is, x.code_is.1) ];
+  wrong_length = λ bytes are h. absurd h;
   asks = asks_same;
 }
 

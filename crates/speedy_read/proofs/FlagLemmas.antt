@@ -57,6 +57,7 @@ flags_cover n mode = record {
   under = λ flags s h. let bytes = flag_bytes mode flags s h.1 in (bytes.0, (bytes.1 ∙ h.0, bytes.2));
   names = λ kind h. inl h;
   malformed = λ bytes are h. absurd h;
+  wrong_length = λ bytes are h. absurd h;
   asks = asks_same;
 }
 

@@ -11,6 +11,7 @@ use Rattle.speedy_layout.specs.Growing.{some_bytes, unless_none}
 use Rattle.speedy_layout.specs.Laws.{Laws}
 use Rattle.speedy_layout.specs.Lists.{both_none}
 use Rattle.speedy_layout.specs.Sequences.{asks_same}
+use Rattle.speedy_layout.specs.Wholes.{Misfits}
 use Rattle.speedy_read.specs.Codes.{Covers, refused_covered}
 use Rattle.speedy_read.specs.Reading.{ReaderState, Undecodable, Reads}
 use Rattle.speedy_read.specs.ReadingLemmas.{Kept-same}
@@ -22,6 +23,7 @@ covers_some F = record {
   under = λ v s h. (v, h.0);
   names = λ kind h. inl h;
   malformed = λ bytes are bad. inl bad;
+  wrong_length = λ bytes are wrong. inl wrong;
   asks = asks_same;
 }
 
@@ -64,6 +66,7 @@ module _ {E : Type 0} {gives : Error → E → Type 0} {eof : E → Bool} {V A :
           no_prefix = λ v prefix rest is h. none v prefix h;
           too_short = λ v more h. absurd (none v (old.remaining ++ more) h);
           malformed = λ bad. absurd (laws.malformed_undecodable (seen x) [] old.remaining bad empty);
+          wrong_length = λ _. given;
         };
       });
     } where
@@ -77,11 +80,18 @@ module _ {E : Type 0} {gives : Error → E → Type 0} {eof : E → Bool} {V A :
 
 -- ---- parts that may be missing
 
-module _ {E : Type 0} {gives : Error → E → Type 0} {eof : E → Bool} {V B : Type 0} (F : Format V) {seen : B → Option V}
-    {old : ReaderState} where
+-- of some bytes what misfits a value does
+abbrev some_misfits : Misfits → Misfits
+some_misfits misfits = record {
+  too_many = λ bytes. (bytes ≡ [] → ⊥) × misfits.too_many bytes;
+  too_few = λ bytes. (bytes ≡ [] → ⊥) × misfits.too_few bytes;
+}
+
+module _ {E : Type 0} {gives : Error → E → Type 0} {eof : E → Bool} {V B : Type 0} (F : Format V) (misfits : Misfits)
+    {seen : B → Option V} {old : ReaderState} where
   -- the bytes end
   pub end_whole : {y : B} → length old.remaining ≡ 0 → seen y ≡ None
-      → ReadsWhole gives eof seen (unless_none F) (Ok y) old old
+      → ReadsWhole gives eof seen (unless_none F) (some_misfits misfits) (Ok y) old old
   unfolding unless_none
   end_whole none is = record {
     kept = Kept-same;
@@ -89,13 +99,13 @@ module _ {E : Type 0} {gives : Error → E → Type 0} {eof : E → Bool} {V B :
   }
 
   module _ {A : Type 0} {part : A → V} {new : ReaderState} (some : length old.remaining ≡ 0 → ⊥) where
-    pub present_whole : {x : A} {y : B} → seen y ≡ Some (part x) → ReadsWhole gives eof part F (Ok x) old new
-        → ReadsWhole gives eof seen (unless_none F) (Ok y) old new
+    pub present_whole : {x : A} {y : B} → seen y ≡ Some (part x) → ReadsWhole gives eof part F misfits (Ok x) old new
+        → ReadsWhole gives eof seen (unless_none F) (some_misfits misfits) (Ok y) old new
     unfolding unless_none
     present_whole is r = record { kept = r.kept; answer = rw is r.answer }
 
-    pub present_refused : {e : E} → ReadsWhole gives eof part F (Err e) old new
-        → ReadsWhole gives eof seen (unless_none F) (Err e) old new
+    pub present_refused : {e : E} → ReadsWhole gives eof part F misfits (Err e) old new
+        → ReadsWhole gives eof seen (unless_none F) (some_misfits misfits) (Err e) old new
     unfolding unless_none
     present_refused {e = e} r = record {
       kept = r.kept;
@@ -105,6 +115,10 @@ module _ {E : Type 0} {gives : Error → E → Type 0} {eof : E → Bool} {V B :
           kind = refused.kind;
           because = λ told v h. no_value (refused.because
               (record { tells = told.tells; are_bytes = told.are_bytes; fit = told.fit; lends = told.lends })) v h;
+          too_many = λ told h. refused.too_many
+              (record { tells = told.tells; are_bytes = told.are_bytes; fit = told.fit; lends = told.lends }) h.1;
+          too_few = λ told h. refused.too_few
+              (record { tells = told.tells; are_bytes = told.are_bytes; fit = told.fit; lends = told.lends }) h.1;
         })
       ];
     } where

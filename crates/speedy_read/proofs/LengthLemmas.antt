@@ -23,6 +23,7 @@ with_length_composes {B = B} {V = V} is_told told numbers field before counting 
       names_first = c.names_first;
       names_second = c.names_second;
       malformed = c.malformed;
+      wrong_length = c.wrong_length;
       asks_first = c.asks_first;
       asks_second = c.asks_second;
     }

@@ -47,6 +47,7 @@ borrowed_composes none c = record {
   names_first = c.names_first;
   names_second = c.names_second;
   malformed = c.malformed;
+  wrong_length = c.wrong_length;
   asks_first = record { lending = λ _. refl; hashed = c.asks_first.hashed; memory = λ t. absurd (cc) };
   asks_second = λ u. record { lending = λ _. refl; hashed = (c.asks_second u).hashed; memory = λ t. t };
 }
@@ -59,6 +60,7 @@ borrowed_covers c = record {
   under = c.under;
   names = c.names;
   malformed = c.malformed;
+  wrong_length = c.wrong_length;
   asks = record { lending = λ _. refl; hashed = c.asks.hashed; memory = λ t. t };
 }
 
@@ -68,6 +70,7 @@ content_covers none = record {
   under = λ v s h. (v, h);
   names = λ kind h. h;
   malformed = λ bytes _ h. inl h;
+  wrong_length = λ bytes _ h. inl h;
   asks = record { lending = λ _. refl; hashed = λ t. t; memory = λ t. absurd (cc) };
 }
 
@@ -80,6 +83,7 @@ bytes_cover_items size F one n whole = record {
   under = λ vs s h. (s, (refl, each_one_size one vs s h.1 ∙ (ap (λ m. m * size) h.0 ∙ whole)));
   names = λ kind h. absurd h;
   malformed = λ bytes are h. absurd h;
+  wrong_length = λ bytes are h. absurd h;
   asks = asks_nothing_more;
 }
 

@@ -66,7 +66,8 @@ module _ {V : Type 0} {strict : Bool} {least : ℕ} {L : Format V} (laws : Laws 
     unfolding vector owned_content repeat
     refused_early ended fewer = record {
       kept = Kept-same;
-      answer = inr (ends_early refl (n * least) (vector_laws laws n).least_size (λ _ bad. bad) ended fewer);
+      answer = inr (ends_early refl (n * least) (vector_laws laws n).least_size
+          (λ _ bad. elim bad [ inl h ↦ h | inr h ↦ h ]) ended fewer);
     }
 
     -- where an item is refused, the vector is
@@ -99,6 +100,7 @@ module _ {V : Type 0} {strict : Bool} {least : ℕ} {L : Format V} (laws : Laws 
                       | inr h ↦ absurd (un.no_prefix item.0 item.1 h.0 h.1 item.4)
                     ];
                 malformed = λ bad. absurd bad;
+                wrong_length = λ wrong. absurd wrong;
               })
               r.answer;
         })

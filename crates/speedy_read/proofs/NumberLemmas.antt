@@ -23,6 +23,7 @@ bytes_cover_digits width mode = record {
   under = λ v s h. (s, (refl, h.width_is));
   names = λ kind h. absurd h;
   malformed = λ bytes _ h. absurd h;
+  wrong_length = λ bytes _ h. absurd h;
   asks = asks_same;
 }
 
@@ -41,6 +42,7 @@ bytes_cover_two m n mode = record {
         | inl k ↦ absurd k
         | inr k ↦ absurd k.1.second_is
       ];
+  wrong_length = λ bytes _ h. elim h [ inl k ↦ absurd k | inr k ↦ absurd k.1.second_is ];
   asks = asks_same;
 }
 
@@ -85,6 +87,8 @@ module _ {V : Type 0} {F : Mode → Format V} {least width : ℕ}
     under = λ v s h. (s, (refl, size_of_fixed fixed mode v s h ∙ sym is));
     names = λ kind h. absurd h;
     malformed = λ bytes _ h. absurd (fixed.none_malformed mode bytes h);
+    wrong_length = λ bytes _ h.
+        absurd (fixed.none_malformed mode bytes ((laws mode).wrong_length_malformed bytes h));
     asks = asks_nothing_more;
   }
 

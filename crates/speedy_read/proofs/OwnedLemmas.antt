@@ -16,6 +16,7 @@ owned_covers = record {
   under = λ v s h. (v, h);
   names = λ kind h. h;
   malformed = λ bytes _ h. inl h;
+  wrong_length = λ bytes _ h. inl h;
   asks = asks_memory;
 }
 

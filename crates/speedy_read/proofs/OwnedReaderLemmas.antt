@@ -4,8 +4,9 @@ use Rattle.std.specs.Borrow.{GName}
 use Rattle.std.proofs.Common.{ap, inl, inr}
 use Rattle.speedy_base.specs.declared.error.Error.{Error}
 use Rattle.speedy_layout.specs.Format.{Format}
-use Rattle.speedy_read.specs.Reading.{ReaderKind, ReaderState, Kept, KeptByPeek, Got, Refused, Reads, Peeks}
-use Rattle.speedy_read.specs.Reading.{LendsUntilUsed}
+use Rattle.speedy_layout.specs.Wholes.{Misfits}
+use Rattle.speedy_read.specs.Reading.{ReaderKind, ReaderState, Kept, KeptByPeek, Got, IsTold, Refused, Reads}
+use Rattle.speedy_read.specs.Reading.{LendsUntilUsed, Peeks}
 use Rattle.speedy_read.specs.Buffers.{held_kind, held_state}
 use Rattle.speedy_read.specs.Wholes.{ReadsWhole}
 
@@ -78,6 +79,9 @@ module _ (name : GName) {old new : ReaderState} where
 abbrev unheld : ReaderState → ReaderState
 unheld s = record s { fixed = record s.fixed { targets = drop 1 s.fixed.targets } }
 
+held_told : {V : Type 0} {L : Format V} {name : GName} {s : ReaderState} → IsTold L s → IsTold L (held_state name s)
+held_told told = record { tells = told.tells; are_bytes = told.are_bytes; fit = told.fit; lends = told.lends }
+
 module _ {name after : GName} {old new : ReaderState} where
   unheld_kept : Kept (held_state name old) (held_state after new) → Kept old new
   unheld_kept k = record {
@@ -112,16 +116,15 @@ module _ {name after : GName} {old new : ReaderState} where
             | inr k ↦ inr (record {
               no_fault = k.no_fault;
               kind = k.kind;
-              because = λ told. k.because
-                  (record { tells = told.tells; are_bytes = told.are_bytes; fit = told.fit; lends = told.lends });
+              because = λ told. k.because (held_told told);
             })
           ];
     }
 
     -- a value that has all of the bytes too
-    pub unheld_whole : {result : Result A E}
-        → ReadsWhole gives eof seen L result (held_state name old) (held_state after new)
-        → ReadsWhole gives eof seen L result old new
+    pub unheld_whole : {misfits : Misfits} {result : Result A E}
+        → ReadsWhole gives eof seen L misfits result (held_state name old) (held_state after new)
+        → ReadsWhole gives eof seen L misfits result old new
     unheld_whole {result = Ok x} r = record { kept = unheld_kept r.kept; answer = r.answer }
     unheld_whole {result = Err e} r = record {
       kept = unheld_kept r.kept;
@@ -130,8 +133,9 @@ module _ {name after : GName} {old new : ReaderState} where
             | inl x ↦ inl x
             | inr k ↦ inr (record {
               kind = k.kind;
-              because = λ told. k.because
-                  (record { tells = told.tells; are_bytes = told.are_bytes; fit = told.fit; lends = told.lends });
+              because = λ told. k.because (held_told told);
+              too_many = λ told. k.too_many (held_told told);
+              too_few = λ told. k.too_few (held_told told);
             })
           ];
     }

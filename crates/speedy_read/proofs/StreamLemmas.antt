@@ -62,7 +62,8 @@ stream_ended : {E : Type 0} {gives : Error → E → Type 0} {eof : E → Bool} 
     → (IsTrue old.fixed.tells → length old.remaining < n) → Refused gives eof (raw_bytes n) e old new
 unfolding raw_bytes
 stream_ended {n = n} clean ended fewer =
-    ends_early clean n (λ v s h. let k = h.1 in omega arith) (λ _ bad. bad) ended (λ told _. fewer told)
+    ends_early clean n (λ v s h. let k = h.1 in omega arith) (λ _ bad. elim bad [ inl h ↦ h | inr h ↦ h ]) ended
+    (λ told _. fewer told)
 
 -- ---- what is read after a peek
 

@@ -43,6 +43,7 @@ bytes_cover_text n mode = record {
           ),
         )
       ];
+  wrong_length = λ bytes are h. absurd h;
   asks = asks_same;
 }
 

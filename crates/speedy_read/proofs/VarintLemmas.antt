@@ -15,7 +15,7 @@ use Rattle.speedy_layout.specs.Texts.{raw_bytes}
 use Rattle.speedy_layout.specs.Varint.{varint, IsFirstByte, StartsVarint, StartsVarint-same, varint-starts, IsFewest}
 use Rattle.speedy_layout.specs.Varint.{VarintParts, varint_code, first_byte, first_byte_code, low_first}
 use Rattle.speedy_layout.specs.Varint.{prefixed_digits, prefixed_asks, varint_is_code, varint-chosen, prefixed-is}
-use Rattle.speedy_layout.specs.Varint.{prefixed-encoded}
+use Rattle.speedy_layout.specs.Varint.{prefixed-encoded, varint_laws}
 use Rattle.speedy_read.specs.Reading.{ReaderKind, ReaderState, IsTold, Undecodable, Reads, Peeks}
 use Rattle.speedy_read.specs.ReadingLemmas.{tells_still, KeptByPeek-after, part_refused, Peeks-passed}
 use Rattle.speedy_read.specs.Sequences.{Composes, sequence_composes, refused_first, refused_second, got_both}
@@ -227,6 +227,9 @@ module _ {E : Type 0} {gives : Error → E → Type 0} {eof : E → Bool} (mode 
     );
     malformed =
         λ bad. absurd (rest_not_malformed mode more first bytes rest starts is (short_of (more + 1) bytes un) bad);
+    wrong_length = λ wrong.
+        absurd (rest_not_malformed mode more first bytes rest starts is (short_of (more + 1) bytes un)
+        ((varint_laws mode).wrong_length_malformed bytes wrong));
   }
 
   -- what remains begins with the byte that was peeked

@@ -1,7 +1,7 @@
 -- Reads of lent bytes make reads of views.
 use Rattle.std.specs.Prelude.{◌≡◌, ℕ, ◌+◌, ◌-◌, ◌*◌, ◌<◌, ◌≤◌, ◌^◌, List, ◌++◌, length, replicate, map, Bool, Ok, Err}
 use Rattle.std.specs.Prelude.{Result, IsErrAnd, refl}
-use Rattle.std.proofs.Common.{sym, ◌∙◌, ap, subst, inr, arith}
+use Rattle.std.proofs.Common.{sym, ◌∙◌, ap, subst, inr, arith, inl}
 use Rattle.std.proofs.lemmas.List.{length-append, length-map, length-replicate}
 use Rattle.speedy_base.specs.declared.error.Error.{Error}
 use Rattle.speedy_base.specs.Digits.{AreBytes}
@@ -60,8 +60,8 @@ module _ {V : Type 0} (size : ℕ) (F : Format V)
       kept = r.kept;
       answer =
           inr (ends_early r.answer.no_fault (n * size)
-          (λ vs s h. let l = each_one_size one vs s h.1 ∙ ap (λ m. m * size) h.0 in omega arith) (λ _ bad. bad) ended
-          (λ _ fit. omega arith));
+          (λ vs s h. let l = each_one_size one vs s h.1 ∙ ap (λ m. m * size) h.0 in omega arith)
+          (λ _ bad. elim bad [ inl h ↦ h | inr h ↦ h ]) ended (λ _ fit. omega arith));
     }
 
     -- so where as many as can be counted are refused, the items are
@@ -90,6 +90,7 @@ module _ {V : Type 0} (size : ℕ) (F : Format V)
                       ∙ omega arith),
                 );
             malformed = λ bad. absurd bad;
+            wrong_length = λ wrong. absurd wrong;
           })
           r.answer;
     })

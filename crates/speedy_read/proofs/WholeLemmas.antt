@@ -21,15 +21,16 @@ use Rattle.speedy_layout.specs.Lengths.{Counting, list_counting}
 use Rattle.speedy_layout.specs.Lists.{repeat, vector}
 use Rattle.speedy_layout.specs.Numbers.{unsigned_number}
 use Rattle.speedy_layout.specs.Owned.{borrowed_content, owned_content}
-use Rattle.speedy_layout.specs.Rests.{rest}
+use Rattle.speedy_layout.specs.Rests.{EndsInItem, rest, rest_misfits}
 use Rattle.speedy_layout.specs.Sequences.{asks_left, asks_right, sequence}
 use Rattle.speedy_layout.specs.Texts.{each_byte_is, raw_bytes, text_of_length}
 use Rattle.speedy_layout.specs.Tuples.{pair}
+use Rattle.speedy_layout.specs.Wholes.{IsCut, Misfits, followed_misfits, value_misfits}
 use Rattle.speedy_layout.specs.Codecs.{Codec}
 use Rattle.speedy_read.specs.Reading.{ReaderKind, ReaderState, Kept, IsTold, refusing_kinds, IsEnd, Excused}
 use Rattle.speedy_read.specs.Reading.{Undecodable, Reads}
 use Rattle.speedy_read.specs.ReadingLemmas.{Kept-same, Kept-after, IsTold-after, IsTold-part, no_parts}
-use Rattle.speedy_read.specs.ReadingLemmas.{ReadSoFar, none_so_far}
+use Rattle.speedy_read.specs.ReadingLemmas.{ReadSoFar, none_so_far, prefixes_nest}
 use Rattle.speedy_read.specs.Wholes.{InMemory, NotWhole, ReadsWhole}
 use Rattle.speedy_read.proofs.ListLemmas.{next_item, item_more}
 
@@ -44,13 +45,20 @@ memory_excused gives takes e old new never before since (inr fault) =
     let b = ap (λ (f : Faults). f.count) since in
     absurd (elim fault.0 [ inl more ↦ omega arith | inr most ↦ omega arith ])
 
-module _ {E : Type 0} {gives : Error → E → Type 0} {eof : E → Bool} {V B : Type 0} {F : Format V} {seen : B → V}
-    {old : ReaderState} where
+-- why no value has all of the bytes, where a part was undecodable
+pub record WhyNot {E V : Type 0} (gives : Error → E → Type 0) (eof : E → Bool) (F : Format V) (misfits : Misfits)
+    (e : E) (bytes : List ℕ) : Type 0 where
+  pub none : (v : V) → F.encodes v bytes → ⊥
+  pub many : misfits.too_many bytes → gives (error_of kinds.OutOfRangeLength) e
+  pub few : misfits.too_few bytes → IsTrue (eof e)
+
+module _ {E : Type 0} {gives : Error → E → Type 0} {eof : E → Bool} {V B : Type 0} {F : Format V} {misfits : Misfits}
+    {seen : B → V} {old : ReaderState} where
   -- what `?` passes on is refused as it was
   pub ReadsWhole-passed : {e : E} {result : Result B E} {new : ReaderState} → IsErrAnd result (λ x. x ≡ e)
-      → ReadsWhole gives eof seen F (Err e) old new → ReadsWhole gives eof seen F result old new
+      → ReadsWhole gives eof seen F misfits (Err e) old new → ReadsWhole gives eof seen F misfits result old new
   ReadsWhole-passed {e = e} {result = result} {new = new} passed r =
-      subst (λ (x : Result B E). ReadsWhole gives eof seen F x old new) (passed_on result e passed) r
+      subst (λ (x : Result B E). ReadsWhole gives eof seen F misfits x old new) (passed_on result e passed) r
 
   -- a part L that is refused from `mid` on, so that the bytes are those of no value
   pub part_not_whole : {A U : Type 0} {part : A → U} {L : Format U} {e : E} {result : Result B E}
@@ -58,9 +66,9 @@ module _ {E : Type 0} {gives : Error → E → Type 0} {eof : E → Bool} {V B :
       → IsErrAnd result (λ x. x ≡ e) → Kept old mid → InMemory mid → InMemory new
       → (IsTrue L.asks.memory → IsTrue F.asks.memory) → (IsTrue L.asks.lending → IsTrue F.asks.lending)
       → ((kind : ErrorKind) → L.names kind → F.names kind)
-      → (IsTold F old → Undecodable gives eof L e mid.remaining → (v : V) → F.encodes v old.remaining → ⊥)
-      → Reads gives eof part L (Err e) mid new → ReadsWhole gives eof seen F result old new
-  part_not_whole {L = L} {e = e} {mid = mid} {new = new} passed kept before since memory lends names none r =
+      → (IsTold F old → Undecodable gives eof L e mid.remaining → WhyNot gives eof F misfits e old.remaining)
+      → Reads gives eof part L (Err e) mid new → ReadsWhole gives eof seen F misfits result old new
+  part_not_whole {L = L} {e = e} {mid = mid} {new = new} passed kept before since memory lends names why r =
       ReadsWhole-passed passed (record {
         kept = Kept-after kept r.kept;
         answer = elim r.answer [
@@ -75,7 +83,9 @@ module _ {E : Type 0} {gives : Error → E → Type 0} {eof : E → Bool} {V B :
                   {more = λ kind. refusing_kinds F old.fixed.lends kind ⊎ (kind ≡ kinds.OutOfRangeLength)} e
                   (λ kind h. inl (as_part kind h)) named)
             ];
-            because = λ told. none told (refused.because (IsTold-after kept lends told));
+            because = λ told. (why told (refused.because (IsTold-after kept lends told))).none;
+            too_many = λ told. (why told (refused.because (IsTold-after kept lends told))).many;
+            too_few = λ told. (why told (refused.because (IsTold-after kept lends told))).few;
           })
         ];
       }) where
@@ -86,35 +96,63 @@ module _ {E : Type 0} {gives : Error → E → Type 0} {eof : E → Bool} {V B :
 
   -- the bytes are too many or too few, which are refused as a length
   pub length_not_whole : {e : E} {new : ReaderState} → gives (error_of kinds.OutOfRangeLength) e → Kept old new
-      → (IsTold F old → (v : V) → F.encodes v old.remaining → ⊥) → ReadsWhole gives eof seen F (Err e) old new
-  length_not_whole given kept none = record {
+      → (IsTold F old → (v : V) → F.encodes v old.remaining → ⊥) → (misfits.too_few old.remaining → ⊥)
+      → ReadsWhole gives eof seen F misfits (Err e) old new
+  length_not_whole given kept none enough = record {
     kept = kept;
-    answer = inr (record { kind = inr (kinds.OutOfRangeLength, inr refl, given); because = none });
+    answer = inr (record {
+      kind = inr (kinds.OutOfRangeLength, inr refl, given);
+      because = none;
+      too_many = λ told many. given;
+      too_few = λ told few. absurd (enough few);
+    });
   }
 
 -- ---- values of a layout
 
+-- where a value was read, the bytes are not cut within one
+uncut : {E : Type 0} {gives : Error → E → Type 0} {eof : E → Bool} {V A : Type 0} {F : Format V} {seen : A → V}
+    {strict : Bool} {least : ℕ} → Laws strict least F → {x : A} {old new : ReaderState} → InMemory old
+    → Reads gives eof seen F (Ok x) old new → IsCut F old.remaining → ⊥
+uncut laws {x = x} {old = old} {new = new} before r cut =
+    let got = r.answer in
+    let whole = old.remaining ++ cut.more in
+    let joined = sym (append_assoc got.prefix new.remaining cut.more)
+    ∙ (ap (λ s. s ++ cut.more) (sym (got.taken before.tells)) ∙ sym (append-nil whole)) in
+    let same = laws.decodes _ cut.value got.prefix whole (new.remaining ++ cut.more) [] got.prefix_is cut.encoded
+    joined in
+    cut.some (no_parts new.remaining cut.more same.2).1
+
 module _ {E : Type 0} {gives : Error → E → Type 0} {eof : E → Bool} {V A : Type 0} {F : Format V} {seen : A → V}
     {strict : Bool} {least : ℕ} (laws : Laws strict least F) {old new : ReaderState} where
   pub value_refused : {e : E} {result : Result A E} → IsErrAnd result (λ x. x ≡ e) → InMemory old → InMemory new
-      → Reads gives eof seen F (Err e) old new → ReadsWhole gives eof seen F result old new
+      → Reads gives eof seen F (Err e) old new → ReadsWhole gives eof seen F (value_misfits F) result old new
   value_refused passed before since r =
       part_not_whole passed Kept-same before since (λ t. t) (λ t. t) (λ kind h. h)
-      (λ told un v h. un.no_prefix v old.remaining [] (sym (append-nil old.remaining)) h) r
+      (λ told un. record {
+        none = λ v h. un.no_prefix v old.remaining [] (sym (append-nil old.remaining)) h;
+        many = λ h.
+            elim h [
+              | inl wrong ↦ un.wrong_length wrong
+              | inr on ↦ absurd (un.no_prefix on.value on.prefix on.rest on.whole_is on.encoded)
+            ];
+        few = λ cut. un.too_short cut.value cut.more cut.encoded;
+      }) r
 
   module _ {x : A} (before : InMemory old) (r : Reads gives eof seen F (Ok x) old new) where
     -- bytes are left behind the value
     pub value_left : {e : E} → 0 < length new.remaining → gives (error_of kinds.OutOfRangeLength) e
-        → ReadsWhole gives eof seen F (Err e) old new
-    value_left some given = length_not_whole given r.kept (λ told v h.
+        → ReadsWhole gives eof seen F (value_misfits F) (Err e) old new
+    value_left some given =
+        length_not_whole given r.kept (λ told v h.
         let got = r.answer in
         let same = laws.decodes v (seen x) old.remaining got.prefix [] new.remaining h got.prefix_is
         (append-nil old.remaining ∙ got.taken before.tells) in
         let none = ap length same.2 in
-        omega arith)
+        omega arith) (λ cut. uncut laws before r cut)
 
     -- none is left
-    pub value_whole : length new.remaining ≡ 0 → ReadsWhole gives eof seen F (Ok x) old new
+    pub value_whole : length new.remaining ≡ 0 → ReadsWhole gives eof seen F (value_misfits F) (Ok x) old new
     value_whole none = record {
       kept = r.kept;
       answer =
@@ -128,18 +166,34 @@ module _ {E : Type 0} {gives : Error → E → Type 0} {eof : E → Bool} {V A :
 
 module _ {E : Type 0} {gives : Error → E → Type 0} {eof : E → Bool} {U W A D : Type 0} {L : Format U}
     {first : A → U} {seen : D → U × W} where
-  pub first_not_whole : (M : Format W) {old new : ReaderState} {e : E} {result : Result D E}
+  pub first_not_whole : (M : Format W) (misfits : Misfits) {old new : ReaderState} {e : E} {result : Result D E}
       → IsErrAnd result (λ x. x ≡ e) → InMemory old → InMemory new
-      → Reads gives eof first L (Err e) old new → ReadsWhole gives eof seen (pair L M) result old new
+      → Reads gives eof first L (Err e) old new
+      → ReadsWhole gives eof seen (pair L M) (followed_misfits L misfits) result old new
   unfolding sequence
-  first_not_whole M passed before since r =
+  first_not_whole M misfits passed before since r =
       part_not_whole passed Kept-same before since (asks_left L.asks M.asks).memory (asks_left L.asks M.asks).lending
-      (λ kind h. inl h) (λ told un v h. un.no_prefix v.0 h.prefix h.suffix h.whole_is h.first_is) r
+      (λ kind h. inl h)
+      (λ told un. record {
+        none = λ v h. un.no_prefix v.0 h.prefix h.suffix h.whole_is h.first_is;
+        many = λ h.
+            elim h [
+              | inl wrong ↦ un.wrong_length wrong
+              | inr x ↦ absurd (un.no_prefix x.0 x.1.prefix x.1.suffix x.1.whole_is x.1.first_is)
+            ];
+        few = λ h.
+            elim h [
+              | inl cut ↦ un.too_short cut.value cut.more cut.encoded
+              | inr x ↦ absurd (un.no_prefix x.0 x.1.prefix x.1.suffix x.1.whole_is x.1.first_is)
+            ];
+      }) r
 
-  module _ {strict : Bool} {least : ℕ} (laws : Laws strict least L) {B : Type 0} {M : Format W} {second : B → W}
-      {old mid new : ReaderState} {x : A} (before : InMemory old) (r : Reads gives eof first L (Ok x) old mid) where
+  module _ {strict : Bool} {least : ℕ} (laws : Laws strict least L) {B : Type 0} {M : Format W} {misfits : Misfits}
+      {second : B → W} {old mid new : ReaderState} {x : A} (before : InMemory old)
+      (r : Reads gives eof first L (Ok x) old mid) where
     pub second_not_whole : {e : E} {result : Result D E} → IsErrAnd result (λ x. x ≡ e)
-        → ReadsWhole gives eof second M (Err e) mid new → ReadsWhole gives eof seen (pair L M) result old new
+        → ReadsWhole gives eof second M misfits (Err e) mid new
+        → ReadsWhole gives eof seen (pair L M) (followed_misfits L misfits) result old new
     unfolding sequence
     second_not_whole {e = e} passed k = ReadsWhole-passed passed (record {
       kept = Kept-after r.kept k.kept;
@@ -155,9 +209,33 @@ module _ {E : Type 0} {gives : Error → E → Type 0} {eof : E → Bool} {U W A
               h.first_is (sym (r.answer.taken told.tells) ∙ h.whole_is) in
               refused.because (IsTold-after r.kept (asks_right L.asks M.asks).lending told) v.1
               (subst (M.encodes v.1) (sym same.2) h.second_is);
+          too_many = λ told h.
+              elim h [
+                | inl wrong ↦
+                    let bad = subst L.malformed (r.answer.taken told.tells)
+                    (laws.wrong_length_malformed old.remaining wrong) in
+                    absurd (laws.malformed_undecodable (first x) r.answer.prefix mid.remaining bad r.answer.prefix_is)
+                | inr y ↦
+                    refused.too_many (IsTold-after r.kept (asks_right L.asks M.asks).lending told)
+                    (behind misfits.too_many y.0 y.1)
+              ];
+          too_few = λ told h.
+              elim h [
+                | inl cut ↦ absurd (uncut laws before r cut)
+                | inr y ↦
+                    refused.too_few (IsTold-after r.kept (asks_right L.asks M.asks).lending told)
+                    (behind misfits.too_few y.0 y.1)
+              ];
         })
       ];
     }) where
+      -- what stands behind the first part stands where it was read
+      behind : (P : List ℕ → Type 0) (u : U) → Parts (L.encodes u) P old.remaining → P mid.remaining
+      behind P u h =
+          let same = laws.decodes (first x) u r.answer.prefix h.prefix mid.remaining h.suffix r.answer.prefix_is
+          h.first_is (sym (r.answer.taken before.tells) ∙ h.whole_is) in
+          subst P (sym same.2) h.second_is
+
       as_second : (kind : ErrorKind) → refusing_kinds M mid.fixed.lends kind ⊎ (kind ≡ kinds.OutOfRangeLength)
           → refusing_kinds (pair L M) old.fixed.lends kind ⊎ (kind ≡ kinds.OutOfRangeLength)
       as_second kind (inl (inl h)) = inl (inl (inr (first x, h)))
@@ -168,8 +246,9 @@ module _ {E : Type 0} {gives : Error → E → Type 0} {eof : E → Bool} {U W A
       ))
       as_second kind (inr h) = inr h
 
-    pub both_whole : {y : B} {z : D} → ReadsWhole gives eof second M (Ok y) mid new → seen z ≡ (first x, second y)
-        → ReadsWhole gives eof seen (pair L M) (Ok z) old new
+    pub both_whole : {y : B} {z : D} → ReadsWhole gives eof second M misfits (Ok y) mid new
+        → seen z ≡ (first x, second y)
+        → ReadsWhole gives eof seen (pair L M) (followed_misfits L misfits) (Ok z) old new
     unfolding sequence
     both_whole {y = y} {z = z} k is = record {
       kept = Kept-after r.kept k.kept;
@@ -180,12 +259,17 @@ module _ {E : Type 0} {gives : Error → E → Type 0} {eof : E → Bool} {U W A
 
 -- ---- the rest of the bytes, of a length that they tell
 
+-- some bytes are at least one
+some_length : (bytes : List ℕ) → (bytes ≡ [] → ⊥) → 1 ≤ length bytes
+some_length [] some = absurd (some refl)
+some_length (b ∷ bytes) some = omega arith
+
 module _ {E : Type 0} {gives : Error → E → Type 0} {eof : E → Bool} {V A : Type 0} (f : Mode) (counting : Counting V)
     {seen : A → V} (bytewise : (n : ℕ) (v : V) (bytes : List ℕ) → ((counting.of_length n).format f).encodes v bytes
     → length bytes ≡ n) {n : ℕ} {old new : ReaderState} (before : InMemory old) (since : InMemory new)
     (is : n ≡ length old.remaining) where
   pub bytes_whole : (result : Result A E) → Reads gives eof seen ((counting.of_length n).format f) result old new
-      → ReadsWhole gives eof seen (rest f counting) result old new
+      → ReadsWhole gives eof seen (rest f counting) (rest_misfits f counting) result old new
   unfolding rest
   bytes_whole (Ok x) r = record {
     kept = r.kept;
@@ -205,10 +289,21 @@ module _ {E : Type 0} {gives : Error → E → Type 0} {eof : E → Bool} {V A :
   bytes_whole (Err e) r =
       part_not_whole refl Kept-same before since (counting.within f n).memory (counting.within f n).lending
       (λ kind h. inl (n, h))
-      (λ told un v h.
-      let count = bytewise (counting.count v) v old.remaining h.0 in
-      un.no_prefix v old.remaining [] (sym (append-nil old.remaining))
-      (subst (λ m. ((counting.of_length m).format f).encodes v old.remaining) (sym count ∙ sym is) h.0)) r
+      (λ told un. record {
+        none = λ v h.
+            let count = bytewise (counting.count v) v old.remaining h.0 in
+            un.no_prefix v old.remaining [] (sym (append-nil old.remaining))
+            (subst (λ m. ((counting.of_length m).format f).encodes v old.remaining) (sym count ∙ sym is) h.0);
+        many = λ h. absurd h;
+        few = λ h.
+            let before = bytewise h.n h.before h.prefix h.before_is in
+            let after = bytewise (h.n + 1) h.after (old.remaining ++ h.more) h.after_is in
+            let long = ap length h.whole_is ∙ length-append h.prefix h.rest in
+            let longer = length-append old.remaining h.more in
+            let one = some_length h.rest h.some in
+            let two = some_length h.more h.lacks in
+            absurd (omega arith);
+      }) r
 
 -- a text, and bytes, are as long as the bytes that encode them
 pub text_bytewise : (f : Mode) (n : ℕ) (v bytes : List ℕ) → (text_of_length f n).encodes v bytes → length bytes ≡ n
@@ -309,20 +404,50 @@ module _ {T V : Type 0} {seen : T → V} (item : Codec V) (f : Mode) {items : Li
         omega arith,
       )
 
+  -- where the bytes end within an item, so do those that are left, or they begin with one
+  ends_in_next : EndsInItem f (list_counting item) old.remaining → (P : Type 0)
+      → ((w : V) (more : List ℕ) → (item.format f).encodes w (mid.remaining ++ more) → P)
+      → ((w : V) (prefix more : List ℕ) → mid.remaining ≡ prefix ++ more → (item.format f).encodes w prefix → ⊥) → P
+  unfolding vector owned_content repeat
+  ends_in_next h P cut none =
+      let got = taken.so_far.got in
+      let vs = map seen items in
+      let whole = old.remaining ++ h.more in
+      let joined = sym (append_assoc got.prefix mid.remaining h.more)
+      ∙ ap (λ x. x ++ h.more) (sym (got.taken before.tells)) in
+      elim (cases_lt (length vs) (length h.after)) [
+        | inl more ↦
+            let next = next_item (item.laws f) vs h.after got.prefix whole (mid.remaining ++ h.more) [] more
+            got.prefix_is h.after_is.1 (joined ∙ sym (append-nil whole)) in
+            elim (prefixes_nest mid.remaining h.more next.1 next.2 next.3) [
+              | inl longer ↦ cut next.0 longer.0 (subst ((item.format f).encodes next.0) longer.1 next.4)
+              | inr shorter ↦ absurd (none next.0 next.1 shorter.0 shorter.1 next.4)
+            ]
+        | inr fewer ↦
+            let left = none_left (item.laws f) vs h.after got.prefix whole (mid.remaining ++ h.more) fewer got.prefix_is
+            h.after_is.1 joined in
+            absurd (h.lacks (no_parts mid.remaining h.more left).1)
+      ]
+
   module _ {E : Type 0} {gives : Error → E → Type 0} {eof : E → Bool} {B : Type 0} {shown : B → List V} where
     -- an item is refused
     pub item_not_whole : {e : E} {result : Result B E} {new : ReaderState} → 0 < n → IsErrAnd result (λ x. x ≡ e)
         → InMemory mid → InMemory new → Reads gives eof seen (item.format f) (Err e) mid new
-        → ReadsWhole gives eof shown (all_items item f) result old new
+        → ReadsWhole gives eof shown (all_items item f) (rest_misfits f (list_counting item)) result old new
     unfolding rest vector owned_content repeat
-    item_not_whole some passed between since r =
+    item_not_whole {e = e} some passed between since r =
         part_not_whole passed taken.so_far.kept between since (λ _. refl) (λ t. t) (λ kind h. inl (0, h))
-        (λ told un ws h. none_is_next some un.no_prefix ws h) r
+        (λ told un. record {
+          none = λ ws h. none_is_next some un.no_prefix ws h;
+          many = λ h. absurd h;
+          few = λ h. ends_in_next h (IsTrue (eof e)) un.too_short un.no_prefix;
+        }) r
 
     module _ {x : T} {new : ReaderState} (read : Reads gives eof seen (item.format f) (Ok x) mid new) where
       -- it took no byte
       pub item_takes_none : {e : E} → 0 < n → IsTrue mid.fixed.tells → n ≡ length new.remaining
-          → gives (error_of kinds.OutOfRangeLength) e → ReadsWhole gives eof shown (all_items item f) (Err e) old new
+          → gives (error_of kinds.OutOfRangeLength) e
+          → ReadsWhole gives eof shown (all_items item f) (rest_misfits f (list_counting item)) (Err e) old new
       unfolding rest vector owned_content repeat
       item_takes_none some tells same given =
           length_not_whole given (Kept-after taken.so_far.kept read.kept) (λ told ws h.
@@ -334,10 +459,19 @@ module _ {T V : Type 0} {seen : T → V} (item : Codec V) (f : Mode) {items : Li
           (subst ((item.format f).encodes (seen x)) none got.prefix_is) ws old.remaining h.0.1) in
           let enough = taken.some in
           absurd (omega arith))
+          (λ h.
+          let got = read.answer in
+          let long = ap length (got.taken tells) ∙ length-append got.prefix new.remaining in
+          let left = taken.left_is in
+          let none = nil_from_length got.prefix (omega arith) in
+          let all = takes_none (item.laws f) (seen x)
+          (subst ((item.format f).encodes (seen x)) none got.prefix_is) h.after (old.remaining ++ h.more)
+          h.after_is.1 in
+          h.lacks (no_parts old.remaining h.more all).1)
 
       -- there is no room for it
       pub item_wants_memory : {e : E} → gives (error_of kinds.OutOfMemory) e
-          → ReadsWhole gives eof shown (all_items item f) (Err e) old new
+          → ReadsWhole gives eof shown (all_items item f) (rest_misfits f (list_counting item)) (Err e) old new
       unfolding rest
       item_wants_memory given = record {
         kept = Kept-after taken.so_far.kept read.kept;
@@ -346,7 +480,7 @@ module _ {T V : Type 0} {seen : T → V} (item : Codec V) (f : Mode) {items : Li
 
     -- no byte is left
     pub items_whole : {y : B} → n ≡ 0 → shown y ≡ map seen items
-        → ReadsWhole gives eof shown (all_items item f) (Ok y) old mid
+        → ReadsWhole gives eof shown (all_items item f) (rest_misfits f (list_counting item)) (Ok y) old mid
     unfolding rest vector owned_content repeat
     items_whole {y = y} none is = record {
       kept = taken.so_far.kept;

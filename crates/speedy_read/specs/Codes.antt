@@ -10,7 +10,7 @@ use Rattle.speedy_base.specs.Digits.{AreBytes}
 use Rattle.speedy_layout.specs.Format.{Format}
 use Rattle.speedy_layout.specs.Laws.{Laws}
 use Rattle.speedy_layout.specs.Codes.{Code, ReadsWider, coding, Accepts, IsDemand, Accepts-is, Accepts-means}
-use Rattle.speedy_layout.specs.Codes.{Accepts-demanded, exact_code}
+use Rattle.speedy_layout.specs.Codes.{Accepts-demanded, exact_code, length_subset, subset_code}
 use Rattle.speedy_layout.specs.Sequences.{AsksAtMost, asks_same}
 use Rattle.speedy_read.specs.Reading.{ReaderState, IsTold, refusing_kinds, Undecodable, Reads, Peeks}
 use Rattle.speedy_read.specs.ReadingLemmas.{IsTold-part, Reads-passed, Peeks-passed, part_refused, Got-as, Ahead-as}
@@ -23,6 +23,9 @@ pub record Covers {U V : Type 0} (L : Format U) (N : Format V) : Type 0 where
   -- what is malformed for N is for L too, or stands where L has read a value
   pub malformed : (bytes : List ℕ) → AreBytes bytes → N.malformed bytes
       → L.malformed bytes ⊎ ((u : U) × (prefix rest : List ℕ) × (bytes ≡ prefix ++ rest) × L.encodes u prefix)
+  -- and so is a wrong length
+  pub wrong_length : (bytes : List ℕ) → AreBytes bytes → N.wrong_length bytes
+      → L.wrong_length bytes ⊎ ((u : U) × (prefix rest : List ℕ) × (bytes ≡ prefix ++ rest) × L.encodes u prefix)
   pub asks : AsksAtMost L.asks N.asks
 
 module _ {U V : Type 0} {L : Format U} {N : Format V} (c : Covers L N) {E : Type 0} {gives : Error → E → Type 0}
@@ -38,6 +41,11 @@ module _ {U V : Type 0} {L : Format U} {N : Format V} (c : Covers L N) {E : Type
         malformed = λ bad.
             elim (c.malformed old.remaining told.are_bytes bad) [
               | inl h ↦ IsNamed-more gives e c.names (un.malformed h)
+              | inr h ↦ absurd (un.no_prefix h.0 h.1 h.2 h.3 h.4)
+            ];
+        wrong_length = λ wrong.
+            elim (c.wrong_length old.remaining told.are_bytes wrong) [
+              | inl h ↦ un.wrong_length h
               | inr h ↦ absurd (un.no_prefix h.0 h.1 h.2 h.3 h.4)
             ];
       }
@@ -85,6 +93,7 @@ codes_cover mode c = record {
   under = λ v s h. (h.code, h.code_is);
   names = λ kind h. inl h;
   malformed = λ bytes are h. elim h [ inl x ↦ inl x | inr x ↦ inr (x.code, x.prefix, x.rest, x.whole_is, x.code_is) ];
+  wrong_length = λ bytes are h. inl h;
   asks = asks_same;
 }
 
@@ -109,6 +118,9 @@ unaccepted {gives = gives} {U = U} mode c {L = L} laws {u = u} {e = e} {bytes = 
           absurd (nothing v (subst (λ (u : U). Accepts mode.strict c u v) (sym same.0) h.stands));
       malformed = λ _. IsNamed-more gives
           {more = λ kind. L.names kind ⊎ (c.refusals kind ⊎ IsDemand mode.strict c kind)} e (λ kind h. inr h) named;
+      wrong_length = λ wrong.
+          let bad = subst L.malformed whole (laws.wrong_length_malformed bytes wrong) in
+          absurd (laws.malformed_undecodable u prefix rest bad encoded);
     }
 
 module _ {E : Type 0} {gives : Error → E → Type 0} {eof : E → Bool} {U V : Type 0} (mode : Mode) (c : Code U V)
@@ -183,3 +195,64 @@ pub exact_code_read : {E : Type 0} {gives : Error → E → Type 0} {eof : E →
     → Reads gives eof seen L (Ok x) old new
     → Reads gives eof seen' (coding mode (exact_code means refusals) L) (Ok y) old new
 exact_code_read mode means refusals h r = code_read mode (exact_code means refusals) h (λ _. h) r
+
+-- ---- values that a length is told of
+
+-- what is refused as a length that is out of range is refused so whichever lengths are wrong
+pub refused_as_length : {E : Type 0} {gives : Error → E → Type 0} {eof : E → Bool} {V : Type 0} {F : Format V}
+    {A : Type 0} {seen : A → V} {e : E} {old new : ReaderState} (wrong : List ℕ → Type 0)
+    → gives (error_of kinds.OutOfRangeLength) e → Reads gives eof seen F (Err e) old new
+    → Reads gives eof seen (record F { wrong_length = wrong }) (Err e) old new
+refused_as_length wrong given r = record {
+  kept = r.kept;
+  answer = elim r.answer [
+    | inl h ↦ inl h
+    | inr h ↦ inr (record {
+      no_fault = h.no_fault;
+      kind = h.kind;
+      because = λ told.
+          let un = h.because (IsTold-part (λ t. t) told) in
+          record {
+            no_prefix = un.no_prefix;
+            too_short = un.too_short;
+            malformed = un.malformed;
+            wrong_length = λ _. given;
+          };
+    })
+  ];
+}
+
+pub lengths_cover : {V : Type 0} (mode : Mode) (pass : V → Type 0) {L : Format V} → Covers L (length_subset mode pass L)
+unfolding coding
+lengths_cover mode pass = record {
+  under = λ v s h. (h.code, h.code_is);
+  names = λ kind h. inl h;
+  malformed = λ bytes are h. elim h [ inl x ↦ inl x | inr x ↦ inr (x.code, x.prefix, x.rest, x.whole_is, x.code_is) ];
+  wrong_length = λ bytes are h.
+      elim h [ inl x ↦ inl x | inr x ↦ inr (x.code, x.prefix, x.rest, x.whole_is, x.code_is) ];
+  asks = asks_same;
+}
+
+module _ {E : Type 0} {gives : Error → E → Type 0} {eof : E → Bool} {V : Type 0} (mode : Mode) (pass : V → Type 0)
+    {L : Format V} {A B : Type 0} {seen : A → V} {seen' : B → V} {old new : ReaderState} where
+  -- where no value is read, none that passes is
+  pub length_refused : {e : E} {result : Result B E} → IsErrAnd result (λ x. x ≡ e)
+      → Reads gives eof seen L (Err e) old new → Reads gives eof seen' (length_subset mode pass L) result old new
+  length_refused passed r = refused_covered (lengths_cover mode pass) passed r
+
+  -- one that passes is read
+  pub length_read : {x : A} {y : B} → (seen x ≡ seen' y) × pass (seen' y) → Reads gives eof seen L (Ok x) old new
+      → Reads gives eof seen' (length_subset mode pass L) (Ok y) old new
+  length_read {y = y} h r =
+      let code = subset_code pass kinds.OutOfRangeLength in
+      let read : Reads gives eof seen' (coding mode code L) (Ok y) old new = code_read mode code h (λ _. h) r in
+      got_covered (λ s k. k) read
+
+  -- and one that does not is refused
+  pub length_unread : {least : ℕ} → Laws mode.strict least L → {x : A} {e : E} → (pass (seen x) → ⊥)
+      → gives (error_of kinds.OutOfRangeLength) e → Reads gives eof seen L (Ok x) old new
+      → Reads gives eof seen' (length_subset mode pass L) (Err e) old new
+  length_unread laws {x = x} not given r =
+      refused_as_length (length_subset mode pass L).wrong_length given
+      (code_means_nothing mode (subset_code pass kinds.OutOfRangeLength) laws (λ v h. h)
+      (λ v h. not (subst pass (sym h.0) h.1)) (kinds.OutOfRangeLength, refl, given) r)

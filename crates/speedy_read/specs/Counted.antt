@@ -81,6 +81,7 @@ counted_code_composes mode c count {asks = asks} M within number =
                   },
                 )
           ];
+      wrong_length = λ bytes h. h;
       asks_first = parts.asks_first;
       asks_second = parts.asks_second;
     }

@@ -123,6 +123,7 @@ module _ {E : Type 0} (gives : Error → E → Type 0) (eof : E → Bool) where
     pub no_prefix : (v : V) (prefix rest : List ℕ) → bytes ≡ prefix ++ rest → L.encodes v prefix → ⊥
     pub too_short : (v : V) (more : List ℕ) → L.encodes v (bytes ++ more) → IsTrue (eof e)
     pub malformed : L.malformed bytes → IsNamed gives L.names e
+    pub wrong_length : L.wrong_length bytes → gives (error_of kinds.OutOfRangeLength) e
 
   -- a clean refusal
   pub record Refused {V : Type 0} (L : Format V) (e : E) (old new : ReaderState) : Type 0 where

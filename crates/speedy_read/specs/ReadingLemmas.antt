@@ -165,7 +165,8 @@ part_refused {gives = gives} {eof = eof} {L = L} {N = N} {e = e} {old = old} {mi
 pub ends_early : {E : Type 0} {gives : Error → E → Type 0} {eof : E → Bool} {V : Type 0} {L : Format V} {e : E}
     {old new : ReaderState}
     → new.faults ≡ old.faults → (least : ℕ) → ((v : V) (s : List ℕ) → L.encodes v s → least ≤ length s)
-    → ((bytes : List ℕ) → L.malformed bytes → ⊥) → IsEnd gives eof old.fixed.ends_by_device e
+    → ((bytes : List ℕ) → L.malformed bytes ⊎ L.wrong_length bytes → ⊥)
+    → IsEnd gives eof old.fixed.ends_by_device e
     → (IsTrue old.fixed.tells → length old.remaining < 2 ^ 64 - 1 → length old.remaining < least)
     → Refused gives eof L e old new
 ends_early clean least size none ended fewer = record {
@@ -175,7 +176,8 @@ ends_early clean least size none ended fewer = record {
     no_prefix = λ v prefix rest is h. let k = size v prefix h in let l = ap length is ∙ length-append prefix rest in
         let f = fewer told.tells told.fit in absurd (omega arith);
     too_short = λ _ _ _. ended.1;
-    malformed = λ bad. absurd (none _ bad);
+    malformed = λ bad. absurd (none _ (inl bad));
+    wrong_length = λ wrong. absurd (none _ (inr wrong));
   };
 }
 

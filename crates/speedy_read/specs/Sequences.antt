@@ -22,6 +22,8 @@ pub record Composes {U V : Type 0} {W : U → Type 0} (L : Format U) (M : (u : U
   pub names_second : (u : U) (kind : ErrorKind) → (M u).names kind → N.names kind
   pub malformed : (bytes : List ℕ) → N.malformed bytes
       → L.malformed bytes ⊎ ((u : U) × Parts (L.encodes u) ((M u).malformed) bytes)
+  pub wrong_length : (bytes : List ℕ) → N.wrong_length bytes
+      → L.wrong_length bytes ⊎ ((u : U) × Parts (L.encodes u) ((M u).wrong_length) bytes)
   pub asks_first : AsksAtMost L.asks N.asks
   pub asks_second : (u : U) → AsksAtMost (M u).asks N.asks
 
@@ -42,6 +44,7 @@ sequence_composes {U = U} {W = W} split {L = L} {asks = asks} {M = M} within suf
   names_first = λ kind h. inl h;
   names_second = λ u kind h. inr (u, h);
   malformed = λ bytes h. h;
+  wrong_length = λ bytes h. h;
   asks_first = asks_left L.asks asks;
   asks_second = λ u. asks_after (within u) (asks_right L.asks asks);
 }
@@ -69,6 +72,11 @@ module _ {U V : Type 0} {W : U → Type 0} {L : Format U} {M : (u : U) → Forma
     malformed = λ bad.
         elim (c.malformed bytes bad) [
           | inl h ↦ IsNamed-more gives e c.names_first (un.malformed h)
+          | inr h ↦ absurd (un.no_prefix h.0 h.1.prefix h.1.suffix h.1.whole_is h.1.first_is)
+        ];
+    wrong_length = λ wrong.
+        elim (c.wrong_length bytes wrong) [
+          | inl h ↦ un.wrong_length h
           | inr h ↦ absurd (un.no_prefix h.0 h.1.prefix h.1.suffix h.1.whole_is h.1.first_is)
         ];
   }
@@ -120,6 +128,16 @@ module _ {U V : Type 0} {W : U → Type 0} {L : Format U} {M : (u : U) → Forma
               IsNamed-more gives e (c.names_second u)
               (un.malformed (subst (λ (x : List ℕ). (M u).malformed x) (sym same.2)
               (subst (λ (x : U). (M x).malformed h.1.suffix) (sym same.0) h.1.second_is)))
+        ];
+    wrong_length = λ wrong.
+        elim (c.wrong_length (prefix ++ rest) wrong) [
+          | inl h ↦
+              let bad = laws.wrong_length_malformed (prefix ++ rest) h in
+              absurd (laws.malformed_undecodable u prefix rest bad first)
+          | inr h ↦
+              let same = laws.decodes u h.0 prefix h.1.prefix rest h.1.suffix first h.1.first_is h.1.whole_is in
+              un.wrong_length (subst (λ (x : List ℕ). (M u).wrong_length x) (sym same.2)
+              (subst (λ (x : U). (M x).wrong_length h.1.suffix) (sym same.0) h.1.second_is))
         ];
   }
 

@@ -7,7 +7,7 @@ use Rattle.speedy_base.specs.Error.{error_of, Errors, IsNamed}
 use Rattle.speedy_base.specs.MemoryDevices.{no_faults}
 use Rattle.speedy_base.specs.Mode.{Mode}
 use Rattle.speedy_layout.specs.Format.{Format}
-use Rattle.speedy_layout.specs.Wholes.{WholeCodec}
+use Rattle.speedy_layout.specs.Wholes.{Misfits, WholeCodec}
 use Rattle.speedy_read.specs.Buffers.{memory_state, held_state}
 use Rattle.speedy_read.specs.Reading.{ReaderState, Kept, IsTold, refusing_kinds, IsEnd}
 
@@ -26,25 +26,32 @@ pub held_in_memory : {name : GName} {state : ReaderState} → InMemory state →
 held_in_memory h = record { tells = h.tells; asks_no_memory = h.asks_no_memory; no_fault = h.no_fault }
 
 module _ {E : Type 0} (gives : Error → E → Type 0) (eof : E → Bool) where
-  -- bytes that are not those of a value, all of them, were refused: as an end, as the type refuses them, or as too many
-  -- or too few
-  pub record NotWhole {V : Type 0} (F : Format V) (e : E) (old : ReaderState) : Type 0 where
+  -- bytes that are not those of a value, all of them, were refused: as an end, as the type refuses them, or as a length
+  -- that is out of range
+  pub record NotWhole {V : Type 0} (F : Format V) (misfits : Misfits) (e : E) (old : ReaderState) : Type 0 where
     pub kind : IsEnd gives eof old.fixed.ends_by_device e
         ⊎ IsNamed gives (λ kind. refusing_kinds F old.fixed.lends kind ⊎ (kind ≡ kinds.OutOfRangeLength)) e
     pub because : IsTold F old → (v : V) → F.encodes v old.remaining → ⊥
+    -- too many as a length, and too few as an end
+    pub too_many : IsTold F old → misfits.too_many old.remaining → gives (error_of kinds.OutOfRangeLength) e
+    pub too_few : IsTold F old → misfits.too_few old.remaining → IsTrue (eof e)
 
   -- A read of a value that has all remaining bytes. It answers the value that they encode, all of them, or wants memory
   -- for it, or they encode none.
-  pub record ReadsWhole {A V : Type 0} (seen : A → V) (F : Format V) (result : Result A E)
+  pub record ReadsWhole {A V : Type 0} (seen : A → V) (F : Format V) (misfits : Misfits) (result : Result A E)
       (old new : ReaderState) : Type 0 where
     pub kept : Kept old new
     pub answer : MatchResult result (λ x. F.encodes (seen x) old.remaining)
-        (λ e. (gives (error_of kinds.OutOfMemory) e × IsTrue F.asks.memory) ⊎ NotWhole F e old)
+        (λ e. (gives (error_of kinds.OutOfMemory) e × IsTrue F.asks.memory) ⊎ NotWhole F misfits e old)
 
-  -- why bytes of a buffer, all of them, are refused: as an end, as the type refuses them, or as too many or too few
-  pub record RefusesWhole {V : Type 0} (F : Format V) (e : E) (bytes : List ℕ) : Type 0 where
+  -- why bytes of a buffer, all of them, are refused: as an end, as the type refuses them, or as a length that is out of
+  -- range
+  pub record RefusesWhole {V : Type 0} (F : Format V) (misfits : Misfits) (e : E) (bytes : List ℕ) : Type 0 where
     pub kind : IsEnd gives eof false e ⊎ IsNamed gives (λ kind. F.names kind ⊎ (kind ≡ kinds.OutOfRangeLength)) e
     pub no_value : (v : V) → F.encodes v bytes → ⊥
+    -- too many as a length, and too few as an end
+    pub too_many : misfits.too_many bytes → gives (error_of kinds.OutOfRangeLength) e
+    pub too_few : misfits.too_few bytes → IsTrue (eof e)
 
 -- ---- the words of contracts
 
@@ -52,7 +59,9 @@ module _ {E : Type 0} (errors : Errors E) where
   -- the read of a value of a codec that has all remaining bytes
   abbrev pub ReadsAll : {S A V : Type 0} → (S → ReaderState) → (A → V) → WholeCodec V → Result A E → S → S → Type 0
   ReadsAll state seen codec result old new =
-      ReadsWhole errors.from_gives errors.eof seen (codec.format (state old).mode) result (state old) (state new)
+      let mode = (state old).mode in
+      ReadsWhole errors.from_gives errors.eof seen (codec.format mode) (codec.misfits mode) result (state old)
+      (state new)
 
   -- What is answered of the bytes of a buffer: the value that they encode, all of them; else want of memory for it, or
   -- that they encode none.
@@ -61,4 +70,4 @@ module _ {E : Type 0} (errors : Errors E) where
       let format = codec.format mode in
       MatchResult result (λ x. format.encodes (seen x) bytes)
       (λ e. (errors.from_gives (error_of kinds.OutOfMemory) e × IsTrue format.asks.memory)
-      ⊎ RefusesWhole errors.from_gives errors.eof format e bytes)
+      ⊎ RefusesWhole errors.from_gives errors.eof format (codec.misfits mode) e bytes)

@@ -20,7 +20,8 @@ pub trait ReadFramed<L: AsSlice<u8> + Drop, C: Context>: ReadWhole<L, C> {
     /// Reads the value that fills the next `length` bytes, from which it may borrow.
     fn read_framed<R: LendingReader<L, C>>(reader: &mut R, length: usize) -> Result<Self, C::Error>
         ensures { let mode = (R.state reader.old).mode in
-            Reads C.Error.from_gives C.Error.eof Self.seen (filling mode (Self.whole.format mode) length) result
+            Reads C.Error.from_gives C.Error.eof Self.seen
+            (filling mode (Self.whole.format mode) (Self.whole.misfits mode) length) result
             (R.state reader.old) (R.state reader.new) };
 }
 
@@ -84,7 +85,8 @@ fn fill_lent<'a, T: ReadWhole<&'a [u8], C>, C: Context>(
     bytes: &'a [u8],
 ) -> Result<T, C::Error>
     ensures mode { C.mode context.new ≡ C.mode context.old }
-    ensures fills { Fills C.Error.from_gives T.seen (T.whole.format (C.mode context.old)) true result bytes.now }
+    ensures fills { let mode = C.mode context.old in
+        Fills C.Error.from_gives T.seen (T.whole.format mode) (T.whole.misfits mode) true result bytes.now }
 {
     let mut reader = FrameReader::new(alloc, context, bytes);
     let read = T::read_whole(&mut reader);
@@ -100,7 +102,8 @@ fn fill_copied<'a, T: ReadWhole<&'a [u8], C>, C: Context>(
     bytes: &[u8],
 ) -> Result<T, C::Error>
     ensures mode { C.mode context.new ≡ C.mode context.old }
-    ensures fills { Fills C.Error.from_gives T.seen (T.whole.format (C.mode context.old)) false result bytes.now }
+    ensures fills { let mode = C.mode context.old in
+        Fills C.Error.from_gives T.seen (T.whole.format mode) (T.whole.misfits mode) false result bytes.now }
 {
     let mut reader = CopyingBufferReader::new(alloc, context, bytes);
     let read = T::read_whole(&mut reader);
@@ -116,7 +119,8 @@ fn fill_owned<T: ReadWhole<NothingLent, C>, C: Context>(
     bytes: &[u8],
 ) -> Result<T, C::Error>
     ensures mode { C.mode context.new ≡ C.mode context.old }
-    ensures fills { Fills C.Error.from_gives T.seen (T.whole.format (C.mode context.old)) true result bytes.now }
+    ensures fills { let mode = C.mode context.old in
+        Fills C.Error.from_gives T.seen (T.whole.format mode) (T.whole.misfits mode) true result bytes.now }
 {
     let mut reader = FrameReader::new(alloc, context, bytes);
     let read = reader.read_owned_whole();

@@ -60,11 +60,11 @@ impl<
         reader: &mut R,
         length: usize,
     ) -> Result<BTreeMap<K, V>, C::Error> {
-        let sorted: BTreeMap<K, V> = reader.read_key_value_collection(length)?;
-        if sorted.len() != length {
+        let map: BTreeMap<K, V> = reader.read_key_value_collection(length)?;
+        if map.len() != length {
             return Err(error_out_of_range_length());
         }
-        Ok(sorted)
+        Ok(map)
     }
 }
 
@@ -99,8 +99,8 @@ impl<
     fn read_behind<N: ReadPrefix, R: LendingReader<L, C>>(
         reader: &mut R,
     ) -> Result<HashMap<K, V, S>, C::Error> {
-        let count = N::read_number(reader)?;
-        reader.read_key_value_collection(count)
+        let length = N::read_number(reader)?;
+        reader.read_key_value_collection(length)
     }
 }
 
@@ -116,11 +116,11 @@ impl<
         reader: &mut R,
         length: usize,
     ) -> Result<HashMap<K, V, S>, C::Error> {
-        let hashed: HashMap<K, V, S> = reader.read_key_value_collection(length)?;
-        if hashed.len() != length {
+        let map: HashMap<K, V, S> = reader.read_key_value_collection(length)?;
+        if map.len() != length {
             return Err(error_out_of_range_length());
         }
-        Ok(hashed)
+        Ok(map)
     }
 }
 
@@ -155,8 +155,8 @@ impl<
     fn read_behind<N: ReadPrefix, R: LendingReader<L, C>>(
         reader: &mut R,
     ) -> Result<IndexMap<K, V, S>, C::Error> {
-        let number = N::read_number(reader)?;
-        reader.read_key_value_collection(number)
+        let length = N::read_number(reader)?;
+        reader.read_key_value_collection(length)
     }
 }
 
@@ -172,10 +172,10 @@ impl<
         reader: &mut R,
         length: usize,
     ) -> Result<IndexMap<K, V, S>, C::Error> {
-        let listed: IndexMap<K, V, S> = reader.read_key_value_collection(length)?;
-        if listed.len() != length {
+        let map: IndexMap<K, V, S> = reader.read_key_value_collection(length)?;
+        if map.len() != length {
             return Err(error_out_of_range_length());
         }
-        Ok(listed)
+        Ok(map)
     }
 }

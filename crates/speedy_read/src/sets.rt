@@ -48,11 +48,11 @@ impl<L: AsSlice<u8> + Drop, C: Context, T: ReadMany<L, C> + SameKey + Ord> ReadO
         reader: &mut R,
         length: usize,
     ) -> Result<BTreeSet<T>, C::Error> {
-        let sorted: BTreeSet<T> = reader.read_collection(length)?;
-        if sorted.len() != length {
+        let set: BTreeSet<T> = reader.read_collection(length)?;
+        if set.len() != length {
             return Err(error_out_of_range_length());
         }
-        Ok(sorted)
+        Ok(set)
     }
 }
 
@@ -85,8 +85,8 @@ impl<
     fn read_behind<N: ReadPrefix, R: LendingReader<L, C>>(
         reader: &mut R,
     ) -> Result<HashSet<T, S>, C::Error> {
-        let count = N::read_number(reader)?;
-        reader.read_collection(count)
+        let length = N::read_number(reader)?;
+        reader.read_collection(length)
     }
 }
 
@@ -101,11 +101,11 @@ impl<
         reader: &mut R,
         length: usize,
     ) -> Result<HashSet<T, S>, C::Error> {
-        let hashed: HashSet<T, S> = reader.read_collection(length)?;
-        if hashed.len() != length {
+        let set: HashSet<T, S> = reader.read_collection(length)?;
+        if set.len() != length {
             return Err(error_out_of_range_length());
         }
-        Ok(hashed)
+        Ok(set)
     }
 }
 
@@ -138,8 +138,8 @@ impl<
     fn read_behind<N: ReadPrefix, R: LendingReader<L, C>>(
         reader: &mut R,
     ) -> Result<IndexSet<T, S>, C::Error> {
-        let number = N::read_number(reader)?;
-        reader.read_collection(number)
+        let length = N::read_number(reader)?;
+        reader.read_collection(length)
     }
 }
 
@@ -154,10 +154,10 @@ impl<
         reader: &mut R,
         length: usize,
     ) -> Result<IndexSet<T, S>, C::Error> {
-        let listed: IndexSet<T, S> = reader.read_collection(length)?;
-        if listed.len() != length {
+        let set: IndexSet<T, S> = reader.read_collection(length)?;
+        if set.len() != length {
             return Err(error_out_of_range_length());
         }
-        Ok(listed)
+        Ok(set)
     }
 }

@@ -5,6 +5,7 @@ ghost use Rattle.speedy_layout.specs.Growing.{some_bytes};
 ghost use Rattle.speedy_layout.specs.Lengths.{list_counting};
 ghost use Rattle.speedy_layout.specs.Rests.{rest_codec};
 ghost use Rattle.speedy_layout.specs.Tuples.{pair};
+ghost use Rattle.speedy_layout.specs.Wholes.{followed_misfits};
 ghost use Rattle.speedy_read.specs.Reading.{ReadsAs};
 ghost use Rattle.speedy_read.specs.Wholes.{ReadsAll, ReadsWhole, AnswersWhole};
 
@@ -141,7 +142,8 @@ fn read_present<
 >(reader: &mut R) -> Result<(A, W), C::Error>
     ensures { let mode = (R.state reader.old).mode in
         ReadsWhole C.Error.from_gives C.Error.eof (λ parts. (A.seen parts.0, W.seen parts.1))
-        (pair (some_bytes (A.layout.format mode)) (W.whole.format mode)) result
+        (pair (some_bytes (A.layout.format mode)) (W.whole.format mode))
+        (followed_misfits (some_bytes (A.layout.format mode)) (W.whole.misfits mode)) result
         (R.state reader.old) (R.state reader.new) }
 {
     let first = read_some(reader)?;

@@ -4,11 +4,11 @@ use Rattle.std.proofs.Common.{ap}
 use Rattle.speedy.specs.declared.error.ErrorKind.TheVariants as kinds
 use Rattle.speedy.specs.Mode.{Mode}
 use Rattle.speedy.specs.Format.{Format}
-use Rattle.speedy.specs.Laws.{Laws}
-use Rattle.speedy.specs.Lists.{list, list_laws}
-use Rattle.speedy.specs.Numbers.{unsigned_number, unsigned_number_laws}
-use Rattle.speedy.specs.Sequences.{sequence, sequence_laws, asks_same, told_apart}
-use Rattle.speedy.specs.Levels.{levels, levels_laws}
+use Rattle.speedy.specs.Laws.{Laws, SameWritten}
+use Rattle.speedy.specs.Lists.{list, list_laws, list_written}
+use Rattle.speedy.specs.Numbers.{unsigned_number, unsigned_number_laws, unsigned_written}
+use Rattle.speedy.specs.Sequences.{sequence, sequence_laws, sequence_written, asks_same, told_apart}
+use Rattle.speedy.specs.Levels.{levels, levels_laws, levels_written}
 use Rattle.speedy_vectors.specs.declared.tree.Tree.{Tree, fold-Tree}
 use Rattle.speedy_vectors.specs.declared.tree.Tree.TheOpen.{Tree-F}
 
@@ -97,3 +97,8 @@ tree_step_laws mode F laws =
 
 pub tree_laws : (n : ℕ) (mode : Mode) → Laws mode.strict 5 (tree_levels n mode)
 tree_laws n mode = levels_laws kinds.OutOfRangeLength tt (tree_step mode) (tree_step_laws mode) n
+
+pub trees_written : (n : ℕ) → SameWritten (tree_levels n)
+trees_written n f strict =
+    levels_written kinds.OutOfRangeLength (tree_step f) (tree_step (record f { strict = strict }))
+    (λ F G same. sequence_written parts _ _ (unsigned_written 1 f strict) (λ _. list_written same f strict)) n

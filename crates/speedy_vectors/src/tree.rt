@@ -3,7 +3,7 @@ ghost use Rattle.std.specs.Prelude.{map};
 ghost use Rattle.speedy.specs.Lists.{vector};
 ghost use Rattle.speedy.specs.Reading.{ReadsAs};
 ghost use Rattle.speedy.specs.Writing.{WritesAs, WritesEach};
-ghost use Rattle.speedy_vectors.specs.Trees.{Rose, view, tree_format, tree_levels, tree_laws};
+ghost use Rattle.speedy_vectors.specs.Trees.{Rose, view, tree_format, tree_levels, tree_laws, trees_written};
 
 pub mod bounds;
 
@@ -30,7 +30,7 @@ impl Layout for Tree {
 
     ghost seen = { view };
 
-    ghost layout = { record { least = 5; format = tree_format; laws = tree_laws 16 } };
+    ghost layout = { record { least = 5; format = tree_format; laws = tree_laws 16; same_written = trees_written 16 } };
 }
 
 impl<L: AsSlice<u8> + Drop, C: Context> ReadFrom<L, C> for Tree {

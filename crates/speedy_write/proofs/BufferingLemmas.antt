@@ -127,6 +127,7 @@ module _ {E : Type 0} {gives : Error → E → Type 0} where
           kept = kept_by_push p;
           answer = record {
             beginning = λ b is. record { prefix = []; rest = slice; is_written = refl; is_appended = p.moved };
+            appends = ([], p.moved);
             because = inl (grown p.fault.0 s.faults t.faults p.fault.1, λ _. p.fault);
           };
         })
@@ -174,6 +175,7 @@ module _ {E : Type 0} {gives : Error → E → Type 0} where
               is_written = sym q.partly.2;
               is_appended = behind p q.partly.3;
             };
+            appends = (q.partly.0, behind p q.partly.3);
             because = inl (grown fault.0 s.faults u.faults fault.1, λ _. fault);
           };
         }
@@ -219,7 +221,11 @@ module _ {E : Type 0} {gives : Error → E → Type 0} {V : Type 0} {F : Mode �
       (sink_state other other_name t) (λ b. Takes s b t)) (passed_on result e passed)
       (record {
         kept = h.kept;
-        answer = record { beginning = λ b is. taken_begun (h.answer.beginning b is); because = h.answer.because };
+        answer = record {
+          beginning = λ b is. taken_begun (h.answer.beginning b is);
+          appends = let x = h.answer.appends.1 in (x.taken, x.is_taken);
+          because = h.answer.because;
+        };
       })
 
   pub gathered_pushed : {u : SinkState} {x : List ℕ} (result : Result (Unit {0}) E)
@@ -255,6 +261,7 @@ module _ {E : Type 0} {gives : Error → E → Type 0} {V : Type 0} {F : Mode �
             is_written = subst ((F mode).writes v) (sym (append-nil put.bytes) ∙ all.all_is) put.is_written;
             is_appended = all.is_taken;
           };
+          appends = (all.taken, all.is_taken);
           because = inl (grown fault.0 s.faults u.faults fault.1, λ _. fault);
         };
       }

@@ -17,14 +17,14 @@ module _ {E S : Type 0} {gives : Error → E → Type 0} (state : S → WriterSt
   -- a value that no bytes encode is refused before anything is written
   repeated_written : {V : Type 0} (at_tag : AtTag V) (value : V) (result : Result (Unit {0}) E)
       → ((b : List ℕ) → (case_format at_tag (state old).mode).encodes value b → ⊥)
-      → RefusesRepeated gives result old new
+      → RefusesRepeated gives result old new → appends old [] old
       → Writes gives (case_format at_tag) value result (state old) (state new) (λ b. appends old b new)
-  repeated_written at_tag value (Ok _) undecodable refused = absurd refused.0
-  repeated_written at_tag value (Err e) undecodable refused =
+  repeated_written at_tag value (Ok _) undecodable refused nothing = absurd refused.0
+  repeated_written at_tag value (Err e) undecodable refused nothing =
       let failed : Result (Unit {0}) E = Err e in
       subst (λ (s : S). Writes gives (case_format at_tag) value failed (state old) (state s) (λ b. appends old b s))
       (sym refused.1)
-      (undecodable_refused (case_laws at_tag (state old).mode) undecodable (inl refused.0))
+      (undecodable_refused (case_laws at_tag (state old).mode) undecodable (inl refused.0) nothing)
 
   held_written : {V P : Type 0} (part : V → Option P) (F : Mode → Format P) (value : V) (v : P)
       (result : Result (Unit {0}) E) → part value ≡ Some v
@@ -49,18 +49,19 @@ module _ {E S : Type 0} {gives : Error → E → Type 0} (state : S → WriterSt
   pub case_written : {V : Type 0} (at_tag : AtTag V) (value : V) (result : Result (Unit {0}) E) → appends old [] old
       → WritesCase gives state appends at_tag value result old new
       → Writes gives (case_format at_tag) value result (state old) (state new) (λ b. appends old b new)
-  case_written no_case value result nothing refused = repeated_written no_case value result (λ b h. h) refused
+  case_written no_case value result nothing refused = repeated_written no_case value result (λ b h. h) refused nothing
   case_written (a_unit part known) value result nothing w = by (part value) refl w where
     by : (o : Option (Unit {0})) → part value ≡ o
         → MatchOption o (RefusesRepeated gives result old new) (λ _. IsOk result × (new ≡ old))
         → Writes gives (case_format (a_unit part known)) value result (state old) (state new) (λ b. appends old b new)
     by None is refused =
-        repeated_written (a_unit part known) value result (λ b h. let e = h.1 in absurd (cc)) refused
+        repeated_written (a_unit part known) value result (λ b h. let e = h.1 in absurd (cc)) refused nothing
     by (Some v) is w = unit_held_written part value v result is nothing w.0 w.1
   case_written (a_case choice) value result nothing w = by (choice.part value) refl w where
     by : (o : Option choice.Part) → choice.part value ≡ o
         → MatchOption o (RefusesRepeated gives result old new)
         (λ v. Writes gives choice.codec.format v result (state old) (state new) (λ b. appends old b new))
         → Writes gives (case_format (a_case choice)) value result (state old) (state new) (λ b. appends old b new)
-    by None is refused = repeated_written (a_case choice) value result (λ b h. let e = h.1 in absurd (cc)) refused
+    by None is refused =
+        repeated_written (a_case choice) value result (λ b h. let e = h.1 in absurd (cc)) refused nothing
     by (Some v) is w = held_written choice.part choice.codec.format value v result is w

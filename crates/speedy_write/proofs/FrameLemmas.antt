@@ -106,6 +106,7 @@ module _ {E V : Type 0} {gives : Error → E → Type 0} (numbers : Numbers) (va
         kept = Kept-same old;
         answer = record {
           beginning = λ b h. record { prefix = []; rest = b; is_written = h; is_appended = nothing };
+          appends = ([], nothing);
           because = inr (record {
             no_fault = refl;
             no_fit = λ b h fit. absurd (needs.answers h.code h.stands.0 h.stands.1);

@@ -36,6 +36,7 @@ none_refused {gives = gives} value {v = v} {e = e} {old = old} {appended = appen
       kept = Kept-same old;
       answer = record {
         beginning = λ b h. absurd (none b (laws.written_encodes v b h.0) h.1);
+        appends = ([], nothing);
         because = inr (record {
           no_fault = refl;
           no_fit = λ b h fit. none b (laws.written_encodes v b h.0) h.1;

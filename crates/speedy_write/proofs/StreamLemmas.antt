@@ -51,6 +51,7 @@ module _ {E : Type 0} {gives : Error → E → Type 0} {V : Type 0} {v : V} wher
           succeeds = λ _ _ _. refl;
           refused = tt;
           begun = tt;
+          behind = tt;
         }
     to_stream s t (Err e) w =
         let why : IsOfFailedCall gives e s.faults t.faults
@@ -69,6 +70,7 @@ module _ {E : Type 0} {gives : Error → E → Type 0} {V : Type 0} {v : V} wher
           ]);
           refused = why;
           begun = w.answer.beginning;
+          behind = w.answer.appends;
         }
 
     -- a write into a collector, whatever the states of its sink were called

@@ -93,6 +93,7 @@ items_refused {gives = gives} seen item (x ∷ xs) {e = e} {old = old} {appended
       kept = Kept-same old;
       answer = record {
         beginning = λ b h. absurd (none b (each_as laws.written_encodes (map seen (x ∷ xs)) b h.0.1) h.1);
+        appends = ([], nothing);
         because = inr (record {
           no_fault = refl;
           no_fit = λ b h fit. none b (each_as laws.written_encodes (map seen (x ∷ xs)) b h.0.1) h.1;

@@ -151,6 +151,7 @@ module _ {E : Type 0} {gives : Error → E → Type 0} {U V : Type 0} {F : Mode 
     kept = w.kept;
     answer = record {
       beginning = λ b k. let d = g b k in Begun-with f (λ _ h. h) (w.answer.beginning d.0 d.1);
+      appends = w.answer.appends;
       because = elim w.answer.because [
         | inl x ↦ inl x
         | inr x ↦ inr (record {
@@ -193,6 +194,7 @@ module _ {E : Type 0} {gives : Error → E → Type 0} {V : Type 0} {F : Mode �
     by (Ok _) p = Put-with (λ _ h. h) f p
     by (Err e) r = record {
       beginning = λ b h. Begun-with (λ _ k. k) f (r.beginning b h);
+      appends = (r.appends.0, f r.appends.0 r.appends.1);
       because = r.because;
     }
 
@@ -261,6 +263,7 @@ module _ {E : Type 0} {gives : Error → E → Type 0} {U V : Type 0} {W : U →
             };
             is_appended = x.is_appended;
           };
+      appends = w.answer.appends;
       because = elim w.answer.because [
         | inl x ↦ inl x
         | inr x ↦ inr (record {
@@ -302,6 +305,7 @@ module _ {E : Type 0} {gives : Error → E → Type 0} {U V : Type 0} {W : U →
               };
               is_appended = join p.bytes x.prefix p.is_appended x.is_appended;
             };
+        appends = let x = w.answer.appends in (p.bytes ++ x.0, join p.bytes x.0 p.is_appended x.1);
         because = elim w.answer.because [
           | inl x ↦
               inl (fault_after gives old.fixed.tells_faults e old.faults mid.faults new.faults p.no_fault

@@ -96,6 +96,8 @@ module _ {E : Type 0} (gives : Error → E → Type 0) where
         (λ e. IsOfFailedCall gives e old.faults new.faults ⊎ ((new.faults ≡ old.faults) × RefusesUndecodable L v e))
     -- what is refused leaves a beginning of a canonical encoding in the sink, where there is one
     pub begun : OnErr result ((bytes : List ℕ) → L.writes v bytes → Begun (L.writes v) (λ prefix. Takes old prefix new))
+    -- and of a value that has none some bytes, behind what the sink took before
+    pub behind : OnErr result ((bytes : List ℕ) × Takes old bytes new)
 
   -- what a write to a sink and a flush behind it do: the write with what waits left out of sight, and where both
   -- succeed nothing waits

@@ -92,6 +92,8 @@ module _ {E : Type 0} (gives : Error → E → Type 0) where
   pub record Refused {V : Type 0} (F : Format V) (v : V) (e : E) (old new : WriterState)
       (appended : List ℕ → Type 0) : Type 0 where
     pub beginning : (b : List ℕ) → F.writes v b → Begun (F.writes v) appended
+    -- and of a value that has no encoding some bytes: what was there before stays
+    pub appends : (b : List ℕ) × appended b
     -- a call of the device failed, and where the writer tells which, one alone did, and the refusal is its error; or no
     -- call failed
     pub because : IsOfFault gives old.fixed.tells_faults e old.faults new.faults ⊎ Unwritten F v e old new

@@ -44,7 +44,7 @@ impl<'b> Waiting<'b> {
     #[inline]
     fn none(room: &'b mut [u8]) -> Waiting<'b>
         ensures waits { waiting result ≡ [] }
-        ensures room { result.end ≡ 0 }
+        ensures room { (result.end ≡ 0) × (length result.room.now ≡ length room.old) }
     {
         Waiting {
             room,
@@ -136,6 +136,7 @@ impl<'b> Waiting<'b> {
         ensures pushes { PushesWaiting E.from_gives result (waiting self.old) (waiting self.new)
             (S.sink sink.old) (S.sink sink.new) }
         ensures room { OnOk result (self.new.end ≡ 0) }
+        ensures same_room { length self.new.room.now ≡ length self.old.room.now }
     {
         let (from, to) = (self.start, self.end);
         let (start, outcome) = push_range(alloc, self.all_room(), from, to, sink);
@@ -230,6 +231,8 @@ fn push_past<S: Sink, E: From<Error>>(
         (λ b. Buffers (S.sink sink.old) (drop start (take end room.old)) b
         (S.sink sink.new) (drop result.0 (take result.1 room.new))) }
     ensures range { (result.0 ≤ result.1) × (result.0 ≤ end) × (result.1 ≤ length room.new) }
+    ensures waits { length slice.now * 2 ≤ length room.old → OnOk result.2 (drop result.0 (take result.1 room.new)
+        ≡ slice.now) }
 {
     let count = slice.len();
     let (rest, outcome) = push_range::<S, E>(alloc, &*room, start, end, &mut *sink);
@@ -272,6 +275,7 @@ impl<'s, S, C: Drop> BufferingCollector<'s, S, C> {
         ensures same_sink { (buffering_model result).sink_name ≡ sink.entry.ghost_name }
         ensures sink { (buffering_model result).sink ≡ sink.old }
         ensures nothing_waits { (buffering_model result).waits ≡ [] }
+        ensures free { (result.waiting.end ≡ 0) × (length result.waiting.room.now ≡ length room.old) }
     {
         BufferingCollector {
             alloc,
@@ -350,6 +354,8 @@ impl<'s, S: Sink, C: Context> Writer<C> for BufferingCollector<'s, S, C> {
             result self.old self.new }
         ensures full { let writer = ⟦<BufferingCollector<'s, S, C> as Writer<C>>⟧ in
             RefusesFull C.Error.from_gives writer.state result self.old self.new }
+        ensures waits { let held = self.old.waiting in
+            length slice.now ≤ length held.room.now - held.end → S.sink self.new.sink.now ≡ S.sink self.old.sink.now }
     {
         if self.waiting.has_room(slice.len()) {
             self.waiting.add(slice);

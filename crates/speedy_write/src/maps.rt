@@ -20,8 +20,7 @@ impl<C: Context, K: Writable<C> + SameKey + Ord, V: Writable<C>> Writable<C> for
 impl<C: Context, K: Writable<C> + SameKey + Ord, V: Writable<C>> WriteTold<C> for BTreeMap<K, V> {
     #[inline]
     fn write_behind<N: WritePrefix, W: Writer<C>>(&self, writer: &mut W) -> Result<(), C::Error> {
-        let pairs = self.iter();
-        write_counted_items::<N, C, _, _, W>(self.len(), pairs, writer)
+        write_counted_items::<N, C, _, _, W>(self.len(), self.iter(), writer)
     }
 }
 
@@ -34,8 +33,7 @@ impl<C: Context, K: Writable<C> + SameKey + Ord, V: Writable<C>> WriteOfLength<C
 
     #[inline]
     fn write_of_length<W: Writer<C>>(&self, writer: &mut W) -> Result<(), C::Error> {
-        let sorted = self.iter();
-        write_items_of(sorted, writer)
+        write_items_of(self.iter(), writer)
     }
 }
 
@@ -80,8 +78,7 @@ impl<C: Context, K: Writable<C> + SameKey + Hash, V: Writable<C>, S: BuildHasher
     for IndexMap<K, V, S> {
     #[inline]
     fn write_behind<N: WritePrefix, W: Writer<C>>(&self, writer: &mut W) -> Result<(), C::Error> {
-        let count = self.len();
-        write_counted_items::<N, C, _, _, W>(count, self.iter(), writer)
+        write_counted_items::<N, C, _, _, W>(self.len(), self.iter(), writer)
     }
 }
 
@@ -94,7 +91,6 @@ impl<C: Context, K: Writable<C> + SameKey + Hash, V: Writable<C>, S: BuildHasher
 
     #[inline]
     fn write_of_length<W: Writer<C>>(&self, writer: &mut W) -> Result<(), C::Error> {
-        let listed = self.iter();
-        write_items_of(listed, writer)
+        write_items_of(self.iter(), writer)
     }
 }

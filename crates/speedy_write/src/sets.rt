@@ -20,8 +20,7 @@ impl<C: Context, T: Writable<C> + SameKey + Ord> Writable<C> for BTreeSet<T> {
 impl<C: Context, T: Writable<C> + SameKey + Ord> WriteTold<C> for BTreeSet<T> {
     #[inline]
     fn write_behind<N: WritePrefix, W: Writer<C>>(&self, writer: &mut W) -> Result<(), C::Error> {
-        let items = self.iter();
-        write_counted_items::<N, C, _, _, W>(self.len(), items, writer)
+        write_counted_items::<N, C, _, _, W>(self.len(), self.iter(), writer)
     }
 }
 
@@ -33,8 +32,7 @@ impl<C: Context, T: Writable<C> + SameKey + Ord> WriteOfLength<C> for BTreeSet<T
 
     #[inline]
     fn write_of_length<W: Writer<C>>(&self, writer: &mut W) -> Result<(), C::Error> {
-        let sorted = self.iter();
-        write_items_of(sorted, writer)
+        write_items_of(self.iter(), writer)
     }
 }
 
@@ -75,8 +73,7 @@ impl<C: Context, T: Writable<C> + SameKey + Hash, S: BuildHasher> Writable<C> fo
 impl<C: Context, T: Writable<C> + SameKey + Hash, S: BuildHasher> WriteTold<C> for IndexSet<T, S> {
     #[inline]
     fn write_behind<N: WritePrefix, W: Writer<C>>(&self, writer: &mut W) -> Result<(), C::Error> {
-        let count = self.len();
-        write_counted_items::<N, C, _, _, W>(count, self.iter(), writer)
+        write_counted_items::<N, C, _, _, W>(self.len(), self.iter(), writer)
     }
 }
 
@@ -89,7 +86,6 @@ impl<C: Context, T: Writable<C> + SameKey + Hash, S: BuildHasher> WriteOfLength<
 
     #[inline]
     fn write_of_length<W: Writer<C>>(&self, writer: &mut W) -> Result<(), C::Error> {
-        let listed = self.iter();
-        write_items_of(listed, writer)
+        write_items_of(self.iter(), writer)
     }
 }

@@ -6,7 +6,7 @@ use Rattle.speedy.proofs.told_frames.read_told_frame.Goals as goal
 
 pub returns-in_err-value : goal.returns-in_err-value
 returns-in_err-value g c =
-    refused_covered (filling_covers _ (g.T.Whole.whole.laws _) _) c.from_residual.ensures.1 c.in_err-value.ensures
+    refused_covered (filling_covers _ _ (g.T.Whole.whole.laws _) _) c.from_residual.ensures.1 c.in_err-value.ensures
 
 pub returns-in_err-written : goal.returns-in_err-written
 returns-in_err-written g c =

@@ -13,6 +13,7 @@ use Rattle.speedy_vectors.proofs.tree.+write.Goals as goal
 pub write_levels-returns-then-levels-eq0 : goal.write_levels-returns-then-levels-eq0
 write_levels-returns-then-levels-eq0 g t c =
     no_level_written kinds.OutOfRangeLength tree_step (omega arith) c.error_out_of_range_length.ensures
+    (g.met.W.Writer.nothing _)
 
 pub write_levels-returns-in_err-write_u8 : goal.write_levels-returns-in_err-write_u8
 write_levels-returns-in_err-write_u8 g t c =

@@ -5,6 +5,7 @@ use Rattle.speedy_write.proofs.prefixed.write_length_u7.Goals as goal
 pub returns-then-length-gt-U7_MAX : goal.returns-then-length-gt-U7_MAX
 returns-then-length-gt-U7_MAX g c =
     past_greatest_refused 1 127 refl c.if-length-gt-U7_MAX.true c.error_out_of_range_length.ensures
+    (g.met.W.Writer.nothing _)
 
 pub returns : goal.returns
 returns g c =

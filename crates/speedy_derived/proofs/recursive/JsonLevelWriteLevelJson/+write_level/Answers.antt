@@ -11,7 +11,7 @@ use Rattle.speedy_derived.proofs.recursive.JsonLevelWriteLevelJson.+write_level.
 pub returns-in_default : goal.returns-in_default
 returns-in_default g t c =
     let level = c.in_default.is in
-    none_written _ _ (search (rules, level_lemmas)) c.error_out_of_range_length.ensures
+    none_written _ _ (search (rules, level_lemmas)) c.error_out_of_range_length.ensures (g.met.W.Writer.nothing _)
 
 pub returns-in-Null : goal.returns-in-Null
 unfolding its_layer layer_of list_layer own_layer pair_layer either_branch one_branch unit_branch

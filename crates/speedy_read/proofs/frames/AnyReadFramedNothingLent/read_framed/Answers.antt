@@ -7,7 +7,7 @@ use Rattle.speedy_read.proofs.frames.AnyReadFramedNothingLent.read_framed.Goals 
 
 pub returns-in_err-bytes : goal.returns-in_err-bytes
 returns-in_err-bytes g c =
-    vector_refused _ (g.T.Whole.whole.format (g.R.LendingReader.state c.args.reader.now).mode) _
+    vector_refused _ (g.T.Whole.whole.format (g.R.LendingReader.state c.args.reader.now).mode) _ _
     c.from_residual.ensures.1 c.in_err-bytes.ensures.reads
 
 pub returns : goal.returns
@@ -18,7 +18,8 @@ returns g c =
     let same = context_back g.R.LendingReader.with_context g.R.LendingReader.at g.C.Context.mode R.mode_at
     R.state_with reader _ _ _ value c.fill_owned.ensures.mode refl in
     let shown : Bor (List ℕ) → List ℕ = λ b. b.now in
-    frame_filled g.T.Whole.whole.format g.T.Whole.whole.laws _ (λ never. absurd (true≢false never))
+    frame_filled g.T.Whole.whole.format g.T.Whole.whole.misfits g.T.Whole.whole.laws _
+    (λ never. absurd (true≢false never))
     (bytes_of_vector {shown = shown} {y = c.deref.result} _ _ (c.deref.ensures.value ∙ sym (map-id _))
     c.in_ok-bytes.ensures.reads)
     (ap g.C.Context.mode value ∙ sym (R.mode_at reader)) same c.fill_owned.ensures.fills

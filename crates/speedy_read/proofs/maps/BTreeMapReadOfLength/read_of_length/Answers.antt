@@ -11,20 +11,20 @@ use Rattle.speedy_read.proofs.CollectionLengthLemmas.{own_tells, of_length_refus
 use Rattle.speedy_read.proofs.CollectionLengthLemmas.{of_length_read}
 use Rattle.speedy_read.proofs.maps.BTreeMapReadOfLength.read_of_length.Goals as goal
 
-pub returns-in_err-sorted : goal.returns-in_err-sorted
-returns-in_err-sorted g c =
+pub returns-in_err-map : goal.returns-in_err-map
+returns-in_err-map g c =
     of_length_refused (Ascends (by_key (IsLess g.K.Layout.seen g.K.Ord.cmp))) false
     (own_tells (tree_map_single _) (tree_maps_are_forms (less_is_asymmetric g.K.Layout.seen g.K.Ord.cmp))
     (tree_map_seen g.V.Layout.seen g.met.K.SameKey.same_key g.met.K.Ord.total g.met.K.Ord.matches_eq))
     (pair_codec g.K.Layout.layout g.V.Layout.layout) c.args.length
-    (Ascends-first (by_key (IsLess g.K.Layout.seen g.K.Ord.cmp))) c.from_residual.ensures.1 c.in_err-sorted.ensures
+    (Ascends-first (by_key (IsLess g.K.Layout.seen g.K.Ord.cmp))) c.from_residual.ensures.1 c.in_err-map.ensures
 
 pub returns-then-len-length : goal.returns-then-len-length
 returns-then-len-length g c =
     of_length_repeated (Ascends (by_key (IsLess g.K.Layout.seen g.K.Ord.cmp))) false
     (own_tells (tree_map_single _) (tree_maps_are_forms (less_is_asymmetric g.K.Layout.seen g.K.Ord.cmp))
     (tree_map_seen g.V.Layout.seen g.met.K.SameKey.same_key g.met.K.Ord.total g.met.K.Ord.matches_eq))
-    (pair_codec g.K.Layout.layout g.V.Layout.layout) c.in_ok-sorted.ensures
+    (pair_codec g.K.Layout.layout g.V.Layout.layout) c.in_ok-map.ensures
     (λ e. c.if-len-length.true (c.len.ensures.len ∙ (sym (length-map _ _) ∙ e)))
     c.error_out_of_range_length.ensures
 
@@ -33,5 +33,5 @@ returns g c =
     of_length_read (Ascends (by_key (IsLess g.K.Layout.seen g.K.Ord.cmp))) false
     (own_tells (tree_map_single _) (tree_maps_are_forms (less_is_asymmetric g.K.Layout.seen g.K.Ord.cmp))
     (tree_map_seen g.V.Layout.seen g.met.K.SameKey.same_key g.met.K.Ord.total g.met.K.Ord.matches_eq))
-    (pair_codec g.K.Layout.layout g.V.Layout.layout) c.in_ok-sorted.ensures
+    (pair_codec g.K.Layout.layout g.V.Layout.layout) c.in_ok-map.ensures
     (length-map _ _ ∙ (sym c.len.ensures.len ∙ c.if-len-length.false))

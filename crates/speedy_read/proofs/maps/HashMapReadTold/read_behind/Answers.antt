@@ -5,11 +5,11 @@ use Rattle.speedy_layout.specs.OneMoreItem.{HasDistinctKeys-first}
 use Rattle.speedy_read.proofs.CollectionLemmas.{collection_read, collection_refused}
 use Rattle.speedy_read.proofs.maps.HashMapReadTold.read_behind.Goals as goal
 
-pub returns-in_err-count : goal.returns-in_err-count
-returns-in_err-count g c = collection_refused _ _ true c.from_residual.ensures.1 c.in_err-count.ensures
+pub returns-in_err-length : goal.returns-in_err-length
+returns-in_err-length g c = collection_refused _ _ true c.from_residual.ensures.1 c.in_err-length.ensures
 
 pub returns : goal.returns
 returns g c =
     collection_read true g.N.Prefix.numbers.codec (pair_codec g.K.Layout.layout g.V.Layout.layout) _
     (hash_map_seen g.V.Layout.seen g.met.K.SameKey.same_key) HasDistinctKeys-first
-    c.in_ok-count.ensures c.read_key_value_collection.ensures
+    c.in_ok-length.ensures c.read_key_value_collection.ensures

@@ -9,20 +9,20 @@ use Rattle.speedy_read.proofs.CollectionLengthLemmas.{own_tells, of_length_refus
 use Rattle.speedy_read.proofs.CollectionLengthLemmas.{of_length_read}
 use Rattle.speedy_read.proofs.sets.BTreeSetReadOfLength.read_of_length.Goals as goal
 
-pub returns-in_err-sorted : goal.returns-in_err-sorted
-returns-in_err-sorted g c =
+pub returns-in_err-set : goal.returns-in_err-set
+returns-in_err-set g c =
     of_length_refused (Ascends (IsLess g.T.Layout.seen g.T.Ord.cmp)) false
     (own_tells (tree_set_single _) (tree_sets_are_forms (less_is_asymmetric g.T.Layout.seen g.T.Ord.cmp))
     (tree_set_seen g.met.T.SameKey.same_key g.met.T.Ord.total g.met.T.Ord.matches_eq))
     g.T.Layout.layout c.args.length (Ascends-first (IsLess g.T.Layout.seen g.T.Ord.cmp))
-    c.from_residual.ensures.1 c.in_err-sorted.ensures
+    c.from_residual.ensures.1 c.in_err-set.ensures
 
 pub returns-then-len-length : goal.returns-then-len-length
 returns-then-len-length g c =
     of_length_repeated (Ascends (IsLess g.T.Layout.seen g.T.Ord.cmp)) false
     (own_tells (tree_set_single _) (tree_sets_are_forms (less_is_asymmetric g.T.Layout.seen g.T.Ord.cmp))
     (tree_set_seen g.met.T.SameKey.same_key g.met.T.Ord.total g.met.T.Ord.matches_eq))
-    g.T.Layout.layout c.in_ok-sorted.ensures
+    g.T.Layout.layout c.in_ok-set.ensures
     (λ e. c.if-len-length.true (c.len.ensures.len ∙ (sym (length-map _ _) ∙ e)))
     c.error_out_of_range_length.ensures
 
@@ -31,5 +31,5 @@ returns g c =
     of_length_read (Ascends (IsLess g.T.Layout.seen g.T.Ord.cmp)) false
     (own_tells (tree_set_single _) (tree_sets_are_forms (less_is_asymmetric g.T.Layout.seen g.T.Ord.cmp))
     (tree_set_seen g.met.T.SameKey.same_key g.met.T.Ord.total g.met.T.Ord.matches_eq))
-    g.T.Layout.layout c.in_ok-sorted.ensures
+    g.T.Layout.layout c.in_ok-set.ensures
     (length-map _ _ ∙ (sym c.len.ensures.len ∙ c.if-len-length.false))

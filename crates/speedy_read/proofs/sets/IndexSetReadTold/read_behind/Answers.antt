@@ -4,11 +4,11 @@ use Rattle.speedy_layout.specs.OneMoreItem.{AreDistinct-first}
 use Rattle.speedy_read.proofs.CollectionLemmas.{collection_read, collection_refused}
 use Rattle.speedy_read.proofs.sets.IndexSetReadTold.read_behind.Goals as goal
 
-pub returns-in_err-number : goal.returns-in_err-number
-returns-in_err-number g c = collection_refused _ _ false c.from_residual.ensures.1 c.in_err-number.ensures
+pub returns-in_err-length : goal.returns-in_err-length
+returns-in_err-length g c = collection_refused _ _ false c.from_residual.ensures.1 c.in_err-length.ensures
 
 pub returns : goal.returns
 returns g c =
     collection_read false g.N.Prefix.numbers.codec g.T.Layout.layout _
     (index_set_seen g.met.T.SameKey.same_key) AreDistinct-first
-    c.in_ok-number.ensures c.read_collection.ensures
+    c.in_ok-length.ensures c.read_collection.ensures

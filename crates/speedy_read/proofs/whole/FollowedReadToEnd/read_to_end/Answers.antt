@@ -5,7 +5,7 @@ use Rattle.speedy_read.proofs.whole.FollowedReadToEnd.read_to_end.Goals as goal
 pub returns-in_err-first : goal.returns-in_err-first
 returns-in_err-first g c =
     let memory = g.met.R.MemoryReader.in_memory in
-    first_not_whole _ c.from_residual.ensures.1 (memory _) (memory _) c.in_err-first.ensures
+    first_not_whole _ _ c.from_residual.ensures.1 (memory _) (memory _) c.in_err-first.ensures
 
 pub returns-in_err-rest : goal.returns-in_err-rest
 returns-in_err-rest g c =

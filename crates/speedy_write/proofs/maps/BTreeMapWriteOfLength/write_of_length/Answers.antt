@@ -9,9 +9,9 @@ use Rattle.speedy_write.proofs.maps.BTreeMapWriteOfLength.write_of_length.Goals 
 pub returns : goal.returns
 returns g c =
     let of = tree_map_entries g.V.Layout.seen g.met.K.SameKey.same_key g.met.K.Ord.total g.met.K.Ord.matches_eq
-    c.args.self.now c.iter-sorted.ensures.ordered in
+    c.args.self.now c.iter.ensures.ordered in
     map_of_length_written g.K.Layout.layout g.V.Layout.layout g.K.Layout.seen g.V.Layout.seen
     (tree_map_is (less_is_asymmetric g.K.Layout.seen g.K.Ord.cmp))
     (own_lengths (tree_map_single _) (tree_maps_are_forms (less_is_asymmetric g.K.Layout.seen g.K.Ord.cmp)))
-    (tree_maps_are_forms (less_is_asymmetric g.K.Layout.seen g.K.Ord.cmp) _ _ of.0) c.iter-sorted.ensures.rest
+    (tree_maps_are_forms (less_is_asymmetric g.K.Layout.seen g.K.Ord.cmp) _ _ of.0) c.iter.ensures.rest
     c.write_items_of.ensures

@@ -9,5 +9,5 @@ returns g c =
     map_written g.N.Prefix.numbers g.K.Layout.layout g.V.Layout.layout g.K.Layout.seen g.V.Layout.seen
     (tree_map_is (less_is_asymmetric g.K.Layout.seen g.K.Ord.cmp))
     (tree_map_entries g.V.Layout.seen g.met.K.SameKey.same_key g.met.K.Ord.total g.met.K.Ord.matches_eq
-    c.args.self.now c.iter-pairs.ensures.ordered)
-    c.len.ensures.len c.iter-pairs.ensures.rest c.write_counted_items.ensures
+    c.args.self.now c.iter.ensures.ordered)
+    c.len.ensures.len c.iter.ensures.rest c.write_counted_items.ensures

@@ -7,4 +7,4 @@ pub returns : goal.returns
 returns g c =
     map_written g.N.Prefix.numbers g.K.Layout.layout g.V.Layout.layout g.K.Layout.seen g.V.Layout.seen index_map_is
     (index_map_entries g.V.Layout.seen g.met.K.SameKey.same_key c.args.self.now c.iter.ensures.unique)
-    c.len-count.ensures.len c.iter.ensures.rest c.write_counted_items.ensures
+    c.len.ensures.len c.iter.ensures.rest c.write_counted_items.ensures

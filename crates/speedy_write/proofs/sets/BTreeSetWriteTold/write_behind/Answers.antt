@@ -9,5 +9,5 @@ returns g c =
     set_written g.N.Prefix.numbers g.T.Layout.layout g.T.Layout.seen
     (tree_set_is (less_is_asymmetric g.T.Layout.seen g.T.Ord.cmp))
     (tree_set_items g.met.T.SameKey.same_key g.met.T.Ord.total g.met.T.Ord.matches_eq
-    c.args.self.now c.iter-items.ensures.ordered)
-    c.len.ensures.len c.iter-items.ensures.rest c.write_counted_items.ensures
+    c.args.self.now c.iter.ensures.ordered)
+    c.len.ensures.len c.iter.ensures.rest c.write_counted_items.ensures

@@ -7,4 +7,4 @@ pub returns : goal.returns
 returns g c =
     set_written g.N.Prefix.numbers g.T.Layout.layout g.T.Layout.seen index_set_is
     (index_set_items g.met.T.SameKey.same_key c.args.self.now c.iter.ensures.unique)
-    c.len-count.ensures.len c.iter.ensures.rest c.write_counted_items.ensures
+    c.len.ensures.len c.iter.ensures.rest c.write_counted_items.ensures
