@@ -14,6 +14,18 @@ def function_at(lines, at):
     return None
 
 
+def clauses_of(lines, start):
+    """Returns what the function of this line ensures, as (name, text) of each clause; the name may be empty."""
+    ends = " " * indent_of(lines[start]) + "{"
+    head = []
+    for line in lines[start:]:
+        head.append(line.strip())
+        if line in (ends, ends + "}") or line.endswith((";", " {}")) or line is lines[start] and line.endswith("{"):
+            break
+    found = re.finditer(r"\bensures\*?(?: (\w+))? \{ ?(.*?)(?=\bensures\b|$)", " ".join(head))
+    return [(it[1] or "", it[2].rstrip(" {;}")) for it in found]
+
+
 def without_parameters(head):
     """Returns the parameters `<..>` at the front of a head, without the brackets, and what stands behind them."""
     if not head.startswith("<"):

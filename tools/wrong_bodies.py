@@ -1,12 +1,24 @@
-"""Reads the wrong bodies of this repository: which there are, and what each changes."""
+"""Reads the wrong bodies of this repository: which there are, what each changes, and which clause refuses it.
+
+An edit is read as the gate reads it: `file:`, and pairs of `old:` and `new:`. Two lines more stand in some.
+
+`# clause:` names the clause that refuses the edit, of a function that has several; of one that has one clause that is
+it. To the gate it is a comment.
+
+`in:` is the path of a function of the file, as docs/WRONG_BODIES.md has it. The next `old:` text is looked for in that
+function, and stands there once, so impls that are alike need not differ for an edit. The gate's own edits cannot have
+it.
+"""
 import glob
 import importlib.machinery
 import importlib.util
 import os
+import re
 import shutil
 import sys
+from typing import NamedTuple
 
-from rattle_source import function_at
+from rattle_source import clauses_of, function_at, indent_of, owner_of
 
 ROOT = os.path.dirname(os.path.dirname(os.path.realpath(__file__)))
 RT = os.path.realpath(shutil.which("rt") or sys.exit("rt is not on the PATH"))
@@ -15,6 +27,47 @@ rt = importlib.util.module_from_spec(
     importlib.util.spec_from_loader("rt", importlib.machinery.SourceFileLoader("rt", RT))
 )
 rt.__spec__.loader.exec_module(rt)
+
+
+class Change(NamedTuple):
+    """One pair of an edit: its file, the path of the function that it is in, if it names one, and both texts."""
+
+    file: str
+    path: str
+    old: str
+    new: str
+
+    def found_in(self, text):
+        """Returns where the old text stands. It raises ValueError where that is nowhere, or in more places."""
+        start, end = bounds_of(text, self.path) if self.path else (0, len(text))
+        count = text.count(self.old, start, end)
+        if count != 1:
+            where = f"in `{self.path}` of" if self.path else "in"
+            raise ValueError(f"an 'old:' text is {where} {self.file} {count} times, and not once")
+        return text.index(self.old, start, end)
+
+    def applied_to(self, text):
+        at = self.found_in(text)
+        return text[:at] + self.new + text[at + len(self.old) :]
+
+
+def bounds_of(text, path):
+    """Returns where the function of this path begins, and where it ends."""
+    lines = text.split("\n")
+    starts = [at for at, line in enumerate(lines) if re.search(r"\bfn \w", line) and path_at(lines, at) == path]
+    if len(starts) != 1:
+        raise ValueError(f"the function of an 'in:' line is in its file {len(starts)} times, and not once")
+    close = " " * indent_of(lines[starts[0]]) + "}"
+    last = next((at for at in range(starts[0], len(lines)) if lines[at] == close), starts[0])
+    return sum(len(it) + 1 for it in lines[: starts[0]]), sum(len(it) + 1 for it in lines[: last + 1])
+
+
+def path_at(lines, at):
+    """Returns the path of the function that begins with this line, with what it stands in, or nothing."""
+    function = function_at(lines, at)
+    if not function or function[0] != at:
+        return ""
+    return "::".join(it for it in (owner_of(lines, at), function[1]) if it)
 
 
 def edits_of(is_gate):
@@ -29,26 +82,82 @@ def text_of(path):
         return it.read()
 
 
-def changes_of(edit, folder):
-    """Yields what an edit changes, as (file, its text before the change, old text, new text)."""
-    file, old, texts = "", "", {}
+def changes_of(edit):
+    """Yields the pairs of an edit."""
+    file, path, old = "", "", ""
     for line in text_of(edit).split("\n"):
         if line.startswith("file: "):
-            file = line.removeprefix("file: ").strip()
+            file, path = line.removeprefix("file: ").strip(), ""
+        elif line.startswith("in: "):
+            path = line.removeprefix("in: ").strip()
         elif line.startswith("old: "):
             old = line.removeprefix("old: ")
         elif line.startswith("new:"):
-            new = line.removeprefix("new:").removeprefix(" ")
-            text = texts.get(file) or text_of(f"{folder}/{file}")
-            yield file, text, old, new
-            texts[file] = text.replace(old, new, 1)
+            yield Change(file, path, old, line.removeprefix("new:").removeprefix(" "))
+            path = ""
+
+
+def read_edit(edit, folder):
+    """Returns the texts of the files that an edit changes, by their path in the crate, or says why it cannot be
+    applied."""
+    changes = list(changes_of(edit))
+    if not any(it.path for it in changes):
+        return rt.read_edit(edit, folder)
+    texts = {}
+    try:
+        for it in changes:
+            texts[it.file] = it.applied_to(texts.get(it.file) or text_of(f"{folder}/{it.file}"))
+    except (OSError, ValueError) as error:
+        return None, str(error)
+    return texts, None
 
 
 def places_of(edit, folder):
-    """Returns what an edit changes, as (file, function, old text, new text); no function for what is in none."""
-    places = []
-    for file, text, old, new in changes_of(edit, folder):
-        at = text.index(old)
-        function = function_at(text.split("\n"), text.count("\n", 0, at)) if file.endswith(".rt") else None
-        places.append((file, function, old, new))
+    """Returns what an edit changes, as (change, function, line, text before it); no function for what is in none."""
+    places, texts = [], {}
+    for it in changes_of(edit):
+        text = texts.get(it.file) or text_of(f"{folder}/{it.file}")
+        at = text.count("\n", 0, it.found_in(text))
+        function = function_at(text.split("\n"), at) if it.file.endswith(".rt") else None
+        places.append((it, function, at, text))
+        texts[it.file] = it.applied_to(text)
     return places
+
+
+def said_clause(edit):
+    """Returns the clause that an edit names, or nothing."""
+    found = re.search(r"^# clause: (\S+)", text_of(edit), re.M)
+    return found[1] if found else ""
+
+
+def traits_of(folder):
+    """Returns the clauses of each method of the traits of the crates, by both names."""
+    found = {}
+    for path in glob.glob(f"{folder}/crates/*/src/**/*.rt", recursive=True):
+        lines = text_of(path).split("\n")
+        for at, line in enumerate(lines):
+            function = function_at(lines, at) if " fn " in f" {line}" else None
+            owner = owner_of(lines, at) if function and function[0] == at else ""
+            if owner and not owner.startswith("<"):
+                found[owner, function[1]] = clauses_of(lines, at)
+    return found
+
+
+def clauses_at(lines, function, traits):
+    """Returns the clauses that a function has, of its own or of its trait, as (name, text)."""
+    own = clauses_of(lines, function[0])
+    owner = owner_of(lines, function[0])
+    trait = owner.rpartition(" as ")[2].partition("<")[0].rstrip(">")
+    return own or traits.get((trait, function[1]), [])
+
+
+# Words of std that say of what a clause speaks, and not what it states.
+OF_STD = r"List|Vec|String|Mode|Option|Result|Self|If\w+|On\w+|Is(?:Ok|Err|Some|None|True|OkAnd|ErrAnd)|Match\w+"
+
+
+def word_of(clause):
+    """Returns what a clause is called: its name, or the relation that it states, or its text."""
+    name, text = clause
+    relation = re.search(rf"(?<![\w.])(?!(?:{OF_STD})\b)[A-Z][a-z]\w*(?![\w.])", text)
+    shown = text if len(text) <= 70 else text[:70] + " …"
+    return name or (relation[0] if relation else f"`{shown}`")
