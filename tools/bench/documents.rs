@@ -1,23 +1,50 @@
 //! Documents as users have them, each encoded and decoded by the original, by this crate, by the
 //! peers where they are installed, and as JSON.
 
-use crate::peers;
-use crate::ports::PortedJson;
-use crate::rows::{measure_together, Buffer, Input, Side};
+use crate::ports::{port_lent_log_line, port_lent_snapshot, LentFn, PortedJson};
+use crate::rows::{measure_together, named_sides, Buffer, Input, Side};
 use crate::values::Rng;
+use crate::{in_place, peers};
 use std::hint::black_box as bb;
 
-/// What encodes a document: how many bytes it takes for it, and its calls, to a vector and from a
-/// slice.
+/// What encodes a document: how many bytes it takes for it, and its calls, from a slice and to a
+/// vector, where it is not written as by the coder before.
 pub struct Coder {
     pub name: &'static str,
     pub bytes: usize,
     pub read: Side,
-    pub write: Side,
+    pub write: Option<Side>,
 }
+
+/// A coder of the loops of rounds.rs, written out for a crate. Its bytes lie as its encoder laid
+/// them.
+macro_rules! coder {
+    ($name:literal, $value:ident, $encode:expr, $decode:expr) => {{
+        let bytes: &'static [u8] = Box::leak(Box::new($encode($value).ok().unwrap()));
+        crate::documents::Coder {
+            name: $name,
+            bytes: bytes.len(),
+            read: Side::new(move |rounds| {
+                let mut good = 0;
+                for _ in 0..rounds {
+                    let front = &bb(bytes)[..unsafe { bench_length(bytes.len()) }];
+                    let made = $decode(front).ok().unwrap();
+                    bb(&made);
+                    good += 1;
+                }
+                good
+            }),
+            write: Some(crate::rows::encoder!($value, |it| $encode(it)
+                .ok()
+                .unwrap())),
+        }
+    }};
+}
+pub(crate) use coder;
 
 const ORIGINAL: &str = "the original";
 const PORT: &str = "this crate";
+const LENT: &str = "this crate, borrowing";
 
 /// The document's coders, the port's second. All is in the little order.
 struct Document {
@@ -26,7 +53,10 @@ struct Document {
 }
 
 impl Document {
-    fn new<T: PortedJson + peers::Peered>(case: &'static str, value: T) -> Document {
+    fn new<T>(case: &'static str, value: T, lent: Option<LentFn>) -> Document
+    where
+        T: PortedJson + peers::Peered + in_place::Peered,
+    {
         let value: &'static T = Box::leak(Box::new(value));
         let input = Input::new(case, 1, false, value);
         let read = input.read::<T>("read", T::PORT.read);
@@ -38,10 +68,12 @@ impl Document {
             write,
         };
         let mut coders = vec![
-            coder(ORIGINAL, read.original, write.original),
-            coder(PORT, read.port, write.port),
+            coder(ORIGINAL, read.original, Some(write.original)),
+            coder(PORT, read.port, Some(write.port)),
         ];
+        coders.extend(lent.map(|lent| coder(LENT, lent_side(input.bytes, lent), None)));
         coders.extend(peers::coders_of(value));
+        coders.extend(in_place::coders_of(value));
         coders.push(json_coder::<T>(input));
         Document { case, coders }
     }
@@ -50,7 +82,7 @@ impl Document {
         let (mut reads, mut writes) = (Vec::new(), Vec::new());
         for coder in &mut self.coders {
             reads.push(&mut coder.read);
-            writes.push(&mut coder.write);
+            writes.extend(&mut coder.write);
         }
         measure_together(&mut reads, reps);
         measure_together(&mut writes, reps);
@@ -59,15 +91,11 @@ impl Document {
     fn print(&self) {
         let port = &self.coders[1];
         for it in &self.coders {
+            let read = timed(Some(&port.read), Some(&it.read));
+            let written = timed(port.write.as_ref(), it.write.as_ref());
             println!(
-                "| {} | {} | {} | {:.0} | {:.2} | {:.0} | {:.2} |",
-                self.case,
-                it.name,
-                it.bytes,
-                it.read.best,
-                port.read.best / it.read.best,
-                it.write.best,
-                port.write.best / it.write.best
+                "| {} | {} | {} | {read} | {written} |",
+                self.case, it.name, it.bytes
             );
         }
     }
@@ -83,15 +111,44 @@ impl Document {
                 self.case, other.name, other.bytes
             )
         };
-        others
-            .flat_map(|it| {
-                [
-                    row(it, "read", it.read.best, port.read.best),
-                    row(it, "written", it.write.best, port.write.best),
-                ]
-            })
-            .collect()
+        let mut rows = Vec::new();
+        for it in others {
+            rows.push(row(it, "read", it.read.best, port.read.best));
+            if let (Some(theirs), Some(ours)) = (&it.write, &port.write) {
+                rows.push(row(it, "written", theirs.best, ours.best));
+            }
+        }
+        rows
     }
+
+    fn sides(self) -> impl Iterator<Item = (String, Side)> {
+        let case = self.case;
+        self.coders.into_iter().flat_map(move |it| {
+            named_sides(
+                case,
+                it.name,
+                [("read", Some(it.read)), ("written", it.write)],
+            )
+        })
+    }
+}
+
+/// Returns the cells of a side: its nanoseconds, and the port's to it.
+fn timed(port: Option<&Side>, it: Option<&Side>) -> String {
+    let (Some(port), Some(it)) = (port, it) else {
+        return "– | –".into();
+    };
+    format!("{} | {:.2}", nanoseconds(it.best), port.best / it.best)
+}
+
+pub fn nanoseconds(best: f64) -> String {
+    let digits = usize::from(best < 100.0);
+    format!("{best:.digits$}")
+}
+
+/// The port, which reads the same bytes as what borrows from them.
+fn lent_side(bytes: &'static [u8], lent: LentFn) -> Side {
+    Side::new(move |k| unsafe { lent(bb(bytes).as_ptr(), bytes.len(), k) })
 }
 
 /// The kit's serde_json, which stands on the port's side.
@@ -102,9 +159,9 @@ fn json_coder<T: PortedJson>(input: Input) -> Coder {
         name: "JSON",
         bytes: json.len(),
         read: Side::new(move |k| unsafe { (T::JSON.read)(bb(json).as_ptr(), json.len(), k) }),
-        write: Side::reading_first(move |k| unsafe {
+        write: Some(Side::reading_first(move |k| unsafe {
             (T::JSON.write)(bb(bytes).as_ptr(), bytes.len(), k)
-        }),
+        })),
     }
 }
 
@@ -118,13 +175,26 @@ fn json_of<T: PortedJson>(input: Input) -> &'static [u8] {
     Box::leak(json.into_boxed_slice())
 }
 
+fn documents(rng: &mut Rng) -> [Document; 3] {
+    [
+        Document::new("log line", rng.log_line(), Some(port_lent_log_line)),
+        Document::new("header, 64 entries", rng.header(), None),
+        Document::new(
+            "snapshot, 10k accounts",
+            rng.snapshot(),
+            Some(port_lent_snapshot),
+        ),
+    ]
+}
+
+/// Returns each side of the documents, with its name.
+pub fn sides_of_documents(rng: &mut Rng) -> impl Iterator<Item = (String, Side)> {
+    documents(rng).into_iter().flat_map(Document::sides)
+}
+
 /// Times the documents, and keeps the figures in a file.
 pub fn run_documents(rng: &mut Rng, reps: usize, file: Option<&str>) {
-    let mut documents = [
-        Document::new("log line", rng.log_line()),
-        Document::new("header, 64 entries", rng.header()),
-        Document::new("snapshot, 10k accounts", rng.snapshot()),
-    ];
+    let mut documents = documents(rng);
     println!(
         "| document | encoded by | bytes | read, ns | ours to it | written, ns | ours to it |"
     );

@@ -1,5 +1,8 @@
 //! The types of the cases, and what the port exports for each (gen.py).
 
+// What rkyv's derives name.
+#[cfg(in_place)]
+use peer_crates::{bytecheck, rkyv};
 use speedy::private::{error_invalid_enum_variant, VarInt64};
 use speedy::{Context, Endianness, Readable, Reader, Writable, Writer};
 use std::collections::{BTreeMap, BTreeSet, HashMap};
@@ -7,6 +10,9 @@ use std::net::IpAddr;
 use std::time::Duration;
 
 pub type Record = (u64, String, Vec<u8>, Vec<i64>, u8);
+
+/// A place in a file, by its key: a record whose parts have one width each.
+pub type Slot = (u64, u32, u32);
 
 /// Structs of one's own, with the least size of each, and the impls as the original's derive
 /// writes them.
@@ -16,6 +22,12 @@ macro_rules! structs {
             peers,
             derive(peer_crates::serde::Serialize, peer_crates::serde::Deserialize),
             serde(crate = "peer_crates::serde")
+        )]
+        #[cfg_attr(
+            in_place,
+            derive(rkyv::Archive, rkyv::Serialize, rkyv::Deserialize),
+            archive(crate = "peer_crates::rkyv"),
+            archive_attr(derive(bytecheck::CheckBytes))
         )]
         pub struct $name {
             $(pub $field: $type,)*
@@ -258,6 +270,7 @@ ports! {
     LogLine: "log_line",
     Header: "header",
     BTreeMap<u32, Account>: "snapshot",
+    Vec<Slot>: "vec_slot",
 }
 
 json_ports! {
@@ -266,7 +279,26 @@ json_ports! {
     BTreeMap<u32, Account>: "snapshot",
 }
 
+/// Reads a list again and again, and returns the digests that it summed up, of the item at an index
+/// or of all items.
+pub type LookFn = unsafe extern "C" fn(*const u8, usize, bool, usize, usize) -> usize;
+
+/// Reads a document again and again as what borrows from the bytes.
+pub type LentFn = unsafe extern "C" fn(*const u8, usize, usize) -> usize;
+
+macro_rules! looks {
+    ($($name:ident)*) => {
+        extern "C" {
+            $(pub fn $name(bytes: *const u8, length: usize, all: bool, at: usize, rounds: usize) -> usize;)*
+        }
+    };
+}
+
+looks! { port_look_view port_look_numbers port_look_slots port_look_walk port_look_columns }
+
 extern "C" {
+    pub fn port_lent_log_line(bytes: *const u8, length: usize, rounds: usize) -> usize;
+    pub fn port_lent_snapshot(bytes: *const u8, length: usize, rounds: usize) -> usize;
     pub fn port_read_vec_str(bytes: *const u8, length: usize, big: bool, rounds: usize) -> usize;
     pub fn port_read_slices(bytes: *const u8, length: usize, big: bool, rounds: usize) -> usize;
     pub fn port_nothing(buffer: *mut u8, room: usize, big: bool, rounds: usize) -> usize;

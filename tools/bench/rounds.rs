@@ -17,7 +17,7 @@ fn order_of(big: bool) -> Endianness {
     endianness(unsafe { bench_order(big) })
 }
 
-fn front_of(bytes: &[u8]) -> Option<&[u8]> {
+pub fn front_of(bytes: &[u8]) -> Option<&[u8]> {
     bytes.get(..unsafe { bench_length(bytes.len()) })
 }
 

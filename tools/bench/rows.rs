@@ -35,6 +35,11 @@ impl Side {
         }
     }
 
+    /// Returns what a call of so many rounds answers.
+    pub fn answer(&mut self, rounds: usize) -> usize {
+        (self.run)(rounds)
+    }
+
     /// Returns the nanoseconds of a call.
     pub fn time(&mut self, rounds: usize) -> f64 {
         let start = Instant::now();
@@ -71,6 +76,22 @@ impl Side {
     }
 }
 
+/// A side that encodes a value to a vector again and again, written out for a crate.
+macro_rules! encoder {
+    ($value:ident, $encode:expr) => {
+        Side::new(move |rounds| {
+            let mut sum = 0;
+            for _ in 0..rounds {
+                let made = $encode(bb($value));
+                bb(made.as_ptr());
+                sum += made.len();
+            }
+            sum
+        })
+    };
+}
+pub(crate) use encoder;
+
 /// Times sides that are compared, in turns: none is always first.
 pub fn measure_together(sides: &mut [&mut Side], reps: usize) {
     for side in sides.iter_mut() {
@@ -85,6 +106,17 @@ pub fn measure_together(sides: &mut [&mut Side], reps: usize) {
     for side in sides {
         side.finish();
     }
+}
+
+/// Returns the sides of what is called so in a case, each with a name by its way.
+pub fn named_sides<const N: usize>(
+    case: &'static str,
+    name: &'static str,
+    ways: [(&'static str, Option<Side>); N],
+) -> impl Iterator<Item = (String, Side)> {
+    let named =
+        move |(way, side): (&str, Option<Side>)| Some((format!("{case} | {name} | {way}"), side?));
+    ways.into_iter().filter_map(named)
 }
 
 /// An operation on a case in one order.

@@ -1,6 +1,6 @@
 //! The values of the cases, which are the same in each run.
 
-use crate::ports::{Account, Entry, Event, Header, LogLine, Own, Record};
+use crate::ports::{Account, Entry, Event, Header, LogLine, Own, Record, Slot};
 use std::collections::BTreeMap;
 use std::net::{IpAddr, Ipv4Addr, Ipv6Addr};
 
@@ -125,6 +125,11 @@ impl Rng {
             flags: 1,
             entries: (0..64).map(entry).collect(),
         }
+    }
+
+    pub fn slot(&mut self) -> Slot {
+        let number = self.next();
+        (self.next(), number as u32, (number >> 32) as u32)
     }
 
     pub fn account(&mut self) -> Account {
