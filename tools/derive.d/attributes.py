@@ -280,8 +280,10 @@ def representation(item, attribute, is_enum, notes):
     if not is_enum and words in (["C"], ["transparent"]):
         item.kept.append(f"#[repr({words[0]})]")
         return
+    is_numbered = any(it.discriminant is not None for it in syntax.variants_of(item)) if is_enum else False
+    numbers = ", though `as` gives the place of a variant, and not its discriminant" if is_numbered else ""
     notes.append((attribute.line, f"`repr({', '.join(words)})` of `{item.name}` is left out: Rattle has none, and the "
-                                  "bytes are the same"))
+                                  f"bytes are the same{numbers}"))
 
 
 def of_variant(variant, notes):

@@ -190,6 +190,8 @@ BROKEN = [
     ("a depth of none that holds itself", deep("    a: Vec<u8>"), 4, "leave `depth` out"),
     ("a depth of 0", deep("    a: Vec<A>", "0"), 3, "from 1 to 64"),
     ("a depth past the stack", deep("    a: Vec<A>", "65"), 3, "from 1 to 64"),
+    ("a discriminant that is compared and not told", HEAD + "#[derive(PartialEq, PartialOrd, Readable, Writable)]\n"
+     "#[repr(u8)]\nenum A { #[speedy(tag = 1)] B = OTHER }", 4, "no number that this file tells"),
     ("a depth that is no number", deep("    a: Vec<A>", "\"a\""), 3, "no number that this file tells"),
     ("a depth of an enum that holds itself not", HEAD + DERIVES + DEPTH + "enum A { B, C(u8) }", 4,
      "leave `depth` out"),

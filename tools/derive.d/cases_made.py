@@ -453,6 +453,15 @@ NOTED = [
     ("a type that derives neither", "struct B(u8);\n" + DERIVES + "struct A(u8);\n", 2, "derives neither",
      ["struct A("]),
     ("a layout in memory", "\n#[repr(packed)]\n" + DERIVES + "struct A(u16);\n", 3, "left out", ["struct A(u16);"]),
+    ("an order by discriminants", "#[derive(Clone, Copy, PartialEq, Eq, PartialOrd, Ord, Readable, Writable)]\n"
+     "#[repr(u8)]\nenum Kind { C, B = 0x10 + 2, D, A = 1 }\n"
+     "#[derive(PartialEq, PartialOrd, Readable, Writable)]\n#[repr(i8)]\n"
+     "enum Choice { B(u8), #[speedy(tag = 7)] A { it: u16 } = -1 }\n"
+     "#[derive(PartialEq, Readable, Writable)]\n#[repr(u8)]\nenum Unordered { B = 2, A = 1 }\n", 3,
+     "`repr(u8)` of `Kind` is left out: Rattle has none, and the bytes are the same, though `as` gives the place",
+     ["enum Kind {\n    C,\n    A,\n    B,\n    D,\n}", "            18 => Ok(Kind::B),",
+      "            Kind::A => 1,", "enum Choice {\n    A { it: u16 },\n    B(u8),\n}",
+      "            Choice::A { .. } => 7,", "enum Unordered {\n    B,\n    A,\n}"]),
     ("floats", "use std::collections::BTreeMap;\nconst HALF: f64 = 0.5;\ntype Real = f64;\n" + DERIVES
      + "struct A<T> {\n    one: f32,\n    all: Vec<f64>,\n    some: (Option<[Real; 2]>, BTreeMap<u8, f32>),\n"
      "    more: T,\n}\n#[derive(Writable)]\nenum B<'a> { C(&'a [f32]), D { x: A<f64> } }\n", 7, "`F32`",

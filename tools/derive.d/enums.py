@@ -36,19 +36,34 @@ class Case:
 
 def tags_of(item, scope):
     """Sets the tag of each variant: as it is set, or as the discriminant says, or one more than the last."""
-    used, following = {}, 0
-    for variant in item.variants:
+    def set_by(variant):
+        """What sets the tag of a variant."""
         set_tag = attributes.of_variant(variant, scope.notes)
-        value = set_tag if set_tag is not None else variant.discriminant
-        variant.tag = following if value is None else expressions.number(value, scope.constants)
-        following = variant.tag + 1
-        past = NUMBERS[item.tag_type][1]
+        return variant.discriminant if set_tag is None else set_tag
+
+    used, past = {}, NUMBERS[item.tag_type][1]
+    for variant, variant.tag in zip(item.variants, numbered(map(set_by, item.variants), scope)):
         if not 0 <= variant.tag < past:
             raise Refusal(variant.line, f"the tag {variant.tag} of `{variant.name}` is no `{item.tag_type}`: the "
                                         f"greatest is {past - 1}")
         if variant.tag in used:
             raise Refusal(variant.line, f"`{variant.name}` has the tag {variant.tag} of `{used[variant.tag]}`")
         used[variant.tag] = variant.name
+
+
+def numbered(values, scope):
+    """The number of each variant: as a value sets it, or one more than the last."""
+    following = 0
+    for value in values:
+        found = following if value is None else expressions.number(value, scope.constants)
+        following = found + 1
+        yield found
+
+
+def by_discriminant(item, scope):
+    """The variants in the order of their discriminants, by which a derived comparison orders them in Rust."""
+    found = zip(numbered((it.discriminant for it in item.variants), scope), item.variants)
+    return [variant for _, variant in sorted(found, key=lambda pair: pair[0])]
 
 
 class EnumShape(Shape):

@@ -8,7 +8,7 @@ import holders
 import rattle
 import syntax
 import visibility
-from enums import enum_lines
+from enums import by_discriminant, enum_lines
 from generics import Generics
 from names import field_name
 from parse import parse
@@ -283,7 +283,7 @@ class Declaration:
         self.derived = self.derives(kinds)
         found = [*docs(item), f"#[derive({', '.join(self.derived)})]", *item.kept]
         if kind == "enum":
-            return found + [f"{head}{wheres} {{", *(line for it in item.variants for line in self.variant(it)), "}"]
+            return found + [f"{head}{wheres} {{", *(line for it in self.variants() for line in self.variant(it)), "}"]
         if item.shape == "named":
             return found + [f"{head}{wheres} {{", *(line for it in item.fields for line in self.field(it)), "}"]
         fields = [] if item.shape == "unit" else ["(", *(line for it in item.fields for line in self.field(it)), ")"]
@@ -314,11 +314,19 @@ class Declaration:
         default = ["#[default]"] if "Default" in self.derived and is_default(variant) else []
         return [*docs(variant), *default, f"{variant.name}{opening}", *inner, f"{closing}{self.discriminant(variant)},"]
 
+    def variants(self):
+        """The variants, as they are declared. Rattle compares them by their order where it has no discriminants."""
+        is_ordered = "PartialOrd" in self.derived and not self.has_discriminants()
+        return by_discriminant(self.item, self.scope) if is_ordered else self.item.variants
+
+    def has_discriminants(self):
+        """Whether Rattle has the discriminants of the variants as Rust does."""
+        return all(it.shape == "unit" for it in self.item.variants) \
+            and not any(it.name == "repr" for it in self.item.attributes)
+
     def discriminant(self, variant):
         """The number of a variant as `as` gives it, where Rattle has it as Rust does."""
-        is_plain = all(it.shape == "unit" for it in self.item.variants) \
-            and not any(it.name == "repr" for it in self.item.attributes)
-        if variant.discriminant is None or not is_plain:
+        if variant.discriminant is None or not self.has_discriminants():
             return ""
         value = expressions.without_lost_bits(variant.discriminant, self.scope.constants)
         return " = " + expressions.written(value, self.of_cast)
