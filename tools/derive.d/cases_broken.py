@@ -154,9 +154,9 @@ BROKEN = [
     ("many types in a variant", "use std::collections::BTreeMap;\n" + HEAD + DERIVES + "enum A {\n"
      "    B(#[speedy(varint)] u64, Vec<(char, bool)>, Vec<Box<Vec<i64>>>, "
      "Box<BTreeMap<bool, BTreeMap<(u64, u64), Vec<(char, u8)>>>>),\n}\n", 4, "gives up its search"),
-    ("a wide tuple and a list of options before a length",
-     struct("    n: u8,\n    b: Vec<Option<u32>>,\n    c: (u8, u8, u8, u8, u8),\n    #[speedy(length = n)]\n"
-            "    a: Vec<u8>"), 8, "nests too deep"),
+    ("a length that many numbers tell", struct("".join(f"    n{place}: u8,\n" for place in range(21))
+     + "    #[speedy(length = " + " + ".join(f"n{place} % 2" for place in range(21)) + ")]\n    a: Vec<u8>"), 26,
+     "nests too deep"),
     # Types.
     ("a reference to floats", HEAD + DERIVES + "struct A<'a>(&'a [f64]);", 3, "SliceView<'a, F64>"),
     ("an atomic", "use std::sync::atomic::AtomicU8;\n" + struct("    a: AtomicU8"), 5, "hold the number"),

@@ -12,10 +12,9 @@ from refusal import Refusal
 
 TEXTS_AND_LISTS = ("String", "Vec", "BoxedStr", "BoxedSlice", "CowStr", "CowSlice")
 MAPS = ("BTreeMap", "HashMap", "IndexMap", "BTreeSet", "HashSet", "IndexSet")
-# So deep may the type of a `WithLength` nest: past that the compiler's search for impls meets its limit.
-MOST_DEEP = 10
-# A tuple of so many parts beside a type of such a depth meets it too, as `Vec<Option<Duration>>` does.
-WIDE, NESTED = 5, 3
+# So deep may the type of a `WithLength` nest. Past 30 or so the compiler's search for impls meets its limit sooner than
+# `impl_search` counts.
+MOST_DEEP = 20
 # So many parts stand in one tuple.
 MOST_OTHERS = 6
 # The types of numbers that tell a length.
@@ -416,7 +415,7 @@ def tree(items, scope, owner):
             kind = kind_of(item)
             telling = Number(item, kind, scope) if kind is not None else Holder(item, scope, names)
             found = telling if found is None else Pair(found, telling)
-    if depth_of(found.type) > MOST_DEEP or any(is_too_deep(part) for part in leaves_of(found)):
+    if depth_of(found.type) > MOST_DEEP:
         raise Refusal(line, "what stands between this field and the numbers that tell its length nests too deep for "
                             "Rattle's compiler: put some of it into a struct of its own")
     return found
@@ -436,13 +435,6 @@ def leaves_of(tree_of_parts):
     if isinstance(tree_of_parts, Pair):
         return leaves_of(tree_of_parts.first) + leaves_of(tree_of_parts.second)
     return leaves_of(tree_of_parts.before) if isinstance(tree_of_parts, Behind) else [tree_of_parts]
-
-
-def is_too_deep(part):
-    """Whether parts without a number meet the same limit, as seen: a wide tuple beside a type that nests."""
-    kinds = [item.part.type for item in part.items] if isinstance(part, Others) else []
-    wide = any(isinstance(kind, syntax.Tuple) and len(kind.parts) >= WIDE for kind in kinds)
-    return wide and any(depth_of(kind) >= NESTED for kind in kinds if not isinstance(kind, syntax.Tuple))
 
 
 def depth_of(kind):
