@@ -15,6 +15,9 @@ MAPS = ("BTreeMap", "HashMap", "IndexMap", "BTreeSet", "HashSet", "IndexSet")
 # So deep may the type of a `WithLength` nest. Past 30 or so the compiler's search for impls meets its limit sooner than
 # `impl_search` counts.
 MOST_DEEP = 20
+# So many lengths are told in one tree beside other parts, and so many in one that stands alone, of what is written and
+# has a lifetime or a type as a parameter: past that the search for how long these live meets the prover's limit.
+MOST_TOLD_BESIDE, MOST_TOLD_ALONE = 6, 7
 # So many parts stand in one tuple.
 MOST_OTHERS = 6
 # The types of numbers that tell a length.
@@ -350,10 +353,13 @@ class Names:
 
 # Which fields are joined.
 
-def joined(items, scope, owner):
-    """The parts of a struct or of a variant, of which each is one of `items`, or a tree of some of them."""
+def joined(items, scope, owner, is_asked_how_long):
+    """The parts of a struct or of a variant, of which each is one of `items`, or a tree of some of them. Of a type with
+    parameters that is written it is asked how long they live."""
     spans = spans_of([(min(numbers_of(items, place, scope) | {place}), place)
                       for place, item in enumerate(items) if item.has_length()])
+    if is_asked_how_long:
+        spans = few_told(spans, items, owner)
     found, at = [], 0
     for first, last in spans:
         found += [item.part for item in items[at:first]] + [tree(items[first:last + 1], scope, owner)]
@@ -370,6 +376,19 @@ def spans_of(spans):
         else:
             found.append((first, last))
     return found
+
+
+def few_told(spans, items, owner):
+    """The spans, or one of all the parts, where many lengths are told together. Refuses more than that has a proof."""
+    for first, last in spans:
+        if sum(item.has_length() for item in items[first:last + 1]) > MOST_TOLD_BESIDE:
+            if last + 1 < len(items) or sum(item.has_length() for item in items) > MOST_TOLD_ALONE:
+                raise Refusal(items[last].field.line, f"`{owner}` has parameters, and beside them so many lengths "
+                                                      "that are told together find no proof: write a type for each "
+                                                      "thing that a type parameter stands for, and own what is "
+                                                      "borrowed")
+            return [(0, last)]
+    return spans
 
 
 def numbers_of(items, place, scope):
@@ -402,23 +421,35 @@ def tree(items, scope, owner):
     """The tree of some items, of which the last one has a length, with the types that say its lengths."""
     line = items[-1].field.line
     used = set().union(*(numbers_of(items, place, scope) for place, item in enumerate(items) if item.has_length()))
-    found, others, names = None, [], Fresh(bound_of(item) for item in items)
+    found, others, names = [], [], Fresh(bound_of(item) for item in items)
     for place, item in enumerate(items):
         if place not in used and not item.has_length():
             others.append(item)
             continue
-        found, others = beside(found, others, scope, line), []
+        found, others = found + without_number(others, scope, line), []
         if item.has_length():
-            before = found or Others([], scope, line)
-            found = Behind(before, item, LengthType(item, before, scope, owner).name, scope)
+            before = balanced(found or [Others([], scope, line)])
+            found = [Behind(before, item, LengthType(item, before, scope, owner).name, scope)]
         else:
             kind = kind_of(item)
-            telling = Number(item, kind, scope) if kind is not None else Holder(item, scope, names)
-            found = telling if found is None else Pair(found, telling)
-    if depth_of(found.type) > MOST_DEEP:
+            found.append(Number(item, kind, scope) if kind is not None else Holder(item, scope, names))
+    if depth_of(found[0].type) > MOST_DEEP:
         raise Refusal(line, "what stands between this field and the numbers that tell its length nests too deep for "
                             "Rattle's compiler: put some of it into a struct of its own")
-    return found
+    return found[0]
+
+
+def without_number(others, scope, line):
+    """Parts that hold no number, as many as one tuple has together."""
+    return [Others(others[at:at + MOST_OTHERS], scope, line) for at in range(0, len(others), MOST_OTHERS)]
+
+
+def balanced(parts):
+    """Parts as pairs of pairs, no deeper than they have to be: the deeper, the longer the searches for proofs."""
+    if len(parts) == 1:
+        return parts[0]
+    half = (len(parts) + 1) // 2
+    return Pair(balanced(parts[:half]), balanced(parts[half:]))
 
 
 def leaf_parts(parts):
@@ -440,13 +471,6 @@ def leaves_of(tree_of_parts):
 def depth_of(kind):
     """How deep a type nests."""
     return 1 + max((depth_of(part) for part in parts_of(kind)), default=0)
-
-
-def beside(found, others, scope, line):
-    """A tree, and behind it parts that hold no number."""
-    for at in range(0, len(others), MOST_OTHERS):
-        found = Pair(found, Others(others[at:at + MOST_OTHERS], scope, line))
-    return found
 
 
 class LengthType:

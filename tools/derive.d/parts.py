@@ -168,7 +168,8 @@ class PartMaker:
             part, value = self.part(it, access, kind)
             items.append(lengths.Item(part, it, access, place, value))
             found.values.append(value)
-        joined = lengths.joined(items, self.scope, self.owner)
+        lives = self.item.writable and any(it.kind != "const" for it in self.item.parameters)
+        joined = lengths.joined(items, self.scope, self.owner, lives)
         found.parts = [it if isinstance(it, Part) else self.told(it) for it in joined]
         found.tree = split(found.parts)
         self.refuse_memory(found)
