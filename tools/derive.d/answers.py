@@ -3,6 +3,9 @@ few variants and parts."""
 import lengths
 from parts import is_nested, moves_array
 
+# What a search for a proof is given besides a fact.
+RULES = "use Rattle.std.proofs.Common.{rules}"
+
 
 def answers(shape, place):
     """The answers of an enum's `write_case` and `read_case`: the path of each file below the crate's folder, and its
@@ -10,8 +13,9 @@ def answers(shape, place):
     if len(shape.cases) == 1:
         return {}
     name = shape.item.name
+    uses = [RULES] if any(takes_apart(case.taken) for case in shape.cases) else []
     return file_of(place, f"{name}WriteCases", "write_case", write_answers(shape)) \
-        | file_of(place, f"{name}ReadCases{lending(shape)}", "read_case", read_answers(shape))
+        | file_of(place, f"{name}ReadCases{lending(shape)}", "read_case", read_answers(shape), uses)
 
 
 def answers_of_struct(shape, taken, place):
@@ -37,26 +41,29 @@ def lending(shape):
     return "RefSliceU8" if shape.generics.lending else ""
 
 
-def answered(goal, arm, step, taken, tag):
-    """The answer of a goal by what was read, of which some options are taken: as the value of a tag, or of a struct."""
+def answered(goal, arm, step, taken, tag, is_apart=False):
+    """The answer of a goal by what was read, of which some options are taken: as the value of a tag, or of a struct.
+    What is taken apart has another form in the result, in which a search finds it again."""
     found, answer = [f"    let read = rw c.in-{arm}.is at c.{step}.ensures in"], "read.answer"
     for place, ensured in enumerate(taken):
         name = "answer" + "'" * place
         found.append(f"    let {name} = rw {ensured} at {answer} in")
         answer = name
+    answer = f"search (rules, {answer})" if is_apart else answer
     found[-1] += f" rw c.in-{tag}.is (read.kept, {answer})" if tag is not None \
         else f" record {{ kept = read.kept; answer = {answer} }}"
     return ["", f"pub {goal} : goal.{goal}", f"{goal} g c =", *found]
 
 
-def file_of(place, trait, function, lines):
-    """A file of answers of a function of an impl, which `place` says the module of: by its path, its text."""
+def file_of(place, trait, function, lines, uses=()):
+    """A file of answers of a function of an impl, which `place` says the module of: by its path, its text. `uses` are
+    imports of more than its goals."""
     if not lines:
         return {}
     crate, *modules = place
     path = [*modules, trait, function]
     use = f"use Rattle.{crate}.proofs.{'.'.join(path)}.Goals as goal"
-    return {"/".join(["proofs", *path, "Answers.antt"]): "\n".join([use, *lines]) + "\n"}
+    return {"/".join(["proofs", *path, "Answers.antt"]): "\n".join([*uses, use, *lines]) + "\n"}
 
 
 def options_of(taken, by, known, arm):
@@ -106,13 +113,11 @@ def read_answers(shape):
         end = "" if place == 0 else "-read_value" if place == 1 else f"-read_value-{place}"
         step = f"read_value-in-{tag}" if place else "read_value"
         taken = options_of(case.taken, "taken_by", known, f"Ok{end}")
-        if not takes_apart(case.taken):
-            found += answered(f"returns-in-Ok{end}", f"Ok{end}", step, taken, tag)
+        found += answered(f"returns-in-Ok{end}", f"Ok{end}", step, taken, tag, takes_apart(case.taken))
         found += answered(f"returns-in-Err{end}", f"Err{end}", step, [], tag)
     return found
 
 
 def takes_apart(taken):
-    """Whether what was read is taken apart behind the pattern: the result has another form then, in which a search
-    finds it."""
+    """Whether what was read is taken apart behind the pattern."""
     return any(part.tree is not None for part in taken.parts) or is_nested(taken.tree) or moves_array(taken)

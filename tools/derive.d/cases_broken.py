@@ -14,6 +14,11 @@ def told(length, number, kind="Vec<u8>", before=""):
     return struct(f"    {before}n: {number},\n    #[speedy(length = {length})]\n    a: {kind}")
 
 
+def told_lists(count):
+    """So many lists whose length `n` tells, of two lines each."""
+    return "".join(f"    #[speedy(length = n)]\n    l{place}: Vec<u8>,\n" for place in range(count))
+
+
 DEPTH = "#[speedy(depth = 16)]\n"
 
 
@@ -154,9 +159,15 @@ BROKEN = [
     ("many types in a variant", "use std::collections::BTreeMap;\n" + HEAD + DERIVES + "enum A {\n"
      "    B(#[speedy(varint)] u64, Vec<(char, bool)>, Vec<Box<Vec<i64>>>, "
      "Box<BTreeMap<bool, BTreeMap<(u64, u64), Vec<(char, u8)>>>>),\n}\n", 4, "gives up its search"),
-    ("a length that many numbers tell", struct("".join(f"    n{place}: u8,\n" for place in range(21))
-     + "    #[speedy(length = " + " + ".join(f"n{place} % 2" for place in range(21)) + ")]\n    a: Vec<u8>"), 26,
-     "nests too deep"),
+    ("many lengths that a number tells", struct("    n: u8,\n" + told_lists(20)), 44, "nests too deep"),
+    ("many lengths of a parameter", struct("    n: u8,\n" + told_lists(8), "A<T>"), 20, "has parameters"),
+    ("many lengths of a parameter before a part", struct("    n: u8,\n" + told_lists(7) + "    b: u8,", "A<'a>"), 18,
+     "own what is borrowed"),
+    ("many parts that may be missing", struct("    n: u8,\n" + "".join(
+        f"    #[speedy(default_on_eof)]\n    a{place}: u16,\n" for place in range(9))), 3, "gives up its search"),
+    ("many parts of parameters that may be missing", struct("    n: u8,\n" + "".join(
+        f"    #[speedy(default_on_eof)]\n    a{place}: {kind},\n" for place, kind in enumerate(
+            ("T", "&'a str", "u8", "Vec<T>"))), "A<'a, T>"), 12, "own what is borrowed"),
     # Types.
     ("a reference to floats", HEAD + DERIVES + "struct A<'a>(&'a [f64]);", 3, "SliceView<'a, F64>"),
     ("an atomic", "use std::sync::atomic::AtomicU8;\n" + struct("    a: AtomicU8"), 5, "hold the number"),

@@ -121,6 +121,14 @@ ANSWERED = [
                                "let answer = rw c.option_value-t0.ensures at read.answer in rw c.in-1.is (read.kept",
                                "pub returns-in-Err-read_value-2 : goal.returns-in-Err-read_value-2"]}),
     ("one variant, and variants without parts", DERIVES + "enum A { B(u8) }\n" + DERIVES + "enum C { D, E }\n", {}),
+    ("variants that are taken apart", DERIVES + """enum A {
+    B { n: u8, #[speedy(length = n)] a: Vec<u16> },
+    C([u8; 4], u8, #[speedy(length_type = u8)] Option<String>),
+}
+""", {"AWriteCases/write_case": ["rw c.in-B.is c.write_value.ensures"],
+      "AReadCases/read_case": ["use Rattle.std.proofs.Common.{rules}\n",
+                               "in rw c.in-0.is (read.kept, search (rules, read.answer))",
+                               "at read.answer in rw c.in-1.is (read.kept, search (rules, answer))"]}),
 ]
 
 MADE += [
@@ -228,7 +236,7 @@ struct Index<K: Ord, V> {
       "impl Length<u8> for CountedDataLength {", "ghost is_told = { λ n. n * 2 < 2 ^ 8 };",
       "ghost told = { λ n. n * 2 };", 'ghost field = { codes "data" };', "Some(length.checked_mul(2)? as usize)",
       '        "data"\n', "type CountedParts = (WithLength<CountedDataLength, u8, Vec<bool>>, u16);",
-      "(it.length, ⟦<Vec<bool> as Layout>⟧.seen it.data)", "length: data.before,\n                data: data.value,",
+      "(it.length, ⟦<Vec<bool> as Layout>⟧.seen it.«data»)", "length: data.before,\n                data: data.value,",
       "let data: WithLength<CountedDataLength, _, _> = WithLength {\n            before: self.length,",
       "writer.write_value(&(data, self.last))"]),
     ("lengths of maps and sets that fields tell", "use std::collections::{BTreeSet, HashMap};\n" + DERIVES
@@ -326,6 +334,14 @@ struct Index<K: Ord, V> {
       "Some((more, UnlessEnd(more2))) => match more2 {"]),
     ("a rest behind several parts", DERIVES + "struct A { a: String, b: Vec<u8>, #[speedy(length = ..)] c: String }\n",
      ["Ok(read) => {", "let Followed((a, b), Rest(c)) = read;"]),
+    ("six counts before seven lists of a parameter", DERIVES + "struct A<T> {\n"
+     "    #[speedy(constant_prefix = \"A\")]\n    v: u8,\n    r: [u8; 3],\n"
+     + "".join(f"    n{place}: u32,\n" for place in range(6)) + "    #[speedy(length = n0)]\n    data: Vec<T>,\n"
+     + "".join(f"    #[speedy(length = n{place})]\n    l{place}: Vec<bool>,\n" for place in range(6)) + "}\n",
+     ["impl Length<((((), u32), (u32, u32)), ((u32, u32), u32))> for ADataLength {",
+      "fn length((((_, n0), _), _): ((((), u32), (u32, u32)), ((u32, u32), u32)))", "type AParts<T> = WithLength<",
+      "((Other<(Magic<BeforeAV>, u8, [u8; 3])>, u32), (u32, u32)),", "seen it.«data»", "&self.data",
+      "writer.write_value(&l5)"]),
     ("a length that a signed number tells", DERIVES
      + "struct A { n: i16, #[speedy(length = n)] a: Vec<u8>, b: i8, c: i8 }\n",
      ["ghost is_told = { λ n. pos 0 ≤ℤ n };", "ghost told = { λ n. unsigned_abs n };", "usize::try_from(n).ok()",

@@ -3,14 +3,18 @@ What a type is made of is searched for twice, so the time doubles where types ne
 weights were measured, in the time of a number, and are rounded up."""
 import rattle
 import syntax
+from lengths import depth_of
 from parts import is_nested, moves_array
 from rattle import Foreign, Listed, Own, is_listed
 from refusal import Refusal
+from sizes import SIGNED, is_copied
 
 # Nested options, tuples and numbers are found up to 735, and not from 757 on. Where the fields tell the types of the
 # parts, one thing alone is asked of all parts together, which is found up to 1,593, and not from 1,630 on.
 LIMIT = 735
 LIMIT_TOLD = 1470
+# What may be missing at the end was found up to 876, and not from 1,375 on.
+LIMIT_ENDS = 900
 NUMBER = 1.07
 # A number that is checked is read by way of another; these are found by way of their parts.
 SLOWER = {"bool": 1.52, "char": 1.52, "usize": 1.52, "Ipv4Addr": 1.52, "Endianness": 1.52, "Magic": 1.52,
@@ -32,7 +36,22 @@ def check(item, taken):
 
 def check_each(item, kinds, limit=LIMIT):
     """Refuses types for one of which the compiler would search too long."""
-    if any(weight(kind) > limit for kind in kinds):
+    refuse_past(item, max(map(weight, kinds), default=0), limit)
+
+
+def check_ends(item, last):
+    """Refuses parts at the end that may be missing, of which each is searched for twice with all those behind it, in
+    writing. What is not copied is written by way of a part, in which little more is searched for the deeper it nests."""
+    found = 0
+    for kind in reversed(last):
+        is_bare = is_copied(kind) and not is_listed(kind, *SIGNED)
+        found = NUMBER + 2 * (NUMBER * (1 if is_bare else 1 + depth_of(kind)) + found)
+    refuse_past(item, found, LIMIT_ENDS)
+
+
+def refuse_past(item, found, limit):
+    """Refuses what takes the compiler longer than a limit."""
+    if found > limit:
         raise Refusal(item.line, f"the types within the parts of `{item.name}` are so many, or nest so deep, that "
                                  "Rattle's compiler gives up its search for their impls: put the deepest of them, or "
                                  "some of the fields, into a struct of its own")

@@ -18,6 +18,8 @@ MOST_DEEP = 20
 # So many lengths are told in one tree beside other parts, and so many in one that stands alone, of what is written and
 # has a lifetime or a type as a parameter: past that the search for how long these live meets the prover's limit.
 MOST_TOLD_BESIDE, MOST_TOLD_ALONE = 6, 7
+# What to write in place of what has parameters.
+WITHOUT_PARAMETERS = "write a type for each thing that a type parameter stands for, and own what is borrowed"
 # So many parts stand in one tuple.
 MOST_OTHERS = 6
 # The types of numbers that tell a length.
@@ -384,9 +386,7 @@ def few_told(spans, items, owner):
         if sum(item.has_length() for item in items[first:last + 1]) > MOST_TOLD_BESIDE:
             if last + 1 < len(items) or sum(item.has_length() for item in items) > MOST_TOLD_ALONE:
                 raise Refusal(items[last].field.line, f"`{owner}` has parameters, and beside them so many lengths "
-                                                      "that are told together find no proof: write a type for each "
-                                                      "thing that a type parameter stands for, and own what is "
-                                                      "borrowed")
+                                                      f"that are told together find no proof: {WITHOUT_PARAMETERS}")
             return [(0, last)]
     return spans
 

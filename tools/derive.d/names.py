@@ -33,6 +33,12 @@ def field_name(name):
     return name + "_" if name in KEYWORDS | NOWHERE else name
 
 
+def quoted(name):
+    """The name of a field behind a dot in a clause. There a word of clauses stands as it is too, but the kit warns of
+    one that the code has before a colon."""
+    return f"«{name}»" if name in CLAUSE_WORDS else name
+
+
 def camel(name):
     """`some_name` as `SomeName`."""
     return "".join(part.capitalize() for part in name.split("_"))

@@ -7,7 +7,7 @@ import defaults
 import lengths
 import rattle
 import syntax
-from names import camel, variables
+from names import camel, quoted, variables
 from rattle import Build, Call, Let, Listed, Own, is_listed, tuple_of, type_text
 from refusal import Refusal
 from scope import member
@@ -272,7 +272,7 @@ def accesses_of_struct(fields, scope):
     found = []
     for place, (it, bound) in enumerate(zip(fields, variables(fields, scope.values()))):
         name = member(it, place)
-        found.append(Access(bound, f"it.{name}", f"&self.{name}", f"self.{name}", it.name or name))
+        found.append(Access(bound, f"it.{quoted(name)}", f"&self.{name}", f"self.{name}", it.name or name))
     return found
 
 

@@ -6,13 +6,17 @@ import impl_search
 import rattle
 import syntax
 from impls import Shape
-from lengths import TEXTS_AND_LISTS
+from lengths import TEXTS_AND_LISTS, WITHOUT_PARAMETERS
 from names import Fresh, parameter
 from parts import (Part, PartMaker, Taken, accesses_of_struct, built, is_lent_list, read_pattern, seen_of_parts,
                    write_statements, written_among)
-from rattle import Block, Call, Let, Match, clause_lines, clause_text, is_listed, type_text
+from rattle import Block, Call, Let, Match, clause_lines, clause_text, is_listed, names_in, type_text
 from refusal import Refusal
 from sizes import SIGNED, is_copied
+
+
+# So many fields that may be missing name parameters.
+MOST_NAMING = 2
 
 
 def ends_with_input(item):
@@ -58,6 +62,9 @@ class WholeShape(Shape):
         super().__init__(item, scope, [self.first, ends])
         if item.readable:
             impl_search.check_each(item, [syntax.Tuple(item.line, tuple(self.kinds))])
+        if item.writable and not self.is_rest():
+            impl_search.check_ends(item, [kind for _, _, kind in self.last])
+            self.check_parameters()
         end = "Rest" if self.is_rest() else "UnlessEnd"
         self.names_of_whole = {name: scope.need("speedy::whole", name)
                                for name in ("Followed", "Whole", "EndsWithInput", end)}
@@ -77,6 +84,15 @@ class WholeShape(Shape):
         if len(self.last) > 1 and any(it.options.is_rest for it, _, _ in self.last):
             raise Refusal(self.last[0][0].line, "a rest with `length = ..` is the last field, and stands behind none "
                                                 "with `default_on_eof`")
+
+    def check_parameters(self):
+        """Refuses many parts that may be missing of types that name parameters: how long these live is searched for in
+        writing, and the search meets its limit."""
+        names = {it.name for it in self.item.parameters if it.kind != "const"}
+        naming = [it for it, _, kind in self.last if names_in(kind) & names]
+        if len(naming) > MOST_NAMING:
+            raise Refusal(naming[-1].line, "so many fields with `default_on_eof` that name parameters find no proof: "
+                                           + WITHOUT_PARAMETERS)
 
     def is_rest(self):
         """Whether the end is a rest, and no parts that may be missing."""

@@ -10,11 +10,11 @@ KEYWORDS = frozenset("""
 OURS = frozenset(("ghost", "requires", "ensures", "gen"))
 # No name of a parameter, though of a field and a variable. A made function has no parameter from the file.
 NO_PARAMETER = frozenset(("result",))
-# Words of clauses. As a variable in a clause they are quoted, as `«data»`; behind a dot they stand as they are, as
-# `it.data`. The made clauses name fields behind a dot, or by their place.
+# Words of clauses. In a clause they are quoted, as `«data»` and `it.«data»`. The made clauses name fields behind a dot, or
+# by their place.
 CLAUSE_WORDS = frozenset("""
-    data record module package open unfoldable abbrev axiom unfold unfolding ruleset mutual infix infixl infixr elim
-    coe fcoe tcoe hcom com Type where use mod pub as let in do""".split())
+    data record module package using open unfoldable abbrev axiom unfold unfolding ruleset mutual infix infixl infixr
+    elim coe fcoe tcoe hcom com Type where use mod pub as let in do""".split())
 # Neither a field, a variant, an item nor a parameter, and not to be quoted either.
 NOWHERE = frozenset(("deriving",))
 # Tactics: no name of a variable in a clause.

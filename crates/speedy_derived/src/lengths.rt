@@ -77,7 +77,7 @@ type LengthOfOptionParts = Option<Prefixed<u16, Vec<u8>>>;
 impl Layout for LengthOfOption {
     ghost Seen = { ⟦<LengthOfOptionParts as Layout>⟧.Seen };
 
-    ghost seen = { λ it. ⟦<Option<Vec<u8>> as Layout>⟧.seen it.data };
+    ghost seen = { λ it. ⟦<Option<Vec<u8>> as Layout>⟧.seen it.«data» };
 
     ghost layout = { ⟦<LengthOfOptionParts as Layout>⟧.layout };
 }

@@ -40,7 +40,7 @@ type ToldListParts = WithLength<ToldListDataLength, u8, Vec<bool>>;
 impl Layout for ToldList {
     ghost Seen = { ⟦<ToldListParts as Layout>⟧.Seen };
 
-    ghost seen = { λ it. (it.length, ⟦<Vec<bool> as Layout>⟧.seen it.data) };
+    ghost seen = { λ it. (it.length, ⟦<Vec<bool> as Layout>⟧.seen it.«data») };
 
     ghost layout = { ⟦<ToldListParts as Layout>⟧.layout };
 }
@@ -105,7 +105,7 @@ type ToldCowTextParts<'a> = WithLength<ToldCowTextDataLength, u8, CowStr<'a>>;
 impl<'a> Layout for ToldCowText<'a> {
     ghost Seen = { ⟦<ToldCowTextParts<'a> as Layout>⟧.Seen };
 
-    ghost seen = { λ it. (it.length, ⟦<CowStr<'a> as Layout>⟧.seen it.data) };
+    ghost seen = { λ it. (it.length, ⟦<CowStr<'a> as Layout>⟧.seen it.«data») };
 
     ghost layout = { ⟦<ToldCowTextParts<'a> as Layout>⟧.layout };
 }
@@ -174,7 +174,7 @@ type ToldBytesParts<'a> = WithLength<ToldBytesDataLength, u8, &'a [u8]>;
 impl<'a> Layout for ToldBytes<'a> {
     ghost Seen = { ⟦<ToldBytesParts<'a> as Layout>⟧.Seen };
 
-    ghost seen = { λ it. (it.length, ⟦<&'a [u8] as Layout>⟧.seen it.data) };
+    ghost seen = { λ it. (it.length, ⟦<&'a [u8] as Layout>⟧.seen it.«data») };
 
     ghost layout = { ⟦<ToldBytesParts<'a> as Layout>⟧.layout };
 }
