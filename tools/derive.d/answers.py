@@ -49,9 +49,11 @@ def answered(goal, arm, step, taken, tag, is_apart=False):
         name = "answer" + "'" * place
         found.append(f"    let {name} = rw {ensured} at {answer} in")
         answer = name
-    answer = f"search (rules, {answer})" if is_apart else answer
-    found[-1] += f" rw c.in-{tag}.is (read.kept, {answer})" if tag is not None \
-        else f" record {{ kept = read.kept; answer = {answer} }}"
+    if is_apart:
+        found.append(f"    rw c.in-{tag}.is (read.kept, search (rules, {answer}))")
+    else:
+        found[-1] += f" rw c.in-{tag}.is (read.kept, {answer})" if tag is not None \
+            else f" record {{ kept = read.kept; answer = {answer} }}"
     return ["", f"pub {goal} : goal.{goal}", f"{goal} g c =", *found]
 
 

@@ -127,8 +127,8 @@ ANSWERED = [
 }
 """, {"AWriteCases/write_case": ["rw c.in-B.is c.write_value.ensures"],
       "AReadCases/read_case": ["use Rattle.std.proofs.Common.{rules}\n",
-                               "in rw c.in-0.is (read.kept, search (rules, read.answer))",
-                               "at read.answer in rw c.in-1.is (read.kept, search (rules, answer))"]}),
+                               " in\n    rw c.in-0.is (read.kept, search (rules, read.answer))",
+                               "at read.answer in\n    rw c.in-1.is (read.kept, search (rules, answer))"]}),
 ]
 
 MADE += [

@@ -41,7 +41,7 @@ def check_each(item, kinds, limit=LIMIT):
 
 def check_ends(item, last):
     """Refuses parts at the end that may be missing, of which each is searched for twice with all those behind it, in
-    writing. What is not copied is written by way of a part, in which little more is searched for the deeper it nests."""
+    writing. What is not copied is written by way of a part, in which little more is searched for the deeper it is."""
     found = 0
     for kind in reversed(last):
         is_bare = is_copied(kind) and not is_listed(kind, *SIGNED)

@@ -10,8 +10,8 @@ KEYWORDS = frozenset("""
 OURS = frozenset(("ghost", "requires", "ensures", "gen"))
 # No name of a parameter, though of a field and a variable. A made function has no parameter from the file.
 NO_PARAMETER = frozenset(("result",))
-# Words of clauses. In a clause they are quoted, as `«data»` and `it.«data»`. The made clauses name fields behind a dot, or
-# by their place.
+# Words of clauses. In a clause they are quoted, as `«data»` and `it.«data»`. The made clauses name fields behind a dot,
+# or by their place.
 CLAUSE_WORDS = frozenset("""
     data record module package using open unfoldable abbrev axiom unfold unfolding ruleset mutual infix infixl infixr
     elim coe fcoe tcoe hcom com Type where use mod pub as let in do""".split())

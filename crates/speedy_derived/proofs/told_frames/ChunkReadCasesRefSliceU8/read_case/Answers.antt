@@ -3,7 +3,8 @@ use Rattle.speedy_derived.proofs.told_frames.ChunkReadCasesRefSliceU8.read_case.
 
 pub returns-in-Ok : goal.returns-in-Ok
 returns-in-Ok g c =
-    let read = rw c.in-Ok.is at c.read_value.ensures in rw c.in-1.is (read.kept, search (rules, read.answer))
+    let read = rw c.in-Ok.is at c.read_value.ensures in
+    rw c.in-1.is (read.kept, search (rules, read.answer))
 
 pub returns-in-Err : goal.returns-in-Err
 returns-in-Err g c =
