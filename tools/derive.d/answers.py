@@ -13,7 +13,7 @@ def answers(shape, place):
     if len(shape.cases) == 1:
         return {}
     name = shape.item.name
-    uses = [RULES] if any(takes_apart(case.taken) for case in shape.cases) else []
+    uses = [RULES] if any(has_other_form(case.taken) for case in shape.cases) else []
     return file_of(place, f"{name}WriteCases", "write_case", write_answers(shape)) \
         | file_of(place, f"{name}ReadCases{lending(shape)}", "read_case", read_answers(shape), uses)
 
@@ -41,15 +41,15 @@ def lending(shape):
     return "RefSliceU8" if shape.generics.lending else ""
 
 
-def answered(goal, arm, step, taken, tag, is_apart=False):
+def answered(goal, arm, step, taken, tag, is_searched=False):
     """The answer of a goal by what was read, of which some options are taken: as the value of a tag, or of a struct.
-    What is taken apart has another form in the result, in which a search finds it again."""
+    Where the result has another form, a search finds what was read in it."""
     found, answer = [f"    let read = rw c.in-{arm}.is at c.{step}.ensures in"], "read.answer"
     for place, ensured in enumerate(taken):
         name = "answer" + "'" * place
         found.append(f"    let {name} = rw {ensured} at {answer} in")
         answer = name
-    if is_apart:
+    if is_searched:
         found.append(f"    rw c.in-{tag}.is (read.kept, search (rules, {answer}))")
     else:
         found[-1] += f" rw c.in-{tag}.is (read.kept, {answer})" if tag is not None \
@@ -115,11 +115,13 @@ def read_answers(shape):
         end = "" if place == 0 else "-read_value" if place == 1 else f"-read_value-{place}"
         step = f"read_value-in-{tag}" if place else "read_value"
         taken = options_of(case.taken, "taken_by", known, f"Ok{end}")
-        found += answered(f"returns-in-Ok{end}", f"Ok{end}", step, taken, tag, takes_apart(case.taken))
+        found += answered(f"returns-in-Ok{end}", f"Ok{end}", step, taken, tag, has_other_form(case.taken))
         found += answered(f"returns-in-Err{end}", f"Err{end}", step, [], tag)
     return found
 
 
-def takes_apart(taken):
-    """Whether what was read is taken apart behind the pattern."""
-    return any(part.tree is not None for part in taken.parts) or is_nested(taken.tree) or moves_array(taken)
+def has_other_form(taken):
+    """Whether what was read has another form in the result: it is taken apart behind the pattern, or a part is a signed
+    number."""
+    return any(part.tree is not None or part.is_signed() for part in taken.parts) or is_nested(taken.tree) \
+        or moves_array(taken)

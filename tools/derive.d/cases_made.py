@@ -121,14 +121,16 @@ ANSWERED = [
                                "let answer = rw c.option_value-t0.ensures at read.answer in rw c.in-1.is (read.kept",
                                "pub returns-in-Err-read_value-2 : goal.returns-in-Err-read_value-2"]}),
     ("one variant, and variants without parts", DERIVES + "enum A { B(u8) }\n" + DERIVES + "enum C { D, E }\n", {}),
-    ("variants that are taken apart", DERIVES + """enum A {
+    ("variants whose result has another form", DERIVES + """enum A {
     B { n: u8, #[speedy(length = n)] a: Vec<u16> },
     C([u8; 4], u8, #[speedy(length_type = u8)] Option<String>),
+    D(i16),
 }
 """, {"AWriteCases/write_case": ["rw c.in-B.is c.write_value.ensures"],
       "AReadCases/read_case": ["use Rattle.std.proofs.Common.{rules}\n",
                                " in\n    rw c.in-0.is (read.kept, search (rules, read.answer))",
-                               "at read.answer in\n    rw c.in-1.is (read.kept, search (rules, answer))"]}),
+                               "at read.answer in\n    rw c.in-1.is (read.kept, search (rules, answer))",
+                               "    rw c.in-2.is (read.kept, search (rules, read.answer))"]}),
 ]
 
 MADE += [
