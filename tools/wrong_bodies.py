@@ -103,13 +103,19 @@ def read_edit(edit, folder):
     changes = list(changes_of(edit))
     if not any(it.path for it in changes):
         return rt.read_edit(edit, folder)
-    texts = {}
     try:
-        for it in changes:
-            texts[it.file] = it.applied_to(texts.get(it.file) or text_of(f"{folder}/{it.file}"))
+        return with_changes(changes, {}, folder), None
     except (OSError, ValueError) as error:
         return None, str(error)
-    return texts, None
+
+
+def with_changes(changes, texts, folder):
+    """Returns the texts of files with these changes, beside those that others have changed, by their path in the
+    crate."""
+    found = dict(texts)
+    for it in changes:
+        found[it.file] = it.applied_to(found.get(it.file) or text_of(f"{folder}/{it.file}"))
+    return found
 
 
 def places_of(edit, folder):

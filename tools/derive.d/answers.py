@@ -1,7 +1,7 @@
 """Proofs that the source determines: of the arms of enums, and of options behind a length. A search finds the same for
 few variants and parts."""
 import lengths
-from parts import is_nested, moves_array
+from parts import has_other_form, is_nested, moves_array
 
 # What a search for a proof is given besides a fact.
 RULES = "use Rattle.std.proofs.Common.{rules}"
@@ -20,20 +20,27 @@ def answers(shape, place):
 
 def answers_of_struct(shape, taken, place):
     """The answers of the functions by which a struct reads and writes its parts, if one of these is an option behind a
-    length."""
+    length, and of that by which it reads a signed number among many."""
     lent, read = options_of(taken, "lent_by", set(), None), options_of(taken, "taken_by", set(), None)
-    if place is None or not lent:
+    if place is None:
         return {}
     name, found = shape.item.name, {}
-    if shape.item.writable:
+    if shape.item.writable and lent:
         trait, function, called = ("WriteToEnd", "write_to_end", "write_to_end") if shape.ends_with_input \
             else ("Writable", "write_to", "write_value")
         lines = ["", "pub returns : goal.returns", *rewritten("returns", lent, f"c.{called}.ensures", None)]
         found |= file_of(place, name + trait, function, lines)
-    if shape.item.readable and not shape.ends_with_input and not moves_array(taken):
-        found |= file_of(place, f"{name}ReadFrom{lending(shape)}", "read_from",
-                         answered("returns-in-Ok", "Ok", "read_value", read, None))
+    is_signed = has_signed(taken) and (is_nested(taken.tree) or any(part.tree is not None for part in taken.parts))
+    if shape.item.readable and not shape.ends_with_input and (is_signed or lent and not moves_array(taken)):
+        lines = answered("returns-in-Ok", "Ok", "read_value", read, None, is_signed, is_signed)
+        uses = [RULES] if is_signed else []
+        found |= file_of(place, f"{name}ReadFrom{lending(shape)}", "read_from", lines, uses)
     return found
+
+
+def has_signed(taken):
+    """Whether a part is a signed number: what was read is the number again since it is within its range."""
+    return any(part.is_signed() for part in lengths.leaf_parts(taken.parts))
 
 
 def lending(shape):
@@ -41,19 +48,24 @@ def lending(shape):
     return "RefSliceU8" if shape.generics.lending else ""
 
 
-def answered(goal, arm, step, taken, tag, is_searched=False):
+def answered(goal, arm, step, taken, tag, is_searched=False, is_signed=False):
     """The answer of a goal by what was read, of which some options are taken: as the value of a tag, or of a struct.
-    Where the result has another form, a search finds what was read in it."""
+    Where the result has another form, a search finds what was read in it, by the ranges of signed numbers."""
     found, answer = [f"    let read = rw c.in-{arm}.is at c.{step}.ensures in"], "read.answer"
     for place, ensured in enumerate(taken):
         name = "answer" + "'" * place
         found.append(f"    let {name} = rw {ensured} at {answer} in")
         answer = name
+    if is_searched and is_signed:
+        found.append(f"    let ranges = rw c.in-{arm}.is at c.{step}.type_inv in")
     if is_searched:
-        found.append(f"    rw c.in-{tag}.is (read.kept, search (rules, {answer}))")
+        answer = f"search (rules, {answer}{', ranges' if is_signed else ''})"
+    last = f"rw c.in-{tag}.is (read.kept, {answer})" if tag is not None \
+        else f"record {{ kept = read.kept; answer = {answer} }}"
+    if is_searched:
+        found.append(f"    {last}")
     else:
-        found[-1] += f" rw c.in-{tag}.is (read.kept, {answer})" if tag is not None \
-            else f" record {{ kept = read.kept; answer = {answer} }}"
+        found[-1] += f" {last}"
     return ["", f"pub {goal} : goal.{goal}", f"{goal} g c =", *found]
 
 
@@ -115,13 +127,7 @@ def read_answers(shape):
         end = "" if place == 0 else "-read_value" if place == 1 else f"-read_value-{place}"
         step = f"read_value-in-{tag}" if place else "read_value"
         taken = options_of(case.taken, "taken_by", known, f"Ok{end}")
-        found += answered(f"returns-in-Ok{end}", f"Ok{end}", step, taken, tag, has_other_form(case.taken))
+        how = (has_other_form(case.taken), has_signed(case.taken))
+        found += answered(f"returns-in-Ok{end}", f"Ok{end}", step, taken, tag, *how)
         found += answered(f"returns-in-Err{end}", f"Err{end}", step, [], tag)
     return found
-
-
-def has_other_form(taken):
-    """Whether what was read has another form in the result: it is taken apart behind the pattern, or a part is a signed
-    number."""
-    return any(part.tree is not None or part.is_signed() for part in taken.parts) or is_nested(taken.tree) \
-        or moves_array(taken)

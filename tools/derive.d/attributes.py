@@ -14,8 +14,8 @@ OF_FIELDS = ("length", "length_type", "varint", "constant_prefix", "skip", "defa
 OF_STRUCTS = ("depth",)
 OF_ENUMS = ("tag_type", "peek_tag", "depth")
 OF_VARIANTS = ("tag",)
-# A depth past this is refused.
-MOST_LEVELS = 64
+# A depth past this is refused: from 34 on the check of a library refuses the macro that makes its levels.
+MOST_LEVELS = 32
 # The traits of std that a type may derive.
 DERIVED = ("Debug", "Clone", "Copy", "PartialEq", "Eq", "PartialOrd", "Ord", "Hash", "Default")
 
@@ -243,8 +243,8 @@ def depth(item, line, value, scope):
     """How many levels the values of a type have at most that hold values of the type itself."""
     found = expressions.number(value, scope.constants)
     if not 1 <= found <= MOST_LEVELS:
-        raise Refusal(line, f"`depth` is a number of levels from 1 to {MOST_LEVELS}, of which each takes room on the "
-                            "stack")
+        raise Refusal(line, f"`depth` is a number of levels from 1 to {MOST_LEVELS}: each takes room on the stack, and "
+                            "no constant of a library is made of more")
     if item.parameters:
         raise Refusal(line, f"a type with `depth` has no parameters: write the impls of `{item.name}` by hand")
     return found

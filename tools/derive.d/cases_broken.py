@@ -199,8 +199,8 @@ BROKEN = [
     ("types with a depth that hold each other", deep("    a: Option<Box<B>>") + DERIVES + "struct B(Vec<A>);", 4,
      "holds itself through `B`"),
     ("a depth of none that holds itself", deep("    a: Vec<u8>"), 4, "leave `depth` out"),
-    ("a depth of 0", deep("    a: Vec<A>", "0"), 3, "from 1 to 64"),
-    ("a depth past the stack", deep("    a: Vec<A>", "65"), 3, "from 1 to 64"),
+    ("a depth of 0", deep("    a: Vec<A>", "0"), 3, "from 1 to 32"),
+    ("a depth that no constant of a library has", deep("    a: Vec<A>", "33"), 3, "from 1 to 32"),
     ("a discriminant that is compared and not told", HEAD + "#[derive(PartialEq, PartialOrd, Readable, Writable)]\n"
      "#[repr(u8)]\nenum A { #[speedy(tag = 1)] B = OTHER }", 4, "no number that this file tells"),
     ("a depth that is no number", deep("    a: Vec<A>", "\"a\""), 3, "no number that this file tells"),

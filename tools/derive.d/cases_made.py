@@ -125,12 +125,25 @@ ANSWERED = [
     B { n: u8, #[speedy(length = n)] a: Vec<u16> },
     C([u8; 4], u8, #[speedy(length_type = u8)] Option<String>),
     D(i16),
+    E(uuid::Uuid, bool),
 }
 """, {"AWriteCases/write_case": ["rw c.in-B.is c.write_value.ensures"],
       "AReadCases/read_case": ["use Rattle.std.proofs.Common.{rules}\n",
                                " in\n    rw c.in-0.is (read.kept, search (rules, read.answer))",
                                "at read.answer in\n    rw c.in-1.is (read.kept, search (rules, answer))",
-                               "    rw c.in-2.is (read.kept, search (rules, read.answer))"]}),
+                               "    let ranges = rw c.in-Ok-read_value-2.is at c.read_value-in-2.type_inv in\n"
+                               "    rw c.in-2.is (read.kept, search (rules, read.answer, ranges))",
+                               "    rw c.in-3.is (read.kept, search (rules, read.answer))"]}),
+    ("a signed number behind a length", DERIVES + """struct A {
+    n: u8,
+    #[speedy(length = n)]
+    a: Vec<u16>,
+    b: i32,
+}
+""" + DERIVES + "struct B(u8, i32);\n", {
+    "AReadFrom/read_from": ["use Rattle.std.proofs.Common.{rules}\n",
+                            "    let ranges = rw c.in-Ok.is at c.read_value.type_inv in\n"
+                            "    record { kept = read.kept; answer = search (rules, read.answer, ranges) }"]}),
 ]
 
 MADE += [

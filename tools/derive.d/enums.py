@@ -9,7 +9,8 @@ from answers import answers
 from impls import Shape
 from parts import (NUMBERS, PartMaker, accesses_of_variant, built, number_of, read_arm, seen_of_parts,
                    variant_pattern, write_statements, written)
-from rattle import Block, Build, Call, Listed, Match, Own, clause_lines, names_in, parts_of, type_text
+from rattle import (Block, Build, Call, Listed, Match, Own, clause_lines, is_listed, names_in, parts_of,
+                    type_text)
 from recursive_enums import RecursiveEnumShape
 from refusal import Refusal
 from trees import halved, leaves
@@ -81,7 +82,7 @@ class EnumShape(Shape):
         scope.least[item.name] = NUMBERS[item.tag_type][2]
         for case in self.cases:
             if item.readable:
-                impl_search.check(item, case.taken)
+                impl_search.check(item, case.taken, True)
             if not case.taken.is_told():
                 names = set().union(*(names_in(part.type) for part in case.taken.parts))
                 case.parts_type = self.alias(f"{item.name}{case.variant.name}Parts",
@@ -173,7 +174,7 @@ class EnumShape(Shape):
         if not case.taken.parts:
             return str(variant.tag), value()
         kind = "" if case.taken.is_told() else f"::<{case.parts_type}>"
-        pattern, made = read_arm(case.taken, value)
+        pattern, made = read_arm(case.taken, value, True)
         arms = ((Call(ok, (pattern,)), made), (f"{err}(error)", f"{err}(error)"))
         return str(variant.tag), Match(f"reader.read_value{kind}()", arms)
 
@@ -207,11 +208,20 @@ class EnumShape(Shape):
 
 
 def refuse_one_variant(shape):
-    """Refuses an enum whose only variant has many parts."""
+    """Refuses an enum whose only variant has many parts, or a `HashMap` as one that is written."""
     item, kinds = shape.item, shape.kinds
-    if len(shape.cases) == 1 and (len(kinds) > PARTS_OF_ONE or sum(map(types_in, kinds)) > TYPES_OF_ONE):
-        raise Refusal(item.line, f"`{item.name}` has one variant, and that has many parts, which finds no proof: put "
-                                 "its fields into a struct of their own, which has the same bytes")
+    if len(shape.cases) != 1:
+        return
+    has_map = item.writable and any(map(is_hash_map, kinds))
+    if has_map or len(kinds) > PARTS_OF_ONE or sum(map(types_in, kinds)) > TYPES_OF_ONE:
+        what = "a `HashMap`" if has_map else "many parts"
+        raise Refusal(item.line, f"`{item.name}` has one variant, and that has {what}, which finds no proof: put its "
+                                 "fields into a struct of their own, which has the same bytes")
+
+
+def is_hash_map(kind):
+    """Whether a type is a `HashMap`, as it is or behind a length."""
+    return is_listed(parts_of(kind)[-1] if is_listed(kind, "Prefixed", "WithLength") else kind, "HashMap")
 
 
 def types_in(kind):

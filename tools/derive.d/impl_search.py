@@ -4,7 +4,7 @@ weights were measured, in the time of a number, and are rounded up."""
 import rattle
 import syntax
 from lengths import depth_of
-from parts import is_nested, moves_array
+from parts import is_nested, is_taken_apart, moves_array
 from rattle import Foreign, Listed, Own, is_listed
 from refusal import Refusal
 from sizes import SIGNED, is_copied
@@ -23,14 +23,15 @@ MAPS = ("BTreeMap", "HashMap", "IndexMap")
 LISTS = ("Vec", "BoxedSlice", "SmallVec", "CowSlice", "BTreeSet", "HashSet", "IndexSet")
 
 
-def check(item, taken):
+def check(item, taken, is_variant=False):
     """Refuses parts for which the compiler would search too long. Those of a short tuple whose types the fields tell
-    are searched for one by one."""
+    are searched for one by one, in its pattern."""
     if not taken.is_told():
         check_each(item, [taken.type()])
-    elif is_nested(taken.tree) or moves_array(taken):
+        return
+    if is_taken_apart(taken, is_variant):
         check_each(item, [taken.type()], LIMIT_TOLD)
-    else:
+    if not (is_nested(taken.tree) or moves_array(taken)):
         check_each(item, [part.type for part in taken.parts])
 
 

@@ -300,13 +300,13 @@ def seen_of_parts(taken, quoted, scope):
 
 # What is read.
 
-def read_arm(taken, built):
+def read_arm(taken, built, is_variant=False):
     """The arm of a `match` that takes parts apart: its pattern inside `Ok`, and what is built of them."""
-    pattern, statements = read_pattern(taken)
+    pattern, statements = read_pattern(taken, is_variant)
     return pattern, rattle.Block(statements, built())
 
 
-def read_pattern(taken):
+def read_pattern(taken, is_variant=False):
     """The pattern that takes parts apart, and the statements that do so behind it, which set the values of fields."""
     fresh = lengths.Names(access.bound for access in taken.accesses)
     told = [part for part in taken.parts if part.tree is not None]
@@ -314,7 +314,7 @@ def read_pattern(taken):
     behind += [part.option_taken() for part in taken.parts if part.taken_by]
     if not taken.parts:
         return "()", ()
-    if is_nested(taken.tree) or moves_array(taken):
+    if is_taken_apart(taken, is_variant):
         apart = taken_apart(taken.tree, {part.bound for part in taken.parts})
         return "parts", (*apart, *behind)
     return fold(taken.tree, lambda it: it.bound, tuple_of), tuple(behind)
@@ -325,8 +325,21 @@ def moves_array(taken):
     return isinstance(taken.tree, list) and any(isinstance(part.type, syntax.Array) for part in taken.parts)
 
 
+def has_other_form(taken):
+    """Whether what was read has another form in the result of a variant's arm, in which a search for a proof finds it.
+    Several parts are then taken apart behind the pattern, since in a large struct a search finds them only so."""
+    return is_nested(taken.tree) or moves_array(taken) or any(
+        part.tree is not None or part.is_signed() or is_listed(part.type, "Uuid") for part in taken.parts)
+
+
+def is_taken_apart(taken, is_variant):
+    """Whether the parts are taken apart behind the pattern: of tuples in a tuple, and of arrays, it moves none out."""
+    is_tuple = isinstance(taken.tree, list)
+    return is_tuple and (is_nested(taken.tree) or moves_array(taken) or is_variant and has_other_form(taken))
+
+
 def taken_apart(tree, names):
-    """The statements that take a tuple apart, tuple by tuple: no pattern moves out of tuples in a tuple."""
+    """The statements that take a tuple apart, tuple by tuple."""
     found, waiting, count = [], [("parts", tree)], 0
     while waiting:
         name, it = waiting.pop(0)

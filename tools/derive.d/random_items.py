@@ -256,7 +256,7 @@ class Item:
         if self.is_enum and source.draws("peek_tag"):
             found.append("peek_tag")
         if self.recursive:
-            found.append(f"depth = {self.random.choice([2, 5, 8, 16, 64])}")
+            found.append(f"depth = {self.random.choice([2, 5, 8, 16, 32])}")
         elif source.draws("depth"):
             found.append("depth = 16")
         return [f"#[speedy({', '.join(found)})]"] if found else []

@@ -220,7 +220,10 @@ impl<L: AsSlice<u8> + Drop, C: Context> ReadCases<L, C> for ToldCases {
                 Err(error) => Err(error),
             },
             1 => match reader.read_value::<ToldCasesFixedParts>() {
-                Ok((t0, t1)) => Ok(ToldCases::Fixed(t0.value, t1)),
+                Ok(parts) => {
+                    let (t0, t1) = parts;
+                    Ok(ToldCases::Fixed(t0.value, t1))
+                }
                 Err(error) => Err(error),
             },
             _ => Err(error_invalid_enum_variant()),

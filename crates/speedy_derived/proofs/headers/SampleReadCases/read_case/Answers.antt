@@ -4,7 +4,8 @@ use Rattle.speedy_derived.proofs.headers.SampleReadCases.read_case.Goals as goal
 pub returns-in-Ok : goal.returns-in-Ok
 returns-in-Ok g c =
     let read = rw c.in-Ok.is at c.read_value.ensures in
-    rw c.in-0.is (read.kept, search (rules, read.answer))
+    let ranges = rw c.in-Ok.is at c.read_value.type_inv in
+    rw c.in-0.is (read.kept, search (rules, read.answer, ranges))
 
 pub returns-in-Err : goal.returns-in-Err
 returns-in-Err g c =
