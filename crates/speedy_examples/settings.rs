@@ -9,7 +9,16 @@ pub struct Settings {
     pub volume: Option<u8>,
     #[speedy(length_type = u64)]
     pub scores: Vec<u32>,
+    #[speedy(length_type = u64)]
+    pub tags: Vec<Tag>,
     pub theme: Theme,
+}
+
+/// An item of a list of texts: its length has eight bytes too.
+#[derive(Debug, PartialEq, Readable, Writable)]
+pub struct Tag {
+    #[speedy(length_type = u64)]
+    pub text: String,
 }
 
 #[derive(Debug, PartialEq, Readable, Writable)]

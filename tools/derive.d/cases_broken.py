@@ -87,7 +87,8 @@ BROKEN = [
     ("a tag that is called", HEAD + DERIVES + "enum A { B = f(1) }", 3, "not taken in a constant"),
     ("an enum without variants", HEAD + DERIVES + "enum A {}", 3, "has no variant"),
     ("a tag at a field", struct("    #[speedy(tag = 1)]\n    a: u8"), 4, "no setting `tag`"),
-    ("a length of a number", struct("    #[speedy(length_type = u8)]\n    a: u32"), 5, "`length_type` is taken of"),
+    ("a length of a number", struct("    #[speedy(length_type = u8)]\n    a: u32"), 5,
+     "a number takes no `length_type`"),
     # Lengths.
     ("a length of a later field", struct("    #[speedy(length = n)]\n    a: Vec<u8>,\n    n: u8"), 4,
      "no earlier field"),

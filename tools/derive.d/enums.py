@@ -237,8 +237,8 @@ def enum_lines(item, scope, place):
         raise Refusal(item.line, f"Rattle has no enum of more than {MOST_VARIANTS} variants, and `{item.name}` has "
                                  f"{len(item.variants)}: put some into an enum of their own")
     if place is None:
-        raise Refusal(item.line, "clauses name an enum by the module that holds it: put this file into the folder of "
-                                 "the crate, or say `--module my_crate::messages`")
+        raise Refusal(item.line, "clauses name an enum by the module that holds it: write the module into a crate, "
+                                 "as `crates/my_crate/src/messages.rt`, or say `--module my_crate::messages`")
     tags_of(item, scope)
     if item.depth:
         return RecursiveEnumShape(item, scope, place).lines()

@@ -4,6 +4,7 @@ from dataclasses import dataclass, field
 import arrays
 import asked
 import defaults
+import known
 import lengths
 import rattle
 import syntax
@@ -215,8 +216,10 @@ class PartMaker:
         is_option = is_listed(kind, "Option")
         held = kind.arguments[0] if is_option else kind
         if not (is_listed(held, *COUNTED) or is_lent_list(held)):
-            raise Refusal(it.line, "`length_type` is taken of texts, lists, maps, sets and options of these: write a "
-                                   f"`Prefixed` of `{type_text(kind)}` by hand")
+            how = f"write a `Prefixed` of `{type_text(kind)}` by hand"
+            if is_listed(held, *known.NUMBERS, "usize"):
+                how = "a number takes no `length_type`"
+            raise Refusal(it.line, f"`length_type` is taken of texts, lists, maps, sets and options of these: {how}")
         number = number_of(self.scope, it.options.length_type, it.line)
         scope, bound = self.scope, access.bound
         name, part = scope.need("speedy::prefixed", "Prefixed"), scope.need("speedy", "Part")

@@ -300,8 +300,9 @@ class LevelShape(Shape):
     def __init__(self, item, scope, place):
         self.place = place
         if place is None:
-            raise Refusal(item.line, "clauses name a type with `depth` by the module that holds it: put this file into "
-                                     "the folder of the crate, or say `--module my_crate::messages`")
+            raise Refusal(item.line, "clauses name a type with `depth` by the module that holds it: write the module "
+                                     "into a crate, as `crates/my_crate/src/messages.rt`, or say "
+                                     "`--module my_crate::messages`")
         self.holding = Holding(item, scope)
         self.level = scope.fresh.name(f"{item.name}Level")
         self.levels = scope.fresh.name(f"{upper(item.name)}_LEVELS")

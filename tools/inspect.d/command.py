@@ -56,12 +56,17 @@ def layout_of(asked):
         print(f"note: tools/derive does not take this file: {asked.file}:{source.refusal.line}: "
               f"{source.refusal.message}", file=sys.stderr)
     if asked.type is None:
-        raise BadInput(f"{asked.file} has the types {', '.join(source.names())}: name one")
+        raise BadInput(f"{types_of(asked.file, source)}{': name one' if source.names() else ''}")
     try:
         return source.layout(asked.type)
     except Refusal as refusal:
-        raise BadInput(f"`{asked.type}`: {refusal.message}: {asked.file} has the types "
-                       f"{', '.join(source.names())}") from refusal
+        raise BadInput(f"`{asked.type}`: {refusal.message}: {types_of(asked.file, source)}") from refusal
+
+
+def types_of(file, source):
+    """Which types a file has, in words."""
+    names = source.names()
+    return f"{file} has the types {', '.join(names)}" if names else f"{file} has no type that is read or written"
 
 
 def lines_of(read, shows_all):

@@ -91,8 +91,9 @@ class Cursor:
         """Refuses more items than can come, before the first one."""
         if least * count > self.end - self.at:
             raise self.fault(Kind.UNEXPECTED_END_OF_INPUT, self.end, label, self.at,
-                             f"{count_of(count, 'item')} of at least {count_of(least, 'byte')} do not fit into "
-                             f"the {count_of(self.end - self.at, 'byte')} that are left")
+                             f"{count_of(count, 'item')} of at least {count_of(least, 'byte')} "
+                             f"{'does' if count == 1 else 'do'} not fit into the {count_of(self.left(), 'byte')} that "
+                             f"{'is' if self.left() == 1 else 'are'} left")
 
     def fault(self, kind, at, label, begin, why, **fields):
         """The error that a part is refused, within those that are open."""

@@ -1,12 +1,12 @@
 //! What the callers of the pages on calling and proving return, and those of the README.
 use speedy::device::VecSink;
-use speedy::error::get_error_kind;
+use speedy::error::{ErrorKind, get_error_kind};
 use speedy::readable::{BufferReader, CopyingBufferReader};
 use speedy::{Endianness, Error, IsEof, LendingReader, LittleEndian, Reader, Writable};
 use speedy_examples::own_header::Header;
 use speedy_examples::own_lent::Entry;
 use speedy_examples::own_types::{Labelled, Mark};
-use speedy_examples::{files, headers, memory, readme, streams};
+use speedy_examples::{byte_sums, files, headers, memory, readme, streams, sums};
 use std::alloc::Global;
 use std::borrow::CowSlice;
 use std::fs;
@@ -22,6 +22,16 @@ pub(crate) fn assert_refused<T: Drop>(
     let error = outcome.err().expect(rt, "it is refused");
     let printed = format!(in alloc; "{:?}", get_error_kind(&error)).expect(rt, "its kind");
     assert!(rt; printed.as_str() == kind, "{printed}");
+}
+
+/// Asserts that the bytes were fewer than the least size of the type.
+fn assert_is_short(rt: &impl Abort, outcome: Result<u32, Error>) {
+    let error = outcome.err().expect(rt, "it is refused");
+    let is_short = matches!(
+        get_error_kind(&error),
+        ErrorKind::InputBufferIsTooSmall { .. }
+    );
+    assert!(rt; is_short);
 }
 
 /// Asserts that the message is of this number and text.
@@ -40,6 +50,18 @@ fn a_message_is_parsed_where_it_lies(rt: HostRuntime) {
     assert!(rt; message == (258, "Hi"));
     let outcome = readme::parse_message(alloc, &bytes[..7]);
     assert_refused(&rt, alloc, outcome, "UnexpectedEndOfInput");
+}
+
+#[test]
+fn two_numbers_are_added(rt: HostRuntime) {
+    let alloc = rt.alloc();
+    let bytes = [0xff, 0xff, 2, 0, 9];
+    assert!(rt; sums::sum(alloc, &bytes).expect(&rt, "a sum") == 65_537);
+    assert!(rt; byte_sums::sum_of_bytes(alloc, &bytes).expect(&rt, "a sum") == 65_537);
+    let outcome = sums::sum(alloc, &bytes[..3]);
+    assert_is_short(&rt, outcome);
+    let outcome = byte_sums::sum_of_bytes(alloc, &bytes[..3]);
+    assert_is_short(&rt, outcome);
 }
 
 #[test]

@@ -8,7 +8,7 @@ use speedy_examples::locating::entries;
 use speedy_examples::packets::{count_in_file, count_packets, packets};
 use speedy_examples::sensor::Reading;
 use speedy_examples::sensors::{load, save};
-use speedy_examples::settings::{Settings, Theme};
+use speedy_examples::settings::{Settings, Tag, Theme};
 use speedy_examples::{chunks, lumps};
 use std::fs;
 
@@ -162,8 +162,8 @@ fn a_broken_entry_is_found(rt: HostRuntime) -> Result<(), Error> {
 }
 
 // What bincode 1.3.3 wrote of this value.
-const SETTINGS: &[u8] =
-    b"\x03\0\0\0\0\0\0\0Ada\x01\x07\x02\0\0\0\0\0\0\0\x01\0\0\0\x02\x01\0\0\x01\0\0\0\x2c\x01";
+const SETTINGS: &[u8] = b"\x03\0\0\0\0\0\0\0Ada\x01\x07\x02\0\0\0\0\0\0\0\x01\0\0\0\x02\x01\0\0\
+    \x02\0\0\0\0\0\0\0\x02\0\0\0\0\0\0\0Hi\0\0\0\0\0\0\0\0\x01\0\0\0\x2c\x01";
 
 #[test]
 fn bytes_of_bincode_are_read(rt: HostRuntime) -> Result<(), Error> {
@@ -172,6 +172,14 @@ fn bytes_of_bincode_are_read(rt: HostRuntime) -> Result<(), Error> {
         name: String::from_str(alloc, "Ada")?,
         volume: Some(7),
         scores: Vec::from_array(alloc, [1, 258])?,
+        tags: vec![in alloc;
+            Tag {
+                text: String::from_str(alloc, "Hi")?
+            },
+            Tag {
+                text: String::new(alloc)
+            },
+        ]?,
         theme: Theme::Dark { contrast: 300 },
     };
     assert_bytes(&rt, alloc, &settings, SETTINGS);

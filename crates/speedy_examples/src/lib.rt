@@ -3,6 +3,7 @@
 //! They stand on `speedy` alone, as a user's crate does, and beside the program, so that neither waits for the other.
 #![tactic(auto)]
 
+pub mod byte_sums;
 pub mod capture;
 pub mod chunks;
 pub mod dns;
@@ -40,6 +41,7 @@ pub mod settings;
 pub mod signing;
 pub mod sockets;
 pub mod streams;
+pub mod sums;
 pub mod versions;
 pub mod wad;
 pub mod waiting;

@@ -18,6 +18,7 @@ pub struct Settings {
     pub name: String,
     pub volume: Option<u8>,
     pub scores: Vec<u32>,
+    pub tags: Vec<Tag>,
     pub theme: Theme,
 }
 
@@ -26,6 +27,7 @@ type SettingsParts = (
     Prefixed<u64, String>,
     Option<u8>,
     Prefixed<u64, Vec<u32>>,
+    Prefixed<u64, Vec<Tag>>,
     Theme,
 );
 
@@ -36,7 +38,10 @@ impl Layout for Settings {
       ⟦<String as Layout>⟧.seen it.name,
       (
         ⟦<Option<u8> as Layout>⟧.seen it.volume,
-        (⟦<Vec<u32> as Layout>⟧.seen it.scores, ⟦<Theme as Layout>⟧.seen it.theme),
+        (
+          ⟦<Vec<u32> as Layout>⟧.seen it.scores,
+          (⟦<Vec<Tag> as Layout>⟧.seen it.tags, ⟦<Theme as Layout>⟧.seen it.theme),
+        ),
       ),
     ) };
 
@@ -48,10 +53,11 @@ impl<L: AsSlice<u8> + Drop, C: Context> ReadFrom<L, C> for Settings {
 
     fn read_from<R: LendingReader<L, C>>(reader: &mut R) -> Result<Settings, C::Error> {
         match reader.read_value::<SettingsParts>() {
-            Ok((name, volume, scores, theme)) => Ok(Settings {
+            Ok((name, volume, scores, tags, theme)) => Ok(Settings {
                 name: name.value,
                 volume,
                 scores: scores.value,
+                tags: tags.value,
                 theme,
             }),
             Err(error) => Err(error),
@@ -59,7 +65,7 @@ impl<L: AsSlice<u8> + Drop, C: Context> ReadFrom<L, C> for Settings {
     }
 
     fn minimum_bytes_needed() -> usize {
-        21
+        29
     }
 }
 
@@ -73,7 +79,50 @@ impl<C: Context> Writable<C> for Settings {
             value: Part(&self.scores),
             number: PhantomData,
         };
-        writer.write_value(&(name, Part(&self.volume), scores, Part(&self.theme)))
+        let tags: Prefixed<u64, _> = Prefixed {
+            value: Part(&self.tags),
+            number: PhantomData,
+        };
+        writer.write_value(&(name, Part(&self.volume), scores, tags, Part(&self.theme)))
+    }
+}
+
+/// An item of a list of texts: its length has eight bytes too.
+#[derive(Debug, PartialEq, Drop)]
+pub struct Tag {
+    pub text: String,
+}
+
+impl Layout for Tag {
+    ghost Seen = { ⟦<Prefixed<u64, String> as Layout>⟧.Seen };
+
+    ghost seen = { λ it. ⟦<String as Layout>⟧.seen it.text };
+
+    ghost layout = { ⟦<Prefixed<u64, String> as Layout>⟧.layout };
+}
+
+impl<L: AsSlice<u8> + Drop, C: Context> ReadFrom<L, C> for Tag {
+    type Strategy = ItemByItem<C>;
+
+    fn read_from<R: LendingReader<L, C>>(reader: &mut R) -> Result<Tag, C::Error> {
+        match reader.read_value::<Prefixed<u64, String>>() {
+            Ok(text) => Ok(Tag { text: text.value }),
+            Err(error) => Err(error),
+        }
+    }
+
+    fn minimum_bytes_needed() -> usize {
+        8
+    }
+}
+
+impl<C: Context> Writable<C> for Tag {
+    fn write_to<W: Writer<C>>(&self, writer: &mut W) -> Result<(), C::Error> {
+        let text: Prefixed<u64, _> = Prefixed {
+            value: Part(&self.text),
+            number: PhantomData,
+        };
+        writer.write_value(&text)
     }
 }
 
