@@ -3,7 +3,7 @@
 An edit is read as the gate reads it: `file:`, and pairs of `old:` and `new:`. Two lines more stand in some.
 
 `# clause:` names the clause that refuses the edit, of a function that has several; of one that has one clause that is
-it. To the gate it is a comment.
+it. `invariant` is what the type of a value that it makes demands. To the gate it is a comment.
 
 `in:` is the path of a function of the file, as docs/WRONG_BODIES.md has it. The next `old:` text is looked for in that
 function, and stands there once, so impls that are alike need not differ for an edit. The gate's own edits cannot have

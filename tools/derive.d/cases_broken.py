@@ -155,8 +155,8 @@ BROKEN = [
     ("many types behind a length of another width", "use std::collections::HashMap;\n"
      + struct("    a: HashMap<u32, u32>,\n    b: Vec<Vec<(u8, bool, u8, f32, u64)>>,\n    #[speedy(length_type = u8)]\n"
               "    c: Box<str>"), 4, "gives up its search"),
-    ("an enum of one variant with a hash map", HEAD + DERIVES + "enum A {\n    B(std::collections::HashMap<u8, u8>),\n}\n",
-     3, "that has a `HashMap`"),
+    ("an enum of one variant with a hash map", HEAD + DERIVES
+     + "enum A {\n    B(std::collections::HashMap<u8, u8>),\n}\n", 3, "that has a `HashMap`"),
     ("an enum of one variant of many parts", HEAD + DERIVES + "enum A {\n    B(u8, u16, String, u8, bool),\n}\n", 3,
      "which has the same bytes"),
     ("many types in a variant", "use std::collections::BTreeMap;\n" + HEAD + DERIVES + "enum A {\n"
