@@ -2,7 +2,7 @@
 use speedy::{Readable, Writable};
 
 #[derive(Readable, Writable)]
-#[speedy(depth = 64)]
+#[speedy(depth = 32)]
 pub struct RecursiveStruct {
     pub inner: Vec<RecursiveStruct>,
 }
