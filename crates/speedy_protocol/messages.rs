@@ -1,7 +1,7 @@
 //! What a small protocol says: a header, of one version or the other, and then messages.
 use speedy::{Readable, Writable};
 
-/// What a stream begins with: a magic number, and a header of any version behind the number of its bytes.
+/// What a stream begins with: a magic number, and a header of any version after the number of its bytes.
 #[derive(Debug, PartialEq, Readable, Writable)]
 pub struct Start {
     #[speedy(constant_prefix = b"MSGS", length_type = u8)]

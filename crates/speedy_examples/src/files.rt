@@ -1,4 +1,4 @@
-//! A file of records, one behind the other.
+//! A file of records, one after the other.
 ghost use Rattle.std.specs.Prelude.{◌⊎◌, ℕ, List, map, MatchResult};
 ghost use Rattle.speedy.specs.Mode.{plain_mode};
 ghost use Rattle.speedy.specs.Format.{Each};
@@ -12,7 +12,7 @@ use speedy::{Endianness, Error, Layout, LittleEndian};
 use std::alloc::Global;
 use std::fs::{File, Files, OpenOptions};
 
-/// Puts a record behind all that the sink has taken, and sees that none of it waits.
+/// Puts a record after all that the sink has taken, and sees that none of it waits.
 pub fn put_record<S: Sink>(alloc: Global, sink: &mut S, entry: &(u16, String)) -> Result<(), Error>
     ensures { let it = ⟦<(u16, String) as Layout>⟧ in
         WritesAndFlushes ⟦<Error as From<Error>>⟧.from_gives S.sink it.seen it.layout
@@ -21,7 +21,7 @@ pub fn put_record<S: Sink>(alloc: Global, sink: &mut S, entry: &(u16, String)) -
     write_to_stream_and_flush_with_ctx(entry, alloc, LittleEndian {}, sink)
 }
 
-/// Puts a record behind those that a file has. The file is made where there is none.
+/// Puts a record after those that a file has. The file is made where there is none.
 pub fn append_record<R: Files>(
     rt: &R,
     alloc: Global,

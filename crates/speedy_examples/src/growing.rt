@@ -5,7 +5,7 @@ use speedy::readable::BufferReader;
 use speedy::{Error, LendingReader, LittleEndian, ReadableOwned};
 use std::alloc::Global;
 
-/// The messages that this version knows, each behind the number of its bytes. Variants of newer versions are passed
+/// The messages that this version knows, each after the number of its bytes. Variants of newer versions are passed
 /// over, and so is what these put at the end of a message.
 pub fn known_messages<T: ReadableOwned<LittleEndian>>(
     alloc: Global,

@@ -4,7 +4,7 @@ use speedy::readable::StreamReader;
 use speedy::{Error, LendingReader, LittleEndian};
 use std::alloc::Global;
 
-/// The bytes behind their number, if they are no more than the limit.
+/// The bytes after their number, if they are no more than the limit.
 pub fn read_body<S: Source>(alloc: Global, source: &mut S, limit: usize) -> Result<Vec<u8>, Error> {
     let mut reader = StreamReader::new(alloc, LittleEndian {}, source, false)?;
     let length = reader.read_u32()? as usize;

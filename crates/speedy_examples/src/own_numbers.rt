@@ -1,6 +1,6 @@
 //! Enums whose tags are numbers of their own, in one byte. They are proved with no answer.
 //!
-//! One has no parts, and may also stand behind tags of another width; one has parts; and one gives a tag twice.
+//! One has no parts, and may also stand after tags of another width; one has parts; and one gives a tag twice.
 ghost use Rattle.std.proofs.Common.{inl, inr};
 
 use speedy::cases::{

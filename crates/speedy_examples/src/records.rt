@@ -1,4 +1,4 @@
-//! A file of records, one behind the other.
+//! A file of records, one after the other.
 use speedy::device::Counted;
 use speedy::error::{ErrorKind, get_error_kind};
 use speedy::private::write_to_stream_and_flush_with_ctx;
@@ -10,7 +10,7 @@ use std::fs::{File, Files, OpenOptions};
 /// A record, for which your own type may stand.
 pub type Record = (u16, String);
 
-/// Puts a record behind those that a file has. The file is made where there is none.
+/// Puts a record after those that a file has. The file is made where there is none.
 pub fn append<R: Files>(rt: &R, alloc: Global, path: &str, record: &Record) -> Result<(), Error> {
     match OpenOptions::new().append(true).create(true).open(rt, path) {
         Ok(file) => {

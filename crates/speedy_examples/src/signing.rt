@@ -11,7 +11,7 @@ pub fn bytes_to_sign(alloc: Global, order: &Order) -> Result<Vec<u8>, Error> {
     order.write_to_vec_with_ctx(alloc, StrictLittleEndian {})
 }
 
-/// The value of bytes whose signature was verified. Other bytes of the same value are refused, and so are bytes behind
+/// The value of bytes whose signature was verified. Other bytes of the same value are refused, and so are bytes after
 /// it.
 pub fn read_signed(alloc: Global, bytes: &[u8]) -> Result<Order, Error> {
     let (order, length) = bytes.read_with_length::<Order>(alloc, StrictLittleEndian {});

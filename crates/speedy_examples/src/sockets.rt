@@ -1,4 +1,4 @@
-//! Messages over a socket, each behind the number of its bytes.
+//! Messages over a socket, each after the number of its bytes.
 use speedy::device::{Sink, Source};
 use speedy::error::{ErrorKind, get_error_kind};
 use speedy::prefixed::{Framed, Prefixed};
@@ -13,7 +13,7 @@ pub type Message<'a> = (u16, &'a str);
 /// The most bytes of a message that are received.
 pub const LIMIT: u16 = 1024;
 
-/// Sends a message behind the number of its bytes.
+/// Sends a message after the number of its bytes.
 pub fn send<'a, S: Sink>(
     alloc: Global,
     socket: &mut S,

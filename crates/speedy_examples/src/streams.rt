@@ -54,7 +54,7 @@ pub fn read_nothing<S: Source>(alloc: Global, source: &mut S) -> Result<(), Erro
     <() as Readable<LittleEndian>>::read_from_stream_buffered(alloc, source)
 }
 
-/// Two messages that were written one behind the other. The only error is then out of memory.
+/// Two messages that were written one after the other. The only error is then out of memory.
 pub fn two_messages(alloc: Global, bytes: &[u8]) -> Result<((u16, String), (u16, String)), Error>
     ensures same { let it = ⟦<(u16, String) as Layout>⟧ in
         let format = it.layout.format (plain_mode Endianness.LittleEndian) in

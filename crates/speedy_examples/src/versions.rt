@@ -1,4 +1,4 @@
-//! A part that an older version of the format did not have, behind the number of the version.
+//! A part that an older version of the format did not have, after the number of the version.
 use speedy::readable::BufferReader;
 use speedy::{Error, LendingReader, LittleEndian};
 use std::alloc::Global;

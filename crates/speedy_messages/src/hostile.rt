@@ -18,7 +18,7 @@ fn word(advice: Advice) -> &'static str {
     }
 }
 
-/// Prints the message behind a broken one.
+/// Prints the message after a broken one.
 fn show_next(rt: &HostRuntime, bytes: &[u8]) -> Result<(), Failure> {
     let alloc = rt.alloc();
     let (next, _) = decode(alloc, skip(alloc, bytes)?)?;
@@ -26,7 +26,7 @@ fn show_next(rt: &HostRuntime, bytes: &[u8]) -> Result<(), Failure> {
     Ok(())
 }
 
-/// Prints the error of a buffer, and goes on behind the broken message where that may be.
+/// Prints the error of a buffer, and goes on after the broken message where that may be.
 fn show_broken(rt: &HostRuntime, what: &str, bytes: &[u8]) -> Result<(), Failure> {
     let Err(error) = decode(rt.alloc(), bytes) else {
         return Ok(());
@@ -63,7 +63,7 @@ fn show_broken_stream(rt: &HostRuntime, what: &str, bytes: &[u8]) -> Result<(), 
     Ok(())
 }
 
-/// Bytes in a buffer that are no message, some with a message behind them.
+/// Bytes in a buffer that are no message, some with a message after them.
 const BROKEN: [(&str, &[u8]); 6] = [
     ("half a length", b"\x0e"),
     ("a frame cut short", b"\x0e\x00\x05\x94"),

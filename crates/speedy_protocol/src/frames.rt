@@ -1,4 +1,4 @@
-//! Messages in frames, each behind the number of its bytes: written, taken from a buffer and from a stream.
+//! Messages in frames, each after the number of its bytes: written, taken from a buffer and from a stream.
 ghost use Rattle.std.specs.Prelude.{◌≡◌, ◌∷◌, ◌⊎◌, List, ℕ, IfOk, IfErr};
 ghost use Rattle.std.specs.Option.{option_map};
 ghost use Rattle.speedy.specs.Error.{error_of};
@@ -17,7 +17,7 @@ use speedy::{Buffer, Endianness, Error, Layout, LendingReader, LittleEndian, Par
 use std::alloc::Global;
 use std::convert::AsSlice;
 
-/// A message behind the number of its bytes, which are at most 65,535.
+/// A message after the number of its bytes, which are at most 65,535.
 pub type Frame<'a> = Prefixed<u16, Framed<Message<'a>>>;
 
 /// The most bytes of a message that are taken from a stream.
@@ -41,7 +41,7 @@ pub fn send<'a, S: Sink>(alloc: Global, message: &Message<'a>, sink: &mut S) -> 
     Writable::<LittleEndian>::write_to_stream(&frame, alloc, sink)
 }
 
-/// The message at the front of the bytes, and the bytes behind its frame. Where the front is no message, the error says
+/// The message at the front of the bytes, and the bytes after its frame. Where the front is no message, the error says
 /// whether more bytes could make it one.
 pub fn decode<'a>(alloc: Global, bytes: &'a [u8]) -> Result<(Message<'a>, &'a [u8]), Error>
     ensures message { let format = ⟦<Frame<'a> as Layout>⟧.layout.format (plain_mode Endianness.LittleEndian) in
@@ -56,7 +56,7 @@ pub fn decode<'a>(alloc: Global, bytes: &'a [u8]) -> Result<(Message<'a>, &'a [u
     }
 }
 
-/// The tag of a message stands behind the two bytes of its frame's length.
+/// The tag of a message stands after the two bytes of its frame's length.
 pub fn tag_is_third<'a>()
     ensures { (v : ⟦<Message<'a> as Layout>⟧.Seen) (bytes rest : List ℕ) →
         BeginsWith (⟦<Frame<'a> as Layout>⟧.layout.format (plain_mode Endianness.LittleEndian)) v bytes rest →
@@ -91,7 +91,7 @@ pub fn again<'a, 'b>(
 /// A frame with whatever stands in it.
 pub type AnyFrame<'a> = Prefixed<u16, &'a [u8]>;
 
-/// The bytes behind the first frame, whatever stands in it.
+/// The bytes after the first frame, whatever stands in it.
 pub fn skip<'a>(alloc: Global, bytes: &'a [u8]) -> Result<&'a [u8], Error>
     ensures content { let format = ⟦<AnyFrame<'a> as Layout>⟧.layout.format (plain_mode Endianness.LittleEndian) in
         IfOk result (λ rest. (content : List ℕ) × BeginsWith format content bytes.now rest.now) }

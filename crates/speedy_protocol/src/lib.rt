@@ -1,4 +1,4 @@
-//! A small protocol: a header, and then messages, each behind the number of its bytes.
+//! A small protocol: a header, and then messages, each after the number of its bytes.
 #![tactic(auto)]
 
 pub mod advice;

@@ -14,7 +14,7 @@ use speedy::{Context, ItemByItem, Layout, LendingReader, Part, ReadFrom, Writabl
 use std::convert::AsSlice;
 use std::marker::PhantomData;
 
-/// What a stream begins with: a magic number, and a header of any version behind the number of its bytes.
+/// What a stream begins with: a magic number, and a header of any version after the number of its bytes.
 #[derive(Debug, PartialEq, Drop)]
 pub struct Start {
     pub header: Vec<u8>,

@@ -15,7 +15,7 @@ use std::alloc::Global;
 /// Where the parts of a message in its frame lie, in bytes from where the frame begins.
 #[repr(C)]
 pub struct Places {
-    /// How many bytes the frame has: behind them begins the next one.
+    /// How many bytes the frame has: after them begins the next one.
     pub size: usize,
     /// The tag of the message.
     pub tag: u32,
