@@ -1,4 +1,4 @@
-//! Structs of several forms, a part that is left out, and a number of few bytes.
+//! Structs of named parts and of one.
 use speedy::{Readable, Writable};
 
 /// Named parts.
@@ -10,30 +10,6 @@ pub struct Numbers {
     pub c: u32,
 }
 
-/// No part between braces.
-#[derive(Readable, Writable)]
-pub struct Empty {}
-
 /// A single part.
 #[derive(Clone, Debug, PartialEq, Readable, Writable)]
 pub struct Newtype(pub u16);
-
-/// A list of structs.
-#[derive(Readable, Writable)]
-pub struct Holder {
-    pub field: Vec<Empty>,
-}
-
-#[derive(Readable, Writable)]
-pub struct Skipping {
-    pub a: u8,
-    #[speedy(skip)]
-    pub cache: u8,
-    pub c: u8,
-}
-
-#[derive(Readable, Writable)]
-pub struct Variable {
-    #[speedy(varint)]
-    pub value: u64,
-}

@@ -1,4 +1,4 @@
-//! Structs of other forms, and parts that may be missing.
+//! Structs of other forms, parts that may be missing or are left out, and a number of few bytes.
 use speedy::{Readable, Writable};
 
 /// Parts without names.
@@ -17,4 +17,28 @@ pub struct Optional {
 #[derive(Readable, Writable)]
 pub struct Outcome {
     pub data: Result<u16, u16>,
+}
+
+/// No part between braces.
+#[derive(Readable, Writable)]
+pub struct Empty {}
+
+/// A list of structs.
+#[derive(Readable, Writable)]
+pub struct Holder {
+    pub field: Vec<Empty>,
+}
+
+#[derive(Readable, Writable)]
+pub struct Skipping {
+    pub a: u8,
+    #[speedy(skip)]
+    pub cache: u8,
+    pub c: u8,
+}
+
+#[derive(Readable, Writable)]
+pub struct Variable {
+    #[speedy(varint)]
+    pub value: u64,
 }

@@ -1,20 +1,20 @@
 //! Arrays of numbers in bulk: all at once from bytes that the reader lends.
-ghost use Rattle.std.specs.Prelude.{◌≡◌, ◌*◌, List, length as count_of, map, IfOk, MatchOption};
+ghost use Rattle.std.specs.Prelude.{◌≡◌, ◌*◌, length as count_of, map, IfOk, MatchOption};
 ghost use Rattle.speedy_layout.specs.Codecs.{vector_codec};
 ghost use Rattle.speedy_layout.specs.FixedNumbers.{encoded_in};
 ghost use Rattle.speedy_layout.specs.Format.{Each};
 ghost use Rattle.speedy_layout.specs.Lists.{vector};
-ghost use Rattle.speedy_read.specs.Lending.{many_items};
 ghost use Rattle.speedy_read.specs.Reading.{ReadsValue};
 
 use crate::bulk::Numbers;
-use crate::many::{FromLent, Many, Places, Strategy, Takes, read_each};
-use crate::readable::{ReadFrom, ReadMany};
+use crate::many::{FromLent, Many, Places, Strategy, Takes};
+use crate::readable::ReadMany;
 use crate::reader::{EndOfInput, LendingReader};
 use speedy_base::context::Context;
 use speedy_base::endianness::Endianness;
 use speedy_base::error::{ErrorKind, error_end_of_input, error_out_of_memory};
 use speedy_layout::fixed_numbers::{FixedNumber, take_each};
+use speedy_layout::layout::Layout;
 use speedy_layout::view_items::FixedSize;
 use std::alloc::{AllocError, Global};
 use std::convert::AsSlice;
@@ -28,28 +28,25 @@ pub struct Arrays<C> {
 }
 
 /// Arrays, of which several are read at once. An impl of [`Strategy`] that names the type of their items gets no proof.
-pub trait ReadArrays<L: AsSlice<u8> + Drop, C: Context>: ReadFrom<L, C> {
-    /// Reads `length` arrays, one after another.
-    fn read_arrays<W: Drop, R: LendingReader<L, C>>(
+pub trait ReadArrays<L: AsSlice<u8> + Drop, C: Context>: Layout + Sized + Drop {
+    /// Reads `length` arrays, all at once from bytes that the reader lends. `None` where that cannot be: then nothing
+    /// is read.
+    fn read_arrays<R: LendingReader<L, C>>(
         reader: &mut R,
         length: usize,
-    ) -> Result<Many<W, Self>, C::Error>
-        ensures { (shown : W → List Self) → ReadsValue C.Error.IsEof R.state
-            (λ many. map Self.seen (many_items shown many)) (vector_codec length Self.layout)
-            result reader.old reader.new };
+    ) -> Option<Result<Vec<Self>, C::Error>>
+        ensures { MatchOption result (R.state reader.new ≡ R.state reader.old) (λ read.
+            ReadsValue C.Error.IsEof R.state (λ v. map Self.seen v.items)
+            (vector_codec length Self.layout) read reader.old reader.new) };
 }
 
 impl<L: AsSlice<u8> + Drop, C: Context, T: ReadMany<L, C>, const N: usize> ReadArrays<L, C>
     for [T; N] {
-    fn read_arrays<W: Drop, R: LendingReader<L, C>>(
+    fn read_arrays<R: LendingReader<L, C>>(
         reader: &mut R,
         length: usize,
-    ) -> Result<Many<W, [T; N]>, C::Error> {
-        match <T::Way as Strategy<L, C, T>>::read_many_places::<[T; N], R>(reader, length) {
-            Some(Ok(arrays)) => Ok(Many::Owned(arrays)),
-            Some(Err(error)) => Err(error),
-            None => read_each::<W, [T; N], L, C, R>(reader, length),
-        }
+    ) -> Option<Result<Vec<[T; N]>, C::Error>> {
+        T::read_many_places::<[T; N], R>(reader, length)
     }
 }
 
@@ -58,8 +55,11 @@ impl<L: AsSlice<u8> + Drop, C: Context, A: ReadArrays<L, C>> Strategy<L, C, A> f
     fn read_many_lent<W: FromLent<L, A>, R: LendingReader<L, C>>(
         reader: &mut R,
         length: usize,
-    ) -> Result<Many<W, A>, C::Error> {
-        A::read_arrays::<W, R>(reader, length)
+    ) -> Option<Result<Many<W, A>, C::Error>> {
+        match A::read_arrays::<R>(reader, length)? {
+            Ok(arrays) => Some(Ok(Many::Owned(arrays))),
+            Err(error) => Some(Err(error)),
+        }
     }
 }
 
@@ -76,7 +76,7 @@ impl<T: FixedNumber> Takes<T> for Numbers {
 // is used again, or they are more than a `usize` counts: then nothing is read.
 pub(crate) fn read_number_places<
     P: Places<L, C, T>,
-    T: FixedNumber + ReadFrom<L, C>,
+    T: FixedNumber,
     L: AsSlice<u8> + Drop,
     C: Context,
     R: LendingReader<L, C>,
@@ -100,12 +100,7 @@ pub(crate) fn read_number_places<
 }
 
 // The numbers that these bytes encode, `length` times as many as there are places, which take `width` bytes.
-fn places_of<
-    P: Places<L, C, T>,
-    T: FixedNumber + ReadFrom<L, C>,
-    L: AsSlice<u8> + Drop,
-    C: Context,
->(
+fn places_of<P: Places<L, C, T>, T: FixedNumber, L: AsSlice<u8> + Drop, C: Context>(
     alloc: Global,
     order: Endianness,
     digits: &[u8],

@@ -10,8 +10,7 @@ ghost use Rattle.speedy_read.specs.Lending.{many_items};
 ghost use Rattle.speedy_read.specs.Reading.{ReadsValue};
 
 use crate::arrays::read_number_places;
-use crate::many::{AsBytes, Fills, FromLent, Many, Places, Strategy, read_each};
-use crate::readable::ReadFrom;
+use crate::many::{AsBytes, Fills, FromLent, Many, Places, Strategy};
 use crate::reader::{EndOfInput, LendingReader};
 use crate::room::{
     CHUNK, LEAST_CHUNK, MIDDLE_CHUNK, SHORT_CHUNK, append_in_steps, open_chunk, vec_for,
@@ -29,13 +28,12 @@ use std::convert::AsSlice;
 /// Reads numbers in bulk: a chunk of digits at a time, or all at once from what the reader lends.
 pub struct Numbers {}
 
-impl<L: AsSlice<u8> + Drop, C: Context, T: FixedNumber + ReadFrom<L, C>> Strategy<L, C, T>
-    for Numbers {
+impl<L: AsSlice<u8> + Drop, C: Context, T: FixedNumber> Strategy<L, C, T> for Numbers {
     fn read_many_lent<W: FromLent<L, T>, R: LendingReader<L, C>>(
         reader: &mut R,
         length: usize,
-    ) -> Result<Many<W, T>, C::Error> {
-        read_numbers::<W, T, L, C, R>(reader, length, W::SHORT_READS)
+    ) -> Option<Result<Many<W, T>, C::Error>> {
+        Some(read_numbers::<W, T, L, C, R>(reader, length, W::SHORT_READS))
     }
 
     fn read_places<P: Places<L, C, T>, R: LendingReader<L, C>>(
@@ -62,8 +60,7 @@ impl<L: AsSlice<u8> + Drop, C: Context, T: FixedNumber + ReadFrom<L, C>> Strateg
     }
 }
 
-impl<L: AsSlice<u8> + Drop, C: Context, T: FixedNumber + ReadFrom<L, C>> Fills<L, C, T>
-    for Numbers {
+impl<L: AsSlice<u8> + Drop, C: Context, T: FixedNumber> Fills<L, C, T> for Numbers {
     fn fill<R: LendingReader<L, C>>(reader: &mut R, places: &mut [T]) -> Result<(), C::Error> {
         fill_numbers::<T, L, C, R>(reader, places)
     }
@@ -73,21 +70,12 @@ impl<L: AsSlice<u8> + Drop, C: Context, T: FixedNumber + ReadFrom<L, C>> Fills<L
 pub struct Bytes {}
 
 impl<L: AsSlice<u8> + Drop, C: Context> Strategy<L, C, u8> for Bytes {
+    #[inline]
     fn read_many_lent<W: FromLent<L, u8>, R: LendingReader<L, C>>(
         reader: &mut R,
         length: usize,
-    ) -> Result<Many<W, u8>, C::Error> {
-        match reader.read_bytes_borrowed(length) {
-            Some(Ok(bytes)) => {
-                bytes_in_range(bytes.as_slice());
-                match W::from_lent::<AsBytes>(bytes, reader.alloc()) {
-                    Some(made) => Ok(Many::Made(made)),
-                    None => Err(error_out_of_memory()),
-                }
-            }
-            Some(Err(error)) => Err(error),
-            None => Ok(Many::Owned(read_byte_chunks::<L, C, R>(reader, length, W::SHORT_READS)?)),
-        }
+    ) -> Option<Result<Many<W, u8>, C::Error>> {
+        Some(read_bytes_lent::<W, L, C, R>(reader, length))
     }
 
     fn read_places<P: Places<L, C, u8>, R: LendingReader<L, C>>(
@@ -114,6 +102,27 @@ impl<L: AsSlice<u8> + Drop, C: Context> Strategy<L, C, u8> for Bytes {
     }
 }
 
+// Reads `length` bytes: those that the reader lends are taken at once.
+fn read_bytes_lent<W: FromLent<L, u8>, L: AsSlice<u8> + Drop, C: Context, R: LendingReader<L, C>>(
+    reader: &mut R,
+    length: usize,
+) -> Result<Many<W, u8>, C::Error>
+    ensures { ReadsValue C.Error.IsEof R.state (λ many. map ⟦<u8 as Layout>⟧.seen (many_items W.shown many))
+        (vector_codec length ⟦<u8 as Layout>⟧.layout) result reader.old reader.new }
+{
+    match reader.read_bytes_borrowed(length) {
+        Some(Ok(bytes)) => {
+            bytes_in_range(bytes.as_slice());
+            match W::from_lent::<AsBytes>(bytes, reader.alloc()) {
+                Some(made) => Ok(Many::Made(made)),
+                None => Err(error_out_of_memory()),
+            }
+        }
+        Some(Err(error)) => Err(error),
+        None => Ok(Many::Owned(read_byte_chunks::<L, C, R>(reader, length, W::SHORT_READS)?)),
+    }
+}
+
 impl<L: AsSlice<u8> + Drop, C: Context> Fills<L, C, u8> for Bytes {
     fn fill<R: LendingReader<L, C>>(reader: &mut R, places: &mut [u8]) -> Result<(), C::Error> {
         reader.read_bytes(places)?;
@@ -129,11 +138,13 @@ impl<L: AsSlice<u8> + Drop, C: Context> Strategy<L, C, bool> for Flags {
     fn read_many_lent<W: FromLent<L, bool>, R: LendingReader<L, C>>(
         reader: &mut R,
         length: usize,
-    ) -> Result<Many<W, bool>, C::Error> {
+    ) -> Option<Result<Many<W, bool>, C::Error>> {
         if reader.demands_written_form() {
-            read_each::<W, bool, L, C, R>(reader, length)
-        } else {
-            Ok(Many::Owned(read_flags::<L, C, R>(reader, length, W::SHORT_READS)?))
+            return None;
+        }
+        match read_flags::<L, C, R>(reader, length, W::SHORT_READS) {
+            Ok(flags) => Some(Ok(Many::Owned(flags))),
+            Err(error) => Some(Err(error)),
         }
     }
 }

@@ -10,7 +10,7 @@ ghost use Rattle.speedy_read.specs.Reading.{RefusesUnsized, ReadsValue};
 use crate::arrays::Arrays;
 use crate::lengths::read_counted;
 use crate::lent::read_lent;
-use crate::many::{Fills, ItemByItem, Places, Strategy, Takes};
+use crate::many::{Fills, ItemByItem, Places, Takes};
 use crate::prefixed::{ReadPrefix, ReadTold};
 use crate::readable::{ReadFrom, ReadMany};
 use crate::reader::LendingReader;
@@ -112,7 +112,7 @@ impl<L: AsSlice<u8> + Drop, C: Context, T: ReadMany<L, C>, const N: usize> ReadF
 
     #[inline]
     fn read_from<R: LendingReader<L, C>>(reader: &mut R) -> Result<[T; N], C::Error> {
-        if let Some(array) = <T::Way as Strategy<L, C, T>>::read_places::<[T; N], R>(reader) {
+        if let Some(array) = T::read_places::<[T; N], R>(reader) {
             return array;
         }
         let items = T::read_many(reader, N)?;
@@ -128,7 +128,7 @@ impl<L: AsSlice<u8> + Drop, C: Context, T: ReadMany<L, C>, const N: usize> ReadF
     }
 }
 
-impl<L: AsSlice<u8> + Drop, C: Context, T: ReadFrom<L, C>, const N: usize> Places<L, C, T>
+impl<L: AsSlice<u8> + Drop, C: Context, T: Layout + Drop, const N: usize> Places<L, C, T>
     for [T; N] {
     ghost shown = { λ a. a };
 

@@ -24,14 +24,22 @@ use std::convert::AsSlice;
 use std::marker::PhantomData;
 
 /// How the values of a type are read several at a time.
-pub trait Strategy<L: AsSlice<u8> + Drop, C: Context, T: ReadFrom<L, C>> {
-    /// Reads `length` values, one after another, into what is asked for where bytes are lent, or into a vector.
+///
+/// It asks nothing of how one value is read, so that a proof which names a list names that less often.
+pub trait Strategy<L: AsSlice<u8> + Drop, C: Context, T: Layout + Drop> {
+    /// Reads `length` values, one after another, into what is asked for where bytes are lent, or into a vector. `None`
+    /// where each is to be read by itself: then nothing is read. This body says `None`.
+    #[inline(always)]
     fn read_many_lent<W: FromLent<L, T>, R: LendingReader<L, C>>(
-        reader: &mut R,
-        length: usize,
-    ) -> Result<Many<W, T>, C::Error>
-        ensures { ReadsValue C.Error.IsEof R.state (λ many. map T.seen (many_items W.shown many))
-            (vector_codec length T.layout) result reader.old reader.new };
+        _reader: &mut R,
+        _length: usize,
+    ) -> Option<Result<Many<W, T>, C::Error>>
+        ensures { MatchOption result (R.state _reader.new ≡ R.state _reader.old) (λ read.
+            ReadsValue C.Error.IsEof R.state (λ many. map T.seen (many_items W.shown many))
+            (vector_codec _length T.layout) read _reader.old _reader.new) }
+    {
+        None
+    }
 
     /// Reads as many values as there are places, into these, without a vector. `None` where that cannot be: then
     /// nothing is read. This body says `None`.
@@ -69,17 +77,10 @@ pub struct ItemByItem<N> {
     _named: PhantomData<N>,
 }
 
-impl<L: AsSlice<u8> + Drop, C: Context, N, T: ReadFrom<L, C>> Strategy<L, C, T> for ItemByItem<N> {
-    fn read_many_lent<W: FromLent<L, T>, R: LendingReader<L, C>>(
-        reader: &mut R,
-        length: usize,
-    ) -> Result<Many<W, T>, C::Error> {
-        read_each::<W, T, L, C, R>(reader, length)
-    }
-}
+impl<L: AsSlice<u8> + Drop, C: Context, N, T: Layout + Drop> Strategy<L, C, T> for ItemByItem<N> {}
 
 /// Places for values that are read one after another: an array.
-pub trait Places<L: AsSlice<u8> + Drop, C: Context, T: ReadFrom<L, C>>: Sized + Drop {
+pub trait Places<L: AsSlice<u8> + Drop, C: Context, T: Layout + Drop>: Sized + Drop {
     /// The values in the places.
     ghost shown: { Self → List T };
 
@@ -112,7 +113,7 @@ pub trait Places<L: AsSlice<u8> + Drop, C: Context, T: ReadFrom<L, C>>: Sized + 
 }
 
 /// How places are filled with values of a type.
-pub trait Fills<L: AsSlice<u8> + Drop, C: Context, T: ReadFrom<L, C>> {
+pub trait Fills<L: AsSlice<u8> + Drop, C: Context, T: Layout + Drop> {
     /// Reads a value into each place. After an error nothing is said of them.
     fn fill<R: LendingReader<L, C>>(reader: &mut R, places: &mut [T]) -> Result<(), C::Error>
         ensures { ReadsValue C.Error.IsEof R.state (λ _. map T.seen places.new)
@@ -134,9 +135,6 @@ pub trait Takes<T: Layout> {
 
 /// How several values of a type are read at once. Each type that is read has it.
 pub trait ReadMany<L: AsSlice<u8> + Drop, C: Context>: ReadFrom<L, C> {
-    /// How several of its values are read: what the impl of [`ReadFrom`] names.
-    type Way: Strategy<L, C, Self>;
-
     /// Reads `length` values, one after another, into a vector.
     #[inline]
     final fn read_many<R: LendingReader<L, C>>(
@@ -150,20 +148,31 @@ pub trait ReadMany<L: AsSlice<u8> + Drop, C: Context>: ReadFrom<L, C> {
     }
 
     /// Reads `length` values, one after another, into a cow or what else borrows what is lent.
-    #[inline]
-    final fn read_many_cow<W: FromLent<L, Self>, R: LendingReader<L, C>>(
+    fn read_many_cow<W: FromLent<L, Self>, R: LendingReader<L, C>>(
         reader: &mut R,
         length: usize,
     ) -> Result<W, C::Error>
         ensures { ReadsValue C.Error.IsEof R.state (λ w. map Self.seen (W.shown w))
-            (vector_codec length Self.layout) result reader.old reader.new }
-    {
-        match <Self::Way as Strategy<L, C, Self>>::read_many_lent::<W, R>(reader, length) {
-            Ok(Many::Made(made)) => Ok(made),
-            Ok(Many::Owned(values)) => Ok(W::from_values(values)),
-            Err(error) => Err(error),
-        }
-    }
+            (vector_codec length Self.layout) result reader.old reader.new };
+
+    /// Reads as many values as there are places, into these, without a vector. `None` where that cannot be: then
+    /// nothing is read.
+    fn read_places<P: Places<L, C, Self>, R: LendingReader<L, C>>(
+        reader: &mut R,
+    ) -> Option<Result<P, C::Error>>
+        ensures { MatchOption result (R.state reader.new ≡ R.state reader.old) (λ read.
+            ReadsValue C.Error.IsEof R.state (λ p. map Self.seen (P.shown p))
+            (vector_codec P.count Self.layout) read reader.old reader.new) };
+
+    /// Reads as many values as there are places, `length` times, all at once from bytes that the reader lends. `None`
+    /// where that cannot be: then nothing is read.
+    fn read_many_places<P: Places<L, C, Self>, R: LendingReader<L, C>>(
+        reader: &mut R,
+        length: usize,
+    ) -> Option<Result<Vec<P>, C::Error>>
+        ensures { MatchOption result (R.state reader.new ≡ R.state reader.old) (λ read.
+            ReadsValue C.Error.IsEof R.state (λ v. map (λ p. map Self.seen (P.shown p)) v.items)
+            (vector_codec length (vector_codec P.count Self.layout)) read reader.old reader.new) };
 
     /// Reads `length` values, one after another, and gathers them.
     ///
@@ -185,7 +194,36 @@ impl<L: AsSlice<u8> + Drop, C: Context, T: ReadFrom<L, C>> ReadMany<L, C> for T
 where
     T::Strategy: Strategy<L, C, T>,
 {
-    type Way = T::Strategy;
+    #[inline]
+    fn read_many_cow<W: FromLent<L, T>, R: LendingReader<L, C>>(
+        reader: &mut R,
+        length: usize,
+    ) -> Result<W, C::Error> {
+        match <T::Strategy as Strategy<L, C, T>>::read_many_lent::<W, R>(reader, length) {
+            Some(Ok(Many::Made(made))) => Ok(made),
+            Some(Ok(Many::Owned(values))) => Ok(W::from_values(values)),
+            Some(Err(error)) => Err(error),
+            None => match read_each::<T, L, C, R>(reader, length) {
+                Ok(values) => Ok(W::from_values(values)),
+                Err(error) => Err(error),
+            },
+        }
+    }
+
+    #[inline(always)]
+    fn read_places<P: Places<L, C, T>, R: LendingReader<L, C>>(
+        reader: &mut R,
+    ) -> Option<Result<P, C::Error>> {
+        <T::Strategy as Strategy<L, C, T>>::read_places::<P, R>(reader)
+    }
+
+    #[inline(always)]
+    fn read_many_places<P: Places<L, C, T>, R: LendingReader<L, C>>(
+        reader: &mut R,
+        length: usize,
+    ) -> Option<Result<Vec<P>, C::Error>> {
+        <T::Strategy as Strategy<L, C, T>>::read_many_places::<P, R>(reader, length)
+    }
 }
 
 /// How bytes are seen as values.
@@ -317,19 +355,14 @@ pub enum Many<W, T> {
     Owned(Vec<T>),
 }
 
-// Reads `length` values, each by itself. It stands outside the trait, so that it is proved once for all types. What
-// `W` shows is left open, since a function that is told would ask more of an array than its impl knows.
+// Reads `length` values, each by itself. It stands outside the trait, so that it is proved once for all types.
 #[inline]
-pub(crate) fn read_each<
-    W: Drop,
-    T: ReadFrom<L, C>,
-    L: AsSlice<u8> + Drop,
-    C: Context,
-    R: LendingReader<L, C>,
->(reader: &mut R, length: usize) -> Result<Many<W, T>, C::Error>
-    ensures { (shown : W → List T) → ReadsValue C.Error.IsEof R.state
-        (λ many. map T.seen (many_items shown many)) (vector_codec length T.layout)
-        result reader.old reader.new }
+fn read_each<T: ReadFrom<L, C>, L: AsSlice<u8> + Drop, C: Context, R: LendingReader<L, C>>(
+    reader: &mut R,
+    length: usize,
+) -> Result<Vec<T>, C::Error>
+    ensures { ReadsValue C.Error.IsEof R.state (λ v. map T.seen v.items)
+        (vector_codec length T.layout) result reader.old reader.new }
 {
     let mut items = vec_for::<T, L, C, R>(reader, T::minimum_bytes_needed(), length)?;
     let mut left = length;
@@ -346,5 +379,5 @@ pub(crate) fn read_each<
         }
         left -= some;
     }
-    Ok(Many::Owned(items))
+    Ok(items)
 }

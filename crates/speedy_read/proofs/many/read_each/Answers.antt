@@ -48,10 +48,10 @@ loop-left-preserved g c = (
 )
 
 pub returns : goal.returns
-returns g c shown = got_items _ _ c.loop-left.invariant.2 (c.loop-left.invariant.1 ∙ omega arith)
+returns g c = got_items _ _ c.loop-left.invariant.2 (c.loop-left.invariant.1 ∙ omega arith)
 
 pub returns-in_err-item : goal.returns-in_err-item
-returns-in_err-item g c shown =
+returns-in_err-item g c =
     let so_far = c.loop-i.invariant.2 in
     let fewer : length (map g.T.Layout.seen c.loop-i.items.items) < c.args.length =
     omega (arith, c.loop-i.invariant.0, c.loop-left.invariant.0, c.loop-i-test.true, c.min-some.ensures) in
@@ -60,9 +60,9 @@ returns-in_err-item g c shown =
     (rw so_far.kept.mode at c.in_err-item.ensures)
 
 pub returns-in_err-items : goal.returns-in_err-items
-returns-in_err-items g c shown =
+returns-in_err-items g c =
     refused_room _ _ _ Kept-same refl c.from_residual.ensures.1 c.in_err-items.ensures.empty
 
 pub returns-in-Err : goal.returns-in-Err
-returns-in-Err g c shown = let so_far = c.loop-left.invariant.2 in
+returns-in-Err g c = let so_far = c.loop-left.invariant.2 in
     refused_room _ _ _ so_far.kept so_far.got.no_fault refl c.error_out_of_memory.ensures

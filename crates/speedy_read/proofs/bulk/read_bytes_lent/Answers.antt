@@ -3,7 +3,7 @@ use Rattle.std.proofs.lemmas.List.{map-id}
 use Rattle.speedy_read.specs.ReadingLemmas.{refused_as, got_as}
 use Rattle.speedy_read.proofs.LentLemmas.{cow_lent}
 use Rattle.speedy_read.proofs.ListLemmas.{refused_room}
-use Rattle.speedy_read.proofs.bulk.BytesStrategyU8.read_many_lent.Goals as goal
+use Rattle.speedy_read.proofs.bulk.read_bytes_lent.Goals as goal
 
 pub returns-in-Some : goal.returns-in-Some
 returns-in-Some g c = got_as (map-id _ ∙ c.in-Some.ensures)
