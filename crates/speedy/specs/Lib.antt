@@ -97,6 +97,7 @@ pub use Rattle.speedy_write.specs.WaysOfWriting
 pub use Rattle.speedy_write.specs.Wholes as WriteWholes
 pub use Rattle.speedy_write.specs.Writing
 pub use Rattle.speedy_write.proofs.ListLemmas as WriteItems
+pub mod Prefixes
 pub mod Levels
 pub mod ReadLevels
 pub mod WriteLevels

@@ -3,8 +3,8 @@ use crate::context::LittleEndian;
 use crate::laws::{
     canonical_alone, copied_is_answered, encoded_is_written, equal_as_seen,
     no_encoding_begins_another, no_encoding_is_below_least, one_canonical_encoding, one_prefix,
-    one_value, strict_is_canonical, until_end_is_decided, until_end_of_cow_is_decided,
-    written_is_shortest, written_is_streamed, written_length_is_read,
+    one_value, refused_is_none, strict_is_canonical, until_end_is_decided,
+    until_end_of_cow_is_decided, written_is_shortest, written_is_streamed, written_length_is_read,
 };
 use indexmap::{IndexMap, IndexSet};
 use std::borrow::CowSlice;
@@ -38,6 +38,11 @@ fn what_was_written_is_answered_in_other_ways() {
     written_is_streamed::<Vec<String>, LittleEndian>();
     copied_is_answered::<Vec<String>, LittleEndian>();
     written_length_is_read::<LittleEndian>();
+}
+
+#[test]
+fn a_refusal_says_that_no_value_is_there() {
+    refused_is_none::<Vec<String>, LittleEndian>();
 }
 
 #[test]

@@ -1,16 +1,11 @@
--- Words of the callers' contracts: which values have an encoding, which bytes begin with one, and which errors say
--- neither.
-use Rattle.std.specs.Prelude.{◌≡◌, ℕ, ◌-◌, ◌^◌, ◌<◌, List, ◌++◌, length, ◌⊎◌}
+-- Words of the callers' contracts: which bytes begin with an encoding, and which errors say that none is there.
+use Rattle.std.specs.Prelude.{◌≡◌, ℕ, List, ◌++◌, ◌⊎◌}
 use Rattle.std.specs.declared.io.Error.{Error as StdIoError}
 use Rattle.speedy.specs.Error.{error_of, IsNamed}
 use Rattle.speedy.specs.FailedCalls.{IsErrorOf}
 use Rattle.speedy.specs.Format.{Format}
 use Rattle.speedy.specs.declared.error.Error.{Error}
 use Rattle.speedy.specs.declared.error.ErrorKind.TheVariants as kinds
-
--- some bytes encode the value, so few that they can be counted
-abbrev pub HasEncoding : {V : Type 0} → Format V → V → Type 0
-HasEncoding format v = (bytes : List ℕ) × format.encodes v bytes × (length bytes < 2 ^ 64 - 1)
 
 -- a prefix of the bytes encodes some value
 abbrev pub HasPrefix : {V : Type 0} → Format V → List ℕ → Type 0

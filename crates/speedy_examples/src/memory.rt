@@ -6,10 +6,11 @@ ghost use Rattle.speedy.specs.Mode.{plain_mode, strict_mode};
 ghost use Rattle.speedy.specs.Error.{error_of};
 ghost use Rattle.speedy.specs.Format.{Each};
 ghost use Rattle.speedy.specs.Lists.{vector};
+ghost use Rattle.speedy.specs.Prefixes.{HasEncoding};
 ghost use Rattle.speedy.specs.Reading.{ReadsValue};
 ghost use Rattle.speedy.specs.RoundTrip.{ReadsWritten};
 ghost use Rattle.speedy.specs.WaysOfReading.{AnswersBuffer};
-ghost use Rattle.speedy_examples.specs.Callers.{HasEncoding, HasPrefix};
+ghost use Rattle.speedy_examples.specs.Callers.{HasPrefix};
 
 use speedy::laws::{
     canonical_alone, no_encoding_is_below_least, written_is_answered, written_items_are_read,

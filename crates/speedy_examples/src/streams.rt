@@ -5,9 +5,10 @@ ghost use Rattle.speedy.specs.Digits.{AreBytes};
 ghost use Rattle.speedy.specs.Mode.{plain_mode};
 ghost use Rattle.speedy.specs.Error.{error_of, is_eof_error};
 ghost use Rattle.speedy.specs.Format.{Each};
+ghost use Rattle.speedy.specs.Prefixes.{HasEncoding};
 ghost use Rattle.speedy.specs.Reading.{Excused, IsTold, PeekWants, Refused};
 ghost use Rattle.speedy.specs.WaysOfReading.{AnswersStream};
-ghost use Rattle.speedy_examples.specs.Callers.{HasEncoding, IsFailure, IsRefusal};
+ghost use Rattle.speedy_examples.specs.Callers.{IsFailure, IsRefusal};
 
 use speedy::device::{Source, VecSink};
 use speedy::laws::{written_is_answered, written_is_streamed};

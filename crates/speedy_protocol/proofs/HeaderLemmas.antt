@@ -7,7 +7,7 @@ use Rattle.speedy.specs.Mode.{Mode}
 use Rattle.speedy.specs.Numbers.{unsigned_number}
 use Rattle.speedy.specs.Sequences.{sequence}
 use Rattle.speedy.specs.Tuples.{pair}
-use Rattle.speedy_protocol.specs.Refusals.{BeginsWith, BeginsWithNone}
+use Rattle.speedy.specs.Prefixes.{BeginsWith, BeginsWithNone}
 use Rattle.speedy_protocol.proofs.RefusalLemmas.{IsUnrefused}
 
 -- the header of version 1, and that of version 2

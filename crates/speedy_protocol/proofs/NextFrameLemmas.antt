@@ -21,7 +21,7 @@ use Rattle.speedy.specs.ReadingLemmas.{KeptByPeek-same, KeptByPeek-after}
 use Rattle.speedy.specs.Sequences.{sequence}
 use Rattle.speedy.specs.Texts.{each_byte, each_byte_is}
 use Rattle.speedy_protocol.specs.NextFrame.{IsClean, TakesNext, RefusesNext}
-use Rattle.speedy_protocol.specs.Refusals.{BeginsWith, BeginsWithNone}
+use Rattle.speedy.specs.Prefixes.{BeginsWith, BeginsWithNone}
 use Rattle.speedy_protocol.proofs.MessageKinds.{any_frame_in}
 use Rattle.speedy_protocol.proofs.RefusalLemmas.{itself}
 

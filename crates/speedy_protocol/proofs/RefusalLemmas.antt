@@ -12,7 +12,8 @@ use Rattle.speedy.specs.ErrorKind.{EndsInput}
 use Rattle.speedy.specs.Format.{Format}
 use Rattle.speedy.specs.Reading.{IsEnd, Undecodable}
 use Rattle.speedy.specs.WaysOfReading.{AnswersBufferIf, Counts}
-use Rattle.speedy_protocol.specs.Refusals.{BeginsWith, BeginsWithNone, MayGrow, IsRefused, IsShort, IsBroken, SaysWhy}
+use Rattle.speedy.specs.Prefixes.{BeginsWith, BeginsWithNone}
+use Rattle.speedy_protocol.specs.Refusals.{MayGrow, IsRefused, IsShort, IsBroken, SaysWhy}
 
 abbrev pub itself : Error → Error → Type 0
 itself error e = e ≡ error

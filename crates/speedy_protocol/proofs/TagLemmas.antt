@@ -8,7 +8,7 @@ use Rattle.speedy.specs.Frames.{frame}
 use Rattle.speedy.specs.Numbers.{unsigned_number}
 use Rattle.speedy.specs.Sequences.{sequence}
 use Rattle.speedy.specs.Texts.{raw_bytes}
-use Rattle.speedy_protocol.specs.Refusals.{BeginsWith}
+use Rattle.speedy.specs.Prefixes.{BeginsWith}
 use Rattle.speedy_protocol.proofs.MessageKinds.{FirstCases, LastCases, first_cases, last_cases, little, framed}
 
 -- two bytes

@@ -9,7 +9,7 @@ use Rattle.speedy.specs.FailedCalls.{HasGrown}
 use Rattle.speedy.specs.Format.{Format}
 use Rattle.speedy.specs.Numbers.{unsigned_number}
 use Rattle.speedy.specs.Reading.{ReaderState}
-use Rattle.speedy_protocol.specs.Refusals.{BeginsWith, BeginsWithNone}
+use Rattle.speedy.specs.Prefixes.{BeginsWith, BeginsWithNone}
 
 -- The stream tells its bytes, fewer than `usize::MAX` of them, and no call of it failed.
 abbrev pub IsClean : ReaderState → ReaderState → Type 0

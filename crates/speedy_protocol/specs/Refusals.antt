@@ -6,14 +6,7 @@ use Rattle.speedy.specs.Codecs.{Codec}
 use Rattle.speedy.specs.Error.{error_of, is_eof_error}
 use Rattle.speedy.specs.Format.{Format}
 use Rattle.speedy.specs.Mode.{Mode}
-
--- a prefix of the bytes encodes the value, and this is the rest
-abbrev pub BeginsWith : {V : Type 0} → Format V → V → List ℕ → List ℕ → Type 0
-BeginsWith format v bytes rest = (prefix : List ℕ) × format.encodes v prefix × (bytes ≡ prefix ++ rest)
-
--- no prefix of the bytes encodes a value
-abbrev pub BeginsWithNone : {V : Type 0} → Format V → List ℕ → Type 0
-BeginsWithNone {V = V} format bytes = (v : V) (rest : List ℕ) → BeginsWith format v bytes rest → ⊥
+use Rattle.speedy.specs.Prefixes.{BeginsWithNone}
 
 -- no bytes encode the value that a `usize` counts
 abbrev pub HasNone : {V : Type 0} → Format V → V → Type 0

@@ -3,9 +3,10 @@ ghost use Rattle.std.specs.Prelude.{◌≡◌, ◌∷◌, ◌⊎◌, List, ℕ, 
 ghost use Rattle.std.specs.Option.{option_map};
 ghost use Rattle.speedy.specs.Error.{error_of};
 ghost use Rattle.speedy.specs.Mode.{plain_mode};
+ghost use Rattle.speedy.specs.Prefixes.{BeginsWith};
 ghost use Rattle.speedy.specs.WaysOfWriting.{WritesToStream, WritesToVec};
 ghost use Rattle.speedy_protocol.specs.NextFrame.{TakesNext, RefusesNext};
-ghost use Rattle.speedy_protocol.specs.Refusals.{BeginsWith, HasNone, RefusesWhy};
+ghost use Rattle.speedy_protocol.specs.Refusals.{HasNone, RefusesWhy};
 
 use crate::messages::Message;
 use speedy::cases::Cases;

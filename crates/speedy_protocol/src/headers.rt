@@ -1,9 +1,10 @@
 //! Headers of two versions, whose types are in `messages`. A reader of either one takes both.
 ghost use Rattle.std.specs.Prelude.{◌≡◌, ◌<◌, ◌≤◌, ℕ, List, IfOk, IfErr};
 ghost use Rattle.speedy.specs.Mode.{plain_mode};
+ghost use Rattle.speedy.specs.Prefixes.{BeginsWith, BeginsWithNone};
 ghost use Rattle.speedy.specs.WaysOfReading.{AnswersBuffer};
 ghost use Rattle.speedy.specs.WaysOfWriting.{WritesToVec};
-ghost use Rattle.speedy_protocol.specs.Refusals.{BeginsWith, BeginsWithNone, IsShort};
+ghost use Rattle.speedy_protocol.specs.Refusals.{IsShort};
 
 use crate::messages::{Header, Header2, Start};
 use speedy::laws::{no_encoding_is_below_least, one_prefix};

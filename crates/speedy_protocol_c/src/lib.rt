@@ -3,7 +3,8 @@
 
 ghost use Rattle.std.specs.Prelude.{◌≡◌, ◌≤◌, ◌+◌, ◌⊎◌, ◌∷◌, ℕ, List, length};
 ghost use Rattle.speedy.specs.Mode.{plain_mode};
-ghost use Rattle.speedy_protocol.specs.Refusals.{BeginsWith, MayGrow, IsRefused};
+ghost use Rattle.speedy.specs.Prefixes.{BeginsWith};
+ghost use Rattle.speedy_protocol.specs.Refusals.{MayGrow, IsRefused};
 
 use speedy::cases::Cases;
 use speedy::{Endianness, Layout};
