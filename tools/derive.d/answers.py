@@ -5,17 +5,79 @@ from parts import has_other_form, is_nested, moves_array
 
 # What a search for a proof is given besides a fact.
 RULES = "use Rattle.std.proofs.Common.{rules}"
+# An enum of so many variants has answers for tags and for variants without parts, too, which a search finds slowly.
+MANY = 8
+
+
+class Arms:
+    """How the arms of an enum answer: from what holds of what an arm matched, as the tag, to what the function ensures.
+
+    Lemmas do this that take the enum's cases, which are named by the module of its impl of `Cases`. Where parameters
+    that are types or numbers would have to be given to that, or it has another name, the goal is rewritten, for which
+    the whole tree of the cases is computed in each arm."""
+
+    def __init__(self, shape, place):
+        name = f"{shape.item.name}Cases"
+        self.crate, *modules = place
+        self.path = ".".join([f"Rattle.{self.crate}.specs.contracts", *modules, f"{name}Impl.TheImpl"])
+        self.generics = shape.generics
+        self.are_many = len(shape.cases) >= MANY
+        # The alias of the tree has the impl's own name, so the impl's module has `Impl` behind it.
+        self.is_named = shape.cases_type.partition("<")[0] == name \
+            and all(it.kind == "lifetime" for it in shape.item.parameters)
+
+    def uses(self, lemmas, *words):
+        """What a file of answers imports: lemmas of arms, and words of std."""
+        if not self.is_named:
+            return []
+        known = [f"use Rattle.std.proofs.Common.{{{', '.join(words)}}}"] if words else []
+        return [*known, f"use Rattle.speedy.specs.CaseArms.{{{', '.join(lemmas)}}}",
+                f"use {self.path}.{{ghosts as cases}}"]
+
+    def read_of(self, arm, step):
+        """What a call ensures of the result that an arm matched."""
+        call = f"c.{step}.ensures"
+        return f"read_of c.in-{arm}.is {call}" if self.is_named else f"rw c.in-{arm}.is at {call}"
+
+    def read(self, tag, pair):
+        """The lines of what is read of the case of a tag."""
+        if not self.is_named:
+            return [f"rw c.in-{tag}.is {pair}"]
+        context = f"g.{self.generics.context}.Error"
+        told = f"{context}.From.from_gives {context}.IsEof.eof g.{self.generics.reader}.LendingReader.state"
+        return [f"read_arm cases {told} _ _ _ c.in-{tag}.is", pair]
+
+    def write(self, variant, fact, result="_"):
+        """The lines of what is written of a variant."""
+        if not self.is_named:
+            return [f"rw c.in-{variant}.is {fact}"]
+        told = f"g.{self.generics.context}.Error.From.from_gives"
+        writer = f"g.{self.generics.writer}.Writer"
+        return [f"write_arm cases {told} {writer}.state {writer}.appends {result} _ _", f"c.in-{variant}.is {fact}"]
+
+    def without_parts(self, arm, lines):
+        """The answer of the arm of a case without parts."""
+        goal = f"returns-in-{arm}"
+        return ["", f"pub {goal} : goal.{goal}", f"{goal} g c =", *(f"    {line}" for line in lines)] \
+            if self.is_named and self.are_many else []
 
 
 def answers(shape, place):
-    """The answers of an enum's `write_case` and `read_case`: the path of each file below the crate's folder, and its
-    text."""
+    """The answers of an enum's `write_case`, `tag` and `read_case`: the path of each file below the crate's folder, and
+    its text."""
     if len(shape.cases) == 1:
         return {}
-    name = shape.item.name
-    uses = [RULES] if any(has_other_form(case.taken) for case in shape.cases) else []
-    return file_of(place, f"{name}WriteCases", "write_case", write_answers(shape)) \
-        | file_of(place, f"{name}ReadCases{lending(shape)}", "read_case", read_answers(shape), uses)
+    name, arms = shape.item.name, Arms(shape, place)
+    rules = [RULES] if any(has_other_form(case.taken) for case in shape.cases) else []
+    has_units = arms.are_many and not all(case.taken.parts for case in shape.cases)
+    of_units = [["refl"], ["Ok", "refl"]] if has_units else [[], []]
+    found = file_of(place, f"{name}WriteCases", "write_case", write_answers(shape, arms),
+                    arms.uses(["write_arm"], *of_units[1]))
+    if arms.is_named and arms.are_many:
+        found |= file_of(place, f"{name}WriteCases", "tag", tag_answers(shape), arms.uses(["tag_arm"], "refl"))
+    has_parts = any(case.taken.parts for case in shape.cases)
+    return found | file_of(place, f"{name}ReadCases{lending(shape)}", "read_case", read_answers(shape, arms),
+                           rules + arms.uses(["read_arm", "read_of"] if has_parts else ["read_arm"], *of_units[0]))
 
 
 def answers_of_struct(shape, taken, place):
@@ -28,7 +90,7 @@ def answers_of_struct(shape, taken, place):
     if shape.item.writable and lent:
         trait, function, called = ("WriteToEnd", "write_to_end", "write_to_end") if shape.ends_with_input \
             else ("Writable", "write_to", "write_value")
-        lines = ["", "pub returns : goal.returns", *rewritten("returns", lent, f"c.{called}.ensures", None)]
+        lines = ["", "pub returns : goal.returns", *rewritten("returns", lent, f"c.{called}.ensures")]
         found |= file_of(place, name + trait, function, lines)
     is_signed = has_signed(taken) and (is_nested(taken.tree) or any(part.tree is not None for part in taken.parts))
     if shape.item.readable and not shape.ends_with_input and (is_signed or lent and not moves_array(taken)):
@@ -48,10 +110,12 @@ def lending(shape):
     return "RefSliceU8" if shape.generics.lending else ""
 
 
-def answered(goal, arm, step, taken, tag, is_searched=False, is_signed=False):
-    """The answer of a goal by what was read, of which some options are taken: as the value of a tag, or of a struct.
-    Where the result has another form, a search finds what was read in it, by the ranges of signed numbers."""
-    found, answer = [f"    let read = rw c.in-{arm}.is at c.{step}.ensures in"], "read.answer"
+def answered(goal, arm, step, taken, tag, is_searched=False, is_signed=False, arms=None):
+    """The answer of a goal by what was read, of which some options are taken: as the value of a tag, by the arms of its
+    enum, or of a struct. Where the result has another form, a search finds what was read in it, by the ranges of signed
+    numbers."""
+    of_call = arms.read_of(arm, step) if arms else f"rw c.in-{arm}.is at c.{step}.ensures"
+    found, answer = [f"    let read = {of_call} in"], "read.answer"
     for place, ensured in enumerate(taken):
         name = "answer" + "'" * place
         found.append(f"    let {name} = rw {ensured} at {answer} in")
@@ -60,12 +124,12 @@ def answered(goal, arm, step, taken, tag, is_searched=False, is_signed=False):
         found.append(f"    let ranges = rw c.in-{arm}.is at c.{step}.type_inv in")
     if is_searched:
         answer = f"search (rules, {answer}{', ranges' if is_signed else ''})"
-    last = f"rw c.in-{tag}.is (read.kept, {answer})" if tag is not None \
-        else f"record {{ kept = read.kept; answer = {answer} }}"
-    if is_searched:
-        found.append(f"    {last}")
+    last = arms.read(tag, f"(read.kept, {answer})") if arms \
+        else [f"record {{ kept = read.kept; answer = {answer} }}"]
+    if is_searched or len(last) > 1:
+        found += [f"    {line}" for line in last]
     else:
-        found[-1] += f" {last}"
+        found[-1] += f" {last[0]}"
     return ["", f"pub {goal} : goal.{goal}", f"{goal} g c =", *found]
 
 
@@ -92,21 +156,32 @@ def options_of(taken, by, known, arm):
     return found
 
 
-def rewritten(goal, steps, fact, matched):
-    """The answer of a goal by a fact, which is rewritten by some steps, one after another, and then as the value that
-    an arm matches."""
-    found, last = [], fact if matched is None else f"rw {matched} {fact}"
+def rewritten(goal, steps, fact, matched=None):
+    """The answer of a goal by a fact, which is rewritten by some steps, one after another, and then taken from what
+    an arm matched, as `matched` says."""
+    found, last = [], matched(fact) if matched else [fact]
     for place, step in enumerate(steps):
         name = "written" + "'" * place
         if matched is None and place + 1 == len(steps):
-            last = f"rw {step} at {fact}"
+            last = [f"rw {step} at {fact}"]
         else:
             found.append(f"    let {name} = rw {step} at {fact} in")
-            fact, last = name, f"rw {matched} {name}"
-    return [f"{goal} g c =", *found, f"    {last}"] if found else [f"{goal} g c = {last}"]
+            fact, last = name, matched(name) if matched else [name]
+    if not found and len(last) == 1:
+        return [f"{goal} g c = {last[0]}"]
+    return [f"{goal} g c =", *found, *(f"    {line}" for line in last)]
 
 
-def write_answers(shape):
+def tag_answers(shape):
+    """The tag of an arm is that of the case of the variant that it matches."""
+    found = []
+    for case in shape.cases if shape.item.writable else []:
+        goal = f"returns-in-{case.variant.name}"
+        found += ["", f"pub {goal} : goal.{goal}", f"{goal} g c = tag_arm cases _ c.in-{case.variant.name}.is refl"]
+    return found
+
+
+def write_answers(shape, arms):
     """What is promised of an arm is what the call in it promises, at the variant that the arm matches."""
     found, known = [], set()
     cases = [case for case in shape.cases if case.taken.parts and shape.item.writable]
@@ -115,11 +190,16 @@ def write_answers(shape):
         name = case.variant.name
         step = f"write_value-in-{name}" if place else "write_value"
         goal, steps = f"returns-in-{name}", options_of(case.taken, "lent_by", known, name)
-        found += ["", f"pub {goal} : goal.{goal}", *rewritten(goal, steps, f"c.{step}.ensures", f"c.in-{name}.is")]
+        found += ["", f"pub {goal} : goal.{goal}",
+                  *rewritten(goal, steps, f"c.{step}.ensures", lambda fact, name=name: arms.write(name, fact))]
+    for case in shape.cases:
+        if shape.item.writable and not case.taken.parts:
+            name = case.variant.name
+            found += arms.without_parts(name, arms.write(name, "(refl, refl)", "(Ok tt)"))
     return found
 
 
-def read_answers(shape):
+def read_answers(shape, arms):
     """The same of reading."""
     found, known = [], set()
     for place, case in enumerate(case for case in shape.cases if case.taken.parts and shape.item.readable):
@@ -128,6 +208,9 @@ def read_answers(shape):
         step = f"read_value-in-{tag}" if place else "read_value"
         taken = options_of(case.taken, "taken_by", known, f"Ok{end}")
         how = (has_other_form(case.taken), has_signed(case.taken))
-        found += answered(f"returns-in-Ok{end}", f"Ok{end}", step, taken, tag, *how)
-        found += answered(f"returns-in-Err{end}", f"Err{end}", step, [], tag)
+        found += answered(f"returns-in-Ok{end}", f"Ok{end}", step, taken, tag, *how, arms=arms)
+        found += answered(f"returns-in-Err{end}", f"Err{end}", step, [], tag, arms=arms)
+    for case in shape.cases:
+        if shape.item.readable and not case.taken.parts:
+            found += arms.without_parts(case.variant.tag, arms.read(case.variant.tag, "(tt, refl)"))
     return found
