@@ -1,65 +1,12 @@
 """Proofs that the source determines: of the arms of enums, and of options behind a length. A search finds the same for
 few variants and parts."""
 import lengths
+from arms import Arms, LaterArms
 from parts import has_other_form, is_nested, moves_array
 
 # What a search for a proof is given besides a fact.
 RULES = "use Rattle.std.proofs.Common.{rules}"
-# An enum of so many variants has answers for tags and for variants without parts, too, which a search finds slowly.
-MANY = 8
 
-
-class Arms:
-    """How the arms of an enum answer: from what holds of what an arm matched, as the tag, to what the function ensures.
-
-    Lemmas do this that take the enum's cases, which are named by the module of its impl of `Cases`. Where parameters
-    that are types or numbers would have to be given to that, or it has another name, the goal is rewritten, for which
-    the whole tree of the cases is computed in each arm."""
-
-    def __init__(self, shape, place):
-        name = f"{shape.item.name}Cases"
-        self.crate, *modules = place
-        self.path = ".".join([f"Rattle.{self.crate}.specs.contracts", *modules, f"{name}Impl.TheImpl"])
-        self.generics = shape.generics
-        self.are_many = len(shape.cases) >= MANY
-        # The alias of the tree has the impl's own name, so the impl's module has `Impl` behind it.
-        self.is_named = shape.cases_type.partition("<")[0] == name \
-            and all(it.kind == "lifetime" for it in shape.item.parameters)
-
-    def uses(self, lemmas, *words):
-        """What a file of answers imports: lemmas of arms, and words of std."""
-        if not self.is_named:
-            return []
-        known = [f"use Rattle.std.proofs.Common.{{{', '.join(words)}}}"] if words else []
-        return [*known, f"use Rattle.speedy.specs.CaseArms.{{{', '.join(lemmas)}}}",
-                f"use {self.path}.{{ghosts as cases}}"]
-
-    def read_of(self, arm, step):
-        """What a call ensures of the result that an arm matched."""
-        call = f"c.{step}.ensures"
-        return f"read_of c.in-{arm}.is {call}" if self.is_named else f"rw c.in-{arm}.is at {call}"
-
-    def read(self, tag, pair):
-        """The lines of what is read of the case of a tag."""
-        if not self.is_named:
-            return [f"rw c.in-{tag}.is {pair}"]
-        context = f"g.{self.generics.context}.Error"
-        told = f"{context}.From.from_gives {context}.IsEof.eof g.{self.generics.reader}.LendingReader.state"
-        return [f"read_arm cases {told} _ _ _ c.in-{tag}.is", pair]
-
-    def write(self, variant, fact, result="_"):
-        """The lines of what is written of a variant."""
-        if not self.is_named:
-            return [f"rw c.in-{variant}.is {fact}"]
-        told = f"g.{self.generics.context}.Error.From.from_gives"
-        writer = f"g.{self.generics.writer}.Writer"
-        return [f"write_arm cases {told} {writer}.state {writer}.appends {result} _ _", f"c.in-{variant}.is {fact}"]
-
-    def without_parts(self, arm, lines):
-        """The answer of the arm of a case without parts."""
-        goal = f"returns-in-{arm}"
-        return ["", f"pub {goal} : goal.{goal}", f"{goal} g c =", *(f"    {line}" for line in lines)] \
-            if self.is_named and self.are_many else []
 
 
 def answers(shape, place):
@@ -68,16 +15,27 @@ def answers(shape, place):
     if len(shape.cases) == 1:
         return {}
     name, arms = shape.item.name, Arms(shape, place)
-    rules = [RULES] if any(has_other_form(case.taken) for case in shape.cases) else []
     has_units = arms.are_many and not all(case.taken.parts for case in shape.cases)
-    of_units = [["refl"], ["Ok", "refl"]] if has_units else [[], []]
-    found = file_of(place, f"{name}WriteCases", "write_case", write_answers(shape, arms),
-                    arms.uses(["write_arm"], *of_units[1]))
+    uses = arms.uses(["write_arm"], *(["Ok", "refl"] if has_units else []))
+    found = file_of(place, [f"{name}WriteCases", "write_case"], write_answers(shape, arms), uses)
     if arms.is_named and arms.are_many:
-        found |= file_of(place, f"{name}WriteCases", "tag", tag_answers(shape), arms.uses(["tag_arm"], "refl"))
-    has_parts = any(case.taken.parts for case in shape.cases)
-    return found | file_of(place, f"{name}ReadCases{lending(shape)}", "read_case", read_answers(shape, arms),
-                           rules + arms.uses(["read_arm", "read_of"] if has_parts else ["read_arm"], *of_units[0]))
+        uses = arms.uses(["tag_arm"], "refl")
+        found |= file_of(place, [f"{name}WriteCases", "tag"], tag_answers(shape), uses)
+    if shape.item.readable:
+        found |= read_file(place, [f"{name}ReadCases{lending(shape)}", "read_case"], shape.first, arms)
+        for group in shape.later:
+            found |= read_file(place, [group.function], group.cases, LaterArms(shape, place, group))
+    return found
+
+
+def read_file(place, path, cases, arms):
+    """The answers of a function that reads some cases."""
+    has_parts, has_units = any(case.taken.parts for case in cases), any(not case.taken.parts for case in cases)
+    lemmas = [arms.lemma, "read_of"] if has_parts else [arms.lemma]
+    uses = [RULES] if any(has_other_form(case.taken) for case in cases) else []
+    uses += arms.uses(lemmas, *(["refl"] if has_units and arms.are_many else []))
+    lines = read_answers(cases, arms)
+    return file_of(place, path, arms.definition() + lines if lines else [], uses)
 
 
 def answers_of_struct(shape, taken, place):
@@ -91,12 +49,12 @@ def answers_of_struct(shape, taken, place):
         trait, function, called = ("WriteToEnd", "write_to_end", "write_to_end") if shape.ends_with_input \
             else ("Writable", "write_to", "write_value")
         lines = ["", "pub returns : goal.returns", *rewritten("returns", lent, f"c.{called}.ensures")]
-        found |= file_of(place, name + trait, function, lines)
+        found |= file_of(place, [name + trait, function], lines)
     is_signed = has_signed(taken) and (is_nested(taken.tree) or any(part.tree is not None for part in taken.parts))
     if shape.item.readable and not shape.ends_with_input and (is_signed or lent and not moves_array(taken)):
         lines = answered("returns-in-Ok", "Ok", "read_value", read, None, is_signed, is_signed)
         uses = [RULES] if is_signed else []
-        found |= file_of(place, f"{name}ReadFrom{lending(shape)}", "read_from", lines, uses)
+        found |= file_of(place, [f"{name}ReadFrom{lending(shape)}", "read_from"], lines, uses)
     return found
 
 
@@ -133,13 +91,13 @@ def answered(goal, arm, step, taken, tag, is_searched=False, is_signed=False, ar
     return ["", f"pub {goal} : goal.{goal}", f"{goal} g c =", *found]
 
 
-def file_of(place, trait, function, lines, uses=()):
-    """A file of answers of a function of an impl, which `place` says the module of: by its path, its text. `uses` are
-    imports of more than its goals."""
+def file_of(place, within, lines, uses=()):
+    """A file of answers of a function, of which `place` says the module and `within` the impl, if any, and the name: by
+    its path, its text. `uses` are imports of more than its goals."""
     if not lines:
         return {}
     crate, *modules = place
-    path = [*modules, trait, function]
+    path = [*modules, *within]
     use = f"use Rattle.{crate}.proofs.{'.'.join(path)}.Goals as goal"
     return {"/".join(["proofs", *path, "Answers.antt"]): "\n".join([*uses, use, *lines]) + "\n"}
 
@@ -199,10 +157,10 @@ def write_answers(shape, arms):
     return found
 
 
-def read_answers(shape, arms):
-    """The same of reading."""
+def read_answers(cases, arms):
+    """The same of reading, in a function that reads these cases."""
     found, known = [], set()
-    for place, case in enumerate(case for case in shape.cases if case.taken.parts and shape.item.readable):
+    for place, case in enumerate(case for case in cases if case.taken.parts):
         tag = case.variant.tag
         end = "" if place == 0 else "-read_value" if place == 1 else f"-read_value-{place}"
         step = f"read_value-in-{tag}" if place else "read_value"
@@ -210,7 +168,7 @@ def read_answers(shape, arms):
         how = (has_other_form(case.taken), has_signed(case.taken))
         found += answered(f"returns-in-Ok{end}", f"Ok{end}", step, taken, tag, *how, arms=arms)
         found += answered(f"returns-in-Err{end}", f"Err{end}", step, [], tag, arms=arms)
-    for case in shape.cases:
-        if shape.item.readable and not case.taken.parts:
+    for case in cases:
+        if not case.taken.parts:
             found += arms.without_parts(case.variant.tag, arms.read(case.variant.tag, "(tt, refl)"))
     return found

@@ -5,11 +5,11 @@ use Rattle.speedy_examples.proofs.settings.ThemeReadCases.read_case.Goals as goa
 pub returns-in-Ok : goal.returns-in-Ok
 returns-in-Ok g c =
     let read = read_of c.in-Ok.is c.read_value.ensures in
-    read_arm cases g.C.Error.From.from_gives g.C.Error.IsEof.eof g.R.LendingReader.state _ _ _ c.in-1.is
-    (read.kept, read.answer)
+    read_arm cases g.C.Error.From.from_gives g.C.Error.IsEof.eof g.R.LendingReader.state _ _ _
+    c.in-1.is (read.kept, read.answer)
 
 pub returns-in-Err : goal.returns-in-Err
 returns-in-Err g c =
     let read = read_of c.in-Err.is c.read_value.ensures in
-    read_arm cases g.C.Error.From.from_gives g.C.Error.IsEof.eof g.R.LendingReader.state _ _ _ c.in-1.is
-    (read.kept, read.answer)
+    read_arm cases g.C.Error.From.from_gives g.C.Error.IsEof.eof g.R.LendingReader.state _ _ _
+    c.in-1.is (read.kept, read.answer)
