@@ -8,7 +8,6 @@ from parts import has_other_form, is_nested, moves_array
 RULES = "use Rattle.std.proofs.Common.{rules}"
 
 
-
 def answers(shape, place):
     """The answers of an enum's `write_case`, `tag` and `read_case`: the path of each file below the crate's folder, and
     its text."""

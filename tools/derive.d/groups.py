@@ -13,8 +13,8 @@ CASES = "speedy::cases"
 
 def groups_of(item, items):
     """What belongs to the variants of an enum, in its groups. Proofs name the cases of a group, which they cannot where
-    parameters are types or numbers: such an enum is one group."""
-    is_split = all(it.kind == "lifetime" for it in item.parameters)
+    parameters are types or numbers: such an enum is one group, and so is one that is not read."""
+    is_split = item.readable and all(it.kind == "lifetime" for it in item.parameters)
     return grouped(items, GROUP if is_split else len(items))
 
 
