@@ -18,6 +18,10 @@ from trees import halved, leaves
 
 # Rattle has no enum of more variants.
 MOST_VARIANTS = 256
+# Rattle's borrow checker covers no value made at a later variant of an enum that owns memory or borrows.
+MOST_OWNING = 128
+OWNING = ("Box", "BoxedSlice", "BoxedStr", "BTreeMap", "BTreeSet", "CowSlice", "CowStr", "HashMap", "HashSet",
+          "IndexMap", "IndexSet", "SmallVec", "String", "Vec")
 # An enum of one variant has at most so many parts, made of so many types, of which one of the same file stands for
 # several: its arms have no goals of their own, which could be answered, and the search meets its limit.
 PARTS_OF_ONE = 4
@@ -234,6 +238,19 @@ def refuse_one_variant(shape):
                                  "fields into a struct of their own, which has the same bytes")
 
 
+def refuse_late_variants(shape):
+    """Refuses an enum that owns memory or borrows, of which values are made at variants that have no proof."""
+    item = shape.item
+    if item.readable and len(item.variants) > MOST_OWNING and any(map(owns_or_borrows, shape.kinds)):
+        raise Refusal(item.line, f"what makes a value of `{item.name}` has no proof past its {MOST_OWNING}th variant, "
+                                 "since others own memory or borrow: put some variants into an enum of their own")
+
+
+def owns_or_borrows(kind):
+    """Whether values of a type are known to own memory or to hold a reference."""
+    return isinstance(kind, syntax.Reference) or is_listed(kind, *OWNING) or any(map(owns_or_borrows, parts_of(kind)))
+
+
 def is_hash_map(kind):
     """Whether a type is a `HashMap`, as it is or behind a length."""
     return is_listed(parts_of(kind)[-1] if is_listed(kind, "Prefixed", "WithLength") else kind, "HashMap")
@@ -259,6 +276,7 @@ def enum_lines(item, scope, place):
         return RecursiveEnumShape(item, scope, place).lines()
     shape = EnumShape(item, scope, place)
     refuse_one_variant(shape)
+    refuse_late_variants(shape)
     found = shape.lines()
     scope.answers.update(answers(shape, place))
     return found
