@@ -1,6 +1,7 @@
 """Proofs that the source determines: of the arms of enums, and of options behind a length. A search finds the same for
 few variants and parts."""
 import lengths
+from arms import Arms, LaterArms
 from parts import has_other_form, is_nested, moves_array
 
 # What a search for a proof is given besides a fact.
@@ -8,14 +9,32 @@ RULES = "use Rattle.std.proofs.Common.{rules}"
 
 
 def answers(shape, place):
-    """The answers of an enum's `write_case` and `read_case`: the path of each file below the crate's folder, and its
-    text."""
+    """The answers of an enum's `write_case`, `tag` and `read_case`: the path of each file below the crate's folder, and
+    its text."""
     if len(shape.cases) == 1:
         return {}
-    name = shape.item.name
-    uses = [RULES] if any(has_other_form(case.taken) for case in shape.cases) else []
-    return file_of(place, f"{name}WriteCases", "write_case", write_answers(shape)) \
-        | file_of(place, f"{name}ReadCases{lending(shape)}", "read_case", read_answers(shape), uses)
+    name, arms = shape.item.name, Arms(shape, place)
+    has_units = arms.are_many and not all(case.taken.parts for case in shape.cases)
+    uses = arms.uses(["write_arm"], *(["Ok", "refl"] if has_units else []))
+    found = file_of(place, [f"{name}WriteCases", "write_case"], write_answers(shape, arms), uses)
+    if arms.is_named and arms.are_many:
+        uses = arms.uses(["tag_arm"], "refl")
+        found |= file_of(place, [f"{name}WriteCases", "tag"], tag_answers(shape), uses)
+    if shape.item.readable:
+        found |= read_file(place, [f"{name}ReadCases{lending(shape)}", "read_case"], shape.first, arms)
+        for group in shape.later:
+            found |= read_file(place, [group.function], group.cases, LaterArms(shape, place, group))
+    return found
+
+
+def read_file(place, path, cases, arms):
+    """The answers of a function that reads some cases."""
+    has_parts, has_units = any(case.taken.parts for case in cases), any(not case.taken.parts for case in cases)
+    lemmas = [arms.lemma, "read_of"] if has_parts else [arms.lemma]
+    uses = [RULES] if any(has_other_form(case.taken) for case in cases) else []
+    uses += arms.uses(lemmas, *(["refl"] if has_units and arms.are_many else []))
+    lines = read_answers(cases, arms)
+    return file_of(place, path, arms.definition() + lines if lines else [], uses)
 
 
 def answers_of_struct(shape, taken, place):
@@ -28,13 +47,13 @@ def answers_of_struct(shape, taken, place):
     if shape.item.writable and lent:
         trait, function, called = ("WriteToEnd", "write_to_end", "write_to_end") if shape.ends_with_input \
             else ("Writable", "write_to", "write_value")
-        lines = ["", "pub returns : goal.returns", *rewritten("returns", lent, f"c.{called}.ensures", None)]
-        found |= file_of(place, name + trait, function, lines)
+        lines = ["", "pub returns : goal.returns", *rewritten("returns", lent, f"c.{called}.ensures")]
+        found |= file_of(place, [name + trait, function], lines)
     is_signed = has_signed(taken) and (is_nested(taken.tree) or any(part.tree is not None for part in taken.parts))
     if shape.item.readable and not shape.ends_with_input and (is_signed or lent and not moves_array(taken)):
         lines = answered("returns-in-Ok", "Ok", "read_value", read, None, is_signed, is_signed)
         uses = [RULES] if is_signed else []
-        found |= file_of(place, f"{name}ReadFrom{lending(shape)}", "read_from", lines, uses)
+        found |= file_of(place, [f"{name}ReadFrom{lending(shape)}", "read_from"], lines, uses)
     return found
 
 
@@ -48,10 +67,12 @@ def lending(shape):
     return "RefSliceU8" if shape.generics.lending else ""
 
 
-def answered(goal, arm, step, taken, tag, is_searched=False, is_signed=False):
-    """The answer of a goal by what was read, of which some options are taken: as the value of a tag, or of a struct.
-    Where the result has another form, a search finds what was read in it, by the ranges of signed numbers."""
-    found, answer = [f"    let read = rw c.in-{arm}.is at c.{step}.ensures in"], "read.answer"
+def answered(goal, arm, step, taken, tag, is_searched=False, is_signed=False, arms=None):
+    """The answer of a goal by what was read, of which some options are taken: as the value of a tag, by the arms of its
+    enum, or of a struct. Where the result has another form, a search finds what was read in it, by the ranges of signed
+    numbers."""
+    of_call = arms.read_of(arm, step) if arms else f"rw c.in-{arm}.is at c.{step}.ensures"
+    found, answer = [f"    let read = {of_call} in"], "read.answer"
     for place, ensured in enumerate(taken):
         name = "answer" + "'" * place
         found.append(f"    let {name} = rw {ensured} at {answer} in")
@@ -60,22 +81,22 @@ def answered(goal, arm, step, taken, tag, is_searched=False, is_signed=False):
         found.append(f"    let ranges = rw c.in-{arm}.is at c.{step}.type_inv in")
     if is_searched:
         answer = f"search (rules, {answer}{', ranges' if is_signed else ''})"
-    last = f"rw c.in-{tag}.is (read.kept, {answer})" if tag is not None \
-        else f"record {{ kept = read.kept; answer = {answer} }}"
-    if is_searched:
-        found.append(f"    {last}")
+    last = arms.read(tag, f"(read.kept, {answer})") if arms \
+        else [f"record {{ kept = read.kept; answer = {answer} }}"]
+    if is_searched or len(last) > 1:
+        found += [f"    {line}" for line in last]
     else:
-        found[-1] += f" {last}"
+        found[-1] += f" {last[0]}"
     return ["", f"pub {goal} : goal.{goal}", f"{goal} g c =", *found]
 
 
-def file_of(place, trait, function, lines, uses=()):
-    """A file of answers of a function of an impl, which `place` says the module of: by its path, its text. `uses` are
-    imports of more than its goals."""
+def file_of(place, within, lines, uses=()):
+    """A file of answers of a function, of which `place` says the module and `within` the impl, if any, and the name: by
+    its path, its text. `uses` are imports of more than its goals."""
     if not lines:
         return {}
     crate, *modules = place
-    path = [*modules, trait, function]
+    path = [*modules, *within]
     use = f"use Rattle.{crate}.proofs.{'.'.join(path)}.Goals as goal"
     return {"/".join(["proofs", *path, "Answers.antt"]): "\n".join([*uses, use, *lines]) + "\n"}
 
@@ -92,21 +113,32 @@ def options_of(taken, by, known, arm):
     return found
 
 
-def rewritten(goal, steps, fact, matched):
-    """The answer of a goal by a fact, which is rewritten by some steps, one after another, and then as the value that
-    an arm matches."""
-    found, last = [], fact if matched is None else f"rw {matched} {fact}"
+def rewritten(goal, steps, fact, matched=None):
+    """The answer of a goal by a fact, which is rewritten by some steps, one after another, and then taken from what
+    an arm matched, as `matched` says."""
+    found, last = [], matched(fact) if matched else [fact]
     for place, step in enumerate(steps):
         name = "written" + "'" * place
         if matched is None and place + 1 == len(steps):
-            last = f"rw {step} at {fact}"
+            last = [f"rw {step} at {fact}"]
         else:
             found.append(f"    let {name} = rw {step} at {fact} in")
-            fact, last = name, f"rw {matched} {name}"
-    return [f"{goal} g c =", *found, f"    {last}"] if found else [f"{goal} g c = {last}"]
+            fact, last = name, matched(name) if matched else [name]
+    if not found and len(last) == 1:
+        return [f"{goal} g c = {last[0]}"]
+    return [f"{goal} g c =", *found, *(f"    {line}" for line in last)]
 
 
-def write_answers(shape):
+def tag_answers(shape):
+    """The tag of an arm is that of the case of the variant that it matches."""
+    found = []
+    for case in shape.cases if shape.item.writable else []:
+        goal = f"returns-in-{case.variant.name}"
+        found += ["", f"pub {goal} : goal.{goal}", f"{goal} g c = tag_arm cases _ c.in-{case.variant.name}.is refl"]
+    return found
+
+
+def write_answers(shape, arms):
     """What is promised of an arm is what the call in it promises, at the variant that the arm matches."""
     found, known = [], set()
     cases = [case for case in shape.cases if case.taken.parts and shape.item.writable]
@@ -115,19 +147,27 @@ def write_answers(shape):
         name = case.variant.name
         step = f"write_value-in-{name}" if place else "write_value"
         goal, steps = f"returns-in-{name}", options_of(case.taken, "lent_by", known, name)
-        found += ["", f"pub {goal} : goal.{goal}", *rewritten(goal, steps, f"c.{step}.ensures", f"c.in-{name}.is")]
+        found += ["", f"pub {goal} : goal.{goal}",
+                  *rewritten(goal, steps, f"c.{step}.ensures", lambda fact, name=name: arms.write(name, fact))]
+    for case in shape.cases:
+        if shape.item.writable and not case.taken.parts:
+            name = case.variant.name
+            found += arms.without_parts(name, arms.write(name, "(refl, refl)", "(Ok tt)"))
     return found
 
 
-def read_answers(shape):
-    """The same of reading."""
+def read_answers(cases, arms):
+    """The same of reading, in a function that reads these cases."""
     found, known = [], set()
-    for place, case in enumerate(case for case in shape.cases if case.taken.parts and shape.item.readable):
+    for place, case in enumerate(case for case in cases if case.taken.parts):
         tag = case.variant.tag
         end = "" if place == 0 else "-read_value" if place == 1 else f"-read_value-{place}"
         step = f"read_value-in-{tag}" if place else "read_value"
         taken = options_of(case.taken, "taken_by", known, f"Ok{end}")
         how = (has_other_form(case.taken), has_signed(case.taken))
-        found += answered(f"returns-in-Ok{end}", f"Ok{end}", step, taken, tag, *how)
-        found += answered(f"returns-in-Err{end}", f"Err{end}", step, [], tag)
+        found += answered(f"returns-in-Ok{end}", f"Ok{end}", step, taken, tag, *how, arms=arms)
+        found += answered(f"returns-in-Err{end}", f"Err{end}", step, [], tag, arms=arms)
+    for case in cases:
+        if not case.taken.parts:
+            found += arms.without_parts(case.variant.tag, arms.read(case.variant.tag, "(tt, refl)"))
     return found

@@ -246,6 +246,8 @@ BROKEN = [
      + "type A24 = u8;\n" + DERIVES + "struct B(A0);", 22, "made of more than"),
     ("more variants than Rattle has", HEAD + DERIVES + "enum A { " + ", ".join(f"V{it}" for it in range(257)) + " }", 3,
      "more than 256 variants"),
+    ("more variants of what owns memory than have a proof", HEAD + DERIVES + "enum A { V(Option<Vec<u8>>), "
+     + ", ".join(f"V{it}" for it in range(128)) + " }", 3, "past its 128th variant"),
     ("a cow that lives for ever", "use std::borrow::Cow;\n" + struct("    a: Cow<'static, str>"), 5, "name a lifetime"),
     ("a cow of a lifetime that is left out", "use std::borrow::Cow;\n" + struct("    a: Cow<'_, str>"), 5,
      "needs a lifetime"),

@@ -6,6 +6,7 @@ import keys
 import syntax
 import whole
 from answers import answers
+from groups import Later, groups_of, later_groups, tree_of
 from impls import Shape
 from parts import (NUMBERS, PartMaker, accesses_of_variant, built, number_of, read_arm, seen_of_parts,
                    variant_pattern, write_statements, written)
@@ -17,6 +18,10 @@ from trees import halved, leaves
 
 # Rattle has no enum of more variants.
 MOST_VARIANTS = 256
+# Rattle's borrow checker covers no value made at a later variant of an enum that owns memory or borrows.
+MOST_OWNING = 128
+OWNING = ("Box", "BoxedSlice", "BoxedStr", "BTreeMap", "BTreeSet", "CowSlice", "CowStr", "HashMap", "HashSet",
+          "IndexMap", "IndexSet", "SmallVec", "String", "Vec")
 # An enum of one variant has at most so many parts, made of so many types, of which one of the same file stands for
 # several: its arms have no goals of their own, which could be answered, and the search meets its limit.
 PARTS_OF_ONE = 4
@@ -73,7 +78,7 @@ class EnumShape(Shape):
     def __init__(self, item, scope, place):
         self.place = place
         self.cases = []
-        for path, variant in leaves(halved(item.variants)):
+        for path, variant in leaves(tree_of(item, item.variants)):
             whole.refuse_in_variant(variant)
             maker = PartMaker(item, scope, f"{item.name}::{variant.name}")
             taken = maker.taken(variant.fields, accesses_of_variant(variant.fields, scope))
@@ -89,8 +94,11 @@ class EnumShape(Shape):
                                              f"The parts of [`{item.name}::{case.variant.name}`].", case.taken.type(),
                                              names)
         self.number = type_text(number_of(scope, item.tag_type, item.line))
+        self.later = later_groups(self)
+        self.first = groups_of(item, self.cases)[0]
+        tree = (halved(self.first), self.later[0]) if self.later else halved(self.first)
         self.cases_type = self.alias(f"{item.name}Cases", f"The cases of [`{item.name}`], each with its tag.",
-                                     self.kinds_of(halved(self.cases)), self.names())
+                                     self.kinds_of(tree), self.names())
         self.parts_type = f"{scope.need('speedy::prefixed', 'Prefixed')}<{self.number}, {self.self_type}>"
 
     def kinds_of(self, tree):
@@ -98,6 +106,8 @@ class EnumShape(Shape):
         line = self.item.line
         if isinstance(tree, tuple):
             return Listed(line, "Either", tuple(self.kinds_of(it) for it in tree), self.of_cases("Either"))
+        if isinstance(tree, Later):
+            return tree.self_type
         tag = str(tree.variant.tag)
         if not tree.taken.parts:
             return Listed(line, "UnitCase", (tag,), self.of_cases("UnitCase"))
@@ -111,7 +121,7 @@ class EnumShape(Shape):
         """The impls."""
         found = self.cases_impl()
         found += self.layout([f"    ghost seen = {{ {self.quoted(self.self_type, 'Cases', 'speedy::cases')}.seen }};"])
-        found += keys.add_enum(self, halved([it.name for it in self.item.variants]))
+        found += keys.add_enum(self, tree_of(self.item, [it.name for it in self.item.variants]))
         if self.item.readable:
             found += self.read_impls()
         if self.item.writable:
@@ -155,14 +165,23 @@ class EnumShape(Shape):
     # The impls of reading.
 
     def read_impls(self):
-        """`impl ReadCases` and `impl ReadFrom`."""
-        err, generics = self.scope.variant("Err"), self.generics
-        refused = self.scope.need("speedy::private", "error_invalid_enum_variant")
-        arms = [self.read_arm(case) for case in self.cases] + [("_", f"{err}({refused}())")]
-        found = self.reading("speedy::cases", "ReadCases",
-                             self.reader("read_case", "tag: usize, ", str(Match("tag", tuple(arms)))))
+        """`impl ReadCases`, the functions that read later groups, and `impl ReadFrom`."""
+        generics = self.generics
+        body = str(self.read_match(self.first, self.later[0] if self.later else None))
+        found = self.reading("speedy::cases", "ReadCases", self.reader("read_case", "tag: usize, ", body))
+        for group in self.later:
+            found += group.function_lines()
         arguments = f"{self.number}, Self, {self.lent()}, {generics.context}, {generics.reader}"
         return found + self.read_from(f"{self.of_cases('read_tagged')}::<{arguments}>(reader)")
+
+    def read_match(self, cases, later):
+        """Reads a value of one of some cases, or else of a later group."""
+        if later:
+            last = f"{later.function}(tag, reader)"
+        else:
+            refused = self.scope.need("speedy::private", "error_invalid_enum_variant")
+            last = f"{self.scope.variant('Err')}({refused}())"
+        return Match("tag", (*map(self.read_arm, cases), ("_", last)))
 
     def read_arm(self, case):
         """An arm of it. An error is passed on by a `match`, as of a struct."""
@@ -219,6 +238,19 @@ def refuse_one_variant(shape):
                                  "fields into a struct of their own, which has the same bytes")
 
 
+def refuse_late_variants(shape):
+    """Refuses an enum that owns memory or borrows, of which values are made at variants that have no proof."""
+    item = shape.item
+    if item.readable and len(item.variants) > MOST_OWNING and any(map(owns_or_borrows, shape.kinds)):
+        raise Refusal(item.line, f"what makes a value of `{item.name}` has no proof past its {MOST_OWNING}th variant, "
+                                 "since others own memory or borrow: put some variants into an enum of their own")
+
+
+def owns_or_borrows(kind):
+    """Whether values of a type are known to own memory or to hold a reference."""
+    return isinstance(kind, syntax.Reference) or is_listed(kind, *OWNING) or any(map(owns_or_borrows, parts_of(kind)))
+
+
 def is_hash_map(kind):
     """Whether a type is a `HashMap`, as it is or behind a length."""
     return is_listed(parts_of(kind)[-1] if is_listed(kind, "Prefixed", "WithLength") else kind, "HashMap")
@@ -244,6 +276,7 @@ def enum_lines(item, scope, place):
         return RecursiveEnumShape(item, scope, place).lines()
     shape = EnumShape(item, scope, place)
     refuse_one_variant(shape)
+    refuse_late_variants(shape)
     found = shape.lines()
     scope.answers.update(answers(shape, place))
     return found

@@ -61,8 +61,8 @@ class Shape:
         """What a reader lends."""
         return self.generics.lender()
 
-    def reading(self, module, trait, body):
-        """An impl of a trait that reads."""
+    def reading_parameters(self):
+        """The parameters of an impl that reads."""
         generics, scope = self.generics, self.scope
         front = [f"{generics.context}: {scope.need('speedy', 'Context')}"]
         if generics.lending and not generics.lifetimes:
@@ -70,9 +70,12 @@ class Shape:
         elif not generics.lifetimes:
             bound = f"{scope.need('std::convert', 'AsSlice')}<u8> + {scope.prelude('Drop')}"
             front.insert(0, f"{generics.lent}: {bound}")
-        return impl(generics.of_impl(self.asked, generics.reading(), front),
-                    f"{scope.need(module, trait)}<{self.lent()}, {generics.context}>", self.self_type,
-                    generics.wheres_text(), body)
+        return generics.of_impl(self.asked, generics.reading(), front)
+
+    def reading(self, module, trait, body):
+        """An impl of a trait that reads."""
+        trait = f"{self.scope.need(module, trait)}<{self.lent()}, {self.generics.context}>"
+        return impl(self.reading_parameters(), trait, self.self_type, self.generics.wheres_text(), body)
 
     def writing(self, module, trait, body):
         """An impl of a trait that writes."""
@@ -87,12 +90,15 @@ class Shape:
         """A result whose error is that of the context."""
         return f"{self.scope.prelude('Result')}<{value}, {self.generics.context}::Error>"
 
-    def reader(self, name, before, body):
-        """A function that reads."""
+    def reader_head(self, name, before, parameters=()):
+        """The head of a function that reads, which has these parameters beside the reader's type."""
         generics = self.generics
         bound = f"{generics.reader}: {self.scope.need('speedy', 'LendingReader')}<{self.lent()}, {generics.context}>"
-        return function(f"fn {name}<{bound}>({before}reader: &mut {generics.reader})", self.result(self.self_type),
-                        body)
+        return f"fn {name}<{', '.join([*parameters, bound])}>({before}reader: &mut {generics.reader})"
+
+    def reader(self, name, before, body):
+        """A function that reads."""
+        return function(self.reader_head(name, before), self.result(self.self_type), body)
 
     def writer(self, name, body):
         """A function that writes."""

@@ -13,6 +13,7 @@ pub use Rattle.speedy_base.specs.Signed
 pub use Rattle.speedy_base.specs.SignedLemmas
 pub use Rattle.speedy_layout.specs.OneMoreItem
 pub use Rattle.speedy_layout.specs.Addresses
+pub mod CaseArms
 pub use Rattle.speedy_layout.specs.Choices
 pub use Rattle.speedy_layout.specs.Codecs
 pub use Rattle.speedy_layout.specs.Codes

@@ -1,11 +1,15 @@
+use Rattle.speedy.specs.CaseArms.{write_arm}
+use Rattle.speedy_derived.specs.contracts.lengths.LengthsInCasesCasesImpl.TheImpl.{ghosts as cases}
 use Rattle.speedy_derived.proofs.lengths.LengthsInCasesWriteCases.write_case.Goals as goal
 
 pub returns-in-B : goal.returns-in-B
 returns-in-B g c =
     let written = rw c.lent_option-t0.ensures at c.write_value.ensures in
-    rw c.in-B.is written
+    write_arm cases g.C.Error.From.from_gives g.W.Writer.state g.W.Writer.appends _ _ _
+    c.in-B.is written
 
 pub returns-in-C : goal.returns-in-C
 returns-in-C g c =
     let written = rw c.lent_option-held.ensures at c.write_value-in-C.ensures in
-    rw c.in-C.is written
+    write_arm cases g.C.Error.From.from_gives g.W.Writer.state g.W.Writer.appends _ _ _
+    c.in-C.is written

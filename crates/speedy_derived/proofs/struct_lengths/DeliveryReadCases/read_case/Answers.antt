@@ -1,11 +1,16 @@
 use Rattle.std.proofs.Common.{rules}
+use Rattle.speedy.specs.CaseArms.{read_arm, read_of}
+use Rattle.speedy_derived.specs.contracts.struct_lengths.DeliveryCasesImpl.TheImpl.{ghosts as cases}
 use Rattle.speedy_derived.proofs.struct_lengths.DeliveryReadCases.read_case.Goals as goal
 
 pub returns-in-Ok : goal.returns-in-Ok
 returns-in-Ok g c =
-    let read = rw c.in-Ok.is at c.read_value.ensures in
-    rw c.in-1.is (read.kept, search (rules, read.answer))
+    let read = read_of c.in-Ok.is c.read_value.ensures in
+    read_arm cases g.C.Error.From.from_gives g.C.Error.IsEof.eof g.R.LendingReader.state _ _ _
+    c.in-1.is (read.kept, search (rules, read.answer))
 
 pub returns-in-Err : goal.returns-in-Err
 returns-in-Err g c =
-    let read = rw c.in-Err.is at c.read_value.ensures in rw c.in-1.is (read.kept, read.answer)
+    let read = read_of c.in-Err.is c.read_value.ensures in
+    read_arm cases g.C.Error.From.from_gives g.C.Error.IsEof.eof g.R.LendingReader.state _ _ _
+    c.in-1.is (read.kept, read.answer)
