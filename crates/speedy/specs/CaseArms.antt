@@ -1,5 +1,5 @@
--- What an arm of an enum's `read_case` and `write_case` does, as its case: proofs that `tools/derive` writes cite these.
--- They name the enum's cases, so that no search looks for these in the tree of all of them.
+-- What an arm of an enum's `read_case` and `write_case` does, as its case. Proofs that `tools/derive` writes cite these
+-- lemmas, which name the enum's cases, so that no search looks for these in the tree of all of them.
 use Rattle.std.specs.Prelude.{◌≡◌, ℕ, List, Bool, Result}
 use Rattle.std.proofs.Common.{subst, sym}
 use Rattle.speedy_base.specs.declared.error.Error.{Error}
