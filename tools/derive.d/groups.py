@@ -6,8 +6,10 @@ group before it has the tag."""
 import rattle
 from trees import chained, grouped, halved
 
-# So many cases one function reads at most. In smaller groups the impls that calls rest on are named again more often.
-GROUP = 32
+# So many cases one function reads at most, if there are more than MOST_WHOLE. Beside larger groups the search leaves
+# open what holds of all other tags; in smaller ones the impls that calls rest on are named again more often.
+GROUP = 20
+MOST_WHOLE = 24
 CASES = "speedy::cases"
 
 
@@ -15,7 +17,7 @@ def groups_of(item, items):
     """What belongs to the variants of an enum, in its groups. Proofs name the cases of a group, which they cannot where
     parameters are types or numbers: such an enum is one group, and so is one that is not read."""
     is_split = item.readable and all(it.kind == "lifetime" for it in item.parameters)
-    return grouped(items, GROUP if is_split else len(items))
+    return grouped(items, GROUP if is_split and len(items) > MOST_WHOLE else len(items))
 
 
 def tree_of(item, items):
