@@ -106,12 +106,12 @@ class Shape:
         bound = f"{generics.writer}: {self.scope.need('speedy', 'Writer')}<{generics.context}>"
         return function(f"fn {name}<{bound}>(&self, writer: &mut {generics.writer})", self.result("()"), body)
 
-    def read_from(self, body):
+    def read_from(self, body, hints=()):
         """`impl ReadFrom`."""
         strategy = self.scope.need("speedy", "ItemByItem")
         return self.reading("speedy", "ReadFrom", [
-            f"    type Strategy = {strategy}<{self.generics.context}>;", "", *self.reader("read_from", "", body), "",
-            *self.least_lines()])
+            f"    type Strategy = {strategy}<{self.generics.context}>;", "", *hints,
+            *self.reader("read_from", "", body), "", *self.least_lines()])
 
     def least_of(self, kind):
         """The least size of a type, as its impl says it."""

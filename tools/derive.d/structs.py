@@ -8,7 +8,10 @@ from impls import Shape
 from parts import (PartMaker, accesses_of_struct, built, outline, read_arm, seen_of_parts, write_statements, written)
 from rattle import Block, Call, Match, clause_lines, type_text
 from recursive_structs import RecursiveStructShape
-from sizes import least
+from sizes import is_copied, least
+
+# So many numbers are read where they are called for.
+FEW = 8
 
 
 class StructShape(Shape):
@@ -35,7 +38,9 @@ class StructShape(Shape):
         """The impls."""
         found = self.layout(self.seen()) + keys.add_struct(self, self.taken)
         if self.item.readable:
-            found += self.read_from(self.read_body())
+            # LLVM leaves it out of line where several loops call it, which costs a list ten times as long.
+            hints = ["    #[inline(always)]"] if self.is_few_numbers() else []
+            found += self.read_from(self.read_body(), hints)
         if self.item.writable:
             body = Block(write_statements(self.taken), f"writer.write_value({written(self.taken, self.scope)})")
             found += self.writing("speedy", "Writable", self.writer("write_to", " ".join(map(str, body.statements))
@@ -43,6 +48,10 @@ class StructShape(Shape):
         if self.item.name in self.scope.holding:
             found += holders.impls(self, self.scope.holding[self.item.name])
         return found
+
+    def is_few_numbers(self):
+        """Whether the parts are numbers, flags and characters alone, and few."""
+        return 0 < len(self.kinds) <= FEW and all(map(is_copied, self.kinds))
 
     def seen(self):
         """What is seen of a struct: what is of its parts."""

@@ -47,6 +47,7 @@ impl SameKey for Place {
 impl<L: AsSlice<u8> + Drop, C: Context> ReadFrom<L, C> for Place {
     type Strategy = ItemByItem<C>;
 
+    #[inline(always)]
     fn read_from<R: LendingReader<L, C>>(reader: &mut R) -> Result<Place, C::Error> {
         match reader.read_value() {
             Ok((row, column)) => Ok(Place { row, column }),

@@ -127,6 +127,7 @@ impl SpeedyLayout for Context {
 impl<L: AsSlice<u8> + Drop, C: SpeedyContext> ReadFrom<L, C> for Context {
     type Strategy = ItemByItem<C>;
 
+    #[inline(always)]
     fn read_from<R: LendingReader<L, C>>(reader: &mut R) -> StdResult<Context, C::Error> {
         match reader.read_value() {
             Ok(type_) => Ok(Context { type_ }),

@@ -34,6 +34,7 @@ impl<T> Layout for Session<T> {
 impl<L: AsSlice<u8> + Drop, C: Context, T: Drop> ReadFrom<L, C> for Session<T> {
     type Strategy = ItemByItem<C>;
 
+    #[inline(always)]
     fn read_from<R: LendingReader<L, C>>(reader: &mut R) -> Result<Session<T>, C::Error> {
         match reader.read_value() {
             Ok(id) => Ok(Session {

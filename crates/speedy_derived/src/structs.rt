@@ -27,6 +27,7 @@ impl Layout for Numbers {
 impl<L: AsSlice<u8> + Drop, C: Context> ReadFrom<L, C> for Numbers {
     type Strategy = ItemByItem<C>;
 
+    #[inline(always)]
     fn read_from<R: LendingReader<L, C>>(reader: &mut R) -> Result<Numbers, C::Error> {
         match reader.read_value() {
             Ok((a, b, c)) => Ok(Numbers { a, b, c }),
@@ -60,6 +61,7 @@ impl Layout for Newtype {
 impl<L: AsSlice<u8> + Drop, C: Context> ReadFrom<L, C> for Newtype {
     type Strategy = ItemByItem<C>;
 
+    #[inline(always)]
     fn read_from<R: LendingReader<L, C>>(reader: &mut R) -> Result<Newtype, C::Error> {
         match reader.read_value() {
             Ok(t0) => Ok(Newtype(t0)),

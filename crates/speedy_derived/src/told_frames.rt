@@ -76,6 +76,7 @@ impl Layout for SegmentHeader {
 impl<L: AsSlice<u8> + Drop, C: Context> ReadFrom<L, C> for SegmentHeader {
     type Strategy = ItemByItem<C>;
 
+    #[inline(always)]
     fn read_from<R: LendingReader<L, C>>(reader: &mut R) -> Result<SegmentHeader, C::Error> {
         match reader.read_value() {
             Ok((version, size)) => Ok(SegmentHeader { version, size }),

@@ -36,6 +36,7 @@ impl Layout for Header {
 impl<L: AsSlice<u8> + Drop, C: Context> ReadFrom<L, C> for Header {
     type Strategy = ItemByItem<C>;
 
+    #[inline(always)]
     fn read_from<R: LendingReader<L, C>>(reader: &mut R) -> Result<Header, C::Error> {
         match reader.read_value() {
             Ok((id, flags, questions, answers, authorities, additional)) => Ok(Header {

@@ -25,6 +25,7 @@ impl Layout for Reading {
 impl<L: AsSlice<u8> + Drop, C: Context> ReadFrom<L, C> for Reading {
     type Strategy = ItemByItem<C>;
 
+    #[inline(always)]
     fn read_from<R: LendingReader<L, C>>(reader: &mut R) -> Result<Reading, C::Error> {
         match reader.read_value() {
             Ok((second, value)) => Ok(Reading { second, value }),

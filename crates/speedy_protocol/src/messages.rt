@@ -91,6 +91,7 @@ impl Layout for Header {
 impl<L: AsSlice<u8> + Drop, C: Context> ReadFrom<L, C> for Header {
     type Strategy = ItemByItem<C>;
 
+    #[inline(always)]
     fn read_from<R: LendingReader<L, C>>(reader: &mut R) -> Result<Header, C::Error> {
         match reader.read_value() {
             Ok((version, flags)) => Ok(Header { version, flags }),
@@ -131,6 +132,7 @@ impl Layout for Header2 {
 impl<L: AsSlice<u8> + Drop, C: Context> ReadFrom<L, C> for Header2 {
     type Strategy = ItemByItem<C>;
 
+    #[inline(always)]
     fn read_from<R: LendingReader<L, C>>(reader: &mut R) -> Result<Header2, C::Error> {
         match reader.read_value() {
             Ok((version, flags, session)) => Ok(Header2 {
@@ -174,6 +176,7 @@ impl Layout for Reading {
 impl<L: AsSlice<u8> + Drop, C: Context> ReadFrom<L, C> for Reading {
     type Strategy = ItemByItem<C>;
 
+    #[inline(always)]
     fn read_from<R: LendingReader<L, C>>(reader: &mut R) -> Result<Reading, C::Error> {
         match reader.read_value() {
             Ok((second, value)) => Ok(Reading { second, value }),
