@@ -293,6 +293,10 @@ BROKEN = [
      "`BoxedStr` has none in Rattle: take a `Vec`"),
     ("a small vector in another type", "use smallvec::SmallVec;\n" + struct("    a: B<std::net::IpAddr>") + DERIVES
      + "struct B<T>(SmallVec<[T; 4]>);", 5, "`IpAddr` has none"),
+    ("what is no number in one order", "use speedy::Big;\n" + struct("    a: Vec<Big<String>>"), 5,
+     "`Big` holds a number of a fixed width, as `Big<u32>`, and `String` is none"),
+    ("a parameter in one order", "use speedy::Little;\n" + struct("    a: Little<T>", "A<T>"), 5,
+     "and `T` is none"),
     ("a skipped small vector", "use smallvec::SmallVec;\n"
      + struct("    #[speedy(skip)]\n    a: SmallVec<[Box<u8>; 4]>"), 6, "`Box<u8>` has none"),
     ("a default in another type", struct("    a: B<Box<str>>") + DERIVES + "struct B<T>(u8, #[speedy(skip)] T);", 4,

@@ -6,6 +6,7 @@ from dataclasses import dataclass, field, replace
 
 import rattle
 import syntax
+from known import ONE_ORDER
 from rattle import Foreign, Listed, Variable, is_listed, type_text
 from refusal import Refusal
 
@@ -63,7 +64,8 @@ LISTS = {
     "BTreeSet": ("{it}.keys", {}),
 }
 # What holds one value, and how a clause names that.
-HOLDERS = {"Box": ("{it}.value", {}), "Cow": ("(cow_value {it})", {"cow_value": "Rattle.std.specs.Cow"})}
+HOLDERS = {"Box": ("{it}.value", {}), "Cow": ("(cow_value {it})", {"cow_value": "Rattle.std.specs.Cow"})} \
+    | dict.fromkeys(ONE_ORDER, ("{it}.0", {}))
 # Why a type is no key.
 NO_KEYS = {
     "RangeInclusive": "whether it was walked is compared too, and not encoded",

@@ -19,6 +19,8 @@ PRIMITIVES = ("u8", "u16", "u32", "u64", "u128", "usize", "i8", "i16", "i32", "i
 NUMBERS = ("u8", "u16", "u32", "u64", "u128", "i8", "i16", "i32", "i64", "i128", "F32", "F64")
 # What floats become, which holds their bits.
 FLOATS = {"f32": "F32", "f64": "F64"}
+# What a number is held in that lies in one byte order, with that order.
+ONE_ORDER = {"Big": "big", "Little": "little"}
 
 KNOWN = {
     "std::string::String": Known("String"),
@@ -44,6 +46,8 @@ KNOWN = {
     "speedy::Endianness": Known("Endianness", "speedy"),
     "speedy::private::VarInt64": Known("VarInt64", "speedy::varint"),
 }
+for holder in ONE_ORDER:
+    KNOWN[f"speedy::{holder}"] = Known(holder, "speedy", ((PART,),))
 for bits in (8, 16, 32, 64):
     for sign in ("U", "I"):
         KNOWN[f"std::num::NonZero{sign}{bits}"] = Known(f"NonZero{sign}{bits}", "std::num")

@@ -3,7 +3,8 @@ import expressions
 import rattle
 import syntax
 from derives import Derives
-from known import BOUNDS, FLOATS, KNOWN, NONE_OF_OURS, NUMBERS, PRELUDE, PRELUDE_BOUNDS, PRELUDE_MODULES, PRIMITIVES
+from known import BOUNDS, FLOATS, KNOWN, NONE_OF_OURS, NUMBERS, ONE_ORDER, PRELUDE, PRELUDE_BOUNDS, PRELUDE_MODULES
+from known import PRIMITIVES
 from names import Fresh, field_name
 from rattle import Foreign, Listed, Own, Variable, type_text
 from refusal import Refusal
@@ -430,6 +431,9 @@ class Converter:
         else:
             hasher = ()
         arguments = self.types(kind, len(known.arguments) - has_hasher) + hasher
+        if known.name in ONE_ORDER and not rattle.is_listed(arguments[0], *NUMBERS):
+            raise Refusal(kind.line, f"`{known.name}` holds a number of a fixed width, as `{known.name}<u32>`, and "
+                                     f"`{type_text(arguments[0])}` is none")
         local = self.scope.need(known.module, known.name) if known.module else self.scope.prelude(known.name)
         return Listed(kind.line, known.name, arguments, local)
 

@@ -19,13 +19,17 @@ class Leaf(Layout):
 
     def read(self, cursor, label):
         at = cursor.take(self.least, f"a `{self.name}`", label)
-        number = int.from_bytes(cursor.data[at:cursor.at], cursor.order)
+        number = int.from_bytes(cursor.data[at:cursor.at], self.order_under(cursor.order))
         return cursor.leaf(label, self, at, self.decode(cursor, at, number, label))
 
     def skip(self, cursor):
         at = cursor.take(self.least, self.name)
         if self.size(cursor.strict) is None:
             self.decode(cursor, at, int.from_bytes(cursor.data[at:cursor.at], cursor.order), "")
+
+    def order_under(self, order):
+        """The order of the bytes, under one of the context."""
+        return order
 
     def decode(self, cursor, at, number, label):  # pylint: disable=unused-argument
         """The value that a number means, or an error."""
@@ -194,6 +198,28 @@ class Float(Leaf):
 
     def pieces(self, node, data):
         return [texts.float_text(node.value, self.least)]
+
+
+class OneOrder(Leaf):
+    """`Big<T>` and `Little<T>`: a number that lies in one order under each context."""
+
+    def __init__(self, name, number, order):
+        super().__init__(f"{name}<{number.name}>", number.least)
+        self.shown = name
+        self.number = number
+        self.order = order
+
+    def order_under(self, order):
+        return self.order
+
+    def size(self, strict):
+        return self.least
+
+    def decode(self, cursor, at, number, label):
+        return self.number.decode(cursor, at, number, label)
+
+    def pieces(self, node, data):
+        return [f"{self.shown}(", *self.number.pieces(node, data), ")"]
 
 
 class Char(Leaf):

@@ -42,6 +42,7 @@ pub use Rattle.speedy_layout.specs.Maps
 pub use Rattle.speedy_layout.specs.Members
 pub use Rattle.speedy_layout.specs.NonZero
 pub use Rattle.speedy_layout.specs.Numbers
+pub use Rattle.speedy_layout.specs.OneOrder
 pub use Rattle.speedy_layout.specs.Orders
 pub use Rattle.speedy_layout.specs.Owned
 pub use Rattle.speedy_layout.specs.EqualityOfMaps

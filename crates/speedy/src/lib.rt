@@ -48,6 +48,8 @@ mod tests_maps;
 #[cfg(test)]
 mod tests_numbers;
 #[cfg(test)]
+mod tests_one_order;
+#[cfg(test)]
 mod tests_owned;
 #[cfg(test)]
 mod tests_prefixed;
@@ -85,12 +87,13 @@ pub use error::{Error, IsEof};
 pub use floats::{F32, F64};
 pub use layout::Layout;
 pub use many::ItemByItem;
+pub use one_order::{Big, Little};
 pub use part::Part;
 pub use readable::{ReadFrom, ReadMany, Readable, ReadableOwned};
 pub use reader::{LendingReader, Reader};
 pub use same_key::SameKey;
 pub use speedy_base::{circular_buffer, context, device, endianness, error};
-pub use speedy_layout::{floats, magic, same_key, varint, view_items, views};
+pub use speedy_layout::{floats, magic, one_order, same_key, varint, view_items, views};
 pub use speedy_read::{buffer, codes, collections, lent, many, readable};
 pub use speedy_write::{part, writable, writer};
 pub use writable::Writable;

@@ -15,6 +15,7 @@ pub mod lent;
 pub mod many;
 pub mod map_lengths;
 pub mod names;
+pub mod one_order;
 pub mod recursive;
 pub mod skips;
 pub mod struct_lengths;

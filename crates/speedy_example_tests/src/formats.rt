@@ -6,6 +6,7 @@ use speedy_examples::capture::Packet;
 use speedy_examples::dns_flags::{header_bytes, read_header};
 use speedy_examples::locating::entries;
 use speedy_examples::packets::{count_in_file, count_packets, packets};
+use speedy_examples::ports::{packet_to, target_port};
 use speedy_examples::sensor::Reading;
 use speedy_examples::sensors::{load, save};
 use speedy_examples::settings::{Settings, Tag, Theme};
@@ -43,6 +44,15 @@ fn flags_of_a_header_in_big_endian_are_bits(rt: HostRuntime) -> Result<(), Error
     header.flags = 0xa800;
     header.set_response_code(3);
     assert!(rt; header.is_response() && header.opcode() == 5 && header.flags == 0xa803);
+    Ok(())
+}
+
+#[test]
+fn ports_keep_network_order_in_a_little_file(rt: HostRuntime) -> Result<(), Error> {
+    let alloc = rt.alloc();
+    let bytes = b"\x07\0\0\0\xc0\0\x01\xbb";
+    assert!(rt; target_port(alloc, bytes)? == 443);
+    assert!(rt; packet_to(alloc, 7, 443)?.as_slice() == bytes.as_slice());
     Ok(())
 }
 

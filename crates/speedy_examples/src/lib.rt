@@ -33,6 +33,7 @@ pub mod own_types;
 pub mod own_writer;
 pub mod packets;
 pub mod png;
+pub mod ports;
 pub mod readme;
 pub mod records;
 pub mod sensor;

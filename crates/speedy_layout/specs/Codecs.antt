@@ -2,6 +2,7 @@
 pub use Rattle.speedy_layout.specs.Laws.{Codec}
 pub use Rattle.speedy_layout.specs.Codes.{coding_codec, subset_codec}
 pub use Rattle.speedy_layout.specs.Numbers.{unsigned_codec, signed_codec, usize_codec, length_codec}
+pub use Rattle.speedy_layout.specs.OneOrder.{one_order_codec}
 pub use Rattle.speedy_layout.specs.NonZero.{non_zero_codec, signed_non_zero_codec}
 pub use Rattle.speedy_layout.specs.Varint.{varint_codec}
 pub use Rattle.speedy_layout.specs.Leaves.{character_codec, byte_order_codec, duration_codec}

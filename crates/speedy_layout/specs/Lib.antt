@@ -5,6 +5,7 @@ pub mod Encoding
 pub mod Sequences
 pub mod Numbers
 pub mod FixedNumbers
+pub mod OneOrder
 pub mod Floats
 pub mod NonZero
 pub mod Owned

@@ -32,6 +32,7 @@ pub mod maps;
 pub mod memory_reader;
 pub mod non_zero;
 pub mod numbers;
+pub mod one_order;
 pub mod owned;
 pub mod owned_reader;
 pub mod prefixed;

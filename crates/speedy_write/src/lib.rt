@@ -26,6 +26,7 @@ pub mod magic;
 pub mod maps;
 pub mod non_zero;
 pub mod numbers;
+pub mod one_order;
 pub mod owned;
 pub mod part;
 pub mod prefixed;
