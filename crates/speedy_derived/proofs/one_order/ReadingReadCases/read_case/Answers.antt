@@ -1,17 +1,27 @@
+use Rattle.speedy.specs.CaseArms.{read_arm, read_of}
+use Rattle.speedy_derived.specs.contracts.one_order.ReadingCasesImpl.TheImpl.{ghosts as cases}
 use Rattle.speedy_derived.proofs.one_order.ReadingReadCases.read_case.Goals as goal
 
 pub returns-in-Ok : goal.returns-in-Ok
 returns-in-Ok g c =
-    let read = rw c.in-Ok.is at c.read_value.ensures in rw c.in-0.is (read.kept, read.answer)
+    let read = read_of c.in-Ok.is c.read_value.ensures in
+    read_arm cases g.C.Error.From.from_gives g.C.Error.IsEof.eof g.R.LendingReader.state _ _ _
+    c.in-0.is (read.kept, read.answer)
 
 pub returns-in-Err : goal.returns-in-Err
 returns-in-Err g c =
-    let read = rw c.in-Err.is at c.read_value.ensures in rw c.in-0.is (read.kept, read.answer)
+    let read = read_of c.in-Err.is c.read_value.ensures in
+    read_arm cases g.C.Error.From.from_gives g.C.Error.IsEof.eof g.R.LendingReader.state _ _ _
+    c.in-0.is (read.kept, read.answer)
 
 pub returns-in-Ok-read_value : goal.returns-in-Ok-read_value
 returns-in-Ok-read_value g c =
-    let read = rw c.in-Ok-read_value.is at c.read_value-in-1.ensures in rw c.in-1.is (read.kept, read.answer)
+    let read = read_of c.in-Ok-read_value.is c.read_value-in-1.ensures in
+    read_arm cases g.C.Error.From.from_gives g.C.Error.IsEof.eof g.R.LendingReader.state _ _ _
+    c.in-1.is (read.kept, read.answer)
 
 pub returns-in-Err-read_value : goal.returns-in-Err-read_value
 returns-in-Err-read_value g c =
-    let read = rw c.in-Err-read_value.is at c.read_value-in-1.ensures in rw c.in-1.is (read.kept, read.answer)
+    let read = read_of c.in-Err-read_value.is c.read_value-in-1.ensures in
+    read_arm cases g.C.Error.From.from_gives g.C.Error.IsEof.eof g.R.LendingReader.state _ _ _
+    c.in-1.is (read.kept, read.answer)
