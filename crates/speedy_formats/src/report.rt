@@ -1,11 +1,15 @@
 //! What the program says of a file that it cannot show, and how it prints lists.
-use speedy::Error;
+use speedy::readable::BufferReader;
+use speedy::{Endianness, Error, LendingReader, ReadFrom};
+use std::alloc::AllocError;
 use std::fmt;
 use std::io::{self, Write};
 
 /// Why a file is not shown.
 #[derive(Drop)]
 pub(crate) enum Failure {
+    /// It was not read.
+    Unread(io::Error),
     /// No format that the program knows begins so.
     Unknown,
     /// A part of it is broken.
@@ -45,6 +49,16 @@ impl Broken {
         })
     }
 
+    /// One of several parts, whose bytes encode no value.
+    pub(crate) fn bytes_of(part: &'static str, number: usize, at: usize, error: Error) -> Failure {
+        Failure::Broken(Broken {
+            part,
+            number: Some(number),
+            at,
+            fault: Fault::Bytes(error),
+        })
+    }
+
     /// One of several parts, whose value is none that the format has there.
     pub(crate) fn value(
         part: &'static str,
@@ -64,6 +78,12 @@ impl Broken {
 impl From<io::Error> for Failure {
     fn from(error: io::Error) -> Failure {
         Failure::Print(error)
+    }
+}
+
+impl From<AllocError> for Failure {
+    fn from(_error: AllocError) -> Failure {
+        Failure::Print(io::Error::from(io::ErrorKind::OutOfMemory))
     }
 }
 
@@ -90,6 +110,7 @@ impl fmt::Display for Broken {
 impl fmt::Display for Failure {
     fn fmt<W: fmt::Write>(&self, f: &mut fmt::Formatter<W>) -> fmt::Result {
         match self {
+            Failure::Unread(error) => write!(f, "{error}"),
             Failure::Unknown => write!(f, "no format that is known, at byte 0"),
             Failure::Broken(broken) => write!(f, "{broken}"),
             Failure::Print(error) => write!(f, "{error}"),
@@ -149,4 +170,16 @@ pub(crate) fn write_again<W: Write + Drop>(
         Err(error) => writeln!(out, "  not written again: {error}")?,
     }
     Ok(())
+}
+
+/// Passes values up to the first one that is broken, in which the reader stops, and says how many they are.
+pub(crate) fn pass_values<'a, T: ReadFrom<&'a [u8], Endianness> + Drop>(
+    reader: &mut BufferReader<'a, Endianness>,
+) -> usize {
+    for count in 0..usize::MAX {
+        if reader.len() == 0 || reader.read_value::<T>().is_err() {
+            return count;
+        }
+    }
+    usize::MAX
 }

@@ -1,4 +1,5 @@
 //! What the program is asked: a format, how long lists are, and files.
+use crate::captures::order_of;
 use std::alloc::Global;
 use std::env::Args;
 use std::io;
@@ -7,21 +8,37 @@ use std::io;
 #[derive(Clone, Copy)]
 pub(crate) enum Format {
     Zone,
+    Png,
+    Pcap,
+    Wav,
+    Zip,
+    Elf,
+}
+
+/// A file that the program is asked of, with its format where one was said.
+#[derive(Drop)]
+pub(crate) struct Asked {
+    pub format: Option<Format>,
+    pub path: String,
 }
 
 /// What the program is asked.
 #[derive(Drop)]
 pub(crate) struct Request {
-    pub format: Option<Format>,
     /// How many items of a list are printed.
     pub most: usize,
-    pub paths: Vec<String>,
+    pub files: Vec<Asked>,
 }
 
 /// The format of a word.
 fn format_named(word: &str) -> Option<Format> {
     match word {
         "zone" => Some(Format::Zone),
+        "png" => Some(Format::Png),
+        "pcap" => Some(Format::Pcap),
+        "wav" => Some(Format::Wav),
+        "zip" => Some(Format::Zip),
+        "elf" => Some(Format::Elf),
         _ => None,
     }
 }
@@ -31,24 +48,37 @@ pub(crate) fn format_of(bytes: &[u8]) -> Option<Format> {
     if bytes.starts_with(b"TZif") {
         return Some(Format::Zone);
     }
+    if bytes.starts_with(b"\x89PNG") {
+        return Some(Format::Png);
+    }
+    if order_of(bytes).is_some() {
+        return Some(Format::Pcap);
+    }
+    if bytes.starts_with(b"RIFF") {
+        return Some(Format::Wav);
+    }
+    if bytes.starts_with(b"PK") {
+        return Some(Format::Zip);
+    }
+    if bytes.starts_with(b"\x7fELF") {
+        return Some(Format::Elf);
+    }
     None
 }
 
 /// What the arguments of the program ask. The first one is its name.
 pub(crate) fn parse_request(alloc: Global, arguments: Args) -> io::Result<Request> {
-    let mut request = Request {
-        format: None,
-        most: 5,
-        paths: Vec::new(alloc),
-    };
-    for argument in arguments.skip(1) {
-        match argument.as_str() {
-            "all" => request.most = usize::MAX,
+    let mut most = 5;
+    let mut format = None;
+    let mut files = Vec::new(alloc);
+    for path in arguments.skip(1) {
+        match path.as_str() {
+            "all" => most = usize::MAX,
             word => match format_named(word) {
-                Some(format) => request.format = Some(format),
-                None => request.paths.push(argument)?,
+                Some(named) => format = Some(named),
+                None => files.push(Asked { format, path })?,
             },
         }
     }
-    Ok(request)
+    Ok(Request { most, files })
 }
