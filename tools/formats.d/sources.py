@@ -24,6 +24,8 @@ def found(word):
     if word == "zone":
         folders = [*zoneinfo.TZPATH, *(str(it) for it in Path("/usr/lib").glob("**/pytz/zoneinfo"))]
         is_one = lambda _, path: Path(path).read_bytes()[:4] == b"TZif"
+    elif word == "rtps":
+        return []
     elif word == "elf":
         folders = ["/usr/bin", "/usr/lib", "/opt/rattle/c", str(TOP / "crates")]
         is_one = lambda _, path: open(path, "rb").read(6)[:4] == b"\x7fELF"
@@ -99,7 +101,17 @@ def made_archives(folder):
     yield path
 
 
-MADE = {"pcap": made_captures, "png": made_images, "wav": made_sounds,
+def made_messages(folder):
+    """Each message that the crate keeps, as bytes, and all of them as lines of digits."""
+    lines = TOP / "crates/speedy_formats/data/messages.hex"
+    yield str(lines)
+    for number, line in enumerate(lines.read_text(encoding="utf-8").split()):
+        path = Path(f"{folder}/made-{number}.rtps")
+        path.write_bytes(bytes.fromhex(line))
+        yield str(path)
+
+
+MADE = {"rtps": made_messages, "pcap": made_captures, "png": made_images, "wav": made_sounds,
         "zip": made_archives}
 
 

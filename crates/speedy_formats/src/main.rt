@@ -2,7 +2,7 @@
 //!
 //! usage: speedy_formats [all] [[FORMAT] FILE]..
 //!
-//! A FORMAT (zone, png, pcap, wav, zip, elf) says what the files after it are; else the first bytes of each tell
+//! A FORMAT (zone, png, pcap, wav, zip, elf, rtps) says what the files after it are; else the first bytes of each tell
 //! it. A FILE of `-` is standard input, of which `pcap -` holds one packet at a time in memory. With `all` lists are
 //! printed whole, else their first five items. A file that is broken gets a line on standard error, which names its
 //! broken part and the byte there, and the status is 1.
@@ -12,14 +12,17 @@ mod archives;
 mod captures;
 mod elf;
 mod images;
+mod messages;
 mod pcap;
 mod png;
 mod programs;
 mod report;
 mod request;
+mod rtps;
 mod show_elf;
 mod show_pcap;
 mod show_png;
+mod show_rtps;
 mod show_wav;
 mod show_zip;
 mod show_zone;
@@ -35,6 +38,7 @@ use request::{Asked, Format, Request, format_of, parse_request};
 use show_elf::show_elf;
 use show_pcap::{show_pcap, show_stream};
 use show_png::show_png;
+use show_rtps::show_rtps;
 use show_wav::show_wav;
 use show_zip::show_zip;
 use show_zone::show_zone;
@@ -69,6 +73,7 @@ fn show<W: Write + Drop>(
         Some(Format::Wav) => show_wav(alloc, out, bytes, most),
         Some(Format::Zip) => show_zip(alloc, out, bytes, most),
         Some(Format::Elf) => show_elf(alloc, out, bytes, most),
+        Some(Format::Rtps) => show_rtps(alloc, out, bytes, most),
         None => Err(Failure::Unknown),
     }
 }

@@ -75,6 +75,19 @@ impl Broken {
     }
 }
 
+impl Failure {
+    /// The failure of a file in which so many bytes stand for one, after others.
+    pub(crate) fn moved(self, width: usize, before: usize) -> Failure {
+        match self {
+            Failure::Broken(broken) => Failure::Broken(Broken {
+                at: broken.at.saturating_mul(width).saturating_add(before),
+                ..broken
+            }),
+            other => other,
+        }
+    }
+}
+
 impl From<io::Error> for Failure {
     fn from(error: io::Error) -> Failure {
         Failure::Print(error)

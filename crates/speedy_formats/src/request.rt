@@ -13,6 +13,7 @@ pub(crate) enum Format {
     Wav,
     Zip,
     Elf,
+    Rtps,
 }
 
 /// A file that the program is asked of, with its format where one was said.
@@ -39,6 +40,7 @@ fn format_named(word: &str) -> Option<Format> {
         "wav" => Some(Format::Wav),
         "zip" => Some(Format::Zip),
         "elf" => Some(Format::Elf),
+        "rtps" => Some(Format::Rtps),
         _ => None,
     }
 }
@@ -62,6 +64,9 @@ pub(crate) fn format_of(bytes: &[u8]) -> Option<Format> {
     }
     if bytes.starts_with(b"\x7fELF") {
         return Some(Format::Elf);
+    }
+    if bytes.starts_with(b"RTPS") || bytes.starts_with(b"52545053") {
+        return Some(Format::Rtps);
     }
     None
 }
