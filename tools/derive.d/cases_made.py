@@ -62,6 +62,13 @@ pub struct Contact {
      ["type AParts = (Varint, bool);", "ghost seen = { λ it. (it.n, ⟦<bool as Layout>⟧.seen it.last) };",
       "match reader.read_value::<AParts>() {", "n: n.0,", "cache: Vec::new(reader.alloc()),",
       "writer.write_value(&(Varint(self.n), self.last))"]),
+    ("a constant before the rest of the bytes, whose clause does not fit into a line", DERIVES
+     + "struct A { first: String, second: String, #[speedy(constant_prefix = b\"--\")] line: (), "
+     "#[speedy(length = ..)] rest: Vec<u8> }\n",
+     ["    ghost seen = { λ it. (\n      (\n        ⟦<String as Layout>⟧.seen it.first,\n"
+      "        (⟦<String as Layout>⟧.seen it.second, "
+      "(⟦<BeforeALine as Constant>⟧.bytes, ⟦<() as Layout>⟧.seen it.line)),\n      ),\n"
+      "      ⟦<Vec<u8> as OfLength>⟧.seen it.rest,\n    ) };"]),
     ("constants and aliases", "pub const SIZE: usize = 4 * (1 + 1);\ntype Name = [u8; SIZE];\n" + DERIVES
      + "struct A { name: Name, id: uuid::Uuid }\n",
      ["use speedy::ext::Uuid;", "pub const SIZE: usize = 4 * (1 + 1);", "type Name = [u8; SIZE];",

@@ -123,7 +123,7 @@ class WholeShape(Shape):
         quoted = self.quoted(self.parts_type, "Whole", "speedy::whole")
         before, tree = ("", "tt") if not self.first.parts else \
             seen_of_parts(self.first, type_text(self.first.type()), self.scope)
-        first = before + clause_text(tree)
+        first = before + clause_text(tree) if before else tree
         return [f"    type Ends = {self.names_of_whole['EndsWithInput']};", "",
                 f"    ghost Seen = {{ {quoted}.Seen }};", "",
                 *clause_lines(4, "ghost seen = { λ it. ", [first, self.end_seen()], " };"), "",

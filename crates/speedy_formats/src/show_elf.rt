@@ -1,0 +1,267 @@
+//! What an ELF file says of itself, much as `readelf -hlSW` prints it.
+use crate::elf::{FileHeader, Section, Sections, Segment, Segments};
+use crate::programs::{
+    file_header_bytes, order_of, read_file_header, read_sections, read_segments, sections_bytes,
+    segments_bytes,
+};
+use crate::report::{Broken, Failure, Text, text_at, write_rest};
+use speedy::{Endianness, Error};
+use std::alloc::Global;
+use std::io::{self, Write};
+
+/// Where a table lies in a file, with how it is named where it is broken.
+#[derive(Clone, Copy)]
+struct Table {
+    name: &'static str,
+    /// Where the header tells its place.
+    told_at: usize,
+    offset: u64,
+    size: u16,
+    /// The bytes of an item that is read.
+    item: u16,
+    count: u16,
+}
+
+/// The bytes of a table.
+fn table_bytes<'a>(bytes: &'a [u8], table: Table) -> Result<&'a [u8], Failure> {
+    if table.count == 0 {
+        return Ok(&bytes[..0]);
+    }
+    if table.size != table.item {
+        return Err(Broken::value(table.name, 0, table.told_at, "its items have another size"));
+    }
+    let begin = usize::try_from(table.offset).unwrap_or(usize::MAX);
+    let size = usize::from(table.size) * usize::from(table.count);
+    match bytes.get(begin..begin.saturating_add(size)) {
+        Some(part) => Ok(part),
+        None => Err(Broken::value(table.name, 0, table.told_at, "it does not lie in the file")),
+    }
+}
+
+/// Says what an ELF file holds.
+pub(crate) fn show_elf<W: Write + Drop>(
+    alloc: Global,
+    out: &mut W,
+    bytes: &[u8],
+    most: usize,
+) -> Result<(), Failure> {
+    let Some(order) = order_of(bytes) else {
+        return Err(Broken::value(
+            "header",
+            0,
+            bytes.len().min(4),
+            "it is not of 64 bits in a known order",
+        ));
+    };
+    let header = match read_file_header(alloc, order, bytes) {
+        Ok(header) => header,
+        Err(error) => return Err(Broken::bytes("the header", bytes.len(), error)),
+    };
+    let segment_bytes = table_bytes(bytes, segment_table(&header))?;
+    let section_bytes = table_bytes(bytes, section_table(&header))?;
+    let segments = match read_segments(alloc, order, segment_bytes) {
+        Ok(segments) => segments,
+        Err(error) => return Err(Broken::bytes("the segments", 0x20, error)),
+    };
+    let sections = match read_sections(alloc, order, section_bytes) {
+        Ok(sections) => sections,
+        Err(error) => return Err(Broken::bytes("the sections", 0x28, error)),
+    };
+    let names = names_of(bytes, &header, &sections)?;
+    check_names(&header, &sections, names)?;
+    show_header(out, &header, order)?;
+    show_segments(out, &segments, most)?;
+    show_sections(out, &sections, names, most)?;
+    let header_again = is_again(file_header_bytes(alloc, order, &header), bytes.get(..64));
+    let segments_again = is_again(segments_bytes(alloc, order, &segments), Some(segment_bytes));
+    let sections_again = is_again(sections_bytes(alloc, order, &sections), Some(section_bytes));
+    let same = if header_again && segments_again && sections_again {
+        "the same"
+    } else {
+        "other"
+    };
+    writeln!(out, "  written again: {same} bytes")?;
+    Ok(())
+}
+
+/// Whether these bytes were written again.
+fn is_again(written: Result<Vec<u8>, Error>, bytes: Option<&[u8]>) -> bool {
+    match (written, bytes) {
+        (Ok(again), Some(bytes)) => again.as_slice() == bytes,
+        _ => false,
+    }
+}
+
+fn segment_table(header: &FileHeader) -> Table {
+    Table {
+        name: "table of segments",
+        told_at: 0x20,
+        offset: header.segments_offset,
+        size: header.segment_size,
+        item: 56,
+        count: header.segment_count,
+    }
+}
+
+fn section_table(header: &FileHeader) -> Table {
+    Table {
+        name: "table of sections",
+        told_at: 0x28,
+        offset: header.sections_offset,
+        size: header.section_size,
+        item: 64,
+        count: header.section_count,
+    }
+}
+
+/// The texts in which the names of the sections lie.
+fn names_of<'a>(
+    bytes: &'a [u8],
+    header: &FileHeader,
+    sections: &Sections,
+) -> Result<&'a [u8], Failure> {
+    if header.names == 0 {
+        return Ok(&bytes[..0]);
+    }
+    let Some(section) = sections.items.get(usize::from(header.names)) else {
+        return Err(Broken::value(
+            "section of names",
+            usize::from(header.names),
+            0x3e,
+            "there is none",
+        ));
+    };
+    let begin = usize::try_from(section.offset).unwrap_or(usize::MAX);
+    let size = usize::try_from(section.size).unwrap_or(usize::MAX);
+    match bytes.get(begin..begin.saturating_add(size)) {
+        Some(names) => Ok(names),
+        None => Err(Broken::value(
+            "section",
+            usize::from(header.names),
+            0x3e,
+            "it does not lie in the file",
+        )),
+    }
+}
+
+/// Looks that each section has a name, where there are names.
+fn check_names(header: &FileHeader, sections: &Sections, names: &[u8]) -> Result<(), Failure> {
+    if header.names == 0 {
+        return Ok(());
+    }
+    for (number, section) in sections.items.iter().enumerate() {
+        if text_at(names, section.name as usize).is_none() {
+            let begin = usize::try_from(header.sections_offset).unwrap_or(usize::MAX);
+            let at = begin.saturating_add(number.saturating_mul(64));
+            return Err(Broken::value("section", number, at, "there is no such name"));
+        }
+    }
+    Ok(())
+}
+
+fn machine_name(machine: u16) -> &'static str {
+    match machine {
+        8 => "MIPS",
+        21 => "PowerPC",
+        22 => "S/390",
+        62 => "x86-64",
+        183 => "AArch64",
+        243 => "RISC-V",
+        247 => "BPF",
+        _ => "another machine",
+    }
+}
+
+fn kind_name(kind: u16) -> &'static str {
+    match kind {
+        1 => "object",
+        2 => "program",
+        3 => "library or program",
+        4 => "image of memory",
+        _ => "file",
+    }
+}
+
+fn show_header<W: Write + Drop>(
+    out: &mut W,
+    header: &FileHeader,
+    order: Endianness,
+) -> io::Result<()> {
+    let order = match order {
+        Endianness::LittleEndian => "little",
+        Endianness::BigEndian => "big",
+    };
+    write!(out, "  {} ({})", kind_name(header.kind), header.kind)?;
+    write!(
+        out,
+        " for {} ({})",
+        machine_name(header.machine),
+        header.machine
+    )?;
+    writeln!(out, ", in {order} endian, entry {:#x}", header.entry)
+}
+
+fn show_segment<W: Write + Drop>(out: &mut W, segment: &Segment) -> io::Result<()> {
+    write!(
+        out,
+        "    kind {:#x} flags {:#x}",
+        segment.kind, segment.flags
+    )?;
+    write!(
+        out,
+        " offset {:#x} size {:#x}",
+        segment.offset, segment.file_size
+    )?;
+    write!(
+        out,
+        " address {:#x} {:#x}",
+        segment.address, segment.physical_address
+    )?;
+    writeln!(
+        out,
+        " size {:#x} alignment {:#x}",
+        segment.memory_size, segment.alignment
+    )
+}
+
+fn show_segments<W: Write + Drop>(out: &mut W, segments: &Segments, most: usize) -> io::Result<()> {
+    writeln!(out, "  {} segments", segments.items.len())?;
+    for segment in segments.items.iter().take(most) {
+        show_segment(out, segment)?;
+    }
+    write_rest(out, segments.items.len(), most)
+}
+
+fn show_section<W: Write + Drop>(out: &mut W, section: &Section, names: &[u8]) -> io::Result<()> {
+    let name = text_at(names, section.name as usize).unwrap_or(b"");
+    write!(
+        out,
+        "    kind {:#x} flags {:#x}",
+        section.kind, section.flags
+    )?;
+    write!(
+        out,
+        " offset {:#x} size {:#x}",
+        section.offset, section.size
+    )?;
+    write!(
+        out,
+        " address {:#x} items {:#x}",
+        section.address, section.entry_size
+    )?;
+    write!(out, " link {} info {}", section.link, section.info)?;
+    writeln!(out, " alignment {:#x} {}", section.alignment, Text(name))
+}
+
+fn show_sections<W: Write + Drop>(
+    out: &mut W,
+    sections: &Sections,
+    names: &[u8],
+    most: usize,
+) -> io::Result<()> {
+    writeln!(out, "  {} sections", sections.items.len())?;
+    for section in sections.items.iter().take(most) {
+        show_section(out, section, names)?;
+    }
+    write_rest(out, sections.items.len(), most)
+}
