@@ -1,5 +1,5 @@
-//! Numbers that lie in one byte order, among others and as a key.
-use speedy::{Big, Little, Readable, Writable};
+//! Numbers that lie in one byte order, and of three bytes, among others and as keys.
+use speedy::{Big, Little, Readable, U24, Writable};
 use std::collections::BTreeMap;
 
 /// The ports of a datagram, which lie in network order within a file of another.
@@ -26,4 +26,13 @@ pub struct Captured {
 pub enum Reading {
     Network(Big<i64>),
     Device { high: Little<u128>, low: Option<Little<i8>> },
+}
+
+/// What a frame begins with, whose length has three bytes.
+#[derive(Clone, Copy, PartialEq, Eq, PartialOrd, Ord, Readable, Writable)]
+pub struct FrameStart {
+    pub length: U24,
+    pub kind: u8,
+    pub stream: Big<U24>,
+    pub marks: [U24; 2],
 }

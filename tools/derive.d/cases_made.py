@@ -48,10 +48,10 @@ pub struct Contact {
      + DERIVES + "struct A<'a> { a: Cow<'a, str>, b: Box<str>, c: Box<[u8]>, d: HashMap<u8, Cow<'a, [u16]>>, "
      "e: Cow<'a, HashMap<u8, u8>> }\n", ["    a: CowStr<'a>,", "    b: BoxedStr,", "    c: BoxedSlice<u8>,",
                   "    d: HashMap<u8, CowSlice<'a, u16>>,", "    e: Cow<'a, HashMap<u8, u8>>,"]),
-    ("numbers of one order", "use speedy::{Big, Little};\n" + DERIVES
-     + "struct A { a: Big<u16>, b: [Little<u64>; 2], c: std::collections::BTreeSet<B> }\n"
-     "#[derive(PartialEq, Eq, PartialOrd, Ord, Readable, Writable)]\nstruct B(Big<i32>, u8);\n",
-     ["    a: Big<u16>,", "    b: [Little<u64>; 2],", "        22\n",
+    ("numbers of one order", "use speedy::{Big, Little, U24};\n" + DERIVES
+     + "struct A { a: Big<U24>, b: [Little<u64>; 2], c: std::collections::BTreeSet<B> }\n"
+     "#[derive(PartialEq, Eq, PartialOrd, Ord, Readable, Writable)]\nstruct B(Big<i32>, U24);\n",
+     ["    a: Big<U24>,", "    b: [Little<u64>; 2],", "        23\n",
       "#[derive(PartialEq, Eq, PartialOrd, Ord, Drop)]\nstruct B(", "signed_Decides x.0.0 y.0.0"]),
     ("keys", "use std::collections::{BTreeMap, HashSet};\n" + DERIVES
      + "struct A<K, T>(BTreeMap<K, u8>, HashSet<T>) where T: std::hash::Hash + Eq, K: Ord;\n",

@@ -46,7 +46,7 @@ LEAVES = {
     "F64": ("unsigned_Decides (f64_bits {x}) (f64_bits {y})",
             {"unsigned_Decides": CMP, "f64_bits": "Rattle.speedy.specs.Floats"}),
 }
-for word in ("u8", "u16", "u32", "u64", "u128", "usize", "char", "Varint"):
+for word in ("u8", "u16", "u32", "u64", "u128", "usize", "char", "Varint", "U24"):
     LEAVES[word] = UNSIGNED
 for word in ("i8", "i16", "i32", "i64", "i128"):
     LEAVES[word] = SIGNED

@@ -16,7 +16,7 @@ class Known:
 
 PRIMITIVES = ("u8", "u16", "u32", "u64", "u128", "usize", "i8", "i16", "i32", "i64", "i128", "bool", "char")
 # Those that are filled in place, and lent by views.
-NUMBERS = ("u8", "u16", "u32", "u64", "u128", "i8", "i16", "i32", "i64", "i128", "F32", "F64")
+NUMBERS = ("u8", "u16", "u32", "u64", "u128", "i8", "i16", "i32", "i64", "i128", "F32", "F64", "U24")
 # What floats become, which holds their bits.
 FLOATS = {"f32": "F32", "f64": "F64"}
 # What a number is held in that lies in one byte order, with that order.
@@ -44,6 +44,7 @@ KNOWN = {
     "indexmap::IndexSet": Known("IndexSet", "speedy::ext", ((ITEM, HASHED), (HASHER,))),
     "smallvec::SmallVec": Known("SmallVec", "speedy::ext", ((ITEM, MADE),)),
     "speedy::Endianness": Known("Endianness", "speedy"),
+    "speedy::U24": Known("U24", "speedy"),
     "speedy::private::VarInt64": Known("VarInt64", "speedy::varint"),
 }
 for holder in ONE_ORDER:

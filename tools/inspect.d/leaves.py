@@ -69,8 +69,9 @@ class Number(Leaf):
 
     def many(self, data, order):
         """All numbers that bytes hold."""
-        if self.least == 16:
-            return [int.from_bytes(data[at:at + 16], order, signed=self.is_signed) for at in range(0, len(data), 16)]
+        if self.least not in CODES:
+            return [int.from_bytes(data[at:at + self.least], order, signed=self.is_signed)
+                    for at in range(0, len(data), self.least)]
         code = CODES[self.least].lower() if self.is_signed else CODES[self.least]
         return list(struct.unpack(f"{'<' if order == 'little' else '>'}{len(data) // self.least}{code}", data))
 

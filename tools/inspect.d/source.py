@@ -35,7 +35,8 @@ LENT = "'a"
 def simple_layouts():
     """The layouts without parts, by the names that the generator has for their types."""
     found = {"bool": leaves.Flag(), "char": leaves.Char(), "usize": leaves.Number("usize", 8),
-             "F32": leaves.Float("f32", 4), "F64": leaves.Float("f64", 8), "Endianness": leaves.ByteOrder(),
+             "F32": leaves.Float("f32", 4), "F64": leaves.Float("f64", 8), "U24": leaves.Number("U24", 3),
+             "Endianness": leaves.ByteOrder(),
              "Ipv4Addr": leaves.Address("Ipv4Addr", 4), "Ipv6Addr": leaves.Address("Ipv6Addr", 16),
              "IpAddr": leaves.EitherAddress(), "Duration": leaves.Span(), "Uuid": leaves.Octets("Uuid", 16),
              "VarInt64": leaves.Varint("VarInt64", "VarInt64(", ")"),
@@ -342,7 +343,7 @@ def behind(layout, number):
     return lists.Counted(layout.name, number, layout.content)
 
 
-DEFAULTS = {"bool": "false", "char": "'\\0'", "F32": "0.0", "F64": "0.0", "String": '""', "BoxedStr": '""',
+DEFAULTS = {"bool": "false", "char": "'\\0'", "F32": "0.0", "F64": "0.0", "U24": "0", "String": '""', "BoxedStr": '""',
             "CowStr": '""', "Option": "None", "Duration": "0ns", "Vec": "[]", "BoxedSlice": "[]", "CowSlice": "[]",
             "SmallVec": "[]", "BTreeMap": "{}", "HashMap": "{}", "IndexMap": "{}", "BTreeSet": "{}", "HashSet": "{}",
             "IndexSet": "{}"} | dict.fromkeys((*arithmetic.BITS, "u128", "i128", "isize"), "0")

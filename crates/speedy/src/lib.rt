@@ -60,6 +60,8 @@ mod tests_ranges;
 #[cfg(test)]
 mod tests_readers;
 #[cfg(test)]
+mod tests_three_bytes;
+#[cfg(test)]
 mod tests_told_frames;
 #[cfg(test)]
 mod tests_tuples;
@@ -93,8 +95,11 @@ pub use readable::{ReadFrom, ReadMany, Readable, ReadableOwned};
 pub use reader::{LendingReader, Reader};
 pub use same_key::SameKey;
 pub use speedy_base::{circular_buffer, context, device, endianness, error};
-pub use speedy_layout::{floats, magic, one_order, same_key, varint, view_items, views};
+pub use speedy_layout::{
+    floats, magic, one_order, same_key, three_bytes, varint, view_items, views,
+};
 pub use speedy_read::{buffer, codes, collections, lent, many, readable};
 pub use speedy_write::{part, writable, writer};
+pub use three_bytes::U24;
 pub use writable::Writable;
 pub use writer::Writer;

@@ -1,6 +1,7 @@
-//! Numbers that lie in one byte order, among others and as a key.
+//! Numbers that lie in one byte order, and of three bytes, among others and as keys.
 //!
 //! Made from `one_order.rs` by `tools/derive`: change that, and make this again.
+ghost use Rattle.speedy.specs.Equality.{list_tells};
 ghost use Rattle.speedy.specs.Keys.{part_then};
 ghost use Rattle.std.proofs.Common.{inl, inr};
 ghost use Rattle.std.specs.Cmp.{unsigned_Decides};
@@ -11,7 +12,7 @@ use speedy::cases::{
 use speedy::prefixed::Prefixed;
 use speedy::private::error_invalid_enum_variant;
 use speedy::{
-    Big, Context, F32, ItemByItem, Layout, LendingReader, Little, Part, ReadFrom, SameKey,
+    Big, Context, F32, ItemByItem, Layout, LendingReader, Little, Part, ReadFrom, SameKey, U24,
     Writable, Writer,
 };
 use std::collections::BTreeMap;
@@ -213,5 +214,67 @@ impl<C: Context> WriteCases<C> for Reading {
 impl<C: Context> Writable<C> for Reading {
     fn write_to<W: Writer<C>>(&self, writer: &mut W) -> Result<(), C::Error> {
         write_tagged::<u8, Self, C, W>(self, writer)
+    }
+}
+
+/// What a frame begins with, whose length has three bytes.
+#[derive(Clone, Copy, PartialEq, Eq, PartialOrd, Ord)]
+pub struct FrameStart {
+    pub length: U24,
+    pub kind: u8,
+    pub stream: Big<U24>,
+    pub marks: [U24; 2],
+}
+
+/// What [`FrameStart`] is read and written as.
+type FrameStartParts = (U24, u8, Big<U24>, [U24; 2]);
+
+impl Layout for FrameStart {
+    ghost Seen = { ⟦<FrameStartParts as Layout>⟧.Seen };
+
+    ghost seen = { λ it. ⟦<FrameStartParts as Layout>⟧.seen (it.length, it.kind, it.stream, it.marks) };
+
+    ghost layout = { ⟦<FrameStartParts as Layout>⟧.layout };
+}
+
+impl SameKey for FrameStart {
+    ghost same_key = { λ x y. part_then
+        (unsigned_Decides x.length y.length)
+        (part_then
+        (unsigned_Decides x.kind y.kind)
+        (part_then (unsigned_Decides x.stream.0 y.stream.0) (list_tells unsigned_Decides x.marks y.marks))) };
+}
+
+impl<L: AsSlice<u8> + Drop, C: Context> ReadFrom<L, C> for FrameStart {
+    type Strategy = ItemByItem<C>;
+
+    fn read_from<R: LendingReader<L, C>>(reader: &mut R) -> Result<FrameStart, C::Error> {
+        match reader.read_value() {
+            Ok(parts) => {
+                let (length, kind, stream, marks) = parts;
+                Ok(FrameStart {
+                    length,
+                    kind,
+                    stream,
+                    marks,
+                })
+            }
+            Err(error) => Err(error),
+        }
+    }
+
+    fn minimum_bytes_needed() -> usize {
+        13
+    }
+}
+
+impl<C: Context> Writable<C> for FrameStart {
+    fn write_to<W: Writer<C>>(&self, writer: &mut W) -> Result<(), C::Error> {
+        writer.write_value(&(
+            self.length,
+            self.kind,
+            Part(&self.stream),
+            Part(&self.marks),
+        ))
     }
 }

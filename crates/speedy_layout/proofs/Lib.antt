@@ -3,3 +3,4 @@ pub mod WalkLemmas
 pub mod ViewLemmas
 pub mod VarintForms
 pub mod FixedNumberLemmas
+pub mod ThreeBytes

@@ -3,11 +3,13 @@ ghost use Rattle.speedy_read.specs.Decoding.{coded};
 
 use crate::bulk::{Bytes, Numbers};
 use crate::codes::Decode;
+use crate::digits::read_number;
 use crate::many::ItemByItem;
 use crate::readable::ReadFrom;
 use crate::reader::LendingReader;
 use speedy_base::context::Context;
 use speedy_base::error::error_too_big_usize_for_this_architecture;
+use speedy_layout::U24;
 use std::convert::AsSlice;
 
 impl<L: AsSlice<u8> + Drop, C: Context> ReadFrom<L, C> for u8 {
@@ -33,6 +35,19 @@ impl<L: AsSlice<u8> + Drop, C: Context> ReadFrom<L, C> for u16 {
 
     fn minimum_bytes_needed() -> usize {
         2
+    }
+}
+
+impl<L: AsSlice<u8> + Drop, C: Context> ReadFrom<L, C> for U24 {
+    type Strategy = Numbers;
+
+    #[inline(always)]
+    fn read_from<R: LendingReader<L, C>>(reader: &mut R) -> Result<U24, C::Error> {
+        read_number::<U24, L, C, R>(reader)
+    }
+
+    fn minimum_bytes_needed() -> usize {
+        3
     }
 }
 

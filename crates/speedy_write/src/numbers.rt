@@ -3,10 +3,11 @@
 
 ghost use Rattle.std.specs.Prelude.{◌<◌};
 
-use crate::fixed::{Digits, write_values};
+use crate::fixed::{Digits, write_number, write_values};
 use crate::writable::Writable;
 use crate::writer::Writer;
 use speedy_base::context::Context;
+use speedy_layout::U24;
 
 impl<C: Context> Writable<C> for u8 {
     #[inline]
@@ -29,6 +30,18 @@ impl<C: Context> Writable<C> for u16 {
     #[inline(always)]
     fn write_in_bulk<W: Writer<C>>(items: &[u16], writer: &mut W) -> Option<Result<(), C::Error>> {
         Some(write_values::<C, u16, Digits, W>(items, writer))
+    }
+}
+
+impl<C: Context> Writable<C> for U24 {
+    #[inline]
+    fn write_to<W: Writer<C>>(&self, writer: &mut W) -> Result<(), C::Error> {
+        write_number::<U24, C, W>(*self, writer)
+    }
+
+    #[inline(always)]
+    fn write_in_bulk<W: Writer<C>>(items: &[U24], writer: &mut W) -> Option<Result<(), C::Error>> {
+        Some(write_values::<C, U24, Digits, W>(items, writer))
     }
 }
 
