@@ -220,6 +220,7 @@ impl Layout for Segment {
 impl<L: AsSlice<u8> + Drop, C: Context> ReadFrom<L, C> for Segment {
     type Strategy = ItemByItem<C>;
 
+    #[inline(always)]
     fn read_from<R: LendingReader<L, C>>(reader: &mut R) -> Result<Segment, C::Error> {
         match reader.read_value() {
             Ok(parts) => {

@@ -225,6 +225,7 @@ impl Layout for Timestamp {
 impl<L: AsSlice<u8> + Drop, C: Context> ReadFrom<L, C> for Timestamp {
     type Strategy = ItemByItem<C>;
 
+    #[inline(always)]
     fn read_from<R: LendingReader<L, C>>(reader: &mut R) -> Result<Timestamp, C::Error> {
         match reader.read_value() {
             Ok((seconds, fraction)) => Ok(Timestamp { seconds, fraction }),
@@ -264,6 +265,7 @@ impl Layout for SequenceNumber {
 impl<L: AsSlice<u8> + Drop, C: Context> ReadFrom<L, C> for SequenceNumber {
     type Strategy = ItemByItem<C>;
 
+    #[inline(always)]
     fn read_from<R: LendingReader<L, C>>(reader: &mut R) -> Result<SequenceNumber, C::Error> {
         match reader.read_value() {
             Ok((high, low)) => Ok(SequenceNumber { high, low }),

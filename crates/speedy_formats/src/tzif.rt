@@ -37,6 +37,7 @@ impl Layout for LocalType {
 impl<L: AsSlice<u8> + Drop, C: Context> ReadFrom<L, C> for LocalType {
     type Strategy = ItemByItem<C>;
 
+    #[inline(always)]
     fn read_from<R: LendingReader<L, C>>(reader: &mut R) -> Result<LocalType, C::Error> {
         match reader.read_value() {
             Ok((offset, is_daylight, name)) => Ok(LocalType {

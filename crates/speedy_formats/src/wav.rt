@@ -299,6 +299,7 @@ impl Layout for SampleFormat {
 impl<L: AsSlice<u8> + Drop, C: Context> ReadFrom<L, C> for SampleFormat {
     type Strategy = ItemByItem<C>;
 
+    #[inline(always)]
     fn read_from<R: LendingReader<L, C>>(reader: &mut R) -> Result<SampleFormat, C::Error> {
         match reader.read_value() {
             Ok((tag_, channels, rate, bytes_per_second, alignment, bits)) => Ok(SampleFormat {
