@@ -297,6 +297,9 @@ BROKEN = [
      "`Big` holds a number of a fixed width, as `Big<u32>`, and `String` is none"),
     ("a parameter in one order", "use speedy::Little;\n" + struct("    a: Little<T>", "A<T>"), 5,
      "and `T` is none"),
+    ("padding of a type", "use speedy::Padding;\n" + struct("    a: Padding<String>"), 5, "write a number"),
+    ("padding of nothing", "use speedy::Padding;\n" + struct("    a: Padding"), 5,
+     "`Padding` needs a number of bytes, as `Padding<3>`"),
     ("a skipped small vector", "use smallvec::SmallVec;\n"
      + struct("    #[speedy(skip)]\n    a: SmallVec<[Box<u8>; 4]>"), 6, "`Box<u8>` has none"),
     ("a default in another type", struct("    a: B<Box<str>>") + DERIVES + "struct B<T>(u8, #[speedy(skip)] T);", 4,

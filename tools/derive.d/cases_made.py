@@ -48,6 +48,12 @@ pub struct Contact {
      + DERIVES + "struct A<'a> { a: Cow<'a, str>, b: Box<str>, c: Box<[u8]>, d: HashMap<u8, Cow<'a, [u16]>>, "
      "e: Cow<'a, HashMap<u8, u8>> }\n", ["    a: CowStr<'a>,", "    b: BoxedStr,", "    c: BoxedSlice<u8>,",
                   "    d: HashMap<u8, CowSlice<'a, u16>>,", "    e: Cow<'a, HashMap<u8, u8>>,"]),
+    ("bytes that mean nothing", "use speedy::{Padding, Zeros};\nconst GAP: usize = 5;\n" + DERIVES
+     + "struct A { a: Padding<3>, b: std::collections::BTreeSet<B>, c: Zeros<0x10> }\n"
+     "#[derive(PartialEq, Eq, PartialOrd, Ord, Readable, Writable)]\nstruct B(Zeros<GAP>, u8);\n" + DERIVES
+     + "struct C<const N: usize>(u8, Padding<N>);\n",
+     ["    a: Padding<3>,", "    c: Zeros<0x10>,", "        23\n", "struct B(Zeros<GAP>, u8);",
+      "((λ h. refl, λ e. refl))", "struct C<const N: usize>(u8, Padding<N>);"]),
     ("numbers of one order", "use speedy::{Big, Little, U24};\n" + DERIVES
      + "struct A { a: Big<U24>, b: [Little<u64>; 2], c: std::collections::BTreeSet<B> }\n"
      "#[derive(PartialEq, Eq, PartialOrd, Ord, Readable, Writable)]\nstruct B(Big<i32>, U24);\n",

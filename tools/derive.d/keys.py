@@ -6,7 +6,7 @@ from dataclasses import dataclass, field, replace
 
 import rattle
 import syntax
-from known import ONE_ORDER
+from known import BLANKS, ONE_ORDER
 from rattle import Foreign, Listed, Variable, is_listed, type_text
 from refusal import Refusal
 
@@ -46,6 +46,8 @@ LEAVES = {
     "F64": ("unsigned_Decides (f64_bits {x}) (f64_bits {y})",
             {"unsigned_Decides": CMP, "f64_bits": "Rattle.speedy.specs.Floats"}),
 }
+for word in BLANKS:
+    LEAVES[word] = ("(λ h. refl, λ e. refl)", {"refl": "Rattle.std.specs.Prelude"})
 for word in ("u8", "u16", "u32", "u64", "u128", "usize", "char", "Varint", "U24"):
     LEAVES[word] = UNSIGNED
 for word in ("i8", "i16", "i32", "i64", "i128"):

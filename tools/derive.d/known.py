@@ -19,6 +19,8 @@ PRIMITIVES = ("u8", "u16", "u32", "u64", "u128", "usize", "i8", "i16", "i32", "i
 NUMBERS = ("u8", "u16", "u32", "u64", "u128", "i8", "i16", "i32", "i64", "i128", "F32", "F64", "U24")
 # What floats become, which holds their bits.
 FLOATS = {"f32": "F32", "f64": "F64"}
+# Bytes that mean nothing, so many as a number says.
+BLANKS = ("Padding", "Zeros")
 # What a number is held in that lies in one byte order, with that order.
 ONE_ORDER = {"Big": "big", "Little": "little"}
 
@@ -47,6 +49,8 @@ KNOWN = {
     "speedy::U24": Known("U24", "speedy"),
     "speedy::private::VarInt64": Known("VarInt64", "speedy::varint"),
 }
+for blank in BLANKS:
+    KNOWN[f"speedy::{blank}"] = Known(blank, "speedy")
 for holder in ONE_ORDER:
     KNOWN[f"speedy::{holder}"] = Known(holder, "speedy", ((PART,),))
 for bits in (8, 16, 32, 64):

@@ -3,8 +3,8 @@ import expressions
 import rattle
 import syntax
 from derives import Derives
-from known import BOUNDS, FLOATS, KNOWN, NONE_OF_OURS, NUMBERS, ONE_ORDER, PRELUDE, PRELUDE_BOUNDS, PRELUDE_MODULES
-from known import PRIMITIVES
+from known import BLANKS, BOUNDS, FLOATS, KNOWN, NONE_OF_OURS, NUMBERS, ONE_ORDER, PRELUDE, PRELUDE_BOUNDS
+from known import PRELUDE_MODULES, PRIMITIVES
 from names import Fresh, field_name
 from rattle import Foreign, Listed, Own, Variable, type_text
 from refusal import Refusal
@@ -424,6 +424,8 @@ class Converter:
         special = {"Cow": self.cow, "Box": self.boxed, "SmallVec": self.small_vec}.get(known.name)
         if special:
             return special(kind)
+        if known.name in BLANKS:
+            return self.blank(kind, known)
         has_hasher = bool(known.arguments) and "hasher" in known.arguments[-1]
         if has_hasher and len(kind.arguments) == len(known.arguments):
             hasher = (self.hasher(kind.arguments[-1]),)
@@ -446,6 +448,13 @@ class Converter:
             if len(full) > 1 and full[0] != "std":
                 return Foreign(kind.line, self.scope.foreign(kind, full))
         raise Refusal(kind.line, "this hasher is not taken: leave it out, or name one of your own")
+
+    def blank(self, kind, known):
+        """`Padding<N>` and `Zeros<N>`."""
+        if len(kind.arguments) != 1 or isinstance(kind.arguments[0], syntax.Lifetime):
+            raise Refusal(kind.line, f"`{known.name}` needs a number of bytes, as `{known.name}<3>`")
+        count = self.constant(kind.line, kind.arguments[0])
+        return Listed(kind.line, known.name, (count,), self.scope.need(known.module, known.name))
 
     def cow(self, kind):
         """`Cow<'a, str>`, `Cow<'a, [T]>` or `Cow<'a, T>`."""

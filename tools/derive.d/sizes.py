@@ -1,5 +1,6 @@
 """The least sizes of types, where the generator can say them, and which types are written as they are."""
 import syntax
+from known import BLANKS
 from rattle import Listed, Own
 
 # So many bytes at least has an encoding of each of these.
@@ -40,7 +41,7 @@ def size_of(kind, scope):
         return None if None in sizes else sum(sizes)
     if isinstance(kind, syntax.Array):
         item = size_of(kind.item, scope)
-        return item * int(kind.length.replace("_", ""), 0) if item is not None and kind.length[0].isdigit() else None
+        return None if item is None else times(item, kind.length)
     if isinstance(kind, syntax.Reference):
         return 4 if isinstance(kind.target, syntax.Slice) else size_of(kind.target, scope)
     if isinstance(kind, Own):
@@ -48,8 +49,15 @@ def size_of(kind, scope):
     return size_of_listed(kind, scope) if isinstance(kind, Listed) else None
 
 
+def times(size, count):
+    """So many bytes so many times, where the count is a literal."""
+    return size * int(count.replace("_", ""), 0) if count[0].isdigit() else None
+
+
 def size_of_listed(kind, scope):
     """That of a listed type: of what is made of another, as of that."""
+    if kind.name in BLANKS:
+        return times(1, kind.arguments[0])
     if kind.name in WITHIN:
         return size_of(kind.arguments[WITHIN[kind.name]], scope)
     if kind.name in TWICE:

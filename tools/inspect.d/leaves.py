@@ -223,6 +223,32 @@ class OneOrder(Leaf):
         return [f"{self.shown}(", *self.number.pieces(node, data), ")"]
 
 
+class Blank(Leaf):
+    """`Padding<N>` and `Zeros<N>`: bytes that mean nothing, and are written as zeros. Padding may be other bytes."""
+
+    def __init__(self, name, count):
+        super().__init__(f"{name}<{count}>", count)
+        self.shown = name
+
+    def size(self, strict):
+        return self.least if self.shown == "Padding" and not strict else None
+
+    def decode(self, cursor, at, number, label):
+        if number == 0 or self.size(cursor.strict) is not None:
+            return 0
+        place = next(place for place in range(at, cursor.at) if cursor.data[place])
+        why = f"here stands {cursor.data[place]:02x}, not 00"
+        if self.shown == "Padding":
+            raise cursor.fault(Kind.NOT_WRITTEN_FORM, place, label, at, why)
+        raise cursor.fault(Kind.EXPECTED_CONSTANT, place, label, at, why, constant=[0])
+
+    def pieces(self, node, data):
+        return [self.shown]
+
+    def written(self, node, data, order):
+        return bytes(self.least)
+
+
 class Char(Leaf):
     """`char`."""
 

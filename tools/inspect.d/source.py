@@ -16,7 +16,7 @@ import syntax
 import visibility
 import whole
 from declared import (Choice, FramePart, Magic, Missing, Part, Parts, Rest, Skipped, Struct, ToldPart, Variant)
-from known import KNOWN, ONE_ORDER
+from known import BLANKS, KNOWN, ONE_ORDER
 from lengths import is_framed
 from module import Made, ModuleMaker
 from refusal import Refusal
@@ -83,6 +83,8 @@ APPLIED = {
     "RangeInclusive": lambda inner: composed.Range("RangeInclusive", inner, "..="),
     "PhantomData": lambda inner: leaves.Nothing(f"PhantomData<{inner.name}>", f"PhantomData<{inner.name}>"),
 }
+for blank in BLANKS:
+    APPLIED[blank] = lambda count, blank=blank: leaves.Blank(blank, count)
 for holder, byte_order in ONE_ORDER.items():
     APPLIED[holder] = lambda number, holder=holder, byte_order=byte_order: leaves.OneOrder(holder, number, byte_order)
 for family, kinds in (("sorted", ("BTreeMap", "BTreeSet")), ("hashed", ("HashMap", "HashSet")),

@@ -52,6 +52,8 @@ mod tests_one_order;
 #[cfg(test)]
 mod tests_owned;
 #[cfg(test)]
+mod tests_padding;
+#[cfg(test)]
 mod tests_prefixed;
 #[cfg(test)]
 mod tests_prefixed_maps;
@@ -90,13 +92,14 @@ pub use floats::{F32, F64};
 pub use layout::Layout;
 pub use many::ItemByItem;
 pub use one_order::{Big, Little};
+pub use padding::{Padding, Zeros};
 pub use part::Part;
 pub use readable::{ReadFrom, ReadMany, Readable, ReadableOwned};
 pub use reader::{LendingReader, Reader};
 pub use same_key::SameKey;
 pub use speedy_base::{circular_buffer, context, device, endianness, error};
 pub use speedy_layout::{
-    floats, magic, one_order, same_key, three_bytes, varint, view_items, views,
+    floats, magic, one_order, padding, same_key, three_bytes, varint, view_items, views,
 };
 pub use speedy_read::{buffer, codes, collections, lent, many, readable};
 pub use speedy_write::{part, writable, writer};

@@ -16,6 +16,7 @@ pub mod many;
 pub mod map_lengths;
 pub mod names;
 pub mod one_order;
+pub mod padding;
 pub mod recursive;
 pub mod skips;
 pub mod struct_lengths;

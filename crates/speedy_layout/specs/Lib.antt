@@ -27,6 +27,7 @@ pub mod StdSets
 pub mod IndexMaps
 pub mod OneMoreItem
 pub mod Texts
+pub mod Padding
 pub mod Utf8Lemmas
 pub mod Leaves
 pub mod Addresses

@@ -66,7 +66,7 @@ raw_bytes_codec n = record {
   same_written = λ _ _. writes_itself;
 }
 
-expected_own : (constant : List ℕ) (kind : ErrorKind) → IsExpected constant kind → IsOwnKind kind
+pub expected_own : (constant : List ℕ) (kind : ErrorKind) → IsExpected constant kind → IsOwnKind kind
 expected_own constant (kinds.ExpectedConstant c) h = tt
 expected_own constant _ h = absurd h
 

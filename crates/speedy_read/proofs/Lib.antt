@@ -26,3 +26,4 @@ pub mod ConstantLemmas
 pub mod CaseLemmas
 pub mod WholeLemmas
 pub mod GrowingLemmas
+pub mod PaddingLemmas

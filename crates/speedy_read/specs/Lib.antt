@@ -5,6 +5,7 @@ pub mod Counted
 pub mod Decoding
 pub mod Codes
 pub mod Flags
+pub mod Padding
 pub mod Cases
 pub mod Frames
 pub mod Buffers

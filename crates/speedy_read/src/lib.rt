@@ -35,6 +35,7 @@ pub mod numbers;
 pub mod one_order;
 pub mod owned;
 pub mod owned_reader;
+pub mod padding;
 pub mod prefixed;
 pub mod ranges;
 pub mod readable;

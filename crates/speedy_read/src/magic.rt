@@ -60,7 +60,7 @@ pub fn read_constant<L: AsSlice<u8> + Drop, C: Context, R: LendingReader<L, C>>(
 
 // Whether these bytes are the same too.
 #[inline]
-fn are_still_the_same(so_far: bool, bytes: &[u8], expected: &[u8]) -> bool
+pub(crate) fn are_still_the_same(so_far: bool, bytes: &[u8], expected: &[u8]) -> bool
     ensures { IsTrue result ↔ (IsTrue so_far × (bytes.now ≡ expected.now)) }
 {
     so_far && *bytes == *expected

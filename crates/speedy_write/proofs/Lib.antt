@@ -17,3 +17,4 @@ pub mod StreamLemmas
 pub mod CaseLemmas
 pub mod WholeLemmas
 pub mod GrowingLemmas
+pub mod PaddingLemmas

@@ -28,6 +28,7 @@ pub mod non_zero;
 pub mod numbers;
 pub mod one_order;
 pub mod owned;
+pub mod padding;
 pub mod part;
 pub mod prefixed;
 pub mod ranges;
