@@ -29,9 +29,10 @@ returns-clause-sum c =
 pub returns-in_err-pair-clause-refused : goal.returns-in_err-pair-clause-refused
 unfolding sequence unsigned_number
 returns-in_err-pair-clause-refused c =
-    let none = c.refused_is_none.ensures.none {mode = plain_mode LittleEndian} refl c.in_err-pair.ensures.1 in
+    let answered = c.in_err-pair.ensures.1 in
+    let none = c.refused_is_none.ensures.none {mode = plain_mode LittleEndian} refl answered in
     rw (← passed_on _ _ c.from_residual.ensures.1) (elim (cases_lt (length c.args.bytes.now) 4) [
-      | inl few ↦ few
+      | inl few ↦ (few, (answered.too_small few).0)
       | inr many ↦
           let begins = begins_with_two c.args.bytes.now (AreBytes-slice _ c.type_inv.bytes) (omega (arith, many)) in
           absurd (none begins.0 begins.1 begins.2)
