@@ -1,13 +1,15 @@
 """Reads the wrong bodies of this repository: which there are, what each changes, and which clause refuses it.
 
-An edit is read as the gate reads it: `file:`, and pairs of `old:` and `new:`. Two lines more stand in some.
+An edit is read as `rt must-fail` reads it: `file:`, and pairs of `old:` and `new:`. Three lines more stand in some,
+of which the first two are comments to that command.
+
+`# gate` says that the gate tries it.
 
 `# clause:` names the clause that refuses the edit, of a function that has several; of one that has one clause that is
-it. `invariant` is what the type of a value that it makes demands. To the gate it is a comment.
+it. `invariant` is what the type of a value that it makes demands.
 
-`in:` is the path of a function of the file, as docs/WRONG_BODIES.md has it. The next `old:` text is looked for in that
-function, and stands there once, so impls that are alike need not differ for an edit. The gate's own edits cannot have
-it.
+`in:` is the path of a function of the file, as tools/list-wrong-bodies prints it. The next `old:` text is looked for in
+that function, and stands there once, so impls that are alike need not differ for an edit.
 """
 import glob
 import importlib.machinery
@@ -70,11 +72,15 @@ def path_at(lines, at):
     return "::".join(it for it in (owner_of(lines, at), function[1]) if it)
 
 
-def edits_of(is_gate):
-    """Returns the edits that the gate tries, or those that stand beside it, as (crate, name, file)."""
-    files = glob.glob(f"{ROOT}/crates/*/must-fail/*.edit" if is_gate else f"{ROOT}/tools/wrong-bodies/*/*.edit")
-    at = -3 if is_gate else -2
-    return [(it.split("/")[at], os.path.basename(it).removesuffix(".edit"), it) for it in sorted(files)]
+def edits_of():
+    """Returns the edits, as (crate, name, file)."""
+    files = sorted(glob.glob(f"{ROOT}/tools/wrong-bodies/*/*.edit"))
+    return [(it.split("/")[-2], os.path.basename(it).removesuffix(".edit"), it) for it in files]
+
+
+def is_of_gate(edit):
+    """Returns whether the gate tries an edit."""
+    return "# gate" in text_of(edit).split("\n")
 
 
 def text_of(path):

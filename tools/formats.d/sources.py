@@ -115,9 +115,15 @@ MADE = {"rtps": made_messages, "pcap": made_captures, "png": made_images, "wav":
         "zip": made_archives}
 
 
-def files_of(word, folder):
-    """The files that are found and made."""
-    return [*(MADE[word](folder) if word in MADE else []), *found(word)]
+def kept(word):
+    """The files of a format that the crate keeps. Its messages are among those that are made."""
+    suffix = {"zone": "tzif", "rtps": "none"}.get(word, word)
+    return [str(it) for it in sorted((TOP / "crates/speedy_formats/data").glob(f"*.{suffix}"))]
+
+
+def files_of(word, folder, machine):
+    """The files that are kept and made, and those of the machine."""
+    return [*kept(word), *(MADE[word](folder) if word in MADE else []), *(found(word) if machine else [])]
 
 
 def samples_of(paths):
@@ -167,10 +173,31 @@ def zip_otherwise(path, said):
     return "" if got == wanted else "zipfile has other entries"
 
 
+VISIBILITIES = {"DEFAULT": 0, "INTERNAL": 1, "HIDDEN": 2, "PROTECTED": 3}
+PLACES = {"UND": 0, "ABS": 0xfff1, "COM": 0xfff2}
+
+
+def symbols_otherwise(printed, said):
+    """Compares symbols with those that `readelf` prints, to whose names it adds versions."""
+    word = r"(?:\w+|<.*?>: \d+)"
+    value = r"([0-9a-f]{16}) +(\d+|0x[0-9a-f]+)"
+    row = re.compile(rf"(?m)^ +\d+: {value} {word} +{word} +(\w+) +(?:\[.*?\] +)?(\w+) ?(.*)$")
+    wanted = [(int(it[1], 16), int(it[2], 0), VISIBILITIES[it[3]], PLACES.get(it[4]) or int(it[4].replace("UND", "0")))
+              for it in row.finditer(printed)]
+    names = [it[5] for it in row.finditer(printed)]
+    form = r"    value 0x([0-9a-f]+) size (\d+) info \S+ visibility (\d+) section (\d+) (.*)"
+    got = [it for it in (re.fullmatch(form, line) for line in said) if it]
+    if [(int(it[1], 16), int(it[2]), int(it[3]) & 3, int(it[4])) for it in got] != wanted:
+        return "readelf has other symbols"
+    if not all(name.startswith(it[5]) for it, name in zip(got, names) if it[5].isascii() and "\\x" not in it[5]):
+        return "readelf has other names of symbols"
+    return ""
+
+
 def elf_otherwise(path, said):
-    """Compares entry, segments and sections with `readelf`, where it is."""
+    """Compares entry, segments, sections and symbols with `readelf`, where it is."""
     try:
-        ran = subprocess.run(["readelf", "-hlSW", path], capture_output=True, text=True, errors="replace", check=False)
+        ran = subprocess.run(["readelf", "-hlSsW", path], capture_output=True, text=True, errors="replace", check=False)
     except FileNotFoundError:
         return ""
     hexes = r"0x([0-9a-f]+)"
@@ -192,7 +219,7 @@ def elf_otherwise(path, said):
             r" alignment \S+ (.*)")
     got = [re.fullmatch(form, line) for line in said]
     got = [(it[7], *(int(it[n], 16) for n in (3, 1, 2, 4)), int(it[5]), int(it[6])) for it in got if it]
-    return "" if got == wanted else "readelf has other sections"
+    return "readelf has other sections" if got != wanted else symbols_otherwise(ran.stdout, said)
 
 
 OTHERWISE = {"zone": zone_otherwise, "wav": wav_otherwise, "zip": zip_otherwise, "elf": elf_otherwise}
