@@ -75,3 +75,25 @@ pub struct Sections {
     #[speedy(length = ..)]
     pub items: Vec<Section>,
 }
+
+/// A symbol (chapter 4, "Symbol Table").
+#[derive(Readable, Writable)]
+pub struct Symbol {
+    /// Where its name begins in the section of names that the table's section links to.
+    pub name: u32,
+    /// What it is in the lower four bits, and how it is bound in the upper ones.
+    pub info: u8,
+    /// Who sees it, in the lower two bits.
+    pub visibility: u8,
+    /// The number of the section that it lies in, or one of those from 0xff00 on, which mean something else.
+    pub section: u16,
+    pub value: u64,
+    pub size: u64,
+}
+
+/// A table of symbols, to its end.
+#[derive(Readable, Writable)]
+pub struct Symbols {
+    #[speedy(length = ..)]
+    pub items: Vec<Symbol>,
+}

@@ -18,11 +18,9 @@ pub struct DirectoryEnd<'a> {
     pub comment: &'a [u8],
 }
 
-/// A file of the archive, as the directory has it (section 4.3.12).
+/// What the directory (section 4.3.12) and the local header (section 4.3.7) both tell of a file.
 #[derive(Readable, Writable)]
-pub struct Entry<'a> {
-    #[speedy(constant_prefix = b"PK\x01\x02")]
-    pub made_by: u16,
+pub struct About {
     pub needs: u16,
     pub flags: u16,
     /// How its bytes are packed: 0 not at all, 8 by deflate.
@@ -37,15 +35,23 @@ pub struct Entry<'a> {
     pub size: u32,
     pub name_size: u16,
     pub extra_size: u16,
+}
+
+/// A file of the archive, as the directory has it.
+#[derive(Readable, Writable)]
+pub struct Entry<'a> {
+    #[speedy(constant_prefix = b"PK\x01\x02")]
+    pub made_by: u16,
+    pub about: About,
     pub comment_size: u16,
     pub disk: u16,
     pub inner_attributes: u16,
     pub outer_attributes: u32,
     /// How many bytes of the archive come before its local header.
     pub offset: u32,
-    #[speedy(length = name_size)]
+    #[speedy(length = about.name_size)]
     pub name: &'a [u8],
-    #[speedy(length = extra_size)]
+    #[speedy(length = about.extra_size)]
     pub extra: &'a [u8],
     #[speedy(length = comment_size)]
     pub comment: &'a [u8],
@@ -58,22 +64,13 @@ pub struct Directory<'a> {
     pub entries: Vec<Entry<'a>>,
 }
 
-/// What stands before the packed bytes of a file (section 4.3.7).
+/// What stands before the packed bytes of a file.
 #[derive(Readable, Writable)]
 pub struct LocalHeader<'a> {
     #[speedy(constant_prefix = b"PK\x03\x04")]
-    pub needs: u16,
-    pub flags: u16,
-    pub method: u16,
-    pub time: u16,
-    pub date: u16,
-    pub checksum: u32,
-    pub packed_size: u32,
-    pub size: u32,
-    pub name_size: u16,
-    pub extra_size: u16,
-    #[speedy(length = name_size)]
+    pub about: About,
+    #[speedy(length = about.name_size)]
     pub name: &'a [u8],
-    #[speedy(length = extra_size)]
+    #[speedy(length = about.extra_size)]
     pub extra: &'a [u8],
 }

@@ -407,3 +407,109 @@ impl<C: Context> WriteToEnd<C> for Sections {
         Followed((), Rest(Part(&self.items))).write_to_end(writer)
     }
 }
+
+/// A symbol (chapter 4, "Symbol Table").
+#[derive(Drop)]
+pub struct Symbol {
+    /// Where its name begins in the section of names that the table's section links to.
+    pub name: u32,
+    /// What it is in the lower four bits, and how it is bound in the upper ones.
+    pub info: u8,
+    /// Who sees it, in the lower two bits.
+    pub visibility: u8,
+    /// The number of the section that it lies in, or one of those from 0xff00 on, which mean something else.
+    pub section: u16,
+    pub value: u64,
+    pub size: u64,
+}
+
+/// What [`Symbol`] is read and written as.
+type SymbolParts = (u32, u8, u8, u16, u64, u64);
+
+impl Layout for Symbol {
+    ghost Seen = { ⟦<SymbolParts as Layout>⟧.Seen };
+
+    ghost seen = { λ it. ⟦<SymbolParts as Layout>⟧.seen (
+      it.name,
+      it.info,
+      it.visibility,
+      it.section,
+      it.value,
+      it.size,
+    ) };
+
+    ghost layout = { ⟦<SymbolParts as Layout>⟧.layout };
+}
+
+impl<L: AsSlice<u8> + Drop, C: Context> ReadFrom<L, C> for Symbol {
+    type Strategy = ItemByItem<C>;
+
+    #[inline(always)]
+    fn read_from<R: LendingReader<L, C>>(reader: &mut R) -> Result<Symbol, C::Error> {
+        match reader.read_value() {
+            Ok((name, info, visibility, section, value, size)) => Ok(Symbol {
+                name,
+                info,
+                visibility,
+                section,
+                value,
+                size,
+            }),
+            Err(error) => Err(error),
+        }
+    }
+
+    fn minimum_bytes_needed() -> usize {
+        24
+    }
+}
+
+impl<C: Context> Writable<C> for Symbol {
+    fn write_to<W: Writer<C>>(&self, writer: &mut W) -> Result<(), C::Error> {
+        writer.write_value(&(
+            self.name,
+            self.info,
+            self.visibility,
+            self.section,
+            self.value,
+            self.size,
+        ))
+    }
+}
+
+/// A table of symbols, to its end.
+#[derive(Drop)]
+pub struct Symbols {
+    pub items: Vec<Symbol>,
+}
+
+/// What [`Symbols`] is read and written as.
+type SymbolsParts = Followed<(), Rest<Vec<Symbol>>>;
+
+impl Whole for Symbols {
+    type Ends = EndsWithInput;
+
+    ghost Seen = { ⟦<SymbolsParts as Whole>⟧.Seen };
+
+    ghost seen = { λ it. (tt, ⟦<Vec<Symbol> as OfLength>⟧.seen it.items) };
+
+    ghost whole = { ⟦<SymbolsParts as Whole>⟧.whole };
+}
+
+impl<L: AsSlice<u8> + Drop, C: Context> ReadToEnd<L, C> for Symbols {
+    fn read_to_end<R: MemoryReader<L, C>>(reader: &mut R) -> Result<Symbols, C::Error> {
+        match <SymbolsParts as ReadToEnd<L, C>>::read_to_end(reader) {
+            Ok(read) => {
+                let Followed((), Rest(items)) = read;
+                Ok(Symbols { items })
+            }
+            Err(error) => Err(error),
+        }
+    }
+}
+
+impl<C: Context> WriteToEnd<C> for Symbols {
+    fn write_to_end<W: Writer<C>>(&self, writer: &mut W) -> Result<(), C::Error> {
+        Followed((), Rest(Part(&self.items))).write_to_end(writer)
+    }
+}

@@ -23,6 +23,7 @@ mod show_elf;
 mod show_pcap;
 mod show_png;
 mod show_rtps;
+mod show_symbols;
 mod show_wav;
 mod show_zip;
 mod show_zone;

@@ -5,7 +5,7 @@ ghost use Rattle.speedy.specs.ReadWholes.{AnswersWhole};
 ghost use Rattle.speedy.specs.WaysOfReading.{AnswersBuffer};
 ghost use Rattle.speedy.specs.WaysOfWriting.{WritesToVec, WritesToVecIn};
 
-use crate::elf::{FileHeader, Sections, Segments};
+use crate::elf::{FileHeader, Section, Sections, Segments, Symbols};
 use speedy::whole::{ReadableWhole, Whole, WriteWhole};
 use speedy::{Endianness, Error, IsEof, Layout, Readable, Writable};
 use std::alloc::Global;
@@ -45,6 +45,21 @@ pub fn read_sections(alloc: Global, order: Endianness, table: &[u8]) -> Result<S
     <Sections as ReadableWhole<Endianness>>::read_whole_from_buffer_with_ctx(alloc, order, table)
 }
 
+/// The symbols that all of the bytes are.
+pub fn read_symbols(alloc: Global, order: Endianness, table: &[u8]) -> Result<Symbols, Error>
+    ensures { let it = ⟦<Symbols as Whole>⟧ in
+        AnswersWhole ⟦<Error as IsEof>⟧ it.seen it.whole (plain_mode order) result table.now }
+{
+    <Symbols as ReadableWhole<Endianness>>::read_whole_from_buffer_with_ctx(alloc, order, table)
+}
+
+/// The bytes of a section, where they lie in the file.
+pub(crate) fn section_bytes<'a>(file: &'a [u8], section: &Section) -> Option<&'a [u8]> {
+    let begin = usize::try_from(section.offset).unwrap_or(usize::MAX);
+    let size = usize::try_from(section.size).unwrap_or(usize::MAX);
+    file.get(begin..begin.saturating_add(size))
+}
+
 /// The 64 bytes of a header.
 pub fn file_header_bytes(
     alloc: Global,
@@ -82,4 +97,13 @@ pub fn sections_bytes(
         (it.seen sections.now) (λ bytes. bytes.items) result }
 {
     sections.write_whole_to_vec_with_ctx(alloc, order)
+}
+
+/// The bytes of a table of symbols, 24 for each.
+pub fn symbols_bytes(alloc: Global, order: Endianness, symbols: &Symbols) -> Result<Vec<u8>, Error>
+    ensures { let it = ⟦<Symbols as Whole>⟧ in
+        WritesToVecIn ⟦<Error as From<Error>>⟧.from_gives (it.whole.format (plain_mode order))
+        (it.seen symbols.now) (λ bytes. bytes.items) result }
+{
+    symbols.write_whole_to_vec_with_ctx(alloc, order)
 }

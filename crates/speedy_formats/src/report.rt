@@ -149,14 +149,42 @@ impl<'a> fmt::Display for Text<'a> {
     }
 }
 
-/// The bytes from a place on up to the next NUL, where there is one.
-pub(crate) fn text_at(bytes: &[u8], at: usize) -> Option<&[u8]> {
-    if at >= bytes.len() {
-        return None;
+/// Texts that end with a NUL each, one after another.
+#[derive(Clone, Copy)]
+pub(crate) struct Names<'a> {
+    /// The bytes before the last NUL.
+    texts: &'a [u8],
+    has_any: bool,
+}
+
+impl<'a> Names<'a> {
+    pub(crate) fn new(bytes: &'a [u8]) -> Names<'a> {
+        match bytes.iter().rposition(|byte| *byte == 0) {
+            Some(last) => Names {
+                texts: bytes.get(..last).unwrap_or(bytes),
+                has_any: true,
+            },
+            None => Names {
+                texts: &bytes[..0],
+                has_any: false,
+            },
+        }
     }
-    let rest = &bytes[at..];
-    let size = rest.iter().position(|byte| *byte == 0)?;
-    Some(&rest[..size])
+
+    /// Whether a text begins at a place.
+    pub(crate) fn has(self, at: usize) -> bool {
+        self.has_any && at <= self.texts.len()
+    }
+
+    /// The text from a place on, or none where none begins there.
+    pub(crate) fn get(self, at: usize) -> &'a [u8] {
+        let rest = self.texts.get(at..).unwrap_or(&self.texts[..0]);
+        let size = rest
+            .iter()
+            .position(|byte| *byte == 0)
+            .unwrap_or(rest.len());
+        rest.get(..size).unwrap_or(rest)
+    }
 }
 
 /// How many items of a list are not printed where so many are: a line says it.

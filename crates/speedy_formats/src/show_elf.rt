@@ -1,11 +1,12 @@
-//! What an ELF file says of itself, much as `readelf -hlSW` prints it.
+//! What an ELF file says of itself, much as `readelf -hlSsW` prints it.
 use crate::elf::{FileHeader, Section, Sections, Segment, Segments};
 use crate::programs::{
-    file_header_bytes, order_of, read_file_header, read_sections, read_segments, sections_bytes,
-    segments_bytes,
+    file_header_bytes, order_of, read_file_header, read_sections, read_segments, section_bytes,
+    sections_bytes, segments_bytes,
 };
-use crate::report::{Broken, Failure, Text, text_at, write_rest};
-use speedy::{Endianness, Error};
+use crate::report::{Broken, Failure, Names, Text, write_rest};
+use crate::show_symbols::{is_again, section_at, show_symbols};
+use speedy::Endianness;
 use std::alloc::Global;
 use std::io::{self, Write};
 
@@ -57,13 +58,13 @@ pub(crate) fn show_elf<W: Write + Drop>(
         Ok(header) => header,
         Err(error) => return Err(Broken::bytes("the header", bytes.len(), error)),
     };
-    let segment_bytes = table_bytes(bytes, segment_table(&header))?;
-    let section_bytes = table_bytes(bytes, section_table(&header))?;
-    let segments = match read_segments(alloc, order, segment_bytes) {
+    let segment_table = table_bytes(bytes, segment_table(&header))?;
+    let section_table = table_bytes(bytes, section_table(&header))?;
+    let segments = match read_segments(alloc, order, segment_table) {
         Ok(segments) => segments,
         Err(error) => return Err(Broken::bytes("the segments", 0x20, error)),
     };
-    let sections = match read_sections(alloc, order, section_bytes) {
+    let sections = match read_sections(alloc, order, section_table) {
         Ok(sections) => sections,
         Err(error) => return Err(Broken::bytes("the sections", 0x28, error)),
     };
@@ -72,24 +73,17 @@ pub(crate) fn show_elf<W: Write + Drop>(
     show_header(out, &header, order)?;
     show_segments(out, &segments, most)?;
     show_sections(out, &sections, names, most)?;
+    let symbols_again = show_symbols(alloc, out, bytes, &header, order, &sections, most)?;
     let header_again = is_again(file_header_bytes(alloc, order, &header), bytes.get(..64));
-    let segments_again = is_again(segments_bytes(alloc, order, &segments), Some(segment_bytes));
-    let sections_again = is_again(sections_bytes(alloc, order, &sections), Some(section_bytes));
-    let same = if header_again && segments_again && sections_again {
+    let segments_again = is_again(segments_bytes(alloc, order, &segments), Some(segment_table));
+    let sections_again = is_again(sections_bytes(alloc, order, &sections), Some(section_table));
+    let same = if header_again && segments_again && sections_again && symbols_again {
         "the same"
     } else {
         "other"
     };
     writeln!(out, "  written again: {same} bytes")?;
     Ok(())
-}
-
-/// Whether these bytes were written again.
-fn is_again(written: Result<Vec<u8>, Error>, bytes: Option<&[u8]>) -> bool {
-    match (written, bytes) {
-        (Ok(again), Some(bytes)) => again.as_slice() == bytes,
-        _ => false,
-    }
 }
 
 fn segment_table(header: &FileHeader) -> Table {
@@ -119,9 +113,9 @@ fn names_of<'a>(
     bytes: &'a [u8],
     header: &FileHeader,
     sections: &Sections,
-) -> Result<&'a [u8], Failure> {
+) -> Result<Names<'a>, Failure> {
     if header.names == 0 {
-        return Ok(&bytes[..0]);
+        return Ok(Names::new(b""));
     }
     let Some(section) = sections.items.get(usize::from(header.names)) else {
         return Err(Broken::value(
@@ -131,10 +125,8 @@ fn names_of<'a>(
             "there is none",
         ));
     };
-    let begin = usize::try_from(section.offset).unwrap_or(usize::MAX);
-    let size = usize::try_from(section.size).unwrap_or(usize::MAX);
-    match bytes.get(begin..begin.saturating_add(size)) {
-        Some(names) => Ok(names),
+    match section_bytes(bytes, section) {
+        Some(names) => Ok(Names::new(names)),
         None => Err(Broken::value(
             "section",
             usize::from(header.names),
@@ -145,14 +137,13 @@ fn names_of<'a>(
 }
 
 /// Looks that each section has a name, where there are names.
-fn check_names(header: &FileHeader, sections: &Sections, names: &[u8]) -> Result<(), Failure> {
+fn check_names(header: &FileHeader, sections: &Sections, names: Names<'_>) -> Result<(), Failure> {
     if header.names == 0 {
         return Ok(());
     }
     for (number, section) in sections.items.iter().enumerate() {
-        if text_at(names, section.name as usize).is_none() {
-            let begin = usize::try_from(header.sections_offset).unwrap_or(usize::MAX);
-            let at = begin.saturating_add(number.saturating_mul(64));
+        if !names.has(section.name as usize) {
+            let at = section_at(header, number);
             return Err(Broken::value("section", number, at, "there is no such name"));
         }
     }
@@ -232,8 +223,12 @@ fn show_segments<W: Write + Drop>(out: &mut W, segments: &Segments, most: usize)
     write_rest(out, segments.items.len(), most)
 }
 
-fn show_section<W: Write + Drop>(out: &mut W, section: &Section, names: &[u8]) -> io::Result<()> {
-    let name = text_at(names, section.name as usize).unwrap_or(b"");
+fn show_section<W: Write + Drop>(
+    out: &mut W,
+    section: &Section,
+    names: Names<'_>,
+) -> io::Result<()> {
+    let name = names.get(section.name as usize);
     write!(
         out,
         "    kind {:#x} flags {:#x}",
@@ -256,7 +251,7 @@ fn show_section<W: Write + Drop>(out: &mut W, section: &Section, names: &[u8]) -
 fn show_sections<W: Write + Drop>(
     out: &mut W,
     sections: &Sections,
-    names: &[u8],
+    names: Names<'_>,
     most: usize,
 ) -> io::Result<()> {
     writeln!(out, "  {} sections", sections.items.len())?;

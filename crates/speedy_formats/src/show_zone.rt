@@ -1,5 +1,5 @@
 //! What a time zone file holds, much as `zdump` prints it.
-use crate::report::{Broken, Failure, Text, text_at, write_again, write_rest};
+use crate::report::{Broken, Failure, Names, Text, write_again, write_rest};
 use crate::times::{Moment, Offset};
 use crate::tzif::{Block, LocalType};
 use crate::zones::{broken_part, old_zone_bytes, read_old_zone, read_zone, zone_bytes};
@@ -68,8 +68,9 @@ fn check_block<T>(block: &Block<T>, width: usize, end: usize) -> Result<(), Fail
         .saturating_add(block.universal.len());
     let names = end.saturating_sub(after_names.saturating_add(block.names.len()));
     let types = names.saturating_sub(block.types.len().saturating_mul(6));
+    let texts = Names::new(&block.names);
     for (number, local) in block.types.iter().enumerate() {
-        if text_at(&block.names, usize::from(local.name)).is_none() {
+        if !texts.has(usize::from(local.name)) {
             let at = types
                 .saturating_add(number.saturating_mul(6))
                 .saturating_add(5);
@@ -87,8 +88,12 @@ fn check_block<T>(block: &Block<T>, width: usize, end: usize) -> Result<(), Fail
 }
 
 /// A name, an offset, and whether it is daylight saving time.
-fn write_local<W: Write + Drop>(out: &mut W, names: &[u8], local: &LocalType) -> io::Result<()> {
-    let name = text_at(names, usize::from(local.name)).unwrap_or(b"?");
+fn write_local<W: Write + Drop>(
+    out: &mut W,
+    names: Names<'_>,
+    local: &LocalType,
+) -> io::Result<()> {
+    let name = names.get(usize::from(local.name));
     let daylight = if local.is_daylight == 0 {
         ""
     } else {
@@ -106,17 +111,18 @@ fn show_block<W: Write + Drop, T: Copy>(
 where
     i64: From<T>,
 {
+    let names = Names::new(&block.names);
     writeln!(out, "  time zone, {} local types", block.types.len())?;
     for local in block.types.iter().take(most) {
         write!(out, "    ")?;
-        write_local(out, &block.names, local)?;
+        write_local(out, names, local)?;
     }
     write_rest(out, block.types.len(), most)?;
     writeln!(out, "  {} changes", block.times.len())?;
     for (time, kind) in block.times.iter().zip(&block.kinds).take(most) {
         write!(out, "    {} UTC ", Moment(i64::from(*time)))?;
         match block.types.get(usize::from(*kind)) {
-            Some(local) => write_local(out, &block.names, local)?,
+            Some(local) => write_local(out, names, local)?,
             None => writeln!(out, "?")?,
         }
     }
