@@ -296,7 +296,14 @@ macro_rules! looks {
 
 looks! { port_look_view port_look_numbers port_look_slots port_look_walk port_look_columns }
 
+/// Reads or writes a format again and again, and adds up what it sees.
+pub type FormatFn = unsafe extern "C" fn(*const u8, usize, usize) -> usize;
+
 extern "C" {
+    pub fn port_format_zone(bytes: *const u8, length: usize, rounds: usize) -> usize;
+    pub fn port_format_zone_written(bytes: *const u8, length: usize, rounds: usize) -> usize;
+    pub fn port_format_symbols(bytes: *const u8, length: usize, rounds: usize) -> usize;
+    pub fn port_format_packets(bytes: *const u8, length: usize, rounds: usize) -> usize;
     pub fn port_lent_log_line(bytes: *const u8, length: usize, rounds: usize) -> usize;
     pub fn port_lent_snapshot(bytes: *const u8, length: usize, rounds: usize) -> usize;
     pub fn port_read_vec_str(bytes: *const u8, length: usize, big: bool, rounds: usize) -> usize;
