@@ -25,7 +25,8 @@ class Made:
     def __init__(self, source, name, place):
         self.notes = []
         try:
-            self.raw = self.made(parse(source), name, place)
+            self.file = parse(source)
+            self.raw = self.made(self.file, name, place)
         except RecursionError as error:
             raise Refusal(1, "a name of this file leads to others on and on: write out what it stands for") from error
 

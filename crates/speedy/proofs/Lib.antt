@@ -1,2 +1,3 @@
+pub mod ExportLemmas
 pub mod PrefixLemmas
 pub mod ToldFrameLemmas

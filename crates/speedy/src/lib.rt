@@ -9,6 +9,7 @@
 #[cfg(test)]
 mod asserting;
 pub mod cases;
+pub mod exports;
 pub mod ext;
 pub mod laws;
 pub mod layout;

@@ -1,0 +1,70 @@
+//! Answers lines `TYPE ORDER BYTES`, as run-examples says, by telemetry.rs. Made by `tools/derive --library`.
+use std::io::{self, BufRead};
+
+mod telemetry;
+
+use telemetry::{Kind, Order, Refused};
+
+/// What a check of a type answers.
+fn check(kind: &str, bytes: &[u8], order: Order) -> Result<usize, Refused> {
+    match kind {
+        "reading" => telemetry::reading::check(bytes, order),
+        "message" => telemetry::message::check(bytes, order),
+        "line" => telemetry::line::check_whole(bytes, order).map(|()| 0),
+        _ => panic!("there is no type {kind}"),
+    }
+}
+
+/// The number of a kind.
+fn number(kind: Kind) -> u32 {
+    match kind {
+        Kind::InvalidChar => 1,
+        Kind::InvalidEnumVariant => 2,
+        Kind::InvalidUtf8 => 3,
+        Kind::InvalidSystemTime => 4,
+        Kind::ZeroNonZero => 5,
+        Kind::OutOfRangeLength => 6,
+        Kind::OutOfRangeUsize => 7,
+        Kind::UnexpectedEndOfInput => 8,
+        Kind::UnexpectedEndOfOutputBuffer => 9,
+        Kind::InputBufferIsTooSmall => 10,
+        Kind::OutputBufferIsTooSmall => 11,
+        Kind::LengthIsNotTheSameAsLengthAttribute => 12,
+        Kind::ExpectedConstant => 13,
+        Kind::Unsized => 14,
+        Kind::EndiannessMismatch => 15,
+        Kind::NotWrittenForm => 16,
+        Kind::IoError => 17,
+        Kind::OutOfMemory => 18,
+        Kind::Custom => 19,
+        Kind::UnknownOrder => 100,
+        Kind::Other(number) => number,
+    }
+}
+
+/// The bytes of a line.
+fn bytes_of(hex: &str) -> Vec<u8> {
+    let digits = if hex == "-" { "" } else { hex };
+    (0..digits.len() / 2).map(|at| u8::from_str_radix(&digits[2 * at..2 * at + 2], 16).expect("hex")).collect()
+}
+
+fn main() {
+    assert!(telemetry::fits());
+    for line in io::stdin().lock().lines() {
+        let line = line.expect("a line");
+        let words: Vec<&str> = line.split(' ').collect();
+        let order = match words[1] {
+            "0" => Order::LittleEndian,
+            "1" => Order::BigEndian,
+            _ => {
+                // The module takes no other order.
+                println!("100 0");
+                continue;
+            }
+        };
+        match check(words[0], &bytes_of(words[2]), order) {
+            Ok(size) => println!("0 {size}"),
+            Err(refused) => println!("{} {}", number(refused.kind), refused.at),
+        }
+    }
+}

@@ -1,0 +1,115 @@
+/* The types of `messages.rs`, for callers in C and C++. It includes no other header.
+
+   Made from `messages.rs` by `tools/derive --library`: change that, and make this again.
+
+   What sensors send: who they are, and what they measured. */
+#ifndef TELEMETRY_H
+#define TELEMETRY_H
+
+/* The version of what crosses: in one version no name, number or layout below gets another meaning. */
+#define TELEMETRY_VERSION 1
+
+/* The number of the file that this was made of: `telemetry_source()` is that of the library. */
+#define TELEMETRY_SOURCE 741008652u
+
+#ifdef __cplusplus
+extern "C" {
+#endif
+
+/* A number of bytes. x86-64, but not Windows: the next line fails to compile elsewhere. */
+typedef unsigned long telemetry_size;
+typedef char telemetry_fits[sizeof(telemetry_size) == 8 && sizeof(unsigned int) == 4 ? 1 : -1];
+
+/* What calls answer. */
+enum telemetry_answer {
+    /* the bytes are as they should be */
+    TELEMETRY_OK = 0,
+    /* a number that should be a character is none */
+    TELEMETRY_INVALID_CHAR = 1,
+    /* a tag that no variant has */
+    TELEMETRY_INVALID_ENUM_VARIANT = 2,
+    /* a text is not UTF-8 */
+    TELEMETRY_INVALID_UTF8 = 3,
+    /* the seconds of a time do not fit into 64 bits */
+    TELEMETRY_INVALID_SYSTEM_TIME = 4,
+    /* a number that must not be zero is zero */
+    TELEMETRY_ZERO_NON_ZERO = 5,
+    /* a length or a size does not fit */
+    TELEMETRY_OUT_OF_RANGE_LENGTH = 6,
+    /* a size does not fit into 64 bits, which never comes */
+    TELEMETRY_OUT_OF_RANGE_USIZE = 7,
+    /* the bytes end too soon: with more of them there may be a value */
+    TELEMETRY_UNEXPECTED_END_OF_INPUT = 8,
+    /* a buffer has no room, which no check answers */
+    TELEMETRY_UNEXPECTED_END_OF_OUTPUT_BUFFER = 9,
+    /* the bytes are fewer than any value has: with more of them there may be one */
+    TELEMETRY_INPUT_BUFFER_IS_TOO_SMALL = 10,
+    /* a buffer has no room, which no check answers */
+    TELEMETRY_OUTPUT_BUFFER_IS_TOO_SMALL = 11,
+    /* a length is another than the field says that tells it */
+    TELEMETRY_LENGTH_IS_NOT_THE_SAME_AS_LENGTH_ATTRIBUTE = 12,
+    /* other bytes stand where a constant should */
+    TELEMETRY_EXPECTED_CONSTANT = 13,
+    /* a value that borrows is read where nothing is lent, which no check answers */
+    TELEMETRY_UNSIZED = 14,
+    /* numbers lie in the other byte order */
+    TELEMETRY_ENDIANNESS_MISMATCH = 15,
+    /* the encoding is not the canonical one, which no check answers */
+    TELEMETRY_NOT_WRITTEN_FORM = 16,
+    /* a call of a device failed, which no check answers */
+    TELEMETRY_IO_ERROR = 17,
+    /* memory lacks, and nothing is known of the bytes */
+    TELEMETRY_OUT_OF_MEMORY = 18,
+    /* an error of the type's own */
+    TELEMETRY_CUSTOM = 19,
+    /* the number of the byte order is none of the two */
+    TELEMETRY_UNKNOWN_ORDER = 100
+};
+
+/* Whether an answer says that the bytes ended too soon, so that more of them may help. */
+#define TELEMETRY_ENDS_TOO_SOON(answer) ((answer) == 8u || (answer) == 10u)
+
+/* Byte orders. */
+enum telemetry_order {
+    /* the least digit first */
+    TELEMETRY_LITTLE_ENDIAN = 0,
+    /* the greatest digit first */
+    TELEMETRY_BIG_ENDIAN = 1
+};
+
+/* What each call relies on, and no proof sees:
+   - `bytes` is not null, even where `length` is 0, and so many bytes can be read there.
+   - `size` is not null, and can be written.
+   - Nothing writes to the bytes before the call returns. No call changes them, or keeps a pointer.
+   - `malloc`, `realloc` and `free` are those of the C library, or keep its promises.
+   - No call is made from a signal handler, or in a process forked from one with several threads.
+   Calls may be made from several threads at once. */
+
+/* Tells the file that the library was made of: TELEMETRY_SOURCE, where this header fits it. */
+unsigned int telemetry_source(void);
+
+/* `Reading`: What a sensor measured.
+
+   Says whether the bytes begin with an encoding of one: 0 where they do, and `size` is then how many bytes it
+   has; else why not, and `size` is how many bytes were read before that. */
+unsigned int telemetry_reading_check(
+    const unsigned char *bytes, telemetry_size length, unsigned int order, telemetry_size *size);
+
+/* `Message`: A message.
+
+   Says whether the bytes begin with an encoding of one: 0 where they do, and `size` is then how many bytes it
+   has; else why not, and `size` is how many bytes were read before that. */
+unsigned int telemetry_message_check(
+    const unsigned char *bytes, telemetry_size length, unsigned int order, telemetry_size *size);
+
+/* `Line`: A line of a log: a level, and a text up to the end of the bytes.
+
+   Says whether all of the bytes are an encoding of one: 0 where they are, and else why not. */
+unsigned int telemetry_line_check_whole(
+    const unsigned char *bytes, telemetry_size length, unsigned int order);
+
+#ifdef __cplusplus
+}
+#endif
+
+#endif

@@ -1,0 +1,144 @@
+"""The types of `messages.rs`, by the calls of `libtelemetry.so`, whose proofs `rt lib` checks.
+
+Made from `messages.rs` by `tools/derive --library`: change that, and make this again. The library lies in the folder `build`
+beside this file, or where the environment variable TELEMETRY_LIBRARY says.
+
+What sensors send: who they are, and what they measured.
+"""
+import ctypes
+import enum
+import os
+import pathlib
+
+SOURCE = 741008652
+
+
+class Order(enum.IntEnum):
+    """A byte order."""
+
+    LITTLE_ENDIAN = 0
+    BIG_ENDIAN = 1
+
+
+class Kind(enum.IntEnum):
+    """Why bytes are refused."""
+
+    # a number that should be a character is none
+    INVALID_CHAR = 1
+    # a tag that no variant has
+    INVALID_ENUM_VARIANT = 2
+    # a text is not UTF-8
+    INVALID_UTF8 = 3
+    # the seconds of a time do not fit into 64 bits
+    INVALID_SYSTEM_TIME = 4
+    # a number that must not be zero is zero
+    ZERO_NON_ZERO = 5
+    # a length or a size does not fit
+    OUT_OF_RANGE_LENGTH = 6
+    # a size does not fit into 64 bits, which never comes
+    OUT_OF_RANGE_USIZE = 7
+    # the bytes end too soon: with more of them there may be a value
+    UNEXPECTED_END_OF_INPUT = 8
+    # a buffer has no room, which no check answers
+    UNEXPECTED_END_OF_OUTPUT_BUFFER = 9
+    # the bytes are fewer than any value has: with more of them there may be one
+    INPUT_BUFFER_IS_TOO_SMALL = 10
+    # a buffer has no room, which no check answers
+    OUTPUT_BUFFER_IS_TOO_SMALL = 11
+    # a length is another than the field says that tells it
+    LENGTH_IS_NOT_THE_SAME_AS_LENGTH_ATTRIBUTE = 12
+    # other bytes stand where a constant should
+    EXPECTED_CONSTANT = 13
+    # a value that borrows is read where nothing is lent, which no check answers
+    UNSIZED = 14
+    # numbers lie in the other byte order
+    ENDIANNESS_MISMATCH = 15
+    # the encoding is not the canonical one, which no check answers
+    NOT_WRITTEN_FORM = 16
+    # a call of a device failed, which no check answers
+    IO_ERROR = 17
+    # memory lacks, and nothing is known of the bytes
+    OUT_OF_MEMORY = 18
+    # an error of the type's own
+    CUSTOM = 19
+    # the number of the byte order is none of the two
+    UNKNOWN_ORDER = 100
+
+
+class Refused(ValueError):
+    """Bytes that were refused: of which `kind`, and `at` how many bytes were read before that."""
+
+    def __init__(self, answer, at=0):
+        self.kind = Kind(answer)
+        self.at = at
+        super().__init__(f"{self.kind.name} after {at} bytes")
+
+    @property
+    def ends_too_soon(self):
+        """Whether the bytes ended too soon, so that more of them may help."""
+        return self.kind in (Kind.UNEXPECTED_END_OF_INPUT, Kind.INPUT_BUFFER_IS_TOO_SMALL)
+
+
+def _loaded():
+    """The library, which was made of the same file as this module."""
+    beside = pathlib.Path(__file__).resolve().parent / "build" / "libtelemetry.so"
+    library = ctypes.CDLL(os.environ.get("TELEMETRY_LIBRARY", str(beside)))
+    library.telemetry_source.restype = ctypes.c_uint32
+    library.telemetry_source.argtypes = ()
+    if library.telemetry_source() != SOURCE:
+        raise ImportError("libtelemetry.so was made of another file than telemetry.py: make both again")
+    return library
+
+
+_LIBRARY = _loaded()
+
+
+def _check(name, data, order):
+    """How many bytes the encoding has that the bytes begin with."""
+    data = bytes(data)
+    size = ctypes.c_size_t()
+    call = getattr(_LIBRARY, name)
+    call.restype = ctypes.c_uint32
+    call.argtypes = (ctypes.c_char_p, ctypes.c_size_t, ctypes.c_uint32, ctypes.POINTER(ctypes.c_size_t))
+    answer = call(data, len(data), order, ctypes.byref(size))
+    if answer:
+        raise Refused(answer, size.value)
+    return size.value
+
+
+def _check_whole(name, data, order):
+    """Refuses bytes that are not, all of them, an encoding."""
+    data = bytes(data)
+    call = getattr(_LIBRARY, name)
+    call.restype = ctypes.c_uint32
+    call.argtypes = (ctypes.c_char_p, ctypes.c_size_t, ctypes.c_uint32)
+    answer = call(data, len(data), order)
+    if answer:
+        raise Refused(answer)
+
+
+class Reading:
+    """What a sensor measured."""
+
+    @staticmethod
+    def check(data, order=Order.LITTLE_ENDIAN):
+        """How many bytes the encoding has that the bytes begin with, or `Refused` where they begin with none."""
+        return _check("telemetry_reading_check", data, order)
+
+
+class Message:
+    """A message."""
+
+    @staticmethod
+    def check(data, order=Order.LITTLE_ENDIAN):
+        """How many bytes the encoding has that the bytes begin with, or `Refused` where they begin with none."""
+        return _check("telemetry_message_check", data, order)
+
+
+class Line:
+    """A line of a log: a level, and a text up to the end of the bytes."""
+
+    @staticmethod
+    def check_whole(data, order=Order.LITTLE_ENDIAN):
+        """Raises `Refused` where the bytes, all of them, are no encoding."""
+        _check_whole("telemetry_line_check_whole", data, order)

@@ -1,0 +1,169 @@
+//! The types of `messages.rs`, by the calls of `libtelemetry.a`, whose proofs `rt lib` checks.
+//!
+//! Made from `messages.rs` by `tools/derive --library`: change that, and make this again. Copy this file into `src/` of a
+//! crate, and `build.rs` beside its `Cargo.toml`.
+//!
+//! What sensors send: who they are, and what they measured.
+#![allow(dead_code)]
+
+use std::fmt;
+
+/// The number of the file that this was made of.
+const SOURCE: u32 = 741008652;
+
+/// A byte order.
+#[derive(Debug, Clone, Copy, PartialEq, Eq)]
+#[repr(u32)]
+pub enum Order {
+    LittleEndian = 0,
+    BigEndian = 1,
+}
+
+/// Why bytes are refused.
+#[derive(Debug, Clone, Copy, PartialEq, Eq)]
+pub enum Kind {
+    /// a number that should be a character is none
+    InvalidChar,
+    /// a tag that no variant has
+    InvalidEnumVariant,
+    /// a text is not UTF-8
+    InvalidUtf8,
+    /// the seconds of a time do not fit into 64 bits
+    InvalidSystemTime,
+    /// a number that must not be zero is zero
+    ZeroNonZero,
+    /// a length or a size does not fit
+    OutOfRangeLength,
+    /// a size does not fit into 64 bits, which never comes
+    OutOfRangeUsize,
+    /// the bytes end too soon: with more of them there may be a value
+    UnexpectedEndOfInput,
+    /// a buffer has no room, which no check answers
+    UnexpectedEndOfOutputBuffer,
+    /// the bytes are fewer than any value has: with more of them there may be one
+    InputBufferIsTooSmall,
+    /// a buffer has no room, which no check answers
+    OutputBufferIsTooSmall,
+    /// a length is another than the field says that tells it
+    LengthIsNotTheSameAsLengthAttribute,
+    /// other bytes stand where a constant should
+    ExpectedConstant,
+    /// a value that borrows is read where nothing is lent, which no check answers
+    Unsized,
+    /// numbers lie in the other byte order
+    EndiannessMismatch,
+    /// the encoding is not the canonical one, which no check answers
+    NotWrittenForm,
+    /// a call of a device failed, which no check answers
+    IoError,
+    /// memory lacks, and nothing is known of the bytes
+    OutOfMemory,
+    /// an error of the type's own
+    Custom,
+    /// the number of the byte order is none of the two
+    UnknownOrder,
+    /// a number that this file does not know
+    Other(u32),
+}
+
+/// Bytes that were refused.
+#[derive(Debug, Clone, Copy, PartialEq, Eq)]
+pub struct Refused {
+    pub kind: Kind,
+    /// How many bytes were read before that.
+    pub at: usize,
+}
+
+impl Refused {
+    /// The refusal that a call answered.
+    fn of(answer: u32, at: usize) -> Refused {
+        let kind = match answer {
+            1 => Kind::InvalidChar,
+            2 => Kind::InvalidEnumVariant,
+            3 => Kind::InvalidUtf8,
+            4 => Kind::InvalidSystemTime,
+            5 => Kind::ZeroNonZero,
+            6 => Kind::OutOfRangeLength,
+            7 => Kind::OutOfRangeUsize,
+            8 => Kind::UnexpectedEndOfInput,
+            9 => Kind::UnexpectedEndOfOutputBuffer,
+            10 => Kind::InputBufferIsTooSmall,
+            11 => Kind::OutputBufferIsTooSmall,
+            12 => Kind::LengthIsNotTheSameAsLengthAttribute,
+            13 => Kind::ExpectedConstant,
+            14 => Kind::Unsized,
+            15 => Kind::EndiannessMismatch,
+            16 => Kind::NotWrittenForm,
+            17 => Kind::IoError,
+            18 => Kind::OutOfMemory,
+            19 => Kind::Custom,
+            100 => Kind::UnknownOrder,
+            other => Kind::Other(other),
+        };
+        Refused { kind, at }
+    }
+
+    /// Whether the bytes ended too soon, so that more of them may help.
+    pub fn ends_too_soon(&self) -> bool {
+        matches!(self.kind, Kind::UnexpectedEndOfInput | Kind::InputBufferIsTooSmall)
+    }
+}
+
+impl fmt::Display for Refused {
+    fn fmt(&self, f: &mut fmt::Formatter<'_>) -> fmt::Result {
+        write!(f, "{:?} after {} bytes", self.kind, self.at)
+    }
+}
+
+impl std::error::Error for Refused {}
+
+/// Whether the library was made of the same file as this module.
+pub fn fits() -> bool {
+    // SAFETY: the call takes nothing.
+    unsafe { telemetry_source() == SOURCE }
+}
+
+unsafe extern "C" {
+    fn telemetry_source() -> u32;
+    fn telemetry_reading_check(bytes: *const u8, length: usize, order: u32, size: *mut usize) -> u32;
+    fn telemetry_message_check(bytes: *const u8, length: usize, order: u32, size: *mut usize) -> u32;
+    fn telemetry_line_check_whole(bytes: *const u8, length: usize, order: u32) -> u32;
+}
+
+/// What a sensor measured.
+pub mod reading {
+    use super::{Order, Refused};
+
+    /// Says whether bytes begin with an encoding of a `Reading`, and of how many bytes it is.
+    pub fn check(bytes: &[u8], order: Order) -> Result<usize, Refused> {
+        let mut size = 0;
+        // SAFETY: so many bytes are there, they are only read, and nothing keeps a pointer.
+        let answer = unsafe { super::telemetry_reading_check(bytes.as_ptr(), bytes.len(), order as u32, &mut size) };
+        if answer == 0 { Ok(size) } else { Err(Refused::of(answer, size)) }
+    }
+}
+
+/// A message.
+pub mod message {
+    use super::{Order, Refused};
+
+    /// Says whether bytes begin with an encoding of a `Message`, and of how many bytes it is.
+    pub fn check(bytes: &[u8], order: Order) -> Result<usize, Refused> {
+        let mut size = 0;
+        // SAFETY: so many bytes are there, they are only read, and nothing keeps a pointer.
+        let answer = unsafe { super::telemetry_message_check(bytes.as_ptr(), bytes.len(), order as u32, &mut size) };
+        if answer == 0 { Ok(size) } else { Err(Refused::of(answer, size)) }
+    }
+}
+
+/// A line of a log: a level, and a text up to the end of the bytes.
+pub mod line {
+    use super::{Order, Refused};
+
+    /// Says whether bytes, all of them, are an encoding of a `Line`.
+    pub fn check_whole(bytes: &[u8], order: Order) -> Result<(), Refused> {
+        // SAFETY: so many bytes are there, they are only read, and nothing keeps a pointer.
+        let answer = unsafe { super::telemetry_line_check_whole(bytes.as_ptr(), bytes.len(), order as u32) };
+        if answer == 0 { Ok(()) } else { Err(Refused::of(answer, 0)) }
+    }
+}
