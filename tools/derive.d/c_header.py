@@ -1,6 +1,7 @@
 """Writes the header of a library: its calls for callers in C and C++."""
 import textwrap
 
+from c_views import read_lines, struct_lines
 from kinds import TOO_SOON, answers, snake_upper
 
 WIDTH = 116
@@ -51,7 +52,8 @@ def owed_lines():
     return comment([
         "What each call relies on, and no proof sees:",
         "- `bytes` is not null, even where `length` is 0, and so many bytes can be read there.",
-        "- `size` is not null, and can be written.",
+        "- `size`, `view` and `walk` are not null, point to no two overlapping places, and can be written.",
+        "- What stands in `view` before a call is not read. What it shows after it lies in the bytes of that call.",
         "- Nothing writes to the bytes before the call returns. No call changes them, or keeps a pointer.",
         "- `malloc`, `realloc` and `free` are those of the C library, or keep its promises.",
         "- No call is made from a signal handler, or in a process forked from one with several threads.",
@@ -87,7 +89,11 @@ def header_text(library):
         *comment([f"Tells the file that the library was made of: {upper}_SOURCE, where this header fits it."]),
         f"unsigned int {name}_source(void);", "",
     ]
+    if library.views.by_path:
+        lines += struct_lines(library)
     for it in library.types:
         lines += call_lines(library, it)
+        if it.path in library.views.by_path:
+            lines += read_lines(library, library.views.by_path[it.path])
     lines += ["#ifdef __cplusplus", "}", "#endif", "", "#endif"]
     return "\n".join(lines) + "\n"

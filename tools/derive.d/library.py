@@ -16,13 +16,16 @@ from parse import parse
 from python_wrapper import python_text
 from refusal import Refusal
 from rust_wrapper import rust_text
+from view_types import ViewTypes
+from views import Views
 from whole import ends_early, ends_with_input
 from words import FOLDED, KEYWORDS, PRELUDE, TACTICS
 
 # Each made file says so, and only such files are written over.
 MARK = "by `tools/derive --library`"
 # What the module of calls names besides the types.
-OF_CALLS = ("Global", "Layout", "Whole", "Checks", "ChecksWhole", "check", "check_whole")
+OF_CALLS = ("Global", "Layout", "Whole", "View", "Checks", "ChecksWhole", "Reads", "Steps", "Walk", "check",
+            "check_whole", "read", "next")
 # No name of a library: what the kit makes lies in folders and files of these names, or a language has the word.
 NO_LIBRARY = frozenset("""
     bin checked obj rlib staticlib wasm lib syntax theown deriving callers build test core std
@@ -59,6 +62,11 @@ class Exported:
     def snake(self):
         """Its path as names of functions have it."""
         return "_".join(snake(it) for it in self.path)
+
+    @property
+    def python(self):
+        """The name of its class in Python, whose module has a few others."""
+        return self.camel + "Type" * (self.camel in ("Order", "Kind", "Refused", "ValueError", "ImportError"))
 
     @property
     def camel(self):
@@ -104,6 +112,18 @@ def exported(file, shown, path=()):
     return found
 
 
+def declared(file, path=()):
+    """The structs and enums of a file, by their paths."""
+    found = {}
+    for item in file.items:
+        place = (*path, item.name)
+        if isinstance(item, syntax.Module):
+            found |= declared(item.file, place)
+        elif isinstance(item, syntax.Declared):
+            found[place] = item
+    return found
+
+
 class Library:
     """What is made of a file: `files` has each text by its path in the crate's folder."""
 
@@ -120,8 +140,11 @@ class Library:
         # What a program compares, to see that its header and its library were made of one file.
         self.source = zlib.crc32(source.encode())
         self.check_names()
-        self.files = {f"src/{self.module}.rt": text, "src/lib.rt": self.calls(),
-                      **self.made.answers, **self.callers()}
+        self.views = Views(self.types, declared(self.made.file))
+        self.notes = [*self.made.notes, *self.views.notes]
+        self.files = {f"src/{self.module}.rt": text, "src/lib.rt": self.calls(), **self.made.answers, **self.callers()}
+        if self.views.by_path:
+            self.files["src/views.rt"] = laid_out(ViewTypes(self).text())
 
     def check_names(self):
         """Refuses types whose calls would have one name, and a file that has none to be called."""
@@ -134,6 +157,16 @@ class Library:
                 if other is not it:
                     raise Refusal(it.line, f"the calls of `{'::'.join(it.path)}` would be named as those of "
                                            f"`{'::'.join(other.path)}`: give one of them another name")
+
+    @property
+    def calls_made(self):
+        """The names of all calls."""
+        found = [f"{self.name}_source"]
+        for it in self.types:
+            found.append(f"{self.name}_{it.snake}_check{'_whole' * it.is_whole}")
+            if it.path in self.views.by_path:
+                found += [f"{self.name}_{it.snake}_read", f"{self.name}_{it.snake}_next"]
+        return found
 
     def callers(self):
         """The files for callers, by their paths."""
@@ -148,29 +181,34 @@ class Library:
         fresh = Fresh(OF_CALLS)
         fresh.take(*PRELUDE, *TACTICS, "u8", "u32", "usize")
         names = {it: fresh.name(it.read_as) for it in self.types}
+        views = ["pub mod views;"] if self.views.by_path else []
         lines = [f"//! What callers in other languages call for the types of `{self.file_name}`.", "//!",
                  f"//! Made from `{self.file_name}` {MARK}: change that, and make this again.", "#![tactic(auto)]", "",
-                 *self.imports(names), "", f"pub mod {self.module};", ""]
+                 *self.imports(names), "", f"pub mod {self.module};", *views, ""]
         lines += ["/// Tells the file that this library was made of: a header of the same file has this number.",
                   "#[unsafe(no_mangle)]", f'pub extern "C" fn {self.name}_source() -> u32',
                   f"    ensures {{ result ≡ {self.source} }}", "{", f"    {self.source}", "}"]
         for it in self.types:
             lines += ["", *self.call(it, names[it])]
-        found = rattle.formatted("\n".join(lines) + "\n")
-        if found is None:
-            raise Refusal(1, "what is made of this file is no module of Rattle: please report it, with this file")
-        return found
+            if it.path in self.views.by_path:
+                lines += ["", *self.read_call(it, names[it])]
+        return laid_out("\n".join(lines) + "\n")
 
     def imports(self, names):
         """The imports of the module of calls."""
         wholes = [it for it in self.types if it.is_whole]
+        views = list(self.views)
         words = ["Checks"] * (len(wholes) < len(self.types)) + ["ChecksWhole"] * bool(wholes)
+        words += ["Reads", "Steps"] * bool(views)
         calls = ["check"] * (len(wholes) < len(self.types)) + ["check_whole"] * bool(wholes)
+        calls += ["View", "Walk", "next", "read"] * bool(views)
         found = ["ghost use Rattle.std.specs.Prelude.{◌≡◌};",
                  f"ghost use Rattle.speedy.specs.Exports.{{{', '.join(words)}}};", ""]
         for it in self.types:
             path = "::".join(("crate", self.module, *it.path[:-1], it.read_as))
             found.append(f"use {path}{'' if names[it] == it.read_as else f' as {names[it]}'};")
+        if views:
+            found.append(f"use crate::views::{{{', '.join(f'{it.camel}View' for it in views)}}};")
         found += [f"use speedy::exports::{{{', '.join(calls)}}};"]
         found += ["use speedy::Layout;"] * ("check" in calls) + ["use speedy::whole::Whole;"] * bool(wholes)
         return [*found, "use std::alloc::Global;"]
@@ -190,6 +228,36 @@ class Library:
                 "size: &mut usize) -> u32",
                 f"    ensures {{ Checks ⟦<{name} as Layout>⟧.layout order bytes.now result size.new }}",
                 "{", f"    check::<{name}>(alloc, bytes, order, size)", "}"]
+
+
+    def read_call(self, it, name):
+        """The call that reads a type into its view."""
+        view = self.views.by_path[it.path]
+        life = "<'a>" if it.has_lifetime or view.borrows else ""
+        of = "&'a [u8]" if life else "&[u8]"
+        name += "<'a>" if it.has_lifetime else ""
+        shown = f"{view.camel}View" + ("<'a>" if view.borrows else "")
+        seen = [f"    ensures {{ let it = ⟦<{name} as Layout>⟧ in",
+                f"        let shows = ⟦<{shown} as View<{name}>>⟧.shows in"]
+        return [f"/// Reads a [`{it.name}`] that bytes begin with, and shows it.", "#[unsafe(no_mangle)]",
+                f'pub extern "C" fn {self.name}_{it.snake}_read{life}(alloc: Global, bytes: {of}, order: u32, '
+                f"view: &mut {shown}, size: &mut usize) -> u32",
+                *seen, "        Reads it.seen shows it.layout order bytes.now result size.new view.old view.new }",
+                "{", f"    read::<{name}, {shown}>(alloc, bytes, order, view, size)", "}", "",
+                f"/// Takes a [`{it.name}`] from a walk, and shows it.", "#[unsafe(no_mangle)]",
+                f"pub extern \"C\" fn {self.name}_{it.snake}_next<'a>(alloc: Global, walk: &mut Walk<'a>, order: u32, "
+                f"view: &mut {shown}) -> u32",
+                *seen, "        Steps it.seen shows it.layout order walk.old.left.now walk.new.left.now result",
+                "        view.old view.new }",
+                "{", f"    next::<{name}, {shown}>(alloc, walk, order, view)", "}"]
+
+
+def laid_out(text):
+    """A module as the kit's formatter lays it out."""
+    found = rattle.formatted(text)
+    if found is None:
+        raise Refusal(1, "what is made of this file is no module of Rattle: please report it, with this file")
+    return found
 
 
 def refuse_name(name):

@@ -1,4 +1,5 @@
 """Writes the examples beside a library's header: one program in each language, which answers the same lines."""
+from dumps import c_dumps, needs_struct, python_dump, rust_dumps
 from kinds import answers
 
 C = '''\
@@ -16,7 +17,7 @@ static char line[MOST];
 static char kind[MOST];
 static char hex[MOST];
 
-/* What a check of a type answers, and the size that it sets. */
+{dumps}/* What a check of a type answers, and the size that it sets. */
 static unsigned int check(const unsigned char *bytes, {name}_size length, unsigned int order, {name}_size *size) {{
     *size = 0;
 {arms}
@@ -53,7 +54,11 @@ int main(void) {{
         }}
         bytes = bytes_of(hex, &length);
         answer = check(bytes, length, order, &size);
-        printf("%u %lu\\n", answer, size);
+        printf("%u %lu", answer, size);
+        if (answer == 0) {{
+            show(bytes, length, order, size);
+        }}
+        printf("\\n");
         free(bytes);
     }}
     return 0;
@@ -76,7 +81,7 @@ fn check(kind: &str, bytes: &[u8], order: Order) -> Result<usize, Refused> {{
     }}
 }}
 
-/// The number of a kind.
+{dumps}/// The number of a kind.
 fn number(kind: Kind) -> u32 {{
     match kind {{
 {numbers}
@@ -104,8 +109,9 @@ fn main() {{
                 continue;
             }}
         }};
-        match check(words[0], &bytes_of(words[2]), order) {{
-            Ok(size) => println!("0 {{size}}"),
+        let bytes = bytes_of(words[2]);
+        match check(words[0], &bytes, order) {{
+            Ok(size) => println!("0 {{size}}{{}}", show(words[0], &bytes, order, size)),
             Err(refused) => println!("{{}} {{}}", number(refused.kind), refused.at),
         }}
     }}
@@ -114,7 +120,7 @@ fn main() {{
 
 PYTHON = '''\
 """Answers lines `TYPE ORDER BYTES`, as run-examples says, by {name}.py. Made by `tools/derive --library`."""
-import sys
+{imports}import sys
 
 import {name}
 
@@ -123,13 +129,14 @@ TYPES = {{
 }}
 
 
-def main():
+{dumps}def main():
     """Answers standard input."""
     for line in sys.stdin:
         kind, order, data = line.split()
         data = bytes.fromhex("" if data == "-" else data)
         try:
-            print(0, TYPES[kind](data, int(order)) or 0)
+            print(0, TYPES[kind](data, int(order)) or 0, end="")
+            print(show(kind, data, int(order)))
         except {name}.Refused as refused:
             print(int(refused.kind), refused.at)
 
@@ -145,7 +152,7 @@ def c_program(library):
         call = "check_whole(bytes, length, order)" if it.is_whole else "check(bytes, length, order, size)"
         arms += [f'    if (strcmp(kind, "{it.snake}") == 0) {{',
                  f"        return {library.name}_{it.snake}_{call};", "    }"]
-    return C.format(name=library.name, upper=library.name.upper(), arms="\n".join(arms))
+    return C.format(name=library.name, upper=library.name.upper(), arms="\n".join(arms), dumps=c_dumps(library))
 
 
 def rust_program(library):
@@ -154,10 +161,12 @@ def rust_program(library):
     arms = [f'        "{it.snake}" => {name}::{it.snake}::check_whole(bytes, order).map(|()| 0),' if it.is_whole
             else f'        "{it.snake}" => {name}::{it.snake}::check(bytes, order),' for it in library.types]
     numbers = [f"        Kind::{word} => {number}," for word, number, _ in answers()]
-    return RUST.format(name=name, arms="\n".join(arms), numbers="\n".join(numbers))
+    return RUST.format(name=name, arms="\n".join(arms), numbers="\n".join(numbers),
+                       dumps=rust_dumps(library))
 
 
 def python_program(library):
     """The program in Python."""
-    arms = [f'    "{it.snake}": {library.name}.{it.camel}.check{"_whole" * it.is_whole},' for it in library.types]
-    return PYTHON.format(name=library.name, arms="\n".join(arms))
+    arms = [f'    "{it.snake}": {library.name}.{it.python}.check{"_whole" * it.is_whole},' for it in library.types]
+    return PYTHON.format(name=library.name, arms="\n".join(arms), dumps=python_dump(library),
+                         imports="import struct\n" if needs_struct(library) else "")

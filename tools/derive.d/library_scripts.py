@@ -2,8 +2,10 @@
 from library_examples import c_program, python_program, rust_program
 
 BUILD_RS = '''\
-//! Links the library: copy this beside `Cargo.toml`. The folder of `lib{name}.a` is that which the environment variable
-//! {upper}_FOLDER names, or `{name}` beside this file.
+//! Links the library: copy this beside `Cargo.toml`.
+//!
+//! The folder of `lib{name}.a` is that which the environment variable {upper}_FOLDER names, or
+//! `{name}` beside this file.
 fn main() {{
     let beside = format!("{{}}/{name}", std::env::var("CARGO_MANIFEST_DIR").unwrap_or_default());
     let folder = std::env::var("{upper}_FOLDER").unwrap_or(beside);
@@ -42,7 +44,9 @@ cp "$work/lib@.a" "$here/build/"
 
 # The calls alone are seen in the shared library. Whatever loads it has the C library.
 printf '{ global: @_*; local: *; };\n' > "$work/seen"
-printf '%s\n' @@CALLS@@ | sed 's/^/--undefined=/' > "$work/wanted"
+cat > "$work/wanted" << 'CALLS'
+@@CALLS@@
+CALLS
 "$tools/ld.lld" -shared -soname "lib@.so" --version-script "$work/seen" --gc-sections "@$work/wanted" \
     "$work/lib@.a" -o "$here/build/lib@.so"
 '''
@@ -53,10 +57,11 @@ RUN_EXAMPLES = r'''#!/usr/bin/env bash
 #
 # LINES is a file whose lines are `TYPE ORDER BYTES`, as `lines.txt`: the type as functions name it, the byte order as
 # 0 (little endian) or 1 (big endian), and bytes in hex, or - for none. Each program answers each line by two numbers,
-# the answer and the size. All are to say the same, which is written to the file ANSWERS. Made by `tools/derive
-# --library`.
+# the answer and the size; of a type that is read its value follows, as the walk and the read show it. All are to say
+# the same, which is written to the file ANSWERS. Made by `tools/derive --library`.
 set -uo pipefail
 here=$(realpath "$(dirname "$0")")
+library=$here/build/lib@.a
 lines=${1:-$here/lines.txt}
 work=$(mktemp -d)
 trap 'rm -rf "$work"' EXIT
@@ -93,26 +98,26 @@ look() {
 warnings="-Wall -Wextra -Werror -pedantic"
 for compiler in cc gcc clang; do
     [ -n "$(command -v $compiler)" ] || continue
-    try c-$compiler $compiler -std=c99 $warnings -O2 "$here/answer.c" "$here/build/lib@.a" -o "$work/c-$compiler" &&
+    try c-$compiler $compiler -std=c99 $warnings -O2 "$here/answer.c" "$library" -o "$work/c-$compiler" &&
         look c-$compiler "$work/c-$compiler"
 done
 for compiler in c++ g++ clang++; do
     [ -n "$(command -v $compiler)" ] || continue
-    try cpp-$compiler $compiler -std=c++17 $warnings -O2 -x c++ "$here/answer.c" -x none "$here/build/lib@.a" \
+    try cpp-$compiler $compiler -std=c++17 $warnings -O2 -x c++ "$here/answer.c" -x none "$library" \
         -o "$work/cpp-$compiler" && look cpp-$compiler "$work/cpp-$compiler"
 done
 # Where the compiler has them, its looks at memory and at what C leaves undefined.
 printf 'int main(void) { return 0; }\n' > "$work/empty.c"
 sanitizers="-fsanitize=address,undefined -fno-sanitize-recover=all"
 if [ -n "$(command -v cc)" ] && cc $sanitizers "$work/empty.c" -o "$work/empty" 2> "$work/empty.log"; then
-    try c-sanitized cc -std=c99 $warnings -g $sanitizers "$here/answer.c" "$here/build/lib@.a" -o "$work/c-sanitized" &&
+    try c-sanitized cc -std=c99 $warnings -g $sanitizers "$here/answer.c" "$library" -o "$work/c-sanitized" &&
         look c-sanitized "$work/c-sanitized"
 else
     echo "no compiler here has AddressSanitizer"
 fi
 if [ -n "$(command -v rustc)" ]; then
-    try rust rustc --edition 2024 -O -D warnings "$here/answer.rs" -L "$here/build" -l static=@ -o "$work/rust" &&
-        look rust "$work/rust"
+    try rust rustc --edition 2024 -O -D warnings "$here/answer.rs" -L "$here/build" -l static=@ \
+        -o "$work/rust" && look rust "$work/rust"
 else
     echo "the example in Rust is left out: there is no rustc"
 fi
@@ -132,8 +137,7 @@ def lines_of(library):
 def texts(library):
     """Each file, by its name."""
     name, upper = library.name, library.name.upper()
-    calls = " ".join(f"{name}_{it}" for it in [
-        "source", *(f"{it.snake}_check{'_whole' * it.is_whole}" for it in library.types)])
+    calls = "\n".join(f"--undefined={it}" for it in library.calls_made)
     return {
         "build.rs": BUILD_RS.format(name=name, upper=upper),
         "build-library": BUILD.replace("@@CALLS@@", calls).replace("lib@", f"lib{name}").replace(" @_*", f" {name}_*"),

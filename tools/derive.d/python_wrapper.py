@@ -1,13 +1,16 @@
 """Writes the module of Python over a library: a class for each type, by ctypes."""
 from kinds import TOO_SOON, answers, snake_upper
+from python_views import fields_text, raw_text, read_text
 
 HEAD = '''\
 """The types of `{file}`, by the calls of `lib{name}.so`, whose proofs `rt lib` checks.
 
-Made from `{file}` by `tools/derive --library`: change that, and make this again. The library lies in the folder `build`
-beside this file, or where the environment variable {upper}_LIBRARY says.{docs}
+Made from `{file}` by `tools/derive --library`: change that, and make this again.
+
+The library lies in the folder `build` beside this file, or where the environment variable {upper}_LIBRARY says.{docs}
 """
 import ctypes
+import dataclasses
 import enum
 import os
 import pathlib
@@ -82,14 +85,14 @@ def _check_whole(name, data, order):
 
 CHECK = '''
 
-class {camel}:
+{decorated}class {camel}:
     """{title}"""
-
+{fields}
     @staticmethod
     def check(data, order=Order.LITTLE_ENDIAN):
         """How many bytes the encoding has that the bytes begin with, or `Refused` where they begin with none."""
         return _check("{name}_{snake}_check", data, order)
-'''
+{reading}'''
 
 CHECK_WHOLE = '''
 
@@ -128,7 +131,14 @@ def python_text(library):
         docs="".join(f"\n{quoted(it)}" for it in ["", *library.docs]) if library.docs else "",
         kinds="\n".join(f"    # {about}\n    {snake_upper(word)} = {number}" for word, number, about in answers()),
         soon=", ".join(f"Kind.{snake_upper(word)}" for word, number, _ in answers() if number in TOO_SOON)) + "\n"
+    if library.views.by_path:
+        found += raw_text(library)
+    else:
+        found = found.replace("import dataclasses\n", "")
     for it in library.types:
-        found += (CHECK_WHOLE if it.is_whole else CHECK).format(camel=it.camel, title=title_of(it), name=name,
-                                                                snake=it.snake)
+        view = library.views.by_path.get(it.path)
+        found += (CHECK_WHOLE if it.is_whole else CHECK).format(
+            camel=it.python, title=title_of(it), name=name, snake=it.snake, fields=fields_text(view) if view else "",
+            decorated="@dataclasses.dataclass(frozen=True)\n" if view and view.cases is None else "",
+            reading=read_text(library, view) if view else "")
     return found

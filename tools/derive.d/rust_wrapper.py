@@ -1,11 +1,13 @@
 """Writes the module of Rust over a library: safe functions over its calls."""
 from kinds import TOO_SOON, answers
+from rust_views import declaration, raw_lines, read_text
 
 HEAD = '''\
 //! The types of `{file}`, by the calls of `lib{name}.a`, whose proofs `rt lib` checks.
 //!
-//! Made from `{file}` by `tools/derive --library`: change that, and make this again. Copy this file into `src/` of a
-//! crate, and `build.rs` beside its `Cargo.toml`.
+//! Made from `{file}` by `tools/derive --library`: change that, and make this again.
+//!
+//! Copy this file into `src/` of a crate, and `build.rs` beside its `Cargo.toml`.
 {docs}#![allow(dead_code)]
 
 use std::fmt;
@@ -76,28 +78,24 @@ unsafe extern "C" {{
 CHECK = '''
 /// {title}
 pub mod {snake} {{
-    use super::{{Order, Refused}};
-
     /// Says whether bytes begin with an encoding of a `{path}`, and of how many bytes it is.
-    pub fn check(bytes: &[u8], order: Order) -> Result<usize, Refused> {{
+    pub fn check(bytes: &[u8], order: super::Order) -> Result<usize, super::Refused> {{
         let mut size = 0;
         // SAFETY: so many bytes are there, they are only read, and nothing keeps a pointer.
         let answer = unsafe {{ super::{name}_{snake}_check(bytes.as_ptr(), bytes.len(), order as u32, &mut size) }};
-        if answer == 0 {{ Ok(size) }} else {{ Err(Refused::of(answer, size)) }}
+        if answer == 0 {{ Ok(size) }} else {{ Err(super::Refused::of(answer, size)) }}
     }}
-}}
+{reading}}}
 '''
 
 CHECK_WHOLE = '''
 /// {title}
 pub mod {snake} {{
-    use super::{{Order, Refused}};
-
     /// Says whether bytes, all of them, are an encoding of a `{path}`.
-    pub fn check_whole(bytes: &[u8], order: Order) -> Result<(), Refused> {{
+    pub fn check_whole(bytes: &[u8], order: super::Order) -> Result<(), super::Refused> {{
         // SAFETY: so many bytes are there, they are only read, and nothing keeps a pointer.
         let answer = unsafe {{ super::{name}_{snake}_check_whole(bytes.as_ptr(), bytes.len(), order as u32) }};
-        if answer == 0 {{ Ok(()) }} else {{ Err(Refused::of(answer, 0)) }}
+        if answer == 0 {{ Ok(()) }} else {{ Err(super::Refused::of(answer, 0)) }}
     }}
 }}
 '''
@@ -118,14 +116,21 @@ def rust_text(library):
         else:
             calls.append(f"    fn {name}_{it.snake}_check(bytes: *const u8, length: usize, order: u32, "
                          "size: *mut usize) -> u32;")
+        if it.path in library.views.by_path:
+            calls.append(declaration(library, library.views.by_path[it.path]))
     found = HEAD.format(
         file=library.file_name, name=name, source=library.source, calls="\n".join(calls),
         docs="".join(f"//! {it}".rstrip() + "\n" for it in ["", *library.docs]) if library.docs else "",
         kinds="\n".join(f"    /// {about}\n    {word}," for word, _, about in answers()),
         arms="\n".join(f"            {number} => Kind::{word}," for word, number, _ in answers()),
         soon=" | ".join(f"Kind::{word}" for word, number, _ in answers() if number in TOO_SOON))
+    if library.views.by_path:
+        found += "\n".join(raw_lines(library)) + "\n"
     for it in library.types:
         path = "::".join(it.path)
+        view = library.views.by_path.get(it.path)
+        reading = read_text(library, view) if view else ""
         title = (it.docs[0] if it.docs else f"`{path}`") + documented(it.docs[1:], "")
-        found += (CHECK_WHOLE if it.is_whole else CHECK).format(title=title, snake=it.snake, path=path, name=name)
+        found += (CHECK_WHOLE if it.is_whole else CHECK).format(title=title, snake=it.snake, path=path, name=name,
+                                                                reading=reading)
     return found

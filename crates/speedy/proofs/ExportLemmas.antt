@@ -16,7 +16,7 @@ use Rattle.speedy_layout.specs.Wholes.{Misfits, WholeCodec}
 use Rattle.speedy_read.specs.WaysOfReading.{AnswersBufferIf}
 use Rattle.speedy_read.specs.Wholes.{RefusesWhole}
 use Rattle.speedy.specs.Exports.{number_of_kind, number_of_order, EndsTooSoon, Checks, ChecksIn, ChecksWhole}
-use Rattle.speedy.specs.Exports.{ChecksWholeIn}
+use Rattle.speedy.specs.Exports.{ChecksWholeIn, Reads, ReadsIn}
 use Rattle.speedy.specs.Prefixes.{BeginsWithNone}
 
 -- an error has a number, which is no other answer
@@ -121,4 +121,29 @@ checks_whole_in_order {codec = codec} {bytes = bytes} {answer = answer} order is
   unknown = not_unknown order is below;
   known = λ it h. subst (λ (o : Endianness). ChecksWholeIn (codec.format (plain_mode o)) bytes answer)
       (same_order order it (sym is ∙ h)) checks;
+}
+
+-- a read in the order of a number
+pub reads_in_order : {A V W : Type 0} {seen : A → V} {shows : A → W → Type 0} {codec : Codec V} {number : ℕ}
+    {bytes : List ℕ} {answer size : ℕ} {old new : W}
+    (order : Endianness) → number ≡ number_of_order order → size ≤ length bytes → answer < 100
+    → ((answer ≡ 0 → ⊥) → new ≡ old) → ReadsIn seen shows (codec.format (plain_mode order)) bytes answer size new
+    → Reads seen shows codec number bytes answer size old new
+reads_in_order {seen = seen} {shows = shows} {codec = codec} {bytes = bytes} {answer = answer} {size = size}
+    {new = new} order is within below kept reads = record {
+      within = within;
+      unknown = not_unknown order is below;
+      kept = kept;
+      known = λ it h. subst (λ (o : Endianness). ReadsIn seen shows (codec.format (plain_mode o)) bytes answer size new)
+          (same_order order it (sym is ∙ h)) reads;
+    }
+
+-- what a refused read shows
+pub reads_refused : {A V W : Type 0} {seen : A → V} {shows : A → W → Type 0} {F : Format V} {bytes : List ℕ}
+    {size : ℕ} {new : W} (e : Error)
+    → ChecksIn F bytes (number_of_kind (kind_of e)) size
+    → ReadsIn seen shows F bytes (number_of_kind (kind_of e)) size new
+reads_refused e checks = record {
+  checked = checks;
+  shown = λ zero. absurd (omega (arith, (kind_bounds (kind_of e)).0, zero));
 }

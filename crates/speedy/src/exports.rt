@@ -2,7 +2,8 @@
 //! Rust file.
 ghost use Rattle.std.specs.Prelude.{◌≡◌, ◌<◌, ◌↔◌, Some, None};
 ghost use Rattle.speedy_base.specs.Error.{kind_of};
-ghost use Rattle.speedy.specs.Exports.{number_of_kind, number_of_order, Checks, ChecksWhole};
+ghost use Rattle.speedy.specs.Exports.{number_of_kind, number_of_order, flag_as_number};
+ghost use Rattle.speedy.specs.Exports.{Checks, ChecksWhole, Reads, Steps};
 
 use crate::laws::refused_is_none;
 use speedy_base::endianness::Endianness;
@@ -54,6 +55,14 @@ pub fn order_of(number: u32) -> Option<Endianness>
     }
 }
 
+/// The number of a flag.
+#[inline]
+pub fn flag_number(flag: bool) -> u8
+    ensures { result ≡ flag_as_number flag }
+{
+    if flag { 1 } else { 0 }
+}
+
 /// Says whether the bytes begin with an encoding of a value, in the byte order of a number.
 ///
 /// The answer is 0 where they do, and `size` is then how many bytes the encoding has. Else it is the [number of the
@@ -101,4 +110,73 @@ pub fn check_whole<'a, T: ReadWhole<&'a [u8], Endianness>>(
         Ok(_) => 0,
         Err(error) => kind_number(&error),
     }
+}
+
+/// What callers in other languages are shown of a value of the type `T`: a struct with `#[repr(C)]`, of numbers, of
+/// such structs, and of bytes that lie where the value was read from.
+pub trait View<T>: Sized {
+    /// What is shown of which value.
+    ghost shows: { T → Self → Type 0 };
+
+    /// What is shown of a value.
+    fn of(value: &T) -> Self
+        ensures { shows value.now result };
+}
+
+/// Reads a value that the bytes begin with, in the byte order of a number, and shows it.
+///
+/// The answer and `size` are those of a [`check`]. Where it is not 0, the view stays as it is.
+pub fn read<'a, T: ReadFrom<&'a [u8], Endianness>, V: View<T> + Drop>(
+    alloc: Global,
+    bytes: &'a [u8],
+    order: u32,
+    view: &mut V,
+    size: &mut usize,
+) -> u32
+    ensures { Reads T.seen V.shows T.layout order bytes.now result size.new view.old view.new }
+{
+    refused_is_none::<T, Endianness>();
+    let order = match order_of(order) {
+        Some(order) => order,
+        None => {
+            *size = 0;
+            return UNKNOWN_ORDER;
+        }
+    };
+    let (outcome, taken) = bytes.read_with_length::<T>(alloc, order);
+    *size = taken;
+    match outcome {
+        Ok(value) => {
+            *view = V::of(&value);
+            0
+        }
+        Err(error) => kind_number(&error),
+    }
+}
+
+/// A walk over values that stand one after another: the bytes that are left.
+#[repr(C)]
+#[derive(Clone, Copy)]
+pub struct Walk<'a> {
+    pub left: &'a [u8],
+}
+
+/// Takes a value from a walk, in the byte order of a number, and shows it.
+///
+/// The answer is that of a [`check`] of the bytes that are left. Where it is not 0, the walk and the view stay as they
+/// are.
+pub fn next<'a, T: ReadFrom<&'a [u8], Endianness>, V: View<T> + Drop>(
+    alloc: Global,
+    walk: &mut Walk<'a>,
+    order: u32,
+    view: &mut V,
+) -> u32
+    ensures { Steps T.seen V.shows T.layout order walk.old.left.now walk.new.left.now result view.old view.new }
+{
+    let mut size = 0;
+    let answer = read::<T, V>(alloc, walk.left, order, view, &mut size);
+    if answer == 0 {
+        walk.left = walk.left.split_at(size).1;
+    }
+    answer
 }

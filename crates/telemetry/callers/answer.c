@@ -12,6 +12,74 @@ static char line[MOST];
 static char kind[MOST];
 static char hex[MOST];
 
+/* Prints bytes in hex, or `-`. */
+static void print_bytes(struct telemetry_bytes it) {
+    printf(it.length == 0 ? " -" : " ");
+    for (telemetry_size at = 0; at < it.length; at++) {
+        printf("%02x", it.at[at]);
+    }
+}
+
+static void print_reading(const struct telemetry_reading *it) {
+    printf(" %u", it->second);
+    printf(" %d", it->value);
+    printf(" %u", it->is_exact);
+}
+
+static void print_message(const struct telemetry_message *it) {
+    if (it->tag == 1) {
+        printf(" Ping");
+    }
+    if (it->tag == 2) {
+        printf(" Hello");
+        print_bytes(it->hello.name);
+        printf(" "); printf("%02x", it->hello.version[0]); printf("%02x", it->hello.version[1]); printf("%02x", it->hello.version[2]);
+        if (it->hello.mail.is_some) { printf(" some"); print_bytes(it->hello.mail.value); } else { printf(" none"); }
+    }
+    if (it->tag == 3) {
+        printf(" Measured");
+        printf(" %u", it->measured.sensor);
+        print_reading(&it->measured.reading);
+    }
+    if (it->tag == 4) {
+        printf(" Blob");
+        print_bytes(it->blob.t0);
+    }
+}
+
+/* Reads what was checked, and prints it. It has to be of the same size, also as the one value of a walk. */
+static void show(const unsigned char *bytes, telemetry_size length, unsigned int order, telemetry_size size) {
+    if (strcmp(kind, "reading") == 0) {
+        struct telemetry_reading view, again;
+        struct telemetry_walk walk;
+        telemetry_size found;
+        walk.left.at = bytes;
+        walk.left.length = length;
+        if (telemetry_reading_read(bytes, length, order, &view, &found) != 0 || found != size
+            || telemetry_reading_next(&walk, order, &again) != 0 || walk.left.at != bytes + size
+            || walk.left.length != length - size) {
+            exit(1);
+        }
+        print_reading(&again);
+        print_reading(&view);
+    }
+    if (strcmp(kind, "message") == 0) {
+        struct telemetry_message view, again;
+        struct telemetry_walk walk;
+        telemetry_size found;
+        walk.left.at = bytes;
+        walk.left.length = length;
+        if (telemetry_message_read(bytes, length, order, &view, &found) != 0 || found != size
+            || telemetry_message_next(&walk, order, &again) != 0 || walk.left.at != bytes + size
+            || walk.left.length != length - size) {
+            exit(1);
+        }
+        print_message(&again);
+        print_message(&view);
+    }
+    (void)bytes, (void)length, (void)order, (void)size;
+}
+
 /* What a check of a type answers, and the size that it sets. */
 static unsigned int check(const unsigned char *bytes, telemetry_size length, unsigned int order, telemetry_size *size) {
     *size = 0;
@@ -57,7 +125,11 @@ int main(void) {
         }
         bytes = bytes_of(hex, &length);
         answer = check(bytes, length, order, &size);
-        printf("%u %lu\n", answer, size);
+        printf("%u %lu", answer, size);
+        if (answer == 0) {
+            show(bytes, length, order, size);
+        }
+        printf("\n");
         free(bytes);
     }
     return 0;

@@ -15,6 +15,70 @@ fn check(kind: &str, bytes: &[u8], order: Order) -> Result<usize, Refused> {
     }
 }
 
+/// Reads what was checked, and prints it. It has to be of the same size.
+#[allow(unused_variables)]
+fn show(kind: &str, bytes: &[u8], order: Order, size: usize) -> String {
+    match kind {
+        "reading" => {
+            let (value, read) = telemetry::reading::read(bytes, order).expect("a value");
+            let walked = telemetry::reading::walk(bytes, order).next();
+            assert!(read == size);
+            let again = if size == 0 { value } else { walked.expect("one").expect("the same") };
+            say_reading(&again) + &say_reading(&value)
+        }
+        "message" => {
+            let (value, read) = telemetry::message::read(bytes, order).expect("a value");
+            let walked = telemetry::message::walk(bytes, order).next();
+            assert!(read == size);
+            let again = if size == 0 { value } else { walked.expect("one").expect("the same") };
+            say_message(&again) + &say_message(&value)
+        }
+        _ => String::new(),
+    }
+}
+
+/// Bytes in hex, or `-`.
+fn hex(bytes: &[u8]) -> String {
+    let digits: String = bytes.iter().map(|it| format!("{it:02x}")).collect();
+    if digits.is_empty() { " -".to_string() } else { format!(" {digits}") }
+}
+
+fn say_reading(it: &telemetry::reading::Reading) -> String {
+    [
+        format!(" {}", it.second),
+        format!(" {}", it.value),
+        format!(" {}", it.is_exact as u8),
+    ]
+    .concat()
+}
+
+fn say_message(it: &telemetry::message::Message<'_>) -> String {
+    match *it {
+        telemetry::message::Message::Ping => [
+            " Ping".to_string(),
+        ]
+        .concat(),
+        telemetry::message::Message::Hello { name, version, mail } => [
+            " Hello".to_string(),
+            hex(name.as_bytes()),
+            hex(&version),
+            match mail { Some(it) => " some".to_string() + &hex(it.as_bytes()), None => " none".into() },
+        ]
+        .concat(),
+        telemetry::message::Message::Measured { sensor, reading } => [
+            " Measured".to_string(),
+            format!(" {}", sensor),
+            say_reading(&reading),
+        ]
+        .concat(),
+        telemetry::message::Message::Blob { t0 } => [
+            " Blob".to_string(),
+            hex(t0),
+        ]
+        .concat(),
+    }
+}
+
 /// The number of a kind.
 fn number(kind: Kind) -> u32 {
     match kind {
@@ -62,8 +126,9 @@ fn main() {
                 continue;
             }
         };
-        match check(words[0], &bytes_of(words[2]), order) {
-            Ok(size) => println!("0 {size}"),
+        let bytes = bytes_of(words[2]);
+        match check(words[0], &bytes, order) {
+            Ok(size) => println!("0 {size}{}", show(words[0], &bytes, order, size)),
             Err(refused) => println!("{} {}", number(refused.kind), refused.at),
         }
     }

@@ -1,5 +1,7 @@
-//! Links the library: copy this beside `Cargo.toml`. The folder of `libtelemetry.a` is that which the environment variable
-//! TELEMETRY_FOLDER names, or `telemetry` beside this file.
+//! Links the library: copy this beside `Cargo.toml`.
+//!
+//! The folder of `libtelemetry.a` is that which the environment variable TELEMETRY_FOLDER names, or
+//! `telemetry` beside this file.
 fn main() {
     let beside = format!("{}/telemetry", std::env::var("CARGO_MANIFEST_DIR").unwrap_or_default());
     let folder = std::env::var("TELEMETRY_FOLDER").unwrap_or(beside);

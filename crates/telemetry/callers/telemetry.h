@@ -79,7 +79,8 @@ enum telemetry_order {
 
 /* What each call relies on, and no proof sees:
    - `bytes` is not null, even where `length` is 0, and so many bytes can be read there.
-   - `size` is not null, and can be written.
+   - `size`, `view` and `walk` are not null, point to no two overlapping places, and can be written.
+   - What stands in `view` before a call is not read. What it shows after it lies in the bytes of that call.
    - Nothing writes to the bytes before the call returns. No call changes them, or keeps a pointer.
    - `malloc`, `realloc` and `free` are those of the C library, or keep its promises.
    - No call is made from a signal handler, or in a process forked from one with several threads.
@@ -88,6 +89,60 @@ enum telemetry_order {
 /* Tells the file that the library was made of: TELEMETRY_SOURCE, where this header fits it. */
 unsigned int telemetry_source(void);
 
+/* Bytes that lie in those that were read, so many of them: they stay while those stay. None is behind a text. */
+struct telemetry_bytes {
+    const unsigned char *at;
+    telemetry_size length;
+};
+
+/* A walk over values that stand one after another: the bytes that are left. It begins as all of them. */
+struct telemetry_walk {
+    struct telemetry_bytes left;
+};
+
+/* What a `Reading` shows. */
+struct telemetry_reading {
+    unsigned int second;
+    int value;
+    unsigned char is_exact; /* 0 or 1 */
+};
+
+struct telemetry_maybe_text {
+    unsigned char is_some; /* 0 or 1 */
+    struct telemetry_bytes value; /* UTF-8 */
+};
+
+/* The tags of `Message`. */
+enum telemetry_message_tag {
+    TELEMETRY_MESSAGE_PING = 1,
+    TELEMETRY_MESSAGE_HELLO = 2,
+    TELEMETRY_MESSAGE_MEASURED = 3,
+    TELEMETRY_MESSAGE_BLOB = 4
+};
+
+struct telemetry_message_hello {
+    struct telemetry_bytes name; /* UTF-8 */
+    unsigned char version[3];
+    struct telemetry_maybe_text mail;
+};
+
+struct telemetry_message_measured {
+    unsigned short sensor;
+    struct telemetry_reading reading;
+};
+
+struct telemetry_message_blob {
+    struct telemetry_bytes t0;
+};
+
+/* What a `Message` shows: the tag, and the struct of its variant. The others show nothing. */
+struct telemetry_message {
+    unsigned int tag;
+    struct telemetry_message_hello hello;
+    struct telemetry_message_measured measured;
+    struct telemetry_message_blob blob;
+};
+
 /* `Reading`: What a sensor measured.
 
    Says whether the bytes begin with an encoding of one: 0 where they do, and `size` is then how many bytes it
@@ -95,12 +150,34 @@ unsigned int telemetry_source(void);
 unsigned int telemetry_reading_check(
     const unsigned char *bytes, telemetry_size length, unsigned int order, telemetry_size *size);
 
+/* Reads the `Reading` that the bytes begin with. The answer and `size` are those of its check. Where the answer
+   is 0, `view` shows the value, and else it stays as it is. */
+unsigned int telemetry_reading_read(
+    const unsigned char *bytes, telemetry_size length, unsigned int order,
+    struct telemetry_reading *view, telemetry_size *size);
+
+/* Takes a `Reading` from a walk, while bytes are left. Where the answer is not 0, the walk and `view` stay as
+   they are. */
+unsigned int telemetry_reading_next(
+    struct telemetry_walk *walk, unsigned int order, struct telemetry_reading *view);
+
 /* `Message`: A message.
 
    Says whether the bytes begin with an encoding of one: 0 where they do, and `size` is then how many bytes it
    has; else why not, and `size` is how many bytes were read before that. */
 unsigned int telemetry_message_check(
     const unsigned char *bytes, telemetry_size length, unsigned int order, telemetry_size *size);
+
+/* Reads the `Message` that the bytes begin with. The answer and `size` are those of its check. Where the answer
+   is 0, `view` shows the value, and else it stays as it is. */
+unsigned int telemetry_message_read(
+    const unsigned char *bytes, telemetry_size length, unsigned int order,
+    struct telemetry_message *view, telemetry_size *size);
+
+/* Takes a `Message` from a walk, while bytes are left. Where the answer is not 0, the walk and `view` stay as
+   they are. */
+unsigned int telemetry_message_next(
+    struct telemetry_walk *walk, unsigned int order, struct telemetry_message *view);
 
 /* `Line`: A line of a log: a level, and a text up to the end of the bytes.
 

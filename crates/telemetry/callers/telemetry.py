@@ -1,11 +1,13 @@
 """The types of `messages.rs`, by the calls of `libtelemetry.so`, whose proofs `rt lib` checks.
 
-Made from `messages.rs` by `tools/derive --library`: change that, and make this again. The library lies in the folder `build`
-beside this file, or where the environment variable TELEMETRY_LIBRARY says.
+Made from `messages.rs` by `tools/derive --library`: change that, and make this again.
+
+The library lies in the folder `build` beside this file, or where the environment variable TELEMETRY_LIBRARY says.
 
 What sensors send: who they are, and what they measured.
 """
 import ctypes
+import dataclasses
 import enum
 import os
 import pathlib
@@ -117,22 +119,184 @@ def _check_whole(name, data, order):
         raise Refused(answer)
 
 
+class _Bytes(ctypes.Structure):
+    _fields_ = [("at", ctypes.c_void_p), ("length", ctypes.c_size_t)]
+
+    def get(self):
+        """A copy of the bytes."""
+        return ctypes.string_at(self.at, self.length) if self.length else b""
+
+
+def _read(name, raw, data, order, at):
+    """What a view shows of the value at a place of the bytes, where they lie, and how many bytes it has."""
+    size, view = ctypes.c_size_t(), raw()
+    call = getattr(_LIBRARY, name)
+    call.restype = ctypes.c_uint32
+    call.argtypes = (ctypes.c_void_p, ctypes.c_size_t, ctypes.c_uint32, ctypes.POINTER(raw),
+                     ctypes.POINTER(ctypes.c_size_t))
+    start = ctypes.cast(data, ctypes.c_void_p).value + at
+    answer = call(start, len(data) - at, order, ctypes.byref(view), ctypes.byref(size))
+    if answer:
+        raise Refused(answer, size.value)
+    return view, size.value
+
+
+def _walk(read, data, order):
+    """The values that stand one after another. Where one is refused, `at` is where it begins."""
+    at = 0
+    while at < len(data):
+        try:
+            value, size = read(data, order, at)
+        except Refused as refused:
+            raise Refused(refused.kind, at) from None
+        if size == 0:
+            return
+        at += size
+        yield value
+
+
+class _RawReading(ctypes.Structure):
+    _fields_ = [
+        ("second", ctypes.c_uint32),
+        ("value", ctypes.c_int32),
+        ("is_exact", ctypes.c_uint8),
+    ]
+
+    def value_of(self):
+        return Reading(
+            second=self.second,
+            value=self.value,
+            is_exact=bool(self.is_exact),
+        )
+
+
+class _RawMaybeText(ctypes.Structure):
+    _fields_ = [
+        ("is_some", ctypes.c_uint8),
+        ("value", _Bytes),
+    ]
+
+
+class _RawMessageHello(ctypes.Structure):
+    _fields_ = [
+        ("name", _Bytes),
+        ("version", ctypes.c_uint8 * 3),
+        ("mail", _RawMaybeText),
+    ]
+
+
+class _RawMessageMeasured(ctypes.Structure):
+    _fields_ = [
+        ("sensor", ctypes.c_uint16),
+        ("reading", _RawReading),
+    ]
+
+
+class _RawMessageBlob(ctypes.Structure):
+    _fields_ = [
+        ("t0", _Bytes),
+    ]
+
+
+class _RawMessage(ctypes.Structure):
+    _fields_ = [
+        ("tag", ctypes.c_uint32),
+        ("hello", _RawMessageHello),
+        ("measured", _RawMessageMeasured),
+        ("blob", _RawMessageBlob),
+    ]
+
+    def value_of(self):
+        if self.tag == 1:
+            return Message.Ping()
+        if self.tag == 2:
+            return Message.Hello(
+                name=self.hello.name.get().decode(),
+                version=bytes(self.hello.version),
+                mail=(self.hello.mail.value.get().decode() if self.hello.mail.is_some else None),
+            )
+        if self.tag == 3:
+            return Message.Measured(
+                sensor=self.measured.sensor,
+                reading=self.measured.reading.value_of(),
+            )
+        if self.tag == 4:
+            return Message.Blob(
+                t0=self.blob.t0.get(),
+            )
+        raise ValueError("the library shows a tag that this module does not know")
+
+
+@dataclasses.dataclass(frozen=True)
 class Reading:
     """What a sensor measured."""
+
+    second: object
+    value: object
+    is_exact: object
 
     @staticmethod
     def check(data, order=Order.LITTLE_ENDIAN):
         """How many bytes the encoding has that the bytes begin with, or `Refused` where they begin with none."""
         return _check("telemetry_reading_check", data, order)
 
+    @staticmethod
+    def read(data, order=Order.LITTLE_ENDIAN):
+        """The value that the bytes begin with, and how many bytes it has. Where there is none, `Refused` is raised."""
+        return Reading._read(bytes(data), order, 0)
+
+    @staticmethod
+    def _read(data, order, at):
+        view, size = _read("telemetry_reading_read", _RawReading, data, order, at)
+        return view.value_of(), size
+
+    @staticmethod
+    def walk(data, order=Order.LITTLE_ENDIAN):
+        """The values that stand one after another, up to the end of the bytes."""
+        return _walk(Reading._read, bytes(data), order)
+
 
 class Message:
     """A message."""
+
+    @dataclasses.dataclass(frozen=True)
+    class Ping:
+        pass
+
+    @dataclasses.dataclass(frozen=True)
+    class Hello:
+        name: object
+        version: object
+        mail: object
+
+    @dataclasses.dataclass(frozen=True)
+    class Measured:
+        sensor: object
+        reading: object
+
+    @dataclasses.dataclass(frozen=True)
+    class Blob:
+        t0: object
 
     @staticmethod
     def check(data, order=Order.LITTLE_ENDIAN):
         """How many bytes the encoding has that the bytes begin with, or `Refused` where they begin with none."""
         return _check("telemetry_message_check", data, order)
+
+    @staticmethod
+    def read(data, order=Order.LITTLE_ENDIAN):
+        """The value that the bytes begin with, and how many bytes it has. Where there is none, `Refused` is raised."""
+        return Message._read(bytes(data), order, 0)
+
+    @staticmethod
+    def _read(data, order, at):
+        view, size = _read("telemetry_message_read", _RawMessage, data, order, at)
+        return view.value_of(), size
+
+    @staticmethod
+    def walk(data, order=Order.LITTLE_ENDIAN):
+        """The values that stand one after another, up to the end of the bytes."""
+        return _walk(Message._read, bytes(data), order)
 
 
 class Line:

@@ -1,7 +1,8 @@
 //! The types of `messages.rs`, by the calls of `libtelemetry.a`, whose proofs `rt lib` checks.
 //!
-//! Made from `messages.rs` by `tools/derive --library`: change that, and make this again. Copy this file into `src/` of a
-//! crate, and `build.rs` beside its `Cargo.toml`.
+//! Made from `messages.rs` by `tools/derive --library`: change that, and make this again.
+//!
+//! Copy this file into `src/` of a crate, and `build.rs` beside its `Cargo.toml`.
 //!
 //! What sensors send: who they are, and what they measured.
 #![allow(dead_code)]
@@ -126,44 +127,242 @@ pub fn fits() -> bool {
 unsafe extern "C" {
     fn telemetry_source() -> u32;
     fn telemetry_reading_check(bytes: *const u8, length: usize, order: u32, size: *mut usize) -> u32;
+    fn telemetry_reading_read(
+        bytes: *const u8,
+        length: usize,
+        order: u32,
+        view: *mut RawReading,
+        size: *mut usize,
+    ) -> u32;
     fn telemetry_message_check(bytes: *const u8, length: usize, order: u32, size: *mut usize) -> u32;
+    fn telemetry_message_read(
+        bytes: *const u8,
+        length: usize,
+        order: u32,
+        view: *mut RawMessage,
+        size: *mut usize,
+    ) -> u32;
     fn telemetry_line_check_whole(bytes: *const u8, length: usize, order: u32) -> u32;
+}
+
+/// Bytes as the library shows them.
+#[derive(Clone, Copy)]
+#[repr(C)]
+struct RawBytes {
+    at: *const u8,
+    length: usize,
+}
+
+impl RawBytes {
+    /// The bytes. They lie in those that were read, for as long as these are borrowed.
+    unsafe fn get<'a>(self) -> &'a [u8] {
+        // SAFETY: by the contract of the call, so many bytes lie there, within those that were read.
+        unsafe { std::slice::from_raw_parts(self.at, self.length) }
+    }
+
+    /// The text.
+    unsafe fn text<'a>(self) -> &'a str {
+        // SAFETY: as `get`, and by the contract of the call the text is UTF-8.
+        unsafe { std::str::from_utf8_unchecked(self.get()) }
+    }
+}
+
+#[derive(Clone, Copy)]
+#[repr(C)]
+struct RawMaybeText {
+    is_some: u8,
+    value: RawBytes,
+}
+
+#[derive(Clone, Copy)]
+#[repr(C)]
+struct RawReading {
+    second: u32,
+    value: i32,
+    is_exact: u8,
+}
+
+/// The value that a view shows.
+unsafe fn reading_of(raw: RawReading) -> reading::Reading {
+    reading::Reading {
+        second: raw.second,
+        value: raw.value,
+        is_exact: raw.is_exact != 0,
+    }
+}
+
+#[derive(Clone, Copy)]
+#[repr(C)]
+struct RawMessageHello {
+    name: RawBytes,
+    version: [u8; 3],
+    mail: RawMaybeText,
+}
+
+#[derive(Clone, Copy)]
+#[repr(C)]
+struct RawMessageMeasured {
+    sensor: u16,
+    reading: RawReading,
+}
+
+#[derive(Clone, Copy)]
+#[repr(C)]
+struct RawMessageBlob {
+    t0: RawBytes,
+}
+
+#[derive(Clone, Copy)]
+#[repr(C)]
+struct RawMessage {
+    tag: u32,
+    hello: RawMessageHello,
+    measured: RawMessageMeasured,
+    blob: RawMessageBlob,
+}
+
+/// The value that a view shows.
+unsafe fn message_of<'a>(raw: RawMessage) -> message::Message<'a> {
+    match raw.tag {
+        1 => message::Message::Ping,
+        2 => message::Message::Hello {
+            name: unsafe { raw.hello.name.text() },
+            version: raw.hello.version,
+            mail: if raw.hello.mail.is_some == 0 { None } else { Some(unsafe { raw.hello.mail.value.text() }) },
+        },
+        3 => message::Message::Measured {
+            sensor: raw.measured.sensor,
+            reading: unsafe { reading_of(raw.measured.reading) },
+        },
+        _ => message::Message::Blob {
+            t0: unsafe { raw.blob.t0.get() },
+        },
+    }
 }
 
 /// What a sensor measured.
 pub mod reading {
-    use super::{Order, Refused};
-
     /// Says whether bytes begin with an encoding of a `Reading`, and of how many bytes it is.
-    pub fn check(bytes: &[u8], order: Order) -> Result<usize, Refused> {
+    pub fn check(bytes: &[u8], order: super::Order) -> Result<usize, super::Refused> {
         let mut size = 0;
         // SAFETY: so many bytes are there, they are only read, and nothing keeps a pointer.
         let answer = unsafe { super::telemetry_reading_check(bytes.as_ptr(), bytes.len(), order as u32, &mut size) };
-        if answer == 0 { Ok(size) } else { Err(Refused::of(answer, size)) }
+        if answer == 0 { Ok(size) } else { Err(super::Refused::of(answer, size)) }
+    }
+
+    /// A value.
+    #[derive(Debug, Clone, Copy, PartialEq)]
+    pub struct Reading {
+        pub second: u32,
+        pub value: i32,
+        pub is_exact: bool,
+    }
+
+    /// Reads the value that the bytes begin with, and says of how many bytes it is.
+    pub fn read(bytes: &[u8], order: super::Order) -> Result<(Reading, usize), super::Refused> {
+        let mut raw = std::mem::MaybeUninit::<super::RawReading>::uninit();
+        let mut size = 0;
+        // SAFETY: so many bytes are there, they are only read, and what is written is not read before.
+        let answer = unsafe {
+            super::telemetry_reading_read(bytes.as_ptr(), bytes.len(), order as u32, raw.as_mut_ptr(), &mut size)
+        };
+        if answer != 0 {
+            return Err(super::Refused::of(answer, size));
+        }
+        // SAFETY: the view is set, and shows bytes of those that were read.
+        Ok((unsafe { super::reading_of(raw.assume_init()) }, size))
+    }
+
+    /// The values that stand one after another, up to the end of the bytes or to the first that is refused, `at` where
+    /// it begins.
+    pub fn walk(
+        bytes: &[u8],
+        order: super::Order,
+    ) -> impl Iterator<Item = Result<Reading, super::Refused>> + '_ {
+        let mut at = 0;
+        std::iter::from_fn(move || {
+            let left = bytes.get(at..).filter(|left| !left.is_empty())?;
+            match read(left, order) {
+                Ok((_, 0)) => None,
+                Ok((value, size)) => {
+                    at += size;
+                    Some(Ok(value))
+                }
+                Err(refused) => {
+                    let refused = super::Refused { at, ..refused };
+                    at = bytes.len();
+                    Some(Err(refused))
+                }
+            }
+        })
     }
 }
 
 /// A message.
 pub mod message {
-    use super::{Order, Refused};
-
     /// Says whether bytes begin with an encoding of a `Message`, and of how many bytes it is.
-    pub fn check(bytes: &[u8], order: Order) -> Result<usize, Refused> {
+    pub fn check(bytes: &[u8], order: super::Order) -> Result<usize, super::Refused> {
         let mut size = 0;
         // SAFETY: so many bytes are there, they are only read, and nothing keeps a pointer.
         let answer = unsafe { super::telemetry_message_check(bytes.as_ptr(), bytes.len(), order as u32, &mut size) };
-        if answer == 0 { Ok(size) } else { Err(Refused::of(answer, size)) }
+        if answer == 0 { Ok(size) } else { Err(super::Refused::of(answer, size)) }
+    }
+
+    /// A value.
+    #[derive(Debug, Clone, Copy, PartialEq)]
+    pub enum Message<'a> {
+        Ping,
+        Hello { name: &'a str, version: [u8; 3], mail: Option<&'a str> },
+        Measured { sensor: u16, reading: super::reading::Reading },
+        Blob { t0: &'a [u8] },
+    }
+
+    /// Reads the value that the bytes begin with, and says of how many bytes it is.
+    pub fn read<'a>(bytes: &'a [u8], order: super::Order) -> Result<(Message<'a>, usize), super::Refused> {
+        let mut raw = std::mem::MaybeUninit::<super::RawMessage>::uninit();
+        let mut size = 0;
+        // SAFETY: so many bytes are there, they are only read, and what is written is not read before.
+        let answer = unsafe {
+            super::telemetry_message_read(bytes.as_ptr(), bytes.len(), order as u32, raw.as_mut_ptr(), &mut size)
+        };
+        if answer != 0 {
+            return Err(super::Refused::of(answer, size));
+        }
+        // SAFETY: the view is set, and shows bytes of those that were read.
+        Ok((unsafe { super::message_of(raw.assume_init()) }, size))
+    }
+
+    /// The values that stand one after another, up to the end of the bytes or to the first that is refused, `at` where
+    /// it begins.
+    pub fn walk<'a>(
+        bytes: &'a [u8],
+        order: super::Order,
+    ) -> impl Iterator<Item = Result<Message<'a>, super::Refused>> + 'a {
+        let mut at = 0;
+        std::iter::from_fn(move || {
+            let left = bytes.get(at..).filter(|left| !left.is_empty())?;
+            match read(left, order) {
+                Ok((_, 0)) => None,
+                Ok((value, size)) => {
+                    at += size;
+                    Some(Ok(value))
+                }
+                Err(refused) => {
+                    let refused = super::Refused { at, ..refused };
+                    at = bytes.len();
+                    Some(Err(refused))
+                }
+            }
+        })
     }
 }
 
 /// A line of a log: a level, and a text up to the end of the bytes.
 pub mod line {
-    use super::{Order, Refused};
-
     /// Says whether bytes, all of them, are an encoding of a `Line`.
-    pub fn check_whole(bytes: &[u8], order: Order) -> Result<(), Refused> {
+    pub fn check_whole(bytes: &[u8], order: super::Order) -> Result<(), super::Refused> {
         // SAFETY: so many bytes are there, they are only read, and nothing keeps a pointer.
         let answer = unsafe { super::telemetry_line_check_whole(bytes.as_ptr(), bytes.len(), order as u32) };
-        if answer == 0 { Ok(()) } else { Err(Refused::of(answer, 0)) }
+        if answer == 0 { Ok(()) } else { Err(super::Refused::of(answer, 0)) }
     }
 }

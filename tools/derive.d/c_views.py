@@ -1,0 +1,86 @@
+"""Writes the views of a library in C: their structs, and the calls that read them."""
+from views import NUMBERS, maybes
+
+
+def c_type(library, kind):
+    """A kind in C: what stands before a name, and what stands behind it."""
+    name = library.name
+    if kind.what == "array":
+        return NUMBERS[kind.of], f"[{kind.count}]"
+    simple = {"number": NUMBERS.get(kind.of) if kind.what == "number" else "", "flag": "unsigned char",
+              "char": "unsigned int", "text": f"struct {name}_bytes", "bytes": f"struct {name}_bytes",
+              "float": {"f32": "float", "f64": "double"}.get(kind.of, "") if kind.what == "float" else ""}
+    own = kind.of.snake if kind.what == "own" else kind.label
+    return simple.get(kind.what) or f"struct {name}_{own}", ""
+
+
+def member(library, name, kind):
+    """A member of a struct."""
+    before, behind = c_type(library, kind)
+    about = {"flag": " /* 0 or 1 */", "char": " /* a character of Unicode */", "text": " /* UTF-8 */"}
+    return f"    {before} {name}{behind};{about.get(kind.what, '')}"
+
+
+def constants(library):
+    """The names of tags and their numbers, by the types."""
+    return {view.snake: [(f"{library.name}_{view.snake}_{case.snake}".upper(), case) for case in view.cases]
+            for view in library.views if view.cases is not None}
+
+
+def struct_lines(library):
+    """The structs of all views."""
+    from c_header import comment
+    name, found = library.name, []
+    found += comment(["Bytes that lie in those that were read, so many of them: they stay while those stay. None is "
+                      "behind a text."])
+    found += [f"struct {name}_bytes {{", "    const unsigned char *at;", f"    {name}_size length;", "};", ""]
+    found += comment(["A walk over values that stand one after another: the bytes that are left. It begins as all of "
+                      "them."])
+    found += [f"struct {name}_walk {{", f"    struct {name}_bytes left;", "};", ""]
+    options = {kind.label: kind for kind in maybes(library.views)}
+    done = set()
+
+    def option(kind):
+        """The struct of an option, behind those that it holds."""
+        if kind.what != "maybe" or kind.label in done:
+            return []
+        done.add(kind.label)
+        return [*option(kind.of), f"struct {name}_{kind.label} {{", "    unsigned char is_some; /* 0 or 1 */",
+                member(library, "value", kind.of), "};", ""]
+
+    for view in library.views:
+        for kind in view.kinds:
+            found += option(options.get(kind.label, kind))
+        path = "::".join(view.exported.path)
+        if view.cases is None:
+            found += [*comment([f"What a `{path}` shows."]), f"struct {name}_{view.snake} {{",
+                      *(member(library, it.name, it.kind) for it in view.fields), "};", ""]
+            continue
+        found += [*comment([f"The tags of `{path}`."]), f"enum {name}_{view.snake}_tag {{"]
+        rows = constants(library)[view.snake]
+        found += [f"    {word} = {case.tag}{',' * (at < len(rows) - 1)}" for at, (word, case) in enumerate(rows)]
+        found += ["};", ""]
+        for case in view.cases:
+            if case.fields:
+                found += [f"struct {name}_{view.snake}_{case.snake} {{",
+                          *(member(library, it.name, it.kind) for it in case.fields), "};", ""]
+        about = f"What a `{path}` shows: the tag, and the struct of its variant. The others show nothing."
+        found += [*comment([about]), f"struct {name}_{view.snake} {{", "    unsigned int tag;",
+                  *(f"    struct {name}_{view.snake}_{case.snake} {case.snake};" for case in view.cases if case.fields),
+                  "};", ""]
+    return found
+
+
+def read_lines(library, view):
+    """The calls that read a type."""
+    from c_header import comment, filled
+    name, path = library.name, "::".join(view.exported.path)
+    read = f"Reads the `{path}` that the bytes begin with. The answer and `size` are those of its check. Where the " \
+           "answer is 0, `view` shows the value, and else it stays as it is."
+    walk = f"Takes a `{path}` from a walk, while bytes are left. Where the answer is not 0, the walk and `view` stay " \
+           "as they are."
+    return [*comment(filled(read)), f"unsigned int {name}_{view.snake}_read(",
+            f"    const unsigned char *bytes, {name}_size length, unsigned int order,",
+            f"    struct {name}_{view.snake} *view, {name}_size *size);", "",
+            *comment(filled(walk)), f"unsigned int {name}_{view.snake}_next(",
+            f"    struct {name}_walk *walk, unsigned int order, struct {name}_{view.snake} *view);", ""]

@@ -1,0 +1,143 @@
+"""Writes the views of a library in Python: structs of ctypes, classes of values, and the calls that read them."""
+from names import camel
+from views import maybes
+
+HEAD = '''
+
+class _Bytes(ctypes.Structure):
+    _fields_ = [("at", ctypes.c_void_p), ("length", ctypes.c_size_t)]
+
+    def get(self):
+        """A copy of the bytes."""
+        return ctypes.string_at(self.at, self.length) if self.length else b""
+
+
+def _read(name, raw, data, order, at):
+    """What a view shows of the value at a place of the bytes, where they lie, and how many bytes it has."""
+    size, view = ctypes.c_size_t(), raw()
+    call = getattr(_LIBRARY, name)
+    call.restype = ctypes.c_uint32
+    call.argtypes = (ctypes.c_void_p, ctypes.c_size_t, ctypes.c_uint32, ctypes.POINTER(raw),
+                     ctypes.POINTER(ctypes.c_size_t))
+    start = ctypes.cast(data, ctypes.c_void_p).value + at
+    answer = call(start, len(data) - at, order, ctypes.byref(view), ctypes.byref(size))
+    if answer:
+        raise Refused(answer, size.value)
+    return view, size.value
+
+
+def _walk(read, data, order):
+    """The values that stand one after another. Where one is refused, `at` is where it begins."""
+    at = 0
+    while at < len(data):
+        try:
+            value, size = read(data, order, at)
+        except Refused as refused:
+            raise Refused(refused.kind, at) from None
+        if size == 0:
+            return
+        at += size
+        yield value
+'''
+
+READ = '''
+    @staticmethod
+    def read(data, order=Order.LITTLE_ENDIAN):
+        """The value that the bytes begin with, and how many bytes it has. Where there is none, `Refused` is raised."""
+        return {camel}._read(bytes(data), order, 0)
+
+    @staticmethod
+    def _read(data, order, at):
+        view, size = _read("{library}_{snake}_read", _Raw{raw}, data, order, at)
+        return view.value_of(), size
+
+    @staticmethod
+    def walk(data, order=Order.LITTLE_ENDIAN):
+        """The values that stand one after another, up to the end of the bytes."""
+        return _walk({camel}._read, bytes(data), order)
+'''
+
+CTYPES = {"u8": "c_uint8", "u16": "c_uint16", "u32": "c_uint32", "u64": "c_uint64", "i8": "c_int8", "i16": "c_int16",
+          "i32": "c_int32", "i64": "c_int64", "f32": "c_float", "f64": "c_double"}
+
+
+def raw(kind):
+    """The type of ctypes of a kind."""
+    if kind.what in ("number", "float"):
+        return f"ctypes.{CTYPES[kind.of]}"
+    if kind.what == "array":
+        return f"ctypes.{CTYPES[kind.of]} * {kind.count}"
+    simple = {"flag": "ctypes.c_uint8", "char": "ctypes.c_uint32", "text": "_Bytes", "bytes": "_Bytes"}
+    return simple.get(kind.what) or f"_Raw{kind.of.camel if kind.what == 'own' else camel(kind.label)}"
+
+
+def taken(kind, place):
+    """The expression of a value of what a struct has at a place."""
+    if kind.what == "array":
+        return f"bytes({place})" if kind.of == "u8" else f"tuple({place})"
+    if kind.what == "own":
+        return f"{place}.value_of()"
+    if kind.what == "maybe":
+        return f"({taken(kind.of, place + '.value')} if {place}.is_some else None)"
+    return {"flag": f"bool({place})", "char": f"chr({place})", "text": f"{place}.get().decode()",
+            "bytes": f"{place}.get()"}.get(kind.what, place)
+
+
+def structure(name, fields):
+    """A struct of ctypes."""
+    inner = "".join(f'        ("{field}", {kind}),\n' for field, kind in fields)
+    return f"\n\nclass {name}(ctypes.Structure):\n    _fields_ = [\n{inner}    ]\n"
+
+
+def values_of(view):
+    """The function of a struct that makes a value."""
+    if view.cases is None:
+        inner = "".join(f"            {it.name}={taken(it.kind, f'self.{it.name}')},\n" for it in view.fields)
+        return f"\n    def value_of(self):\n        return {view.exported.python}(\n{inner}        )\n"
+    found = "\n    def value_of(self):\n"
+    for case in view.cases:
+        inner = "".join(f"                {it.name}={taken(it.kind, f'self.{case.snake}.{it.name}')},\n"
+                        for it in case.fields)
+        inner = f"(\n{inner}            )" if inner else "()"
+        found += f"        if self.tag == {case.tag}:\n            return {view.exported.python}.{case.name}{inner}\n"
+    return found + '        raise ValueError("the library shows a tag that this module does not know")\n'
+
+
+def raw_text(library):
+    """The structs of ctypes."""
+    done, found = set(), HEAD
+
+    def option(kind):
+        if kind.what == "maybe" and kind.label not in done:
+            done.add(kind.label)
+            return option(kind.of) + structure(raw(kind), [("is_some", "ctypes.c_uint8"), ("value", raw(kind.of))])
+        return ""
+
+    for view in library.views:
+        found += "".join(option(kind) for kind in maybes([view]))
+        if view.cases is None:
+            found += structure(f"_Raw{view.camel}", [(it.name, raw(it.kind)) for it in view.fields])
+        else:
+            for case in view.cases:
+                if case.fields:
+                    found += structure(f"_Raw{view.camel}{case.name}", [(it.name, raw(it.kind)) for it in case.fields])
+            found += structure(f"_Raw{view.camel}", [("tag", "ctypes.c_uint32"), *(
+                (case.snake, f"_Raw{view.camel}{case.name}") for case in view.cases if case.fields)])
+        found += values_of(view)
+    return found
+
+
+def fields_text(view):
+    """What stands in the class of a type before its calls: its fields, or a class of each variant."""
+    if view.cases is None:
+        return "".join(f"\n    {it.name}: object" for it in view.fields) + "\n"
+    found = ""
+    for case in view.cases:
+        inner = "".join(f"\n        {it.name}: object" for it in case.fields) or "\n        pass"
+        found += f"\n    @dataclasses.dataclass(frozen=True)\n    class {case.name}:{inner}\n"
+    return found
+
+
+def read_text(library, view):
+    """The functions of a class that read it."""
+    return READ.format(library=library.name, snake=view.snake, camel=view.exported.python, raw=view.camel)

@@ -1,0 +1,174 @@
+"""Writes the views of a library in Rust: types of values that borrow from the bytes, and the calls that read them."""
+from names import camel
+from views import maybes
+
+# What is used of C's structs.
+RAW_BYTES = '''
+/// Bytes as the library shows them.
+#[derive(Clone, Copy)]
+#[repr(C)]
+struct RawBytes {
+    at: *const u8,
+    length: usize,
+}
+
+impl RawBytes {
+    /// The bytes. They lie in those that were read, for as long as these are borrowed.
+    unsafe fn get<'a>(self) -> &'a [u8] {
+        // SAFETY: by the contract of the call, so many bytes lie there, within those that were read.
+        unsafe { std::slice::from_raw_parts(self.at, self.length) }
+    }
+
+    /// The text.
+    unsafe fn text<'a>(self) -> &'a str {
+        // SAFETY: as `get`, and by the contract of the call the text is UTF-8.
+        unsafe { std::str::from_utf8_unchecked(self.get()) }
+    }
+}
+'''
+
+READ = '''
+    /// Reads the value that the bytes begin with, and says of how many bytes it is.
+    pub fn read{life}(bytes: &{a}[u8], order: super::Order) -> Result<({name}{life}, usize), super::Refused> {{
+        let mut raw = std::mem::MaybeUninit::<super::Raw{camel}>::uninit();
+        let mut size = 0;
+        // SAFETY: so many bytes are there, they are only read, and what is written is not read before.
+        let answer = unsafe {{
+            super::{library}_{snake}_read(bytes.as_ptr(), bytes.len(), order as u32, raw.as_mut_ptr(), &mut size)
+        }};
+        if answer != 0 {{
+            return Err(super::Refused::of(answer, size));
+        }}
+        // SAFETY: the view is set, and shows bytes of those that were read.
+        Ok((unsafe {{ super::{snake}_of(raw.assume_init()) }}, size))
+    }}
+
+    /// The values that stand one after another, up to the end of the bytes or to the first that is refused, `at` where
+    /// it begins.
+    pub fn walk{life}(
+        bytes: &{a}[u8],
+        order: super::Order,
+    ) -> impl Iterator<Item = Result<{name}{life}, super::Refused>>{captured} {{
+        let mut at = 0;
+        std::iter::from_fn(move || {{
+            let left = bytes.get(at..).filter(|left| !left.is_empty())?;
+            match read(left, order) {{
+                Ok((_, 0)) => None,
+                Ok((value, size)) => {{
+                    at += size;
+                    Some(Ok(value))
+                }}
+                Err(refused) => {{
+                    let refused = super::Refused {{ at, ..refused }};
+                    at = bytes.len();
+                    Some(Err(refused))
+                }}
+            }}
+        }})
+    }}
+'''
+
+
+def raw(kind):
+    """The type that a struct of C has for a kind."""
+    if kind.what == "array":
+        return f"[{kind.of}; {kind.count}]"
+    simple = {"number": kind.of, "flag": "u8", "char": "u32", "text": "RawBytes", "bytes": "RawBytes", "float": kind.of}
+    if kind.what in simple:
+        return simple[kind.what]
+    return f"Raw{kind.of.camel if kind.what == 'own' else camel(kind.label)}"
+
+
+def life(it):
+    """The lifetime of what borrows."""
+    return "<'a>" if it.borrows else ""
+
+
+def owned(kind):
+    """The type of a value."""
+    if kind.what == "array":
+        return f"[{kind.of}; {kind.count}]"
+    if kind.what == "maybe":
+        return f"Option<{owned(kind.of)}>"
+    if kind.what == "own":
+        return f"super::{kind.of.snake}::{kind.of.camel}{life(kind.of)}"
+    return {"number": kind.of, "flag": "bool", "char": "char", "text": "&'a str", "bytes": "&'a [u8]",
+            "float": kind.of}[kind.what]
+
+
+def taken(kind, place):
+    """The expression of a value of what a struct of C has at a place."""
+    return {"flag": f"{place} != 0", "char": f"char::from_u32({place}).unwrap_or(char::REPLACEMENT_CHARACTER)",
+            "text": f"unsafe {{ {place}.text() }}", "bytes": f"unsafe {{ {place}.get() }}",
+            "own": f"unsafe {{ {kind.of.snake}_of({place}) }}" if kind.what == "own" else "",
+            "maybe": f"if {place}.is_some == 0 {{ None }} else {{ Some({taken(kind.of, place + '.value')}) }}"
+            if kind.what == "maybe" else ""}.get(kind.what, place)
+
+
+def struct(name, fields):
+    """A struct of C."""
+    return ["", "#[derive(Clone, Copy)]", "#[repr(C)]", f"struct {name} {{",
+            *(f"    {field}: {kind}," for field, kind in fields), "}"]
+
+
+def raw_lines(library):
+    """The structs of C and what makes values of them."""
+    lines = RAW_BYTES.split("\n")[:-1] if any(it.borrows for it in library.views) else []
+    for kind in maybes(library.views):
+        lines += struct(raw(kind), [("is_some", "u8"), ("value", raw(kind.of))])
+    for view in library.views:
+        if view.cases is None:
+            lines += struct(f"Raw{view.camel}", [(it.name, raw(it.kind)) for it in view.fields])
+        else:
+            for case in view.cases:
+                if case.fields:
+                    lines += struct(f"Raw{view.camel}{case.name}", [(it.name, raw(it.kind)) for it in case.fields])
+            lines += struct(f"Raw{view.camel}", [("tag", "u32"), *(
+                (case.snake, f"Raw{view.camel}{case.name}") for case in view.cases if case.fields)])
+        lines += made_lines(view)
+    return lines
+
+
+def made_lines(view):
+    """The function that makes a value of a struct of C."""
+    path = f"{view.snake}::{view.camel}"
+    head = f"unsafe fn {view.snake}_of{life(view)}(raw: Raw{view.camel}) -> {path}{life(view)} {{"
+    lines = ["", "/// The value that a view shows.", head]
+    if view.cases is None:
+        inner = [f"        {it.name}: {taken(it.kind, f'raw.{it.name}')}," for it in view.fields]
+        return [*lines, f"    {path} {{", *inner, "    }", "}"]
+    lines.append("    match raw.tag {")
+    for at, case in enumerate(view.cases):
+        tag = "_" if at == len(view.cases) - 1 else case.tag
+        inner = [f"            {it.name}: {taken(it.kind, f'raw.{case.snake}.{it.name}')}," for it in case.fields]
+        lines += [f"        {tag} => {path}::{case.name} {{", *inner, "        },"] if inner else [
+            f"        {tag} => {path}::{case.name},"]
+    return [*lines, "    }", "}"]
+
+
+def type_text(view):
+    """The type of a value, for its module."""
+    lines = ["    /// A value.", "    #[derive(Debug, Clone, Copy, PartialEq)]"]
+    if view.cases is None:
+        lines += [f"    pub struct {view.camel}{life(view)} {{",
+                  *(f"        pub {it.name}: {owned(it.kind)}," for it in view.fields), "    }"]
+    else:
+        lines.append(f"    pub enum {view.camel}{life(view)} {{")
+        for case in view.cases:
+            fields = ", ".join(f"{it.name}: {owned(it.kind)}" for it in case.fields)
+            lines.append(f"        {case.name}{f' {{ {fields} }}' if fields else ''},")
+        lines.append("    }")
+    return "\n".join(["", *lines]) + "\n"
+
+
+def read_text(library, view):
+    """The functions of a type's module that read it."""
+    return type_text(view) + READ.format(
+        library=library.name, snake=view.snake, camel=view.camel, name=view.camel, life=life(view),
+        a="'a " if view.borrows else "", captured=" + 'a" if view.borrows else " + '_")
+
+
+def declaration(library, view):
+    """The declaration of the call that reads a type."""
+    return f"    fn {library.name}_{view.snake}_read(\n        bytes: *const u8,\n        length: usize,\n" \
+           f"        order: u32,\n        view: *mut Raw{view.camel},\n        size: *mut usize,\n    ) -> u32;"
