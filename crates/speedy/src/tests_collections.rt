@@ -29,6 +29,12 @@ fn assert_gathered<F: FromItems<u16> + PartialEq>(rt: &impl Abort, alloc: Global
     let items = make_vec(rt, alloc, &[2, 1, 2]);
     let at_once = F::gather(alloc, items).expect(rt, "three items");
     assert!(rt; at_once == *gathered, "another collection at once");
+    let mut by_lists = F::empty(alloc);
+    for list in [make_vec(rt, alloc, &[2]), make_vec(rt, alloc, &[1, 2])] {
+        assert!(rt; by_lists.most_waiting() > 1, "no list of items");
+        assert!(rt; by_lists.add_all(alloc, list).is_ok(), "no room for a list");
+    }
+    assert!(rt; by_lists == *gathered, "another collection of two lists");
     let mut reader = BufferReader::new(alloc, LittleEndian {}, &ITEMS);
     let outcome = reader.read_collection::<F, u16>(usize::MAX);
     assert_refused(rt, alloc, outcome, "UnexpectedEndOfInput");

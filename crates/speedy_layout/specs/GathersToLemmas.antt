@@ -1,17 +1,25 @@
--- How lists gather to maps and sets: no items, one more item, and all of them as std's `collect` takes them.
+-- How lists gather to maps and sets: no items, one more, and many more, as std's `extend` adds them and `collect` makes
+-- them.
 use Rattle.std.specs.Prelude.{◌≡◌, List, [], ◌∷◌, ◌++◌, length, Bool, true, false, cond, IsTrue, IsSome, is_some}
 use Rattle.std.specs.Prelude.{Option, Some, None, if◌then◌else◌, ◌⊎◌, ◌↔◌, ◌||◌, refl}
+use Rattle.std.specs.Option.{option_or}
 use Rattle.std.proofs.Common.{sym, ◌∙◌, ap, subst, inl, inr, arith, true≢false}
 use Rattle.std.proofs.lemmas.List.{append_assoc, append-nil, length-append, map-append}
-use Rattle.std.proofs.lemmas.Map.Made.{is_some-lookup}
+use Rattle.std.proofs.lemmas.List.Sums.{fold-append}
+use Rattle.std.proofs.lemmas.Map.Made.{is_some-lookup, update_all_none}
 use Rattle.std.specs.List.{list_any}
 use Rattle.std.specs.Map.{keys_of, update, update_all}
 use Rattle.std.specs.Set.{is_member}
-use Rattle.std.specs.Cmp.{IsEquivalence}
+use Rattle.std.specs.Cmp.{IsEquivalence, IsTotalOrder}
+use Rattle.std.specs.Ordering.{eq_by_cmp}
+use Rattle.std.proofs.lemmas.Cmp.{eq_by_cmp_equiv}
+use Rattle.std.proofs.lemmas.Map.Keys.{IsDistinct-from_sorted}
 use Rattle.std.specs.BTreeMap as tree_map
 use Rattle.std.specs.HashMap as hash_map
+use Rattle.std.specs.BTreeSet as tree_set
 use Rattle.std.specs.HashSet as hash_set
 use Rattle.std.specs.BTreeMap.{BTreeMap}
+use Rattle.std.specs.BTreeSet.{BTreeSet}
 use Rattle.std.specs.HashMap.{HashMap}
 use Rattle.std.specs.HashSet.{HashSet}
 use Rattle.std.specs.declared.cmp.Ordering.{Ordering}
@@ -22,7 +30,7 @@ use Rattle.indexmap.specs.IndexSet as index_set
 use Rattle.speedy_layout.specs.Members.{IsIn, Around, ComesFirst, InFirstOrderBy, IsIn-left, IsIn-right, IsIn-either}
 use Rattle.speedy_layout.specs.Members.{IsIn-pair, around_last, Around-more}
 use Rattle.speedy_layout.specs.GathersTo.{HasLast, HasLastValues, HoldsItems, AreFirsts, IsTreeMapOf, IsHashMapOf}
-use Rattle.speedy_layout.specs.GathersTo.{IsIndexMapOf, IsIndexSetOf, HasLast-behind}
+use Rattle.speedy_layout.specs.GathersTo.{IsIndexMapOf, IsTreeSetOf, IsHashSetOf, IsIndexSetOf, HasLast-behind}
 
 or_true : (b : Bool) → IsTrue (b || true)
 or_true true = refl
@@ -118,12 +126,12 @@ module _ {K V : Type 0} {eq : K → K → Bool} where
       subst (λ l. HasLastValues eq l (update_all eq find (x ∷ xs))) (append_assoc done (x ∷ []) xs)
       (all_values (done ++ x ∷ []) xs next (one_more_value done x find next h (λ q. refl)))
 
-  -- pairs that are inserted in turn give each key its last value
-  pub collected_values : (xs : List (K × V)) (find : K → Option V)
-      → ((q : K) → find q ≡ update_all eq (λ _. None) xs q) → HasLastValues eq xs find
-  collected_values xs find is k v =
-      let h = all_values [] xs (λ _. None) no_values k v in
-      (λ s. h.0 (sym (is k) ∙ s), λ l. is k ∙ h.1 l)
+  -- pairs that are inserted in turn, behind others, give each key its last value
+  pub more_values : (items xs : List (K × V)) (find next : K → Option V) → HasLastValues eq items find
+      → ((q : K) → next q ≡ update_all eq find xs q) → HasLastValues eq (items ++ xs) next
+  more_values items xs find next h is k v =
+      let all = all_values items xs find h k v in
+      (λ s. all.0 (sym (is k) ∙ s), λ l. is k ∙ all.1 l)
 
   -- a key has a last value, or no key is equal to it
   last_or_none : (items : List (K × V)) (k : K)
@@ -166,6 +174,18 @@ module _ {K V : Type 0} {eq : K → K → Bool} where
           let pair : K × V = (l.key, v) in
           let there = IsIn-right pair l.at.before (pair ∷ l.at.after) (inl refl) in
           (pair, subst (IsIn pair) (sym l.at.whole_is) there, l.equal)
+
+-- pairs that are inserted in turn give their keys the same values whatever was there, and leave the other keys' values
+update_over : {K V : Type 0} (eq : K → K → Bool) (xs : List (K × V)) (q : K) (from find others : K → Option V)
+    → find q ≡ option_or (from q) (others q)
+    → update_all eq find xs q ≡ option_or (update_all eq from xs q) (others q)
+update_over eq [] q from find others is = is
+update_over eq (x ∷ xs) q from find others is =
+    update_over eq xs q (update eq from x.0 (Some x.1)) (update eq find x.0 (Some x.1)) others (by (eq x.0 q))
+  where
+    by : (b : Bool) → cond b (Some x.1) (find q) ≡ option_or (cond b (Some x.1) (from q)) (others q)
+    by true = refl
+    by false = is
 
 -- ---- the order of first occurrences
 
@@ -240,7 +260,8 @@ module _ {T : Type 0} {eq : T → T → Bool} (laws : IsEquivalence eq) where
           | inr e ↦ rw (IsIn-member y (x ∷ []) (inl e)) (or_true (is_member eq ks y))
         ]
 
-  all_firsts : (done ks xs : List T) → ((y : T) → IsIn y done → IsTrue (is_member eq ks y))
+  -- items that are inserted in turn, behind others, have their firsts in the order of all
+  pub all_firsts : (done ks xs : List T) → ((y : T) → IsIn y done → IsTrue (is_member eq ks y))
       → AreFirsts eq done ks → AreFirsts eq (done ++ xs) (index_set.insert_all eq ks xs)
   all_firsts done ks [] inside h = subst (λ l. AreFirsts eq l ks) (sym (append-nil done)) h
   all_firsts done ks (x ∷ xs) inside h =
@@ -253,10 +274,6 @@ module _ {T : Type 0} {eq : T → T → Bool} (laws : IsEquivalence eq) where
         | inr t ↦ elim t [ inl e ↦ inr e | inr n ↦ absurd n ]
       ]))
       (one_more_first eq done ks x inside h))
-
-  -- items that are inserted in turn have their firsts in the order of these
-  pub collected_firsts : (xs : List T) → AreFirsts eq xs (index_set.insert_all eq [] xs)
-  collected_firsts xs = all_firsts [] [] xs (λ y s. absurd s) (no_firsts eq)
 
   -- one more item is held too
   pub one_more_held : (items : List T) (x : T) (holds next : T → Bool) → HoldsItems eq items holds
@@ -271,6 +288,12 @@ module _ {T : Type 0} {eq : T → T → Bool} (laws : IsEquivalence eq) where
       by true false = refl
       by false true = refl
       by false false = refl
+
+  -- and so are many
+  pub more_held : (items xs : List T) (holds next : T → Bool) → HoldsItems eq items holds
+      → ((q : T) → next q ≡ (holds q || is_member eq xs q)) → HoldsItems eq (items ++ xs) next
+  more_held items xs holds next h is q =
+      is q ∙ ap (λ b. b || is_member eq xs q) (h q) ∙ sym (member_more items xs q)
 
 -- ---- `IndexMap`'s keys
 
@@ -298,28 +321,81 @@ module _ {K V : Type 0} (eq : K → K → Bool) where
       insert_all_keys (insert_entry eq es x.0 x.1) xs
       ∙ ap (λ ks. index_set.insert_all eq ks (keys_of xs)) (insert_entry_keys es x.0 x.1)
 
--- ---- what `collect` makes
+-- each item has a first, which is held
+firsts_held : {T H : Type 0} {eq : T → T → Bool} → IsEquivalence eq → (items : List T) (s : HashSet T H)
+    → HoldsItems eq items (hash_set.contains eq s) → (y : T) → IsIn y items → IsTrue (is_member eq s.keys y)
+firsts_held laws items s holds y i = holds y ∙ IsIn-member laws y items i
 
-module _ {K V : Type 0} where
-  pub tree_map_collected : (cmp : K → K → Ordering) (xs : List (K × V)) (m : BTreeMap K V)
-      → tree_map.IsFromIterResult cmp xs m → IsTreeMapOf cmp xs m
-  tree_map_collected cmp xs m h = (collected_values xs (tree_map.get cmp m) h.0, h.1)
+first_keys_held : {K V H : Type 0} {eq : K → K → Bool} → IsEquivalence eq → (items : List (K × V)) (m : HashMap K V H)
+    → HasLastValues eq items (hash_map.get eq m) → (y : K) → IsIn y (keys_of items)
+    → IsTrue (is_member eq (hash_map.keys m) y)
+first_keys_held {eq = eq} laws items m values y s =
+    let p = IsIn-pair y items s in
+    sym (is_some-lookup (eq y) m.entries)
+    ∙ has_value values y p.0 p.2 (subst (λ z. eq z y ≡ true) p.1 (laws.refl y))
 
-  module _ {H : Type 0} (eq : K → K → Bool) (xs : List (K × V)) (m : HashMap K V H) where
-    pub hash_map_collected : hash_map.IsFromIterResult eq xs m → IsHashMapOf eq xs m
-    hash_map_collected h = (collected_values xs (hash_map.get eq m) h.0, h.1)
+-- ---- what inserting many more makes
 
-    pub index_map_collected : IsEquivalence eq → m.entries ≡ index_map.insert_all eq [] xs
-        → hash_map.IsFromIterResult eq xs m → IsIndexMapOf eq xs m
-    index_map_collected laws order h = (
-      hash_map_collected h,
-      subst (AreFirsts eq (keys_of xs)) (sym (ap keys_of order ∙ insert_all_keys eq [] xs))
-          (collected_firsts laws (keys_of xs)),
+module _ {K V : Type 0} (items xs : List (K × V)) where
+  -- a tree is made anew of its own pairs, and of more behind them
+  pub tree_map_remade : {cmp : K → K → Ordering} → IsTotalOrder cmp → (m n : BTreeMap K V) → IsTreeMapOf cmp items m
+      → tree_map.IsFromIterResult cmp (m.entries ++ xs) n → IsTreeMapOf cmp (items ++ xs) n
+  tree_map_remade {cmp = cmp} total m n h made = (
+    more_values items xs (tree_map.get cmp m) (tree_map.get cmp n) h.0 (λ q.
+        made.0 q
+        ∙ ap (λ (f : K → Option V). f q) (fold-append (λ f p. update eq f p.0 (Some p.1)) (λ _. None) m.entries xs)
+        ∙ update_over eq xs q (λ _. None) (update_all eq (λ _. None) m.entries) (tree_map.get cmp m)
+        (update_all_none (eq_by_cmp_equiv total) eq (λ _ _. refl) m.entries q
+        (IsDistinct-from_sorted cmp (tree_map.keys m) h.1))
+        ∙ sym (update_over eq xs q (λ _. None) (tree_map.get cmp m) (tree_map.get cmp m) refl)),
+    made.1,
+  ) where
+    eq : K → K → Bool
+    eq = eq_by_cmp cmp
+
+  module _ {H : Type 0} (eq : K → K → Bool) (m n : HashMap K V H) where
+    pub hash_map_extended : IsHashMapOf eq items m → hash_map.InsertsAll eq m xs n → IsHashMapOf eq (items ++ xs) n
+    hash_map_extended h all = (
+      more_values items xs (hash_map.get eq m) (hash_map.get eq n) h.0 all.0,
+      all.1,
     )
 
-pub index_set_collected : {T H : Type 0} {eq : T → T → Bool} → IsEquivalence eq → (xs : List T) (s : HashSet T H)
-    → s.keys ≡ index_set.insert_all eq [] xs → hash_set.IsFromIterResult eq xs s → IsIndexSetOf eq xs s
-index_set_collected {eq = eq} laws xs s order h = (h, subst (AreFirsts eq xs) (sym order) (collected_firsts laws xs))
+    pub index_map_extended : IsEquivalence eq → IsIndexMapOf eq items m → hash_map.InsertsAll eq m xs n
+        → n.entries ≡ index_map.insert_all eq m.entries xs → IsIndexMapOf eq (items ++ xs) n
+    index_map_extended laws h all entries = (
+      hash_map_extended h.0 all,
+      subst (λ ks. AreFirsts eq ks (hash_map.keys n)) (sym (map-append (λ (e : K × V). e.0) items xs))
+          (subst (AreFirsts eq (keys_of items ++ keys_of xs))
+          (sym (ap keys_of entries ∙ insert_all_keys eq m.entries xs))
+          (all_firsts laws (keys_of items) (hash_map.keys m) (keys_of xs) (first_keys_held laws items m h.0.0) h.1)),
+    )
+
+module _ {T : Type 0} (items xs : List T) where
+  -- a tree is made anew of its own items, and of more behind them
+  pub tree_set_remade : {cmp : T → T → Ordering} → IsTotalOrder cmp → (s n : BTreeSet T) → IsTreeSetOf cmp items s
+      → tree_set.IsFromIterResult cmp (s.keys ++ xs) n → IsTreeSetOf cmp (items ++ xs) n
+  tree_set_remade {cmp = cmp} total s n h made = (
+    more_held laws items xs (tree_set.contains cmp s) (tree_set.contains cmp n) h.0 (λ q.
+        made.0 q ∙ member_more laws s.keys xs q),
+    made.1,
+  ) where
+    laws : IsEquivalence (eq_by_cmp cmp)
+    laws = eq_by_cmp_equiv total
+
+  module _ {H : Type 0} {eq : T → T → Bool} (laws : IsEquivalence eq) (s n : HashSet T H) where
+    pub hash_set_extended : IsHashSetOf eq items s → hash_set.InsertsAll eq s xs n → IsHashSetOf eq (items ++ xs) n
+    hash_set_extended h all = (
+      more_held laws items xs (hash_set.contains eq s) (hash_set.contains eq n) h.0 all.0,
+      all.1,
+    )
+
+    pub index_set_extended : IsIndexSetOf eq items s → hash_set.InsertsAll eq s xs n
+        → n.keys ≡ index_set.insert_all eq s.keys xs → IsIndexSetOf eq (items ++ xs) n
+    index_set_extended h all keys = (
+      hash_set_extended h.0 all,
+      subst (AreFirsts eq (items ++ xs)) (sym keys)
+          (all_firsts laws items s.keys xs (firsts_held laws items s h.0.0) h.1),
+    )
 
 -- ---- what inserting one more makes
 
@@ -345,16 +421,10 @@ module _ {K V : Type 0} (items : List (K × V)) (k : K) (v : V) where
       hash_map_added h.0 updates unique,
       subst (λ ks. AreFirsts eq ks (hash_map.keys n)) (sym (map-append (λ (e : K × V). e.0) items ((k, v) ∷ [])))
           (subst (AreFirsts eq (keys_of items ++ k ∷ [])) (sym new_keys)
-          (one_more_first eq (keys_of items) (hash_map.keys m) k is_there h.1)),
+          (one_more_first eq (keys_of items) (hash_map.keys m) k (first_keys_held laws items m h.0.0) h.1)),
     ) where
       new_keys : hash_map.keys n ≡ insert_key eq (hash_map.keys m) k
       new_keys = ap keys_of entries ∙ insert_entry_keys eq m.entries k v
-
-      is_there : (y : K) → IsIn y (keys_of items) → IsTrue (is_member eq (hash_map.keys m) y)
-      is_there y s =
-          let p = IsIn-pair y items s in
-          sym (is_some-lookup (eq y) m.entries)
-          ∙ has_value h.0.0 y p.0 p.2 (subst (λ z. eq z y ≡ true) p.1 (laws.refl y))
 
 pub index_set_added : {T H : Type 0} {eq : T → T → Bool} → IsEquivalence eq → (items : List T) (x : T)
     (s n : HashSet T H) → IsIndexSetOf eq items s → hash_set.Updates eq s n x true
@@ -362,5 +432,5 @@ pub index_set_added : {T H : Type 0} {eq : T → T → Bool} → IsEquivalence e
 index_set_added {eq = eq} laws items x s n h updates unique keys = (
   (one_more_held laws items x (hash_set.contains eq s) (hash_set.contains eq n) h.0.0 updates.0, unique),
   subst (AreFirsts eq (items ++ x ∷ [])) (sym keys)
-      (one_more_first eq items s.keys x (λ y i. h.0.0 y ∙ IsIn-member laws y items i) h.1),
+      (one_more_first eq items s.keys x (firsts_held laws items s h.0.0) h.1),
 )

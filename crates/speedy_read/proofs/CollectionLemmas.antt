@@ -1,11 +1,11 @@
 -- Reads of items make reads of what they gather to.
 use Rattle.std.specs.Prelude.{◌≡◌, ℕ, ◌+◌, ◌≤◌, ◌<◌, List, [], ◌∷◌, ◌++◌, length, map, Bool, true, false, IsTrue}
-use Rattle.std.specs.Prelude.{Result, Ok, Err, IfOk, OnOk, is_err, IsErrAnd, ⊤, refl}
-use Rattle.std.proofs.Common.{sym, ◌∙◌, ap, subst, arith, inl, inr}
-use Rattle.std.proofs.lemmas.Iterator.Adapters.{fact_from_collect, YieldsList-from_vec}
+use Rattle.std.specs.Prelude.{Result, Ok, Err, IfOk, OnOk, MatchResult, is_err, IsErrAnd, ⊤, refl}
+use Rattle.std.proofs.Common.{sym, ◌∙◌, ap, ap₂, subst, arith, inl, inr, map-id}
+use Rattle.std.proofs.lemmas.Iterator.Adapters.{fact_from_collect, fact_from_extend, YieldsList-from_vec}
 use Rattle.std.proofs.lemmas.Result.{IfOk-weaker}
 use Rattle.std.proofs.lemmas.List.{map-append, append_assoc, append-nil, length-append, length-map}
-use Rattle.std.specs.Iterator.{DrainsIf}
+use Rattle.std.specs.Iterator.{DrainsIf, Drains, Yields}
 use Rattle.std.specs.declared.vec.IntoIter.{IntoIter}
 use Rattle.std.specs.Vec.Iter.{into_iter_items, into_iter_len, into_iter_steps}
 use Rattle.speedy_base.specs.declared.error.ErrorKind.TheVariants as kinds
@@ -18,14 +18,14 @@ use Rattle.speedy_layout.specs.Sequences.{across, asks_after, asks_hashed}
 use Rattle.speedy_layout.specs.Gathering.{gathering, items_of, hashed_items}
 use Rattle.speedy_base.specs.Mode.{Mode}
 use Rattle.speedy_read.specs.Sequences.{Composes, second_decides, refused_first}
-use Rattle.speedy_layout.specs.Lists.{vector, vector_asks, vector_length, repeat}
+use Rattle.speedy_layout.specs.Lists.{vector, vector_asks, vector_length, repeat, each_append}
 use Rattle.speedy_layout.specs.Owned.{owned_content}
 use Rattle.speedy_read.specs.Reading.{ReaderState, Kept, Undecodable, Reads}
-use Rattle.speedy_read.specs.ReadingLemmas.{Kept-same, Got-nothing, Got-as, ReadSoFar}
+use Rattle.speedy_read.specs.ReadingLemmas.{Kept-same, Got-nothing, Got-as, ReadSoFar, more_so_far}
 use Rattle.speedy_read.specs.Codes.{code_refused}
 use Rattle.speedy_read.specs.Counted.{counted_code_composes}
 use Rattle.speedy_read.specs.Collections.{Gatherer, gatherer, GotItems, NotWritten, Collects}
-use Rattle.speedy_read.proofs.ListLemmas.{item_more, refused_item}
+use Rattle.speedy_read.proofs.ListLemmas.{item_more, refused_item, refused_items}
 
 -- from old to mid n items were read, which gather to the collection
 pub record GatheredSoFar {T F V : Type 0} (g : Gatherer T F V) (L : Format V) (n : ℕ) (whole : F)
@@ -35,6 +35,16 @@ pub record GatheredSoFar {T F V : Type 0} (g : Gatherer T F V) (L : Format V) (n
 
 pub length_pushed : {A : Type 0} (xs : List A) (x : A) (n : ℕ) → length xs ≡ n → length (xs ++ x ∷ []) ≡ n + 1
 length_pushed xs x n l = let m = length-append xs (x ∷ []) in omega (arith, l)
+
+-- where the items are refused, the collection is
+pub items_refused : {T F V : Type 0} {g : Gatherer T F V} {L : Format V} {E : Type 0} {gives : Error → E → Type 0}
+    {eof : E → Bool} {n : ℕ} {e : E} {result : Result F E} {old new : ReaderState} → IsErrAnd result (λ x. x ≡ e)
+    → Reads gives eof (λ (vs : List V). vs) (vector n L) (Err e) old new → Collects g L n gives eof result old new
+unfolding vector owned_content
+items_refused {g = g} {L = L} {gives = gives} {eof = eof} {n = n} {e = e} {result = result} {old = old} {new = new}
+    passed refused =
+    subst (λ x. Collects g L n gives eof x old new) (passed_on result e passed)
+    (record { kept = refused.kept; answer = elim refused.answer [ inl x ↦ inl x | inr x ↦ inr (inl x) ] })
 
 module _ {T F V : Type 0} {g : Gatherer T F V} {L : Format V} {old : ReaderState} where
   pub none_gathered : {whole : F} → g.gathers [] whole → g.are_written [] → GatheredSoFar g L 0 whole old old
@@ -73,7 +83,32 @@ module _ {T F V : Type 0} {g : Gatherer T F V} {L : Format V} {old : ReaderState
           };
         }
 
-    -- or refused, since it is written of no collection behind the others
+    -- several items more were read, and added
+    pub some_gathered : {A : Type 0} (items : A → List T) {some : A} (k : ℕ) {next : F}
+        → Reads gives eof (λ x. map g.seen (items x)) (vector k L) (Ok some) mid new
+        → g.gathers (h.so_far.items ++ items some) next
+        → (IsTrue old.mode.strict → g.are_written (h.so_far.items ++ items some))
+        → GatheredSoFar g L (n + k) next old new
+    unfolding vector owned_content repeat
+    some_gathered items {some = some} k r gathered written =
+        let earlier = h.so_far.items in
+        let read = more_so_far {more = Each L.encodes (map g.seen (earlier ++ items some))} (read_so_far h) r
+        (λ s t first second.
+        subst (λ (vs : List V). Each L.encodes vs (s ++ t)) (sym (map-append g.seen earlier (items some)))
+        (each_append L.encodes (map g.seen earlier) (map g.seen (items some)) s t first second.1)) in
+        let count : length (items some) ≡ k = sym (length-map (items some) g.seen) ∙ r.answer.prefix_is.0 in
+        record {
+          kept = read.kept;
+          so_far = record {
+            items = earlier ++ items some;
+            count_is = length-append earlier (items some) ∙ ap₂ (λ (a b : ℕ). a + b) h.so_far.count_is count;
+            got = read.got;
+            gathered = gathered;
+            written = written;
+          };
+        }
+
+    -- an item is refused, since it is written of no collection behind the others
     pub item_not_written : {all : ℕ} {x : T} {next : F} {e : E} → n < all → IsTrue old.mode.strict
         → Reads gives eof g.seen L (Ok x) mid new → g.gathers (h.so_far.items ++ x ∷ []) next
         → (g.are_written (h.so_far.items ++ x ∷ []) → ⊥) → gives (error_of kinds.NotWrittenForm) e
@@ -106,14 +141,19 @@ module _ {T F V : Type 0} {g : Gatherer T F V} {L : Format V} {old : ReaderState
     pub next_refused : {strict : Bool} {least : ℕ} → Laws strict least L → {all : ℕ} {e : E} {result : Result F E}
         → n < all → IsErrAnd result (λ x. x ≡ e) → Reads gives eof g.seen L (Err e) mid new
         → Collects g L all gives eof result old new
-    unfolding vector owned_content
-    next_refused laws {all = all} {e = e} {result = result} less passed r =
+    next_refused laws {all = all} less passed r =
         let l = length-map h.so_far.items g.seen in
         let m = h.so_far.count_is in
-        let refused : Reads gives eof (λ (vs : List V). vs) (vector all L) (Err e) old new =
-        refused_item laws all (map g.seen h.so_far.items) (omega arith) (read_so_far h) refl r in
-        subst (λ (x : Result F E). Collects g L all gives eof x old new) (passed_on result e passed)
-        (record { kept = refused.kept; answer = elim refused.answer [ inl x ↦ inl x | inr x ↦ inr (inl x) ] })
+        items_refused passed (refused_item laws all (map g.seen h.so_far.items) (omega arith) (read_so_far h) refl r)
+
+    -- and where several are
+    pub some_refused : {strict : Bool} {least : ℕ} → Laws strict least L → {all : ℕ} (k : ℕ) {A : Type 0}
+        {seen : A → List V} {e : E} {result : Result F E} → n + k ≤ all → IsErrAnd result (λ x. x ≡ e)
+        → Reads gives eof seen (vector k L) (Err e) mid new → Collects g L all gives eof result old new
+    some_refused laws {all = all} k within passed r =
+        let l = length-map h.so_far.items g.seen in
+        let m = h.so_far.count_is in
+        items_refused passed (refused_items laws all k (map g.seen h.so_far.items) (omega arith) (read_so_far h) refl r)
 
 -- what a call says that succeeded
 pub on_success : {A E P : Type 0} (r : Result A E) → is_err r ≡ false → OnOk r P → P
@@ -132,25 +172,6 @@ pub all_gathered : {T F V : Type 0} {g : Gatherer T F V} {L : Format V} {E : Typ
     → Collects g L n gives eof (Ok whole) old new
 all_gathered h = record { kept = h.kept; answer = h.so_far }
 
--- all items were read, and gathered at once
-pub gathered_at_once : {A T F V : Type 0} {g : Gatherer T F V} {L : Format V} {E : Type 0} {gives : Error → E → Type 0}
-    {eof : E → Bool} {n : ℕ} (items : A → List T) {all : A} {whole : F} {old new : ReaderState}
-    → Reads gives eof (λ x. map g.seen (items x)) (vector n L) (Ok all) old new → g.gathers (items all) whole
-    → (IsTrue old.mode.strict → g.are_written (items all)) → Collects g L n gives eof (Ok whole) old new
-unfolding vector owned_content repeat
-gathered_at_once {g = g} items {all = all} r gathered written =
-    let got = r.answer in
-    record {
-      kept = r.kept;
-      answer = record {
-        items = items all;
-        count_is = sym (length-map (items all) g.seen) ∙ got.prefix_is.0;
-        got = Got-as (λ s h. h.1) got;
-        gathered = gathered;
-        written = written;
-      };
-    }
-
 -- a vector of items that is collected gathers to what is said of all its items
 pub collected : {T F E Z : Type 0} {gathers : F → Type 0} (iter : IntoIter T Z) (result : Result F E) (items : List T)
     (is_of : List T → F → Type 0) → ((whole : F) → is_of items whole → gathers whole) → into_iter_items iter ≡ items
@@ -159,6 +180,19 @@ pub collected : {T F E Z : Type 0} {gathers : F → Type 0} (iter : IntoIter T Z
     → IfOk result gathers
 collected iter result items is_of gathered rest count made =
     IfOk-weaker result _ _ gathered (fact_from_collect is_of result made (YieldsList-from_vec items rest count))
+
+-- a collection that is extended by a vector of items has what is said of all of them
+pub extended : {T E Z Q : Type 0} {is_of : IntoIter T Z → Type 0} {says : List T → Type 0} (items : List T)
+    (result : Result (Unit {0}) E)
+    → ((iter : IntoIter T Z) × (all : List T) × is_of iter × says all
+    × MatchResult result (λ _. Drains (into_iter_steps {X = T} {Z = Z}) iter all)
+    (λ _. (last : IntoIter T Z) × Yields (into_iter_steps {X = T} {Z = Z}) iter all last))
+    → ((iter : IntoIter T Z) → is_of iter → (into_iter_items iter ≡ items) × (into_iter_len iter ≡ length items))
+    → (says items → Q) → OnOk result Q
+extended {says = says} items result ran of_vector gathered =
+    fact_from_extend (λ x. x) result ran
+    (λ iter is. let at = of_vector iter is in YieldsList-from_vec items at.0 at.1)
+    (λ all same h. gathered (subst says (sym (map-id all) ∙ same) h))
 
 -- ---- what was gathered is a value of a code
 

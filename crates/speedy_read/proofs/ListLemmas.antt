@@ -1,8 +1,9 @@
 -- Reads of items, one after another.
-use Rattle.std.specs.Prelude.{map, ◌≡◌, ℕ, ◌*◌, ◌-◌, ◌^◌, ◌<◌, List, [], ◌∷◌, ◌++◌, length, Bool, IsTrue, Result, Ok}
-use Rattle.std.specs.Prelude.{Err, IsErrAnd, refl}
+use Rattle.std.specs.Prelude.{map, ◌≡◌, ℕ, zero, suc, ◌+◌, ◌*◌, ◌-◌, ◌^◌, ◌<◌, ◌≤◌, List, [], ◌∷◌, ◌++◌, length}
+use Rattle.std.specs.Prelude.{Bool, IsTrue, Result, Ok, Err, IsErrAnd, refl}
 use Rattle.std.proofs.Common.{sym, ◌∙◌, ap, subst, arith, inl, inr}
 use Rattle.std.proofs.lemmas.List.{map-append, append_assoc, append-nil}
+use Rattle.speedy_base.specs.declared.error.ErrorKind.{ErrorKind}
 use Rattle.speedy_base.specs.declared.error.ErrorKind.TheVariants as kinds
 use Rattle.speedy_base.specs.declared.error.Error.{Error}
 use Rattle.speedy_base.specs.Error.{error_of}
@@ -38,7 +39,42 @@ pub list_composes : {V : Type 0} (L : Format V) (mode : Mode)
 unfolding list
 list_composes L mode = prefixed_list_composes (unsigned_number 4 mode) L
 
+-- the first ones of items are encoded by a prefix
+first_items : {V : Type 0} {encodes : V → List ℕ → Type 0} (k : ℕ) (ws : List V) (t : List ℕ) → k ≤ length ws
+    → Each encodes ws t
+    → (us : List V) × (prefix rest : List ℕ) × (length us ≡ k) × (t ≡ prefix ++ rest) × Each encodes us prefix
+first_items zero ws t l h = ([], [], t, refl, refl, refl)
+first_items (suc k) [] t l h = absurd (omega arith)
+first_items (suc k) (w ∷ ws) t l h =
+    let more = first_items k ws h.suffix (omega arith) h.second_is in (
+      w ∷ more.0,
+      h.prefix ++ more.1,
+      more.2,
+      ap suc more.3,
+      h.whole_is ∙ (ap (λ x. h.prefix ++ x) more.4 ∙ sym (append_assoc h.prefix more.1 more.2)),
+      record { prefix = h.prefix; suffix = more.1; whole_is = refl; first_is = h.first_is; second_is = more.5 },
+    )
+
 module _ {V : Type 0} {strict : Bool} {least : ℕ} {L : Format V} (laws : Laws strict least L) where
+  -- where more items are encoded than were read, the next ones are encoded by what is left
+  next_items : (k : ℕ) (vs ws : List V) (s t r q : List ℕ) → length vs + k ≤ length ws → Each L.encodes vs s
+      → Each L.encodes ws t → s ++ r ≡ t ++ q
+      → (us : List V) × (prefix rest : List ℕ) × (r ≡ prefix ++ rest) × (length us ≡ k) × Each L.encodes us prefix
+  next_items k [] ws s t r q l h e is =
+      let some = first_items k ws t (let fits = l in omega arith) e in (
+        some.0,
+        some.1,
+        some.2 ++ q,
+        ap (λ x. x ++ r) (sym h) ∙ (is ∙ (ap (λ x. x ++ q) some.4 ∙ append_assoc some.1 some.2 q)),
+        some.3,
+        some.5,
+      )
+  next_items k (v ∷ vs) [] s t r q l h e is = absurd (omega arith)
+  next_items k (v ∷ vs) (w ∷ ws) s t r q l h e is =
+      let joined = across s t r q h.prefix h.suffix e.prefix e.suffix h.whole_is e.whole_is is in
+      let first = laws.decodes v w h.prefix e.prefix (h.suffix ++ r) (e.suffix ++ q) h.first_is e.first_is joined in
+      next_items k vs ws h.suffix e.suffix r q (omega arith) h.second_is e.second_is first.2
+
   -- where more items are encoded than were read, the next one is encoded by what is left
   pub next_item : (vs ws : List V) (s t r q : List ℕ) → length vs < length ws → Each L.encodes vs s
       → Each L.encodes ws t
@@ -70,40 +106,60 @@ module _ {V : Type 0} {strict : Bool} {least : ℕ} {L : Format V} (laws : Laws 
           (λ _ bad. elim bad [ inl h ↦ h | inr h ↦ h ]) ended fewer);
     }
 
-    -- where an item is refused, the vector is
-    pub refused_item : {A : Type 0} {seen : A → V} (vs : List V) {e : E} {result : Result B E} {mid new : ReaderState}
-        → length vs < n → ReadSoFar (Each L.encodes vs) old mid → IsErrAnd result (λ x. x ≡ e)
-        → Reads gives eof seen L (Err e) mid new → Reads gives eof seen' (vector n L) result old new
+    -- where what follows the first items is refused, the vector is
+    refused_next : {A U : Type 0} {M : Format U} {seen : A → U} (vs : List V) {e : E} {result : Result B E}
+        {mid new : ReaderState} → (IsTrue M.asks.lending → IsTrue L.asks.lending)
+        → ((kind : ErrorKind) → M.names kind → L.names kind)
+        → ((ws : List V) (s t r q : List ℕ) → length ws ≡ n → Each L.encodes vs s → Each L.encodes ws t
+        → s ++ r ≡ t ++ q → (u : U) × (prefix rest : List ℕ) × (r ≡ prefix ++ rest) × M.encodes u prefix)
+        → ReadSoFar (Each L.encodes vs) old mid → IsErrAnd result (λ x. x ≡ e)
+        → Reads gives eof seen M (Err e) mid new → Reads gives eof seen' (vector n L) result old new
     unfolding vector owned_content repeat
-    refused_item vs {e = e} {mid = mid} {new = new} fewer so_far passed r =
+    refused_next {M = M} vs {e = e} {mid = mid} {new = new} lends names next so_far passed r =
         let got = so_far.got in
         Reads-passed passed (record {
           kept = Kept-after so_far.kept r.kept;
-          answer = part_refused new so_far.kept.fixed so_far.got.no_fault (λ _. refl) (λ t. t) (λ kind h. h)
+          answer = part_refused new so_far.kept.fixed so_far.got.no_fault (λ _. refl) lends names
               (λ told because.
-              let un = because (IsTold-after so_far.kept (λ need. need) told) in
+              let un = because (IsTold-after so_far.kept lends told) in
               record {
                 no_prefix = λ ws prefix rest is sp.
-                    let item =
-                    next_item vs ws got.prefix prefix mid.remaining rest
-                    (subst (λ (m : ℕ). length vs < m) (sym sp.0) fewer)
-                    got.prefix_is sp.1 (sym (got.taken told.tells) ∙ is) in
-                    un.no_prefix item.0 item.1 item.2 item.3 item.4;
+                    let part = next ws got.prefix prefix mid.remaining rest sp.0 got.prefix_is sp.1
+                    (sym (got.taken told.tells) ∙ is) in
+                    un.no_prefix part.0 part.1 part.2 part.3 part.4;
                 too_short = λ ws more sp.
                     let whole = old.remaining ++ more in
                     let joined = sym (append_assoc got.prefix mid.remaining more)
                     ∙ (ap (λ x. x ++ more) (sym (got.taken told.tells)) ∙ sym (append-nil whole)) in
-                    let item = next_item vs ws got.prefix whole (mid.remaining ++ more) []
-                    (subst (λ (m : ℕ). length vs < m) (sym sp.0) fewer) got.prefix_is sp.1 joined in
-                    elim (prefixes_nest mid.remaining more item.1 item.2 item.3) [
-                      | inl h ↦ un.too_short item.0 h.0 (subst (L.encodes item.0) h.1 item.4)
-                      | inr h ↦ absurd (un.no_prefix item.0 item.1 h.0 h.1 item.4)
+                    let part = next ws got.prefix whole (mid.remaining ++ more) [] sp.0 got.prefix_is sp.1 joined in
+                    elim (prefixes_nest mid.remaining more part.1 part.2 part.3) [
+                      | inl h ↦ un.too_short part.0 h.0 (subst (M.encodes part.0) h.1 part.4)
+                      | inr h ↦ absurd (un.no_prefix part.0 part.1 h.0 h.1 part.4)
                     ];
                 malformed = λ bad. absurd bad;
                 wrong_length = λ wrong. absurd wrong;
               })
               r.answer;
         })
+
+    -- so where an item is
+    pub refused_item : {A : Type 0} {seen : A → V} (vs : List V) {e : E} {result : Result B E} {mid new : ReaderState}
+        → length vs < n → ReadSoFar (Each L.encodes vs) old mid → IsErrAnd result (λ x. x ≡ e)
+        → Reads gives eof seen L (Err e) mid new → Reads gives eof seen' (vector n L) result old new
+    refused_item vs fewer =
+        refused_next vs (λ need. need) (λ kind h. h) (λ ws s t r q l h k is.
+        next_item vs ws s t r q (subst (λ (m : ℕ). length vs < m) (sym l) fewer) h k is)
+
+    -- and where several are
+    pub refused_items : {A : Type 0} {seen : A → List V} (k : ℕ) (vs : List V) {e : E} {result : Result B E}
+        {mid new : ReaderState} → length vs + k ≤ n → ReadSoFar (Each L.encodes vs) old mid
+        → IsErrAnd result (λ x. x ≡ e) → Reads gives eof seen (vector k L) (Err e) mid new
+        → Reads gives eof seen' (vector n L) result old new
+    unfolding vector owned_content repeat
+    refused_items k vs fewer =
+        refused_next vs (λ need. need) (λ kind h. h) (λ ws s t r q l h e is.
+        let some = next_items k vs ws s t r q (subst (λ (m : ℕ). length vs + k ≤ m) (sym l) fewer) h e is in
+        (some.0, some.1, some.2, some.3, (some.4, some.5)))
 
 module _ {E : Type 0} {gives : Error → E → Type 0} {eof : E → Bool} {V : Type 0} (L : Format V)
     {old new : ReaderState} where

@@ -29,6 +29,8 @@ use std::convert::AsSlice;
 pub struct Numbers {}
 
 impl<L: AsSlice<u8> + Drop, C: Context, T: FixedNumber> Strategy<L, C, T> for Numbers {
+    const IN_BULK: bool = true;
+
     fn read_many_lent<W: FromLent<L, T>, R: LendingReader<L, C>>(
         reader: &mut R,
         length: usize,
@@ -70,6 +72,8 @@ impl<L: AsSlice<u8> + Drop, C: Context, T: FixedNumber> Fills<L, C, T> for Numbe
 pub struct Bytes {}
 
 impl<L: AsSlice<u8> + Drop, C: Context> Strategy<L, C, u8> for Bytes {
+    const IN_BULK: bool = true;
+
     #[inline]
     fn read_many_lent<W: FromLent<L, u8>, R: LendingReader<L, C>>(
         reader: &mut R,
@@ -135,6 +139,8 @@ impl<L: AsSlice<u8> + Drop, C: Context> Fills<L, C, u8> for Bytes {
 pub struct Flags {}
 
 impl<L: AsSlice<u8> + Drop, C: Context> Strategy<L, C, bool> for Flags {
+    const IN_BULK: bool = true;
+
     fn read_many_lent<W: FromLent<L, bool>, R: LendingReader<L, C>>(
         reader: &mut R,
         length: usize,

@@ -1,5 +1,5 @@
 //! How maps and sets are made of the items that are read: repeated keys, and whether the order is canonical.
-ghost use Rattle.std.specs.Prelude.{◌≡◌, ◌++◌, ◌∷◌, ◌↔◌, List, [], map, IsTrue, IfOk, OnOk};
+ghost use Rattle.std.specs.Prelude.{◌≡◌, ◌<◌, ◌++◌, ◌∷◌, ◌↔◌, List, [], map, IsTrue, IfOk, OnOk};
 ghost use Rattle.std.proofs.Common.{subst};
 ghost use Rattle.speedy_layout.specs.Members.{AreDistinct, Ascends};
 ghost use Rattle.speedy_layout.specs.SeenItems.{IsLess};
@@ -12,16 +12,20 @@ ghost use Rattle.speedy_read.specs.Collections.{gatherer, CollectsValues};
 
 use crate::many::Items;
 use crate::readable::{ReadFrom, ReadMany};
-use crate::reader::LendingReader;
+use crate::reader::{LendingReader, ends_before};
 use indexmap::{IndexMap, IndexSet};
 use speedy_base::context::Context;
-use speedy_base::error::{error_not_written_form, error_out_of_memory};
+use speedy_base::error::{error_end_of_input, error_not_written_form, error_out_of_memory};
 use speedy_layout::layout::Layout;
 use speedy_layout::same_key::SameKey;
 use std::alloc::{AllocError, Global};
 use std::collections::{BTreeMap, BTreeSet, HashMap, HashSet};
 use std::convert::AsSlice;
 use std::hash::{BuildHasher, Hash};
+use std::mem;
+
+/// The most items that wait in a list to be gathered to a map or a set, where these have no more.
+const WAITING: usize = 131_072;
 
 /// Collections that items are gathered to, one after another: a list, a set, a map.
 pub trait FromItems<T: Layout>: Sized + Drop {
@@ -46,9 +50,29 @@ pub trait FromItems<T: Layout>: Sized + Drop {
         ensures { (items : List T) → gathers items self.now → are_written items
             → IsTrue result ↔ are_written (items ++ item.now ∷ []) };
 
+    /// Adds all these items, one after another, behind those that were added. The only error is out of memory, and
+    /// after it the collection can only be dropped.
+    fn add_all(&mut self, alloc: Global, items: Vec<T>) -> Result<(), AllocError>
+        ensures { OnOk result ((earlier : List T) → gathers earlier self.old
+            → gathers (earlier ++ items.items) self.new) };
+
+    /// How many items may wait in a list before they are added, where more are to come: at least one. Those that the
+    /// collection leaves out, as it holds equal ones, take memory only so long. This body says 131,072.
+    fn most_waiting(&self) -> usize
+        ensures { 0 < result }
+    {
+        WAITING
+    }
+
     /// Gathers all these items, as if they were added one after another. The only error is out of memory.
-    fn gather(alloc: Global, items: Vec<T>) -> Result<Self, AllocError>
-        ensures { IfOk result (gathers items.items) };
+    #[inline]
+    final fn gather(alloc: Global, items: Vec<T>) -> Result<Self, AllocError>
+        ensures { IfOk result (gathers items.items) }
+    {
+        let mut whole = Self::empty(alloc);
+        whole.add_all(alloc, items)?;
+        Ok(whole)
+    }
 
     /// No items at all are canonical.
     ghost none_written: { are_written [] };
@@ -83,10 +107,21 @@ impl<T: Layout + Drop> FromItems<T> for Vec<T> {
         }
     }
 
-    fn gather(_alloc: Global, items: Vec<T>) -> Result<Vec<T>, AllocError>
-        ensures { IfOk result (λ v. v.items ≡ items.items) }
+    fn add_all(&mut self, _alloc: Global, items: Vec<T>) -> Result<(), AllocError>
+        ensures { OnOk result ((earlier : List T) → self.old.items ≡ earlier
+            → self.new.items ≡ earlier ++ items.items) }
     {
-        Ok(items)
+        if self.is_empty() {
+            *self = items;
+            return Ok(());
+        }
+        let mut items = items;
+        self.append(&mut items)
+    }
+
+    // It leaves no item out, and a list that is read at once is the vector.
+    fn most_waiting(&self) -> usize {
+        usize::MAX
     }
 
     fn accepts(&self, _item: &T) -> bool {
@@ -117,10 +152,22 @@ impl<K: SameKey + Ord + Drop, V: Layout + Drop> FromItems<(K, V)> for BTreeMap<K
         }
     }
 
-    fn gather(alloc: Global, items: Vec<(K, V)>) -> Result<BTreeMap<K, V>, AllocError>
-        ensures { IfOk result (IsTreeMapOf K.cmp items.items) }
+    // A tree is made faster of all items at once than they are inserted.
+    fn add_all(&mut self, alloc: Global, items: Vec<(K, V)>) -> Result<(), AllocError>
+        ensures { OnOk result ((earlier : List (K × V)) → IsTreeMapOf K.cmp earlier self.old
+            → IsTreeMapOf K.cmp (earlier ++ items.items) self.new) }
     {
-        items.into_iter().collect(alloc)
+        if BTreeMap::is_empty(self) {
+            *self = items.into_iter().collect(alloc)?;
+            return Ok(());
+        }
+        let earlier = mem::replace(self, BTreeMap::new(alloc));
+        *self = earlier.into_iter().chain(items).collect(alloc)?;
+        Ok(())
+    }
+
+    fn most_waiting(&self) -> usize {
+        BTreeMap::len(self).saturating_mul(2).max(WAITING)
     }
 
     fn accepts(&self, item: &(K, V)) -> bool {
@@ -155,10 +202,11 @@ impl<K: SameKey + Hash + Drop, V: Layout + Drop, S: BuildHasher + Default + Drop
         }
     }
 
-    fn gather(alloc: Global, items: Vec<(K, V)>) -> Result<HashMap<K, V, S>, AllocError>
-        ensures { IfOk result (IsHashMapOf K.eq items.items) }
+    fn add_all(&mut self, _alloc: Global, items: Vec<(K, V)>) -> Result<(), AllocError>
+        ensures { OnOk result ((earlier : List (K × V)) → IsHashMapOf K.eq earlier self.old
+            → IsHashMapOf K.eq (earlier ++ items.items) self.new) }
     {
-        items.into_iter().collect(alloc)
+        self.extend(items)
     }
 
     fn accepts(&self, item: &(K, V)) -> bool {
@@ -190,10 +238,11 @@ impl<K: SameKey + Hash + Drop, V: Layout + Drop, S: BuildHasher + Default + Drop
         }
     }
 
-    fn gather(alloc: Global, items: Vec<(K, V)>) -> Result<IndexMap<K, V, S>, AllocError>
-        ensures { IfOk result (IsIndexMapOf K.eq items.items) }
+    fn add_all(&mut self, _alloc: Global, items: Vec<(K, V)>) -> Result<(), AllocError>
+        ensures { OnOk result ((earlier : List (K × V)) → IsIndexMapOf K.eq earlier self.old
+            → IsIndexMapOf K.eq (earlier ++ items.items) self.new) }
     {
-        items.into_iter().collect(alloc)
+        self.extend(items)
     }
 
     fn accepts(&self, item: &(K, V)) -> bool {
@@ -223,10 +272,21 @@ impl<T: SameKey + Ord + Drop> FromItems<T> for BTreeSet<T> {
         }
     }
 
-    fn gather(alloc: Global, items: Vec<T>) -> Result<BTreeSet<T>, AllocError>
-        ensures { IfOk result (IsTreeSetOf T.cmp items.items) }
+    fn add_all(&mut self, alloc: Global, items: Vec<T>) -> Result<(), AllocError>
+        ensures { OnOk result ((earlier : List T) → IsTreeSetOf T.cmp earlier self.old
+            → IsTreeSetOf T.cmp (earlier ++ items.items) self.new) }
     {
-        items.into_iter().collect(alloc)
+        if BTreeSet::is_empty(self) {
+            *self = items.into_iter().collect(alloc)?;
+            return Ok(());
+        }
+        let earlier = mem::replace(self, BTreeSet::new(alloc));
+        *self = earlier.into_iter().chain(items).collect(alloc)?;
+        Ok(())
+    }
+
+    fn most_waiting(&self) -> usize {
+        BTreeSet::len(self).saturating_mul(2).max(WAITING)
     }
 
     fn accepts(&self, item: &T) -> bool {
@@ -259,10 +319,11 @@ impl<T: SameKey + Hash + Drop, S: BuildHasher + Default + Drop> FromItems<T> for
         }
     }
 
-    fn gather(alloc: Global, items: Vec<T>) -> Result<HashSet<T, S>, AllocError>
-        ensures { IfOk result (IsHashSetOf T.eq items.items) }
+    fn add_all(&mut self, _alloc: Global, items: Vec<T>) -> Result<(), AllocError>
+        ensures { OnOk result ((earlier : List T) → IsHashSetOf T.eq earlier self.old
+            → IsHashSetOf T.eq (earlier ++ items.items) self.new) }
     {
-        items.into_iter().collect(alloc)
+        self.extend(items)
     }
 
     fn accepts(&self, item: &T) -> bool {
@@ -292,10 +353,11 @@ impl<T: SameKey + Hash + Drop, S: BuildHasher + Default + Drop> FromItems<T> for
         }
     }
 
-    fn gather(alloc: Global, items: Vec<T>) -> Result<IndexSet<T, S>, AllocError>
-        ensures { IfOk result (IsIndexSetOf T.eq items.items) }
+    fn add_all(&mut self, _alloc: Global, items: Vec<T>) -> Result<(), AllocError>
+        ensures { OnOk result ((earlier : List T) → IsIndexSetOf T.eq earlier self.old
+            → IsIndexSetOf T.eq (earlier ++ items.items) self.new) }
     {
-        items.into_iter().collect(alloc)
+        self.extend(items)
     }
 
     fn accepts(&self, item: &T) -> bool {
@@ -318,11 +380,20 @@ pub(crate) fn collect_items<
     if reader.demands_written_form() {
         return collect_written::<F, T, L, C, R>(reader, length);
     }
-    let items: Items<T> = T::read_many_cow(reader, length)?;
-    match F::gather(reader.alloc(), items.values) {
-        Ok(whole) => Ok(whole),
-        Err(_) => Err(error_out_of_memory()),
+    if T::IN_BULK && ends_before::<L, C, R>(reader, T::minimum_bytes_needed(), length) {
+        return Err(error_end_of_input());
     }
+    let mut whole = F::empty(reader.alloc());
+    let mut left = length;
+    while left > 0 {
+        let some = left.min(whole.most_waiting());
+        let items: Items<T> = T::read_many_cow(reader, some)?;
+        if whole.add_all(reader.alloc(), items.values).is_err() {
+            return Err(error_out_of_memory());
+        }
+        left -= some;
+    }
+    Ok(whole)
 }
 
 // The same where the canonical encoding is demanded: what was gathered says whether the next item may follow.

@@ -27,6 +27,10 @@ use std::marker::PhantomData;
 ///
 /// It asks nothing of how one value is read, so that a proof which names a list names that less often.
 pub trait Strategy<L: AsSlice<u8> + Drop, C: Context, T: Layout + Drop> {
+    /// Whether many values are read in bulk, so that a count of more than there are is refused before any is read. It
+    /// is a hint: no value rests on it.
+    const IN_BULK: bool = false;
+
     /// Reads `length` values, one after another, into what is asked for where bytes are lent, or into a vector. `None`
     /// where each is to be read by itself: then nothing is read. This body says `None`.
     #[inline(always)]
@@ -135,6 +139,10 @@ pub trait Takes<T: Layout> {
 
 /// How several values of a type are read at once. Each type that is read has it.
 pub trait ReadMany<L: AsSlice<u8> + Drop, C: Context>: ReadFrom<L, C> {
+    /// Whether many values are read in bulk, so that a count of more than there are is refused before any is read. It
+    /// is a hint: no value rests on it.
+    const IN_BULK: bool;
+
     /// Reads `length` values, one after another, into a vector.
     #[inline]
     final fn read_many<R: LendingReader<L, C>>(
@@ -194,6 +202,8 @@ impl<L: AsSlice<u8> + Drop, C: Context, T: ReadFrom<L, C>> ReadMany<L, C> for T
 where
     T::Strategy: Strategy<L, C, T>,
 {
+    const IN_BULK: bool = <T::Strategy as Strategy<L, C, T>>::IN_BULK;
+
     #[inline]
     fn read_many_cow<W: FromLent<L, T>, R: LendingReader<L, C>>(
         reader: &mut R,
