@@ -297,6 +297,11 @@ BROKEN = [
      "`Big` holds a number of a fixed width, as `Big<u32>`, and `String` is none"),
     ("a parameter in one order", "use speedy::Little;\n" + struct("    a: Little<T>", "A<T>"), 5,
      "and `T` is none"),
+    ("numbers before a NUL", "use speedy::CText;\n" + struct("    a: CText<Vec<u16>>"), 5,
+     "`CText` holds a text or bytes, as `CText<String>` or `CText<&'a [u8]>`, and `Vec<u16>` is neither"),
+    ("a parameter before a NUL", "use speedy::CText;\n" + struct("    a: CText<T>", "A<T>"), 5, "and `T` is neither"),
+    ("a key that ends with a NUL", "use speedy::CText;\nuse std::collections::BTreeSet;\n"
+     + struct("    a: BTreeSet<CText<String>>"), 6, "`CText` has no `SameKey`"),
     ("padding of a type", "use speedy::Padding;\n" + struct("    a: Padding<String>"), 5, "write a number"),
     ("padding of nothing", "use speedy::Padding;\n" + struct("    a: Padding"), 5,
      "`Padding` needs a number of bytes, as `Padding<3>`"),

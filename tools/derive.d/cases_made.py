@@ -48,6 +48,11 @@ pub struct Contact {
      + DERIVES + "struct A<'a> { a: Cow<'a, str>, b: Box<str>, c: Box<[u8]>, d: HashMap<u8, Cow<'a, [u16]>>, "
      "e: Cow<'a, HashMap<u8, u8>> }\n", ["    a: CowStr<'a>,", "    b: BoxedStr,", "    c: BoxedSlice<u8>,",
                   "    d: HashMap<u8, CowSlice<'a, u16>>,", "    e: Cow<'a, HashMap<u8, u8>>,"]),
+    ("texts that end with a NUL", "use std::borrow::Cow;\nuse speedy::CText;\n" + DERIVES
+     + "struct A { a: CText<String>, b: CText<Vec<u8>>, c: CText<Box<[u8]>>, d: Vec<CText<Box<str>>> }\n" + DERIVES
+     + "struct B<'a>(CText<&'a str>, CText<Cow<'a, str>>, CText<Cow<'a, [u8]>>, CText<&'a [u8]>);\n",
+     ["    a: CText<String>,", "    c: CText<BoxedSlice<u8>>,", "    d: Vec<CText<BoxedStr>>,", "        7\n",
+      "CText<CowStr<'a>>", "CText<CowSlice<'a, u8>>", "ReadFrom<&'a [u8], C> for B<'a>", "        4\n"]),
     ("bytes that mean nothing", "use speedy::{Padding, Zeros};\nconst GAP: usize = 5;\n" + DERIVES
      + "struct A { a: Padding<3>, b: std::collections::BTreeSet<B>, c: Zeros<0x10> }\n"
      "#[derive(PartialEq, Eq, PartialOrd, Ord, Readable, Writable)]\nstruct B(Zeros<GAP>, u8);\n" + DERIVES

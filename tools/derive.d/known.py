@@ -47,6 +47,7 @@ KNOWN = {
     "smallvec::SmallVec": Known("SmallVec", "speedy::ext", ((ITEM, MADE),)),
     "speedy::Endianness": Known("Endianness", "speedy"),
     "speedy::U24": Known("U24", "speedy"),
+    "speedy::CText": Known("CText", "speedy", ((PART,),)),
     "speedy::private::VarInt64": Known("VarInt64", "speedy::varint"),
 }
 for blank in BLANKS:

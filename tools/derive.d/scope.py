@@ -436,6 +436,9 @@ class Converter:
         if known.name in ONE_ORDER and not rattle.is_listed(arguments[0], *NUMBERS):
             raise Refusal(kind.line, f"`{known.name}` holds a number of a fixed width, as `{known.name}<u32>`, and "
                                      f"`{type_text(arguments[0])}` is none")
+        if known.name == "CText" and not is_text_or_bytes(arguments[0]):
+            raise Refusal(kind.line, "`CText` holds a text or bytes, as `CText<String>` or `CText<&'a [u8]>`, and "
+                                     f"`{type_text(arguments[0])}` is neither")
         local = self.scope.need(known.module, known.name) if known.module else self.scope.prelude(known.name)
         return Listed(kind.line, known.name, arguments, local)
 
@@ -489,6 +492,17 @@ class Converter:
             raise Refusal(kind.line, "a `SmallVec` needs an array, as `SmallVec<[u16; 4]>`")
         array = self.convert(kind.arguments[0])
         return Listed(kind.line, "SmallVec", (array.item, array.length), self.scope.need("speedy::ext", "SmallVec"))
+
+
+def is_text_or_bytes(kind):
+    """Whether a type is a text or bytes, owned or lent."""
+    if isinstance(kind, syntax.Reference):
+        target = kind.target
+        return rattle.is_listed(target, "str") \
+            or (isinstance(target, syntax.Slice) and rattle.is_listed(target.item, "u8"))
+    if rattle.is_listed(kind, "Vec", "BoxedSlice", "CowSlice"):
+        return rattle.is_listed(kind.arguments[-1], "u8")
+    return rattle.is_listed(kind, "String", "BoxedStr", "CowStr")
 
 
 def advice_for(inner):

@@ -6,7 +6,7 @@ from rattle import Listed, Own
 # So many bytes at least has an encoding of each of these.
 LEAST = {"bool": 1, "char": 4, "usize": 8, "F32": 4, "F64": 8, "U24": 3, "U7": 1, "Varint": 1, "VarInt64": 1,
          "Option": 1, "Result": 1, "Ipv4Addr": 4, "Ipv6Addr": 16, "IpAddr": 5, "Duration": 12, "Uuid": 16,
-         "Endianness": 1, "str": 4}
+         "Endianness": 1, "CText": 1, "str": 4}
 LEAST |= {f"{sign}{bits}": bits // 8 for bits in (8, 16, 32, 64, 128) for sign in "ui"}
 LEAST |= {f"NonZero{sign}{bits}": bits // 8 for bits in (8, 16, 32, 64) for sign in "UI"}
 LEAST |= dict.fromkeys(("String", "Vec", "BoxedStr", "BoxedSlice", "CowStr", "CowSlice", "SmallVec", "BTreeMap",

@@ -40,6 +40,29 @@ class Magic(Layout):
         return [f"magic {texts.byte_text(self.constant)[1:]}"]
 
 
+class NulEnded(Layout):
+    """`CText<T>`: a text or bytes before a NUL, of which none is one."""
+    nul = Magic(b"\0")
+    least = 1
+    has_rows = True
+
+    def __init__(self, inner):
+        self.name = f"CText<{inner.name}>"
+        self.held = inner.content
+
+    def read(self, cursor, label):
+        node = cursor.open(label, self)
+        end = cursor.data.find(b"\0", cursor.at, cursor.end)
+        if end < 0:
+            raise cursor.fault(Kind.UNEXPECTED_END_OF_INPUT, cursor.end, "", cursor.at, "no NUL stands here")
+        Counted(self.held.name, None, self.held, end - cursor.at).read(cursor, ".0")
+        self.nul.read(cursor, "")
+        return cursor.close(node)
+
+    def pieces(self, node, data):
+        return ["CText(", *self.held.pieces(node.parts[0], data), ")"]
+
+
 class Part:
     """A part of a struct or of a variant, by the label of its field."""
 

@@ -15,7 +15,8 @@ import recursion
 import syntax
 import visibility
 import whole
-from declared import (Choice, FramePart, Magic, Missing, Part, Parts, Rest, Skipped, Struct, ToldPart, Variant)
+from declared import (Choice, FramePart, Magic, Missing, NulEnded, Part, Parts, Rest, Skipped, Struct, ToldPart,
+                      Variant)
 from known import BLANKS, KNOWN, ONE_ORDER
 from lengths import is_framed
 from module import Made, ModuleMaker
@@ -75,6 +76,7 @@ APPLIED = {
     "CowSlice": lambda _, item: listed(f"Cow<[{item.name}]>", item),
     "SmallVec": lambda item, count: listed(f"SmallVec<[{item.name}; {count}]>", item),
     "CowStr": lambda _: lists.Counted("Cow<str>", U32, lists.Text()),
+    "CText": NulEnded,
     "Cow": lambda _, inner: inner,
     "Box": lambda inner: inner,
     "Option": composed.option,

@@ -46,6 +46,7 @@ pub use Rattle.speedy_layout.specs.OneOrder
 pub use Rattle.speedy_layout.specs.Orders
 pub use Rattle.speedy_layout.specs.Owned
 pub use Rattle.speedy_layout.specs.Padding
+pub use Rattle.speedy_layout.specs.CText
 pub use Rattle.speedy_layout.specs.EqualityOfMaps
 pub use Rattle.speedy_layout.specs.SeenItems
 pub use Rattle.speedy_layout.specs.Prefixed
@@ -73,6 +74,7 @@ pub use Rattle.speedy_read.specs.Frames as ReadFrames
 pub use Rattle.speedy_read.specs.Lending
 pub use Rattle.speedy_read.specs.OwnedModel
 pub use Rattle.speedy_read.specs.Padding as ReadPadding
+pub use Rattle.speedy_read.specs.CText as ReadCText
 pub use Rattle.speedy_read.specs.Cases as ReadCases
 pub use Rattle.speedy_read.specs.Reading
 pub use Rattle.speedy_read.specs.ReadingLemmas

@@ -23,6 +23,8 @@ pub mod reader;
 #[cfg(test)]
 mod round_trips;
 #[cfg(test)]
+mod tests_c_text;
+#[cfg(test)]
 mod tests_collections;
 #[cfg(test)]
 mod tests_cows;
@@ -82,6 +84,7 @@ pub mod whole;
 pub mod writable_impl;
 
 pub use buffer::Buffer;
+pub use c_text::CText;
 pub use codes::{Decode, Encode};
 pub use collections::FromItems;
 pub use context::{
@@ -100,7 +103,7 @@ pub use reader::{LendingReader, Reader};
 pub use same_key::SameKey;
 pub use speedy_base::{circular_buffer, context, device, endianness, error};
 pub use speedy_layout::{
-    floats, magic, one_order, padding, same_key, three_bytes, varint, view_items, views,
+    c_text, floats, magic, one_order, padding, same_key, three_bytes, varint, view_items, views,
 };
 pub use speedy_read::{buffer, codes, collections, lent, many, readable};
 pub use speedy_write::{part, writable, writer};

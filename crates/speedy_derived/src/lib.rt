@@ -2,6 +2,7 @@
 //! `tools/check-derived` runs rows of them, by the program in `rows`.
 #![tactic(auto)]
 
+pub mod c_texts;
 pub mod constants;
 pub mod endings;
 pub mod floats;

@@ -48,6 +48,10 @@ impl<L: AsSlice<u8> + Drop, C: Context, R: LendingReader<L, C>> LendingReader<L,
         }
     }
 
+    fn peek_bytes_until_eof(&self) -> Option<&[u8]> {
+        self.reader.peek_bytes_until_eof()
+    }
+
     fn alloc(&self) -> Global {
         self.reader.alloc()
     }

@@ -4,3 +4,4 @@ pub mod ViewLemmas
 pub mod VarintForms
 pub mod FixedNumberLemmas
 pub mod ThreeBytes
+pub mod CTextLemmas

@@ -28,6 +28,7 @@ pub mod IndexMaps
 pub mod OneMoreItem
 pub mod Texts
 pub mod Padding
+pub mod CText
 pub mod Utf8Lemmas
 pub mod Leaves
 pub mod Addresses

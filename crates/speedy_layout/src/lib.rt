@@ -2,6 +2,7 @@
 #![tactic(auto)]
 
 pub mod addresses;
+pub mod c_text;
 pub mod cases;
 pub mod codes;
 pub mod cows;
@@ -34,6 +35,7 @@ pub mod view_items;
 pub mod views;
 pub mod whole;
 
+pub use c_text::CText;
 pub use codes::Encode;
 pub use floats::{F32, F64};
 pub use layout::Layout;

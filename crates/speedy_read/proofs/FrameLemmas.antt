@@ -1,18 +1,16 @@
 -- What is read from the bytes of a frame makes a read of the frame.
-use Rattle.std.specs.Prelude.{◌≡◌, ℕ, zero, suc, List, [], ◌++◌, length, replicate, Bool, true, false}
+use Rattle.std.specs.Prelude.{◌≡◌, ℕ, zero, suc, List, ◌++◌, length, replicate, Bool, true, false}
 use Rattle.std.specs.Prelude.{IsTrue, ◌⊎◌, Result, Ok, Err, IsErrAnd, refl}
 use Rattle.std.specs.Borrow.{GName}
 use Rattle.std.proofs.Common.{sym, ◌∙◌, ap, subst, arith, inl, inr, lit<}
 use Rattle.std.proofs.lemmas.Bool.{true≢false}
-use Rattle.std.proofs.lemmas.List.{append_assoc, append-nil, length-append, length-replicate, nil_from_length}
+use Rattle.std.proofs.lemmas.List.{append_assoc, length-append, length-replicate}
 use Rattle.speedy_base.specs.declared.error.ErrorKind.{ErrorKind}
 use Rattle.speedy_base.specs.declared.error.ErrorKind.TheVariants as kinds
 use Rattle.speedy_base.specs.declared.error.Error.{Error}
 use Rattle.speedy_base.specs.Digits.{AreBytes}
 use Rattle.speedy_base.specs.DigitsLemmas.{AreBytes-append, AreBytes-append_parts}
 use Rattle.speedy_base.specs.Mode.{Mode}
-use Rattle.speedy_base.specs.declared.device.Faults.{Faults}
-use Rattle.speedy_base.specs.MemoryDevices.{no_faults}
 use Rattle.speedy_base.specs.Error.{error_of, is_eof_error, IsNamed, IsNamed-more}
 use Rattle.speedy_layout.specs.Codes.{Accepts, MeansNothing, coding, IsDemand, Accepts-is, Accepts-means}
 use Rattle.speedy_layout.specs.Format.{Format}

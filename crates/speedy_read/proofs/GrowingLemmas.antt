@@ -1,5 +1,5 @@
 -- Reads of parts that may be missing at the end of the bytes.
-use Rattle.std.specs.Prelude.{◌≡◌, ℕ, List, [], ◌++◌, length, Bool, IsTrue, ◌⊎◌, Option, Some, None, Result, Ok, Err}
+use Rattle.std.specs.Prelude.{◌≡◌, ℕ, List, [], ◌++◌, length, Bool, Option, Some, None, Result, Ok, Err}
 use Rattle.std.specs.Prelude.{IsErrAnd, refl}
 use Rattle.std.proofs.Common.{sym, ◌∙◌, ap, subst, arith, inl, inr}
 use Rattle.std.proofs.lemmas.List.{append-nil, length-append, nil_from_length}
@@ -9,11 +9,10 @@ use Rattle.speedy_base.specs.Error.{error_of}
 use Rattle.speedy_layout.specs.Format.{Format}
 use Rattle.speedy_layout.specs.Growing.{some_bytes, unless_none}
 use Rattle.speedy_layout.specs.Laws.{Laws}
-use Rattle.speedy_layout.specs.Lists.{both_none}
 use Rattle.speedy_layout.specs.Sequences.{asks_same}
 use Rattle.speedy_layout.specs.Wholes.{Misfits}
 use Rattle.speedy_read.specs.Codes.{Covers, refused_covered}
-use Rattle.speedy_read.specs.Reading.{ReaderState, Undecodable, Reads}
+use Rattle.speedy_read.specs.Reading.{ReaderState, Reads}
 use Rattle.speedy_read.specs.ReadingLemmas.{Kept-same}
 use Rattle.speedy_read.specs.Wholes.{InMemory, ReadsWhole}
 

@@ -27,3 +27,4 @@ pub mod CaseLemmas
 pub mod WholeLemmas
 pub mod GrowingLemmas
 pub mod PaddingLemmas
+pub mod CTextLemmas

@@ -20,6 +20,18 @@ owned_covers = record {
   asks = asks_memory;
 }
 
+-- what covers another format covers it where both are owned
+pub owned_covers_owned : {U V : Type 0} {L : Format U} {N : Format V} → Covers L N
+    → Covers (owned_content L) (owned_content N)
+unfolding owned_content
+owned_covers_owned c = record {
+  under = c.under;
+  names = c.names;
+  malformed = c.malformed;
+  wrong_length = c.wrong_length;
+  asks = record { lending = c.asks.lending; hashed = c.asks.hashed; memory = λ t. t };
+}
+
 -- what is owned is read as its content
 pub owned_read : {E : Type 0} {gives : Error → E → Type 0} {eof : E → Bool} {V : Type 0} {L : Format V}
     {old new : ReaderState} {A : Type 0} {seen' : A → V} {result : Result A E} → Reads gives eof seen' L result old new

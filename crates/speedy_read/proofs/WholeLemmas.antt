@@ -1,5 +1,5 @@
 -- Reads of values and of items make reads of all of the bytes.
-use Rattle.std.specs.Prelude.{map, ◌≡◌, ◌≢◌, ℕ, ◌+◌, ◌<◌, ◌≤◌, List, [], ◌∷◌, ◌++◌, length, Bool, true, false}
+use Rattle.std.specs.Prelude.{map, ◌≡◌, ℕ, ◌+◌, ◌<◌, ◌≤◌, List, [], ◌∷◌, ◌++◌, length, Bool, false}
 use Rattle.std.specs.Prelude.{IsTrue, ◌⊎◌, Result}
 use Rattle.std.specs.Prelude.{Ok, Err, IsErrAnd, refl}
 use Rattle.std.specs.Result.{is_ok, is_err}
@@ -29,9 +29,9 @@ use Rattle.speedy_layout.specs.Wholes.{IsCut, Misfits, followed_misfits, value_m
 use Rattle.speedy_layout.specs.Codecs.{Codec}
 use Rattle.speedy_read.specs.Reading.{ReaderKind, ReaderState, Kept, IsTold, refusing_kinds, IsEnd, Excused}
 use Rattle.speedy_read.specs.Reading.{Undecodable, Reads}
-use Rattle.speedy_read.specs.ReadingLemmas.{Kept-same, Kept-after, IsTold-after, IsTold-part, no_parts}
+use Rattle.speedy_read.specs.ReadingLemmas.{Kept-same, Kept-after, IsTold-after, no_parts}
 use Rattle.speedy_read.specs.ReadingLemmas.{ReadSoFar, none_so_far, prefixes_nest}
-use Rattle.speedy_read.specs.Wholes.{InMemory, NotWhole, ReadsWhole}
+use Rattle.speedy_read.specs.Wholes.{InMemory, ReadsWhole}
 use Rattle.speedy_read.proofs.ListLemmas.{next_item, item_more}
 
 -- no call of a device fails in a read of bytes in memory, so what excuses it is want of memory

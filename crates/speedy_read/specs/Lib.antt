@@ -6,6 +6,7 @@ pub mod Decoding
 pub mod Codes
 pub mod Flags
 pub mod Padding
+pub mod CText
 pub mod Cases
 pub mod Frames
 pub mod Buffers

@@ -161,6 +161,11 @@ LendsAll shows lent old new =
     Kept old new
     × MatchOption lent (new ≡ old) (λ x. IsTrue old.fixed.tells → (shows x ≡ old.remaining) × (new.remaining ≡ []))
 
+-- all remaining bytes are shown, of a reader that holds them; one that lends does
+abbrev pub ShowsAll : {A : Type 0} → (A → List ℕ) → Option A → ReaderState → Type 0
+ShowsAll shows shown old =
+    MatchOption shown (old.fixed.lends ≡ false) (λ x. IsTrue old.fixed.tells × (shows x ≡ old.remaining))
+
 -- an error of one value, which stands for the end of the bytes
 abbrev pub ends_alone : {E : Type 0} → Error → E → Type 0
 ends_alone error _ = error ≡ error_of kinds.UnexpectedEndOfInput

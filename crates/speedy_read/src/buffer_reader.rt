@@ -167,6 +167,11 @@ impl<'a, C: Context> LendingReader<&'a [u8], C> for BufferReader<'a, C> {
     }
 
     #[inline(always)]
+    fn peek_bytes_until_eof(&self) -> Option<&[u8]> {
+        Some(self.rest)
+    }
+
+    #[inline(always)]
     fn alloc(&self) -> Global {
         self.alloc
     }

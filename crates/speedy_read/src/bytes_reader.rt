@@ -216,6 +216,11 @@ impl<'a, 'c, L: AsSlice<u8> + Drop, U: MayLend<'a, L>, C: Context> LendingReader
     }
 
     #[inline(always)]
+    fn peek_bytes_until_eof(&self) -> Option<&[u8]> {
+        Some(self.rest)
+    }
+
+    #[inline(always)]
     fn alloc(&self) -> Global {
         self.alloc
     }

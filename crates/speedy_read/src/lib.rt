@@ -13,6 +13,7 @@ pub mod buffer;
 pub mod buffer_reader;
 mod bulk;
 pub mod bytes_reader;
+pub mod c_text;
 pub mod cases;
 pub mod codes;
 pub mod collections;

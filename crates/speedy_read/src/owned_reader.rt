@@ -95,6 +95,11 @@ impl<'a, L: AsSlice<u8> + Drop, C: Context, R: LendingReader<L, C>> LendingReade
     }
 
     #[inline(always)]
+    fn peek_bytes_until_eof(&self) -> Option<&[u8]> {
+        self.reader.peek_bytes_until_eof()
+    }
+
+    #[inline(always)]
     fn alloc(&self) -> Global {
         self.reader.alloc()
     }

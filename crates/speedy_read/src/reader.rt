@@ -13,7 +13,7 @@ ghost use Rattle.speedy_read.specs.Collections.{gatherer, CollectsValues};
 ghost use Rattle.speedy_read.specs.UntilEnd.{ReadsValuesUntilEnd};
 ghost use Rattle.speedy_read.specs.Reading.{ReaderState, ReadsAs, ReadsValue, ReadsUnsigned, ReadsSigned, ReadsInto};
 ghost use Rattle.speedy_read.specs.Reading.{Skips, PeeksValue, PeeksUnsigned, PeeksSigned, PeeksInto};
-ghost use Rattle.speedy_read.specs.Reading.{IsRight, Expects, LendsBytes, LendsAll, LendsUntilUsed};
+ghost use Rattle.speedy_read.specs.Reading.{IsRight, Expects, LendsBytes, LendsAll, LendsUntilUsed, ShowsAll};
 
 use crate::collections::FromItems;
 use crate::digits::{peek_number, read_number};
@@ -107,6 +107,10 @@ pub trait LendingReader<L: AsSlice<u8> + Drop, C: Context> {
     {
         None
     }
+
+    /// All remaining bytes, of which none is taken; `None` where the reader does not hold them. One that lends does.
+    fn peek_bytes_until_eof(&self) -> Option<&[u8]>
+        ensures { ShowsAll (λ b. b.now) result (state self.now) };
 
     /// The allocator of values that own memory.
     fn alloc(&self) -> Global;

@@ -6,7 +6,7 @@ ghost use Rattle.std.specs.Io.BufRead.{Rests};
 ghost use Rattle.speedy_base.specs.Error.{IsNamed};
 ghost use Rattle.speedy_base.specs.ErrorKind.{EndsInput};
 ghost use Rattle.speedy_read.specs.Lending.{readers_lifetime};
-ghost use Rattle.speedy_read.specs.Reading.{IsRight, Expects, LendsUntilUsed, ReadsInto, PeeksInto};
+ghost use Rattle.speedy_read.specs.Reading.{IsRight, Expects, LendsUntilUsed, ReadsInto, PeeksInto, ShowsAll};
 ghost use Rattle.speedy_read.specs.contracts.stream_reader.StreamReader.{the_row as reader_row};
 ghost use Rattle.speedy_read.specs.StreamModel.{stream_model, stream_state, first_capacity};
 ghost use Rattle.speedy_read.specs.Streams.{FillsList, FillsRing, Fills};
@@ -378,6 +378,14 @@ impl<'s, 'b, C: Context, S: Source> LendingReader<&'b [u8], C> for StreamReader<
             sem 𝓛 (Rests (reader_row readers_lifetime S.row C.row)
             self.entry (λ new. LendsUntilUsed (λ b. b.now) _length result
             (reader.state self.old) (reader.state new))) }
+    {
+        None
+    }
+
+    #[inline(always)]
+    fn peek_bytes_until_eof(&self) -> Option<&[u8]>
+        ensures { let reader = ⟦<StreamReader<'s, S, C> as LendingReader<&'b [u8], C>>⟧ in
+            ShowsAll (λ b. b.now) result (reader.state self.now) }
     {
         None
     }

@@ -18,3 +18,4 @@ pub mod CaseLemmas
 pub mod WholeLemmas
 pub mod GrowingLemmas
 pub mod PaddingLemmas
+pub mod CTextLemmas

@@ -8,6 +8,7 @@
 
 pub mod addresses;
 mod buffering;
+pub mod c_text;
 pub mod cases;
 mod collections;
 pub mod collectors;

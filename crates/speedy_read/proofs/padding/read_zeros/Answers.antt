@@ -1,4 +1,4 @@
-use Rattle.std.proofs.Common.{◌-◌, ◌∙◌, drop, arith, ap, ℕ}
+use Rattle.std.proofs.Common.{◌∙◌, drop, arith, ℕ}
 use Rattle.std.proofs.lemmas.List.{length-append, length-drop, length-replicate, length-take-le}
 use Rattle.speedy_layout.specs.Padding.{zeros}
 use Rattle.speedy_read.proofs.ByteLemmas.{prefix_of}

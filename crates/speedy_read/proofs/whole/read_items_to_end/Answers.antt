@@ -1,4 +1,4 @@
-use Rattle.std.proofs.Common.{sym, ◌∙◌, ap, refl, arith, length}
+use Rattle.std.proofs.Common.{sym, ◌∙◌, refl, arith}
 use Rattle.speedy_read.proofs.WholeLemmas.{no_items_taken, item_not_whole, item_takes_none, item_wants_memory}
 use Rattle.speedy_read.proofs.WholeLemmas.{pushed, item_taken, items_whole}
 use Rattle.speedy_read.proofs.whole.read_items_to_end.Goals as goal

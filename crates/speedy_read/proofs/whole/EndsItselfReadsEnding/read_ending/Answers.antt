@@ -1,4 +1,4 @@
-use Rattle.std.proofs.Common.{refl, arith, sym}
+use Rattle.std.proofs.Common.{arith}
 use Rattle.speedy_read.proofs.WholeLemmas.{value_refused, value_left, value_whole}
 use Rattle.speedy_read.proofs.whole.EndsItselfReadsEnding.read_ending.Goals as goal
 

@@ -1,0 +1,5 @@
+use Rattle.speedy_write.proofs.CTextLemmas.{owned_as}
+use Rattle.speedy_write.proofs.c_text.BoxedSliceU8WriteNulEnded.write_nul_ended.Goals as goal
+
+pub returns : goal.returns
+returns g c = owned_as c.as_slice.ensures.value c.write_c_bytes.ensures
