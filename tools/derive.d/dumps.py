@@ -233,7 +233,7 @@ def python_dump(library):
     for view in library.views:
         functions += f'def say_{view.snake}(it):\n    """A value as words."""\n'
         if view.cases is None:
-            parts = "".join(f"        {python_say(it.kind, f'it.{it.name}')},\n" for it in view.fields)
+            parts = "".join(f"        {python_say(it.kind, f'it.{it.python}')},\n" for it in view.fields)
             functions += f'    return "".join((\n{parts}    ))\n\n\n'
         for case in view.cases or ():
             parts = [f'" {case.name}"', *(python_say(it.kind, f"it.{it.name}") for it in case.fields)]

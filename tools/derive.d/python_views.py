@@ -42,7 +42,7 @@ def _walk(read, data, order):
 
 READ = '''
     @staticmethod
-    def read(data, order=Order.LITTLE_ENDIAN):
+    def read(data, order=_LITTLE):
         """The value that the bytes begin with, and how many bytes it has. Where there is none, `Refused` is raised."""
         return {camel}._read(bytes(data), order, 0)
 
@@ -52,7 +52,7 @@ READ = '''
         return view.value_of(), size
 
     @staticmethod
-    def walk(data, order=Order.LITTLE_ENDIAN):
+    def walk(data, order=_LITTLE):
         """The values that stand one after another, up to the end of the bytes."""
         return _walk({camel}._read, bytes(data), order)
 '''
@@ -92,7 +92,7 @@ def structure(name, fields):
 def values_of(view):
     """The function of a struct that makes a value."""
     if view.cases is None:
-        inner = "".join(f"            {it.name}={taken(it.kind, f'self.{it.name}')},\n" for it in view.fields)
+        inner = "".join(f"            {it.python}={taken(it.kind, f'self.{it.name}')},\n" for it in view.fields)
         return f"\n    def value_of(self):\n        return {view.exported.python}(\n{inner}        )\n"
     found = "\n    def value_of(self):\n"
     for case in view.cases:
@@ -130,7 +130,7 @@ def raw_text(library):
 def fields_text(view):
     """What stands in the class of a type before its calls: its fields, or a class of each variant."""
     if view.cases is None:
-        return "".join(f"\n    {it.name}: object" for it in view.fields) + "\n"
+        return "".join(f"\n    {it.python}: object" for it in view.fields) + "\n"
     found = ""
     for case in view.cases:
         inner = "".join(f"\n        {it.name}: object" for it in case.fields) or "\n        pass"

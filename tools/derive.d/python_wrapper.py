@@ -25,6 +25,9 @@ class Order(enum.IntEnum):
     BIG_ENDIAN = 1
 
 
+_LITTLE = Order.LITTLE_ENDIAN
+
+
 class Kind(enum.IntEnum):
     """Why bytes are refused."""
 
@@ -89,7 +92,7 @@ CHECK = '''
     """{title}"""
 {fields}
     @staticmethod
-    def check(data, order=Order.LITTLE_ENDIAN):
+    def check(data, order=_LITTLE):
         """How many bytes the encoding has that the bytes begin with, or `Refused` where they begin with none."""
         return _check("{name}_{snake}_check", data, order)
 {reading}'''
@@ -100,7 +103,7 @@ class {camel}:
     """{title}"""
 
     @staticmethod
-    def check_whole(data, order=Order.LITTLE_ENDIAN):
+    def check_whole(data, order=_LITTLE):
         """Raises `Refused` where the bytes, all of them, are no encoding."""
         _check_whole("{name}_{snake}_check_whole", data, order)
 '''

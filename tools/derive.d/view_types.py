@@ -1,5 +1,5 @@
 """Writes the views of a library in Rattle: their structs, and how each is made of a value."""
-from names import camel
+from names import camel, quoted
 from views import maybes
 
 # So wide may a line of a clause be, behind what stands before it.
@@ -185,13 +185,14 @@ class ViewTypes:
         found = struct(f"What a [`{view.camel}`] shows.", name, borrowed, fields)
         if view.snake in self.empties:
             found += empty_function(name, borrowed, [(it.name, empty(it.kind)) for it in view.fields])
-        facts = all_of([fact(it.kind, f"view.{it.name}", f"value.{it.access}") for it in view.fields], " " * 8)
+        facts = all_of([fact(it.kind, f"view.{quoted(it.name)}", f"value.{quoted(it.access)}") for it in view.fields],
+                       " " * 8)
         lets, inits = [], []
-        for it in view.fields:
+        for at, it in enumerate(view.fields):
             place = f"value.{it.access}"
             if it.kind.what == "array":
-                lets.append(f"let {it.name} = {place};")
-                place = it.name
+                lets.append(f"let items_{at} = {place};")
+                place = f"items_{at}"
             inits.append(f"{it.name}: {value(it.kind, place, f'&value.{it.access}')}")
         return found + [
             f"impl{generic} View<{item}> for {name}{borrowed} {{",
@@ -226,7 +227,8 @@ class ViewTypes:
     def case_fact(self, view, case):
         """What is shown of a variant."""
         facts = [f"view.tag ≡ {case.tag}"]
-        facts += [fact(it.kind, f"view.{case.snake}.{it.name}", f"t{at}") for at, it in enumerate(case.fields)]
+        facts += [fact(it.kind, f"view.{quoted(case.snake)}.{quoted(it.name)}", f"t{at}")
+                  for at, it in enumerate(case.fields)]
         bound = "".join(f" t{at}" for at in range(len(case.fields)))
         return f"      | {view.exported.path[-1]}.{case.name}{bound} ↦\n          {all_of(facts, ' ' * 10)}"
 
@@ -243,8 +245,8 @@ class ViewTypes:
         lets, inits = "", []
         for it, name in zip(case.fields, bound):
             if it.kind.what == "array":
-                lets += f"let {it.name} = *{name}; "
-                inits.append(it.name)
+                lets += f"let items_{name} = *{name}; "
+                inits.append(f"{it.name}: items_{name}")
             else:
                 inits.append(f"{it.name}: {strip(value(it.kind, f'*{name}', name))}")
         built = f"{view.camel}{case.name}View {{ {', '.join(inits)} }}"

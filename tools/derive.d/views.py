@@ -7,7 +7,7 @@ from dataclasses import dataclass
 import syntax
 from names import Fresh, field_name
 from refusal import Refusal
-from words import PRELUDE
+from words import KEYWORDS, NOWHERE, PRELUDE
 
 # The numbers that C has, with its names of them.
 NUMBERS = {"u8": "unsigned char", "u16": "unsigned short", "u32": "unsigned int", "u64": "unsigned long",
@@ -24,7 +24,10 @@ WORDS = frozenset("""
     template this thread_local throw true try typeid typename using virtual wchar_t xor xor_eq
     as assert async await crate def del elif except finally fn from global impl import in is lambda let loop match mod
     move mut nonlocal None pass pub raise ref self super trait True False type unsafe use where with yield dyn
-    """.split())
+    NULL EOF errno stdin stdout stderr unix linux
+    """.split()) | KEYWORDS | NOWHERE
+# The functions of a class in Python.
+OF_PYTHON = ("check", "read", "walk")
 
 
 @dataclass(frozen=True)
@@ -58,6 +61,11 @@ class Shown:
     name: str
     access: str
     kind: Kind
+
+    @property
+    def python(self):
+        """Its name in Python, where a class has functions too."""
+        return self.name + "_" * (self.name in OF_PYTHON)
 
 
 @dataclass
@@ -220,7 +228,8 @@ class Views:
 def checked(name, line):
     """A name of a field, which is no word of a language that has it."""
     if name in WORDS:
-        raise Refusal(line, f"`{name}` is a word of a language that calls the library: give it another name")
+        raise Refusal(line, f"`{name}` is a word of a language that calls the library, or of Rattle: give it another "
+                            "name")
     return name
 
 

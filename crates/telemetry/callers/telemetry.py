@@ -22,6 +22,9 @@ class Order(enum.IntEnum):
     BIG_ENDIAN = 1
 
 
+_LITTLE = Order.LITTLE_ENDIAN
+
+
 class Kind(enum.IntEnum):
     """Why bytes are refused."""
 
@@ -236,12 +239,12 @@ class Reading:
     is_exact: object
 
     @staticmethod
-    def check(data, order=Order.LITTLE_ENDIAN):
+    def check(data, order=_LITTLE):
         """How many bytes the encoding has that the bytes begin with, or `Refused` where they begin with none."""
         return _check("telemetry_reading_check", data, order)
 
     @staticmethod
-    def read(data, order=Order.LITTLE_ENDIAN):
+    def read(data, order=_LITTLE):
         """The value that the bytes begin with, and how many bytes it has. Where there is none, `Refused` is raised."""
         return Reading._read(bytes(data), order, 0)
 
@@ -251,7 +254,7 @@ class Reading:
         return view.value_of(), size
 
     @staticmethod
-    def walk(data, order=Order.LITTLE_ENDIAN):
+    def walk(data, order=_LITTLE):
         """The values that stand one after another, up to the end of the bytes."""
         return _walk(Reading._read, bytes(data), order)
 
@@ -279,12 +282,12 @@ class Message:
         t0: object
 
     @staticmethod
-    def check(data, order=Order.LITTLE_ENDIAN):
+    def check(data, order=_LITTLE):
         """How many bytes the encoding has that the bytes begin with, or `Refused` where they begin with none."""
         return _check("telemetry_message_check", data, order)
 
     @staticmethod
-    def read(data, order=Order.LITTLE_ENDIAN):
+    def read(data, order=_LITTLE):
         """The value that the bytes begin with, and how many bytes it has. Where there is none, `Refused` is raised."""
         return Message._read(bytes(data), order, 0)
 
@@ -294,7 +297,7 @@ class Message:
         return view.value_of(), size
 
     @staticmethod
-    def walk(data, order=Order.LITTLE_ENDIAN):
+    def walk(data, order=_LITTLE):
         """The values that stand one after another, up to the end of the bytes."""
         return _walk(Message._read, bytes(data), order)
 
@@ -303,6 +306,6 @@ class Line:
     """A line of a log: a level, and a text up to the end of the bytes."""
 
     @staticmethod
-    def check_whole(data, order=Order.LITTLE_ENDIAN):
+    def check_whole(data, order=_LITTLE):
         """Raises `Refused` where the bytes, all of them, are no encoding."""
         _check_whole("telemetry_line_check_whole", data, order)

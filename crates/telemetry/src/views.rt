@@ -178,11 +178,11 @@ impl<'a> View<Message<'a>> for MessageView<'a> {
                 version: t1,
                 mail: t2,
             } => {
-                let version = *t1;
+                let items_t1 = *t1;
                 view.tag = 2;
                 view.hello = MessageHelloView {
                     name: t0.as_bytes(),
-                    version,
+                    version: items_t1,
                     mail: View::of(t2),
                 };
             }
