@@ -164,10 +164,10 @@ class Views:
         from library import snake
         if variant.tag > MOST_TAG:
             raise Unshown(variant.line, f"the tag of `{variant.name}` is no `int` of C")
-        name = snake(variant.name)
-        checked(variant.name, variant.line)
-        return Case(variant.name, checked(name, variant.line), variant.shape, variant.tag,
-                    self.shown(variant.fields, path))
+        name = snake(checked(variant.name, variant.line))
+        # `Bool` and `Int` are names of variants, and `bool` and `int` words.
+        name += "_" * (name in WORDS)
+        return Case(variant.name, name, variant.shape, variant.tag, self.shown(variant.fields, path))
 
     def shown(self, fields, path):
         """The fields of a struct or a variant."""
@@ -228,7 +228,7 @@ class Views:
 def checked(name, line):
     """A name of a field, which is no word of a language that has it."""
     if name in WORDS:
-        raise Refusal(line, f"`{name}` is a word of a language that calls the library, or of Rattle: give it another "
+        raise Unshown(line, f"`{name}` is a word of a language that calls the library, or of Rattle: give it another "
                             "name")
     return name
 
