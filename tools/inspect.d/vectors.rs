@@ -1,4 +1,4 @@
-//! The types that the program `speedy_vectors` writes by hand, as `tools/derive` would take them.
+//! The types that `speedy_lines` writes by hand, as `tools/derive` would take them.
 use speedy::private::VarInt64;
 use speedy::{Readable, Writable};
 use std::borrow::Cow;

@@ -1,7 +1,7 @@
 //! The program over devices that move little at a time, or fail.
-use crate::program::run;
 use speedy::device::Counted;
 use speedy::private::{ErrorKind, get_error_kind};
+use speedy_lines::run;
 use std::alloc::Global;
 use std::io::{self, Read, Write};
 use std::process::Abort;

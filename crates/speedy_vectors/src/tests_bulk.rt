@@ -1,8 +1,8 @@
 //! Lists of numbers, which are read and written in bulk, beside those of a type that goes item by item.
-use crate::plain16::Plain16;
 use speedy::device::VecSink;
 use speedy::readable::{BufferReader, CopyingBufferReader, StreamReader};
 use speedy::{Endianness, LendingReader, Writable};
+use speedy_lines::plain16::Plain16;
 use std::alloc::Global;
 use std::convert::AsSlice;
 use std::process::Abort;

@@ -1,22 +1,23 @@
 //! Types of the program: bytes that come from outside, and each way of reading them.
 //!
 //! What is refused, and what enums are written as, are lines of `stdin`.
-use crate::answer::named_kind;
-use crate::enums::Enum;
-use crate::frame::Frame;
-use crate::record::Record;
-use speedy::private::get_error_kind;
+use speedy::private::{ErrorKind, get_error_kind};
 use speedy::readable::{BufferReader, CopyingBufferReader, StreamReader};
 use speedy::{Endianness, Error, LendingReader, LittleEndian, Writable};
+use speedy_lines::enums::Enum;
+use speedy_lines::frame::Frame;
+use speedy_lines::record::Record;
 use std::alloc::Global;
 use std::borrow::CowSlice;
 use std::process::Abort;
 
-/// Asserts that the outcome is an error of the kind, as the program names it.
-pub(crate) fn assert_refused<T: Drop>(rt: &impl Abort, outcome: Result<T, Error>, kind: &str) {
+/// Asserts that the outcome is an error that says that a length is out of its range.
+pub(crate) fn assert_out_of_range<T: Drop>(rt: &impl Abort, outcome: Result<T, Error>) {
     let error = outcome.err().expect(rt, "it is refused");
-    let (word, _) = named_kind(get_error_kind(&error));
-    assert!(rt; word == kind, "{word}");
+    assert!(rt;
+        matches!(get_error_kind(&error), ErrorKind::OutOfRangeLength),
+        "{error}"
+    );
 }
 
 /// The record of the original's README, as it encodes it.
@@ -83,5 +84,5 @@ fn a_frame_has_a_short_note(rt: HostRuntime) {
     let written = written.expect(&rt, "bytes");
     assert!(rt; written.len() == 259 && written.starts_with(&[83, 80, 0, 255, 97]));
     let outcome = make_frame(&rt, alloc, 256).write_to_vec_with_ctx(alloc, order);
-    assert_refused(&rt, outcome, "OutOfRangeLength");
+    assert_out_of_range(&rt, outcome);
 }

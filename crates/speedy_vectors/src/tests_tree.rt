@@ -1,9 +1,9 @@
 //! How deep trees may be that are written. What is read of trees are lines of `stdin`.
-use crate::tests_own_types::assert_refused;
-use crate::tree::Tree;
+use crate::tests_own_types::assert_out_of_range;
 use speedy::device::VecSink;
 use speedy::readable::StreamReader;
 use speedy::{Endianness, Error, IsEof, LendingReader, Writable};
+use speedy_lines::tree::Tree;
 use std::alloc::Global;
 use std::process::Abort;
 
@@ -33,14 +33,14 @@ fn sixteen_levels_are_written_and_no_more(rt: HostRuntime) {
     assert!(rt; written.expect(&rt, "bytes").len() == 80);
     let tree = make_chain(&rt, alloc, 17);
     let outcome = tree.bytes_needed(&mut ORDER);
-    assert_refused(&rt, outcome, "OutOfRangeLength");
+    assert_out_of_range(&rt, outcome);
     let outcome = tree.write_to_vec_with_ctx(alloc, ORDER);
-    assert_refused(&rt, outcome, "OutOfRangeLength");
+    assert_out_of_range(&rt, outcome);
     let outcome = tree.write_to_buffer_with_ctx(ORDER, &mut [9; 90]);
-    assert_refused(&rt, outcome, "OutOfRangeLength");
+    assert_out_of_range(&rt, outcome);
     let mut sink = VecSink::new(alloc);
     let outcome = tree.write_to_stream_with_ctx(alloc, ORDER, &mut sink);
-    assert_refused(&rt, outcome, "OutOfRangeLength");
+    assert_out_of_range(&rt, outcome);
 }
 
 #[test]
