@@ -6,8 +6,6 @@
 //! ```
 #![tactic(auto)]
 
-#[cfg(test)]
-mod asserting;
 pub mod cases;
 pub mod exports;
 pub mod ext;
@@ -20,64 +18,6 @@ pub mod private;
 pub mod readable_impl;
 pub mod readable_unsized_impl;
 pub mod reader;
-#[cfg(test)]
-mod round_trips;
-#[cfg(test)]
-mod tests_c_text;
-#[cfg(test)]
-mod tests_collections;
-#[cfg(test)]
-mod tests_cows;
-#[cfg(test)]
-mod tests_endianness;
-#[cfg(test)]
-mod tests_errors;
-#[cfg(test)]
-mod tests_floats;
-#[cfg(test)]
-mod tests_frames;
-#[cfg(test)]
-mod tests_laws;
-#[cfg(test)]
-mod tests_lengths;
-#[cfg(test)]
-mod tests_lent;
-#[cfg(test)]
-mod tests_lists;
-#[cfg(test)]
-mod tests_map_lengths;
-#[cfg(test)]
-mod tests_maps;
-#[cfg(test)]
-mod tests_numbers;
-#[cfg(test)]
-mod tests_one_order;
-#[cfg(test)]
-mod tests_owned;
-#[cfg(test)]
-mod tests_padding;
-#[cfg(test)]
-mod tests_prefixed;
-#[cfg(test)]
-mod tests_prefixed_maps;
-#[cfg(test)]
-mod tests_ranges;
-#[cfg(test)]
-mod tests_readers;
-#[cfg(test)]
-mod tests_three_bytes;
-#[cfg(test)]
-mod tests_told_frames;
-#[cfg(test)]
-mod tests_tuples;
-#[cfg(test)]
-mod tests_varint;
-#[cfg(test)]
-mod tests_views;
-#[cfg(test)]
-mod tests_whole;
-#[cfg(test)]
-mod tests_writers;
 pub mod told_frames;
 pub mod varints;
 pub mod whole;
