@@ -33,6 +33,8 @@ mod tests_endianness;
 #[cfg(test)]
 mod tests_errors;
 #[cfg(test)]
+mod tests_exports;
+#[cfg(test)]
 mod tests_floats;
 #[cfg(test)]
 mod tests_frames;
