@@ -32,11 +32,15 @@ def with_main(text, library):
                       f"        let mut view: crate::views::{it.camel}View = View::of(&value);",
                       f"        total |= {call}_read(rt.alloc(), bytes, 0, &mut view, &mut size);",
                       "        let mut walk = Walk { left: bytes };",
-                      f"        total |= {call}_next(rt.alloc(), &mut walk, 0, &mut view);", "    }"]
+                      f"        total |= {call}_next(rt.alloc(), &mut walk, 0, &mut view);"]
+            if library.is_written(it):
+                calls.append(f"        total |= {call}_write(&view, 0, &mut room, &mut size);")
+            calls.append("    }")
     return f"""{text}
 fn main(rt: HostRuntime) -> std::process::ExitCode {{
     let mut total: u32 = 0;
     let mut size = 0;
+    let mut room: [u8; 8] = [0; 8];
     let bytes: &[u8] = &[];
 {chr(10).join(calls)}
     std::process::ExitCode::from((total == 0 && size == 0) as u8)

@@ -83,4 +83,19 @@ def read_lines(library, view):
             f"    const unsigned char *bytes, {name}_size length, unsigned int order,",
             f"    struct {name}_{view.snake} *view, {name}_size *size);", "",
             *comment(filled(walk)), f"unsigned int {name}_{view.snake}_next(",
-            f"    struct {name}_walk *walk, unsigned int order, struct {name}_{view.snake} *view);", ""]
+            f"    struct {name}_walk *walk, unsigned int order, struct {name}_{view.snake} *view);", "",
+            *(write_lines(library, view) if view.item.writable else ())]
+
+
+def write_lines(library, view):
+    """The call that writes a type."""
+    from c_header import comment, filled
+    name, path = library.name, "::".join(view.exported.path)
+    short = f"{name.upper()}_OUTPUT_BUFFER_IS_TOO_SMALL"
+    write = f"Writes the `{path}` that `view` shows to the front of `buffer`, which has `room` bytes. The answer is " \
+            f"0 where that fits, and `size` is then how many bytes it takes. It is {short} where `room` is less, and " \
+            "`size` is then how much is needed. Else the view shows no value, or one without an encoding, and " \
+            "`size` is 0. Where the answer is not 0, the buffer stays as it is."
+    return [*comment(filled(write)), f"unsigned int {name}_{view.snake}_write(",
+            f"    const struct {name}_{view.snake} *view, unsigned int order, unsigned char *buffer,",
+            f"    {name}_size room, {name}_size *size);", ""]

@@ -1,17 +1,48 @@
 """Writes what the examples of a library print of values: the fields one after another, in each language the same.
 
 A number is printed in decimal, a flag as 0 or 1, a character as its number, a float as that of its bits, texts and
-bytes in hex or as `-`, an option as `none` or `some` and its value, and a variant as its name before its fields."""
+bytes in hex or as `-`, an option as `none` or `some` and its value, and a variant as its name before its fields. Behind
+a value that can be written stand `=` and the bytes that it is written as."""
 from rust_views import owned
 
 FORMATS = {"u8": "u", "u16": "u", "u32": "u", "u64": "lu", "i8": "d", "i16": "d", "i32": "d", "i64": "ld"}
-C_BYTES = '''\
+C_HEX = '''\
 /* Prints bytes in hex, or `-`. */
-static void print_bytes(struct {name}_bytes it) {{
-    printf(it.length == 0 ? " -" : " ");
-    for ({name}_size at = 0; at < it.length; at++) {{
-        printf("%02x", it.at[at]);
+static void print_hex(const unsigned char *start, {name}_size length) {{
+    printf(length == 0 ? " -" : " ");
+    for ({name}_size at = 0; at < length; at++) {{
+        printf("%02x", start[at]);
     }}
+}}
+
+'''
+C_BYTES = '''\
+static void print_bytes(struct {name}_bytes it) {{
+    print_hex(it.at, it.length);
+}}
+
+'''
+C_WRITE = '''\
+/* Prints what is written of a view, in memory of just so many bytes. One byte less is too short. */
+static void write_{snake}(const struct {name}_{snake} *it, unsigned int order) {{
+    {name}_size size = 0, needed;
+    unsigned char *buffer = room_of(0);
+    unsigned int answer = {name}_{snake}_write(it, order, buffer, 0, &size);
+    free(buffer);
+    if (answer != (size == 0 ? {upper}_OK : {upper}_OUTPUT_BUFFER_IS_TOO_SMALL)) {{
+        exit(1);
+    }}
+    buffer = room_of(size);
+    if ({name}_{snake}_write(it, order, buffer, size, &needed) != {upper}_OK || needed != size) {{
+        exit(1);
+    }}
+    printf(" =");
+    print_hex(buffer, size);
+    if (size != 0 && ({name}_{snake}_write(it, order, buffer, size - 1, &needed) != {upper}_OUTPUT_BUFFER_IS_TOO_SMALL
+        || needed != size)) {{
+        exit(1);
+    }}
+    free(buffer);
 }}
 
 '''
@@ -45,7 +76,7 @@ C_ARM = '''\
             exit(1);
         }}
         print_{snake}(&again);
-        print_{snake}(&view);
+        print_{snake}(&view);{write}
     }}'''
 RUST_SHOW = '''\
 /// Reads what was checked, and prints it. It has to be of the same size.
@@ -64,8 +95,23 @@ RUST_ARM = '''\
             let walked = {name}::{snake}::walk(bytes, order).next();
             assert!(read == size);
             let again = if size == 0 {{ value }} else {{ walked.expect("one").expect("the same") }};
-            say_{snake}(&again) + &say_{snake}(&value)
+            say_{snake}(&again) + &say_{snake}(&value){write}
         }}'''
+RUST_WRITE = '''\
+/// What is written of a value. A buffer of one byte less is too short.
+fn written(
+    bytes: Result<Vec<u8>, Refused>,
+    write: impl Fn(&mut [u8]) -> Result<usize, Refused>,
+) -> String {
+    let bytes = bytes.expect("bytes");
+    if let Some(less) = bytes.len().checked_sub(1) {
+        let short = write(&mut vec![0; less]).expect_err("too short");
+        assert!(short.kind == Kind::OutputBufferIsTooSmall && short.at == bytes.len());
+    }
+    format!(" ={}", hex(&bytes))
+}
+
+'''
 RUST_BYTES = '''\
 /// Bytes in hex, or `-`.
 fn hex(bytes: &[u8]) -> String {
@@ -91,8 +137,9 @@ def show(kind, data, order):
     if kind not in SHOWN:
         return ""
     read, say = SHOWN[kind]
-    text = say(read(data, order)[0])
-    return text + text
+    value = read(data, order)[0]
+    text = say(value)
+    return text + text + (" =" + shown(value.to_bytes(order)) if hasattr(value, "to_bytes") else "")
 
 
 {functions}
@@ -158,10 +205,14 @@ def kinds_of(library):
 def c_dumps(library):
     """What the program in C prints values by."""
     kinds, name = kinds_of(library), library.name
-    found = C_BYTES.format(name=name) if kinds & {"text", "bytes"} else ""
+    written = [it for it in library.views if it.item.writable]
+    found = C_HEX.format(name=name) if written or kinds & {"text", "bytes"} else ""
+    found += C_BYTES.format(name=name) if kinds & {"text", "bytes"} else ""
     found += C_FLOATS.format(name=name) if "float" in kinds else ""
     found += "".join(c_function(library, it) for it in library.views)
-    arms = "\n".join(C_ARM.format(name=name, snake=it.snake) for it in library.views)
+    found += "".join(C_WRITE.format(name=name, upper=name.upper(), snake=it.snake) for it in written)
+    arms = "\n".join(C_ARM.format(name=name, snake=it.snake, write=f"\n        write_{it.snake}(&view, order);" * (
+        it in written)) for it in library.views)
     return found + C_SHOW.format(name=name, arms=arms)
 
 
@@ -205,9 +256,13 @@ def rust_dumps(library):
     """What the program in Rust prints values by."""
     kinds, name, arms = kinds_of(library), library.name, []
     for it in library.views:
-        arms.append(RUST_ARM.format(name=name, snake=it.snake))
+        write = "\n                + &written(value.to_bytes(order), |buffer| value.write_to(buffer, order))"
+        arms.append(RUST_ARM.format(name=name, snake=it.snake, write=write * it.item.writable))
     functions = "".join(rust_function(library, it) for it in library.views)
-    has_bytes = kinds & {"text", "bytes"} or any("[u8" in owned(kind) for it in library.views for kind in it.kinds)
+    is_written = any(it.item.writable for it in library.views)
+    functions = RUST_WRITE * is_written + functions
+    has_bytes = is_written or kinds & {"text", "bytes"} or any(
+        "[u8" in owned(kind) for it in library.views for kind in it.kinds)
     return RUST_SHOW.format(arms="\n".join(arms), functions=functions, bytes=RUST_BYTES if has_bytes else "")
 
 

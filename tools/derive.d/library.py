@@ -24,8 +24,8 @@ from words import FOLDED, KEYWORDS, PRELUDE, TACTICS
 # Each made file says so, and only such files are written over.
 MARK = "by `tools/derive --library`"
 # What the module of calls names besides the types.
-OF_CALLS = ("Global", "Layout", "Whole", "View", "Checks", "ChecksWhole", "Reads", "Steps", "Walk", "check",
-            "check_whole", "read", "next")
+OF_CALLS = ("Global", "Layout", "Whole", "View", "Checks", "ChecksWhole", "Reads", "Steps", "Writes", "Walk",
+            "check", "check_whole", "read", "next", "write")
 # No name of a library: what the kit makes lies in folders and files of these names, or a language has the word.
 NO_LIBRARY = frozenset("""
     bin checked obj rlib staticlib wasm lib syntax theown deriving callers build test core std
@@ -166,7 +166,14 @@ class Library:
             found.append(f"{self.name}_{it.snake}_check{'_whole' * it.is_whole}")
             if it.path in self.views.by_path:
                 found += [f"{self.name}_{it.snake}_read", f"{self.name}_{it.snake}_next"]
+            if self.is_written(it):
+                found.append(f"{self.name}_{it.snake}_write")
         return found
+
+    def is_written(self, it):
+        """Whether a type has a call that writes it."""
+        view = self.views.by_path.get(it.path)
+        return view is not None and view.item.writable
 
     def callers(self):
         """The files for callers, by their paths."""
@@ -192,6 +199,8 @@ class Library:
             lines += ["", *self.call(it, names[it])]
             if it.path in self.views.by_path:
                 lines += ["", *self.read_call(it, names[it])]
+            if self.is_written(it):
+                lines += ["", *self.write_call(it, names[it])]
         return laid_out("\n".join(lines) + "\n")
 
     def imports(self, names):
@@ -199,9 +208,10 @@ class Library:
         wholes = [it for it in self.types if it.is_whole]
         views = list(self.views)
         words = ["Checks"] * (len(wholes) < len(self.types)) + ["ChecksWhole"] * bool(wholes)
-        words += ["Reads", "Steps"] * bool(views)
+        is_written = any(map(self.is_written, self.types))
+        words += ["Reads", "Steps"] * bool(views) + ["Writes"] * is_written
         calls = ["check"] * (len(wholes) < len(self.types)) + ["check_whole"] * bool(wholes)
-        calls += ["View", "Walk", "next", "read"] * bool(views)
+        calls += ["View", "Walk", "next", "read"] * bool(views) + ["write"] * is_written
         found = ["ghost use Rattle.std.specs.Prelude.{◌≡◌};",
                  f"ghost use Rattle.speedy.specs.Exports.{{{', '.join(words)}}};", ""]
         for it in self.types:
@@ -229,7 +239,6 @@ class Library:
                 f"    ensures {{ Checks ⟦<{name} as Layout>⟧.layout order bytes.now result size.new }}",
                 "{", f"    check::<{name}>(alloc, bytes, order, size)", "}"]
 
-
     def read_call(self, it, name):
         """The call that reads a type into its view."""
         view = self.views.by_path[it.path]
@@ -250,6 +259,21 @@ class Library:
                 *seen, "        Steps it.seen shows it.layout order walk.old.left.now walk.new.left.now result",
                 "        view.old view.new }",
                 "{", f"    next::<{name}, {shown}>(alloc, walk, order, view)", "}"]
+
+
+    def write_call(self, it, name):
+        """The call that writes a type."""
+        view = self.views.by_path[it.path]
+        life = "<'a>" if it.has_lifetime or view.borrows else ""
+        name += "<'a>" if it.has_lifetime else ""
+        shown = f"{view.camel}View" + ("<'a>" if view.borrows else "")
+        return [f"/// Writes the [`{it.name}`] that a view shows.", "#[unsafe(no_mangle)]",
+                f'pub extern "C" fn {self.name}_{it.snake}_write{life}(view: &{shown}, order: u32, '
+                "buffer: &mut [u8], size: &mut usize) -> u32",
+                f"    ensures {{ let it = ⟦<{name} as Layout>⟧ in",
+                f"        let shows = ⟦<{shown} as View<{name}>>⟧.shows in",
+                "        Writes it.seen shows it.layout view.now order result size.new buffer.old buffer.new }",
+                "{", f"    write::<{name}, {shown}>(view, order, buffer, size)", "}"]
 
 
 def laid_out(text):

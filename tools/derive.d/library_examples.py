@@ -17,6 +17,15 @@ static char line[MOST];
 static char kind[MOST];
 static char hex[MOST];
 
+/* Memory of just so many bytes. */
+static unsigned char *room_of({name}_size count) {{
+    unsigned char *found = (unsigned char *)malloc(count == 0 ? 1 : count);
+    if (found == NULL) {{
+        exit(1);
+    }}
+    return found;
+}}
+
 {dumps}/* What a check of a type answers, and the size that it sets. */
 static unsigned int check(const unsigned char *bytes, {name}_size length, unsigned int order, {name}_size *size) {{
     *size = 0;
@@ -28,10 +37,7 @@ static unsigned int check(const unsigned char *bytes, {name}_size length, unsign
 /* The bytes of a line, in memory of just their number, so that a read past them is found. */
 static unsigned char *bytes_of(const char *text, {name}_size *length) {{
     {name}_size count = strcmp(text, "-") == 0 ? 0 : strlen(text) / 2;
-    unsigned char *found = (unsigned char *)malloc(count == 0 ? 1 : count);
-    if (found == NULL) {{
-        exit(1);
-    }}
+    unsigned char *found = room_of(count);
     for ({name}_size at = 0; at < count; at++) {{
         char digits[3] = {{text[2 * at], text[2 * at + 1], 0}};
         found[at] = (unsigned char)strtoul(digits, NULL, 16);

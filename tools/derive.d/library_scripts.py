@@ -57,8 +57,9 @@ RUN_EXAMPLES = r'''#!/usr/bin/env bash
 #
 # LINES is a file whose lines are `TYPE ORDER BYTES`, as `lines.txt`: the type as functions name it, the byte order as
 # 0 (little endian) or 1 (big endian), and bytes in hex, or - for none. Each program answers each line by two numbers,
-# the answer and the size; of a type that is read its value follows, as the walk and the read show it. All are to say
-# the same, which is written to the file ANSWERS. Made by `tools/derive --library`.
+# the answer and the size; of a type that is read its value follows, as the walk and the read show it, and of one that
+# is written `=` and the bytes that it is written as. All are to say the same, which is written to the file ANSWERS.
+# Made by `tools/derive --library`.
 set -uo pipefail
 here=$(realpath "$(dirname "$0")")
 library=$here/build/lib@.a

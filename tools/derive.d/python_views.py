@@ -1,4 +1,7 @@
-"""Writes the views of a library in Python: structs of ctypes, classes of values, and the calls that read them."""
+"""Writes the views of a library in Python: structs of ctypes, classes of values, and the calls that read and write
+them."""
+import textwrap
+
 from names import camel
 from views import maybes
 
@@ -10,6 +13,32 @@ class _Bytes(ctypes.Structure):
     def get(self):
         """A copy of the bytes."""
         return ctypes.string_at(self.at, self.length) if self.length else b""
+
+    @staticmethod
+    def of(data, kept):
+        """Where the bytes lie, for as long as `kept` is there."""
+        data = bytes(memoryview(data))
+        kept.append(data)
+        return _Bytes(ctypes.cast(data, ctypes.c_void_p).value, len(data))
+
+
+def _number(value, kind):
+    """A number that is one of its kind of ctypes."""
+    if kind(value).value != value:
+        raise ValueError(f"{value} is out of range")
+    return value
+
+
+def _array(value, kind):
+    """An array of numbers, as many as its kind of ctypes has."""
+    if len(value) != kind._length_:
+        raise ValueError(f"{len(value)} items, where {kind._length_} are wanted")
+    return kind(*(_number(it, kind._type_) for it in value))
+
+
+def _maybe(raw, value, of):
+    """An option, whose value is given by a function."""
+    return raw() if value is None else raw(1, of(value))
 
 
 def _read(name, raw, data, order, at):
@@ -39,6 +68,24 @@ def _walk(read, data, order):
         at += size
         yield value
 '''
+WRITTEN = '''
+
+def _written(name, raw, order):
+    """The bytes that a call writes of a view."""
+    size, room = ctypes.c_size_t(), 64
+    call = getattr(_LIBRARY, name)
+    call.restype = ctypes.c_uint32
+    call.argtypes = (ctypes.POINTER(type(raw)), ctypes.c_uint32, ctypes.c_void_p, ctypes.c_size_t,
+                     ctypes.POINTER(ctypes.c_size_t))
+    while True:
+        buffer = ctypes.create_string_buffer(room)
+        answer = call(ctypes.byref(raw), order, buffer, room, ctypes.byref(size))
+        if answer == 0:
+            return buffer.raw[:size.value]
+        if answer != Kind.OUTPUT_BUFFER_IS_TOO_SMALL:
+            raise Refused(answer)
+        room = size.value
+'''
 
 READ = '''
     @staticmethod
@@ -55,6 +102,13 @@ READ = '''
     def walk(data, order=_LITTLE):
         """The values that stand one after another, up to the end of the bytes."""
         return _walk({camel}._read, bytes(data), order)
+'''
+
+WRITE = '''
+    def to_bytes(self, order=_LITTLE):
+        """The canonical encoding of the value. Where it has none, `Refused` is raised."""
+        kept = []
+        return _written("{library}_{snake}_write", _Raw{raw}.of(self, kept), order)
 '''
 
 CTYPES = {"u8": "c_uint8", "u16": "c_uint16", "u32": "c_uint32", "u64": "c_uint64", "i8": "c_int8", "i16": "c_int16",
@@ -83,6 +137,19 @@ def taken(kind, place):
             "bytes": f"{place}.get()"}.get(kind.what, place)
 
 
+def given(kind, place):
+    """The expression of what a struct has of a value."""
+    if kind.what in ("text", "bytes"):
+        return f"_Bytes.of({place}{'.encode()' * (kind.what == 'text')}, kept)"
+    if kind.what == "own":
+        return f"{raw(kind)}.of({place}, kept)"
+    if kind.what == "maybe":
+        return f"_maybe({raw(kind)}, {place}, lambda it: {given(kind.of, 'it')})"
+    if kind.what in ("number", "array"):
+        return f"_{kind.what}({place}, {raw(kind)})"
+    return {"flag": f"int(bool({place}))", "char": f"ord({place})"}.get(kind.what, place)
+
+
 def structure(name, fields):
     """A struct of ctypes."""
     inner = "".join(f'        ("{field}", {kind}),\n' for field, kind in fields)
@@ -92,20 +159,36 @@ def structure(name, fields):
 def values_of(view):
     """The function of a struct that makes a value."""
     if view.cases is None:
-        inner = "".join(f"            {it.python}={taken(it.kind, f'self.{it.name}')},\n" for it in view.fields)
+        inner = "".join(f"            {it.python}={taken(it.kind, f'self.{it.in_struct}')},\n" for it in view.fields)
         return f"\n    def value_of(self):\n        return {view.exported.python}(\n{inner}        )\n"
     found = "\n    def value_of(self):\n"
     for case in view.cases:
-        inner = "".join(f"                {it.name}={taken(it.kind, f'self.{case.snake}.{it.name}')},\n"
+        inner = "".join(f"                {it.in_case}={taken(it.kind, f'self.{case.snake}.{it.in_struct}')},\n"
                         for it in case.fields)
         inner = f"(\n{inner}            )" if inner else "()"
         found += f"        if self.tag == {case.tag}:\n            return {view.exported.python}.{case.name}{inner}\n"
     return found + '        raise ValueError("the library shows a tag that this module does not know")\n'
 
 
+def given_of(view):
+    """The function of a struct that shows a value."""
+    found = '\n    @staticmethod\n    def of(value, kept):\n        """The view of a value, for as long as `kept` is ' \
+            'there."""\n        raw = _Raw' + f"{view.camel}()\n"
+    if view.cases is None:
+        found += "".join(f"        raw.{it.in_struct} = {given(it.kind, f'value.{it.python}')}\n" for it in view.fields)
+        return found + "        return raw\n"
+    for at, case in enumerate(view.cases):
+        found += f"        {'el' if at else ''}if isinstance(value, {view.exported.python}.{case.name}):\n" \
+                 f"            raw.tag = {case.tag}\n"
+        found += "".join(f"            raw.{case.snake}.{it.in_struct} = {given(it.kind, f'value.{it.in_case}')}\n"
+                         for it in case.fields)
+    return found + f"        else:\n            raise TypeError(f\"{{value!r}} is no `{view.exported.python}`\")\n" \
+                   "        return raw\n"
+
+
 def raw_text(library):
     """The structs of ctypes."""
-    done, found = set(), HEAD
+    done, found = set(), HEAD + WRITTEN * any(it.item.writable for it in library.views)
 
     def option(kind):
         if kind.what == "maybe" and kind.label not in done:
@@ -116,28 +199,41 @@ def raw_text(library):
     for view in library.views:
         found += "".join(option(kind) for kind in maybes([view]))
         if view.cases is None:
-            found += structure(f"_Raw{view.camel}", [(it.name, raw(it.kind)) for it in view.fields])
+            found += structure(f"_Raw{view.camel}", [(it.in_struct, raw(it.kind)) for it in view.fields])
         else:
             for case in view.cases:
                 if case.fields:
-                    found += structure(f"_Raw{view.camel}{case.name}", [(it.name, raw(it.kind)) for it in case.fields])
+                    fields = [(it.in_struct, raw(it.kind)) for it in case.fields]
+                    found += structure(f"_Raw{view.camel}{case.name}", fields)
             found += structure(f"_Raw{view.camel}", [("tag", "ctypes.c_uint32"), *(
                 (case.snake, f"_Raw{view.camel}{case.name}") for case in view.cases if case.fields)])
         found += values_of(view)
+        found += given_of(view) if view.item.writable else ""
     return found
 
 
-def fields_text(view):
+def fields_text(library, view):
     """What stands in the class of a type before its calls: its fields, or a class of each variant."""
     if view.cases is None:
         return "".join(f"\n    {it.python}: object" for it in view.fields) + "\n"
     found = ""
     for case in view.cases:
-        inner = "".join(f"\n        {it.name}: object" for it in case.fields) or "\n        pass"
+        inner = "".join(f"\n        {it.in_case}: object" for it in case.fields)
+        if view.item.writable:
+            inner += "\n" * bool(inner) + textwrap.indent(write_text(library, view), "    ").rstrip("\n")
+        inner = inner or "\n        pass"
         found += f"\n    @dataclasses.dataclass(frozen=True)\n    class {case.name}:{inner}\n"
     return found
 
 
+def write_text(library, view):
+    """The function of a class that writes it."""
+    return WRITE.format(library=library.name, snake=view.snake, raw=view.camel)
+
+
 def read_text(library, view):
     """The functions of a class that read it."""
-    return READ.format(library=library.name, snake=view.snake, camel=view.exported.python, raw=view.camel)
+    found = READ.format(library=library.name, snake=view.snake, camel=view.exported.python, raw=view.camel)
+    if view.item.writable and view.cases is None:
+        found += write_text(library, view)
+    return found

@@ -141,7 +141,8 @@ def python_text(library):
     for it in library.types:
         view = library.views.by_path.get(it.path)
         found += (CHECK_WHOLE if it.is_whole else CHECK).format(
-            camel=it.python, title=title_of(it), name=name, snake=it.snake, fields=fields_text(view) if view else "",
+            camel=it.python, title=title_of(it), name=name, snake=it.snake,
+            fields=fields_text(library, view) if view else "",
             decorated="@dataclasses.dataclass(frozen=True)\n" if view and view.cases is None else "",
             reading=read_text(library, view) if view else "")
     return found

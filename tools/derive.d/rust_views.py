@@ -19,6 +19,11 @@ impl RawBytes {
         unsafe { std::slice::from_raw_parts(self.at, self.length) }
     }
 
+    /// Where bytes lie.
+    fn of(bytes: &[u8]) -> RawBytes {
+        RawBytes { at: bytes.as_ptr(), length: bytes.len() }
+    }
+
     /// The text.
     unsafe fn text<'a>(self) -> &'a str {
         // SAFETY: as `get`, and by the contract of the call the text is UTF-8.
@@ -68,6 +73,54 @@ READ = '''
     }}
 '''
 
+WRITE = '''
+    impl {name}{anonymous} {{
+        /// Writes the value to the front of the buffer, in its canonical encoding, and says how many bytes that takes.
+        /// Where the buffer is shorter, `at` of the error says how many are needed.
+        pub fn write_to(&self, buffer: &mut [u8], order: super::Order) -> Result<usize, super::Refused> {{
+            let raw = super::{snake}_raw(*self);
+            let (start, room) = (buffer.as_mut_ptr(), buffer.len());
+            let mut size = 0;
+            // SAFETY: what the view shows stays while `self` is borrowed, so many bytes can be written, and nothing
+            // keeps a pointer.
+            let answer = unsafe {{ super::{library}_{snake}_write(&raw, order as u32, start, room, &mut size) }};
+            if answer == 0 {{ Ok(size) }} else {{ Err(super::Refused::of(answer, size)) }}
+        }}
+
+        /// The canonical encoding of the value.
+        pub fn to_bytes(&self, order: super::Order) -> Result<Vec<u8>, super::Refused> {{
+            super::grown(|buffer| self.write_to(buffer, order))
+        }}
+    }}
+'''
+# What makes structs of C, and the bytes that are written of them.
+MAKING = '''
+/// A struct of C in which nothing is set.
+///
+/// # Safety
+///
+/// `T` is a struct of numbers and pointers.
+unsafe fn zeros<T>() -> T {
+    // SAFETY: zeros are numbers and pointers.
+    unsafe { std::mem::zeroed() }
+}
+
+/// What is written, in a buffer that grows as it says.
+fn grown(write: impl Fn(&mut [u8]) -> Result<usize, Refused>) -> Result<Vec<u8>, Refused> {
+    let mut buffer = vec![0; 64];
+    loop {
+        match write(&mut buffer) {
+            Ok(size) => {
+                buffer.truncate(size);
+                return Ok(buffer);
+            }
+            Err(Refused { kind: Kind::OutputBufferIsTooSmall, at }) => buffer.resize(at, 0),
+            Err(refused) => return Err(refused),
+        }
+    }
+}
+'''
+
 
 def raw(kind):
     """The type that a struct of C has for a kind."""
@@ -105,6 +158,14 @@ def taken(kind, place):
             if kind.what == "maybe" else ""}.get(kind.what, place)
 
 
+def set_of(kind, place):
+    """The expression of what a struct of C has of a value."""
+    if kind.what in ("own", "maybe"):
+        return f"self::{kind.of.snake if kind.what == 'own' else kind.label}_raw({place})"
+    return {"flag": f"{place} as u8", "char": f"{place} as u32", "text": f"RawBytes::of({place}.as_bytes())",
+            "bytes": f"RawBytes::of({place})"}.get(kind.what, place)
+
+
 def struct(name, fields):
     """A struct of C."""
     return ["", "#[derive(Clone, Copy)]", "#[repr(C)]", f"struct {name} {{",
@@ -126,7 +187,41 @@ def raw_lines(library):
             lines += struct(f"Raw{view.camel}", [("tag", "u32"), *(
                 (case.snake, f"Raw{view.camel}{case.name}") for case in view.cases if case.fields)])
         lines += made_lines(view)
-    return lines
+        if view.item.writable:
+            lines += set_lines(view)
+    written = [it for it in library.views if it.item.writable]
+    lines += [line for kind in maybes(written) for line in option_lines(kind)]
+    return lines + (MAKING.split("\n")[:-1] if written else [])
+
+
+def option_lines(kind):
+    """The function that makes a struct of C of an option."""
+    value = owned(kind).replace("'a ", "").replace("<'a>", "<'_>").replace("super::", "")
+    return ["", "/// The view that shows an option.", f"fn {kind.label}_raw(value: {value}) -> {raw(kind)} {{",
+            "    match value {", "        None => unsafe { self::zeros() },",
+            f"        Some(it) => {raw(kind)} {{ is_some: 1, value: {set_of(kind.of, 'it')} }},", "    }", "}"]
+
+
+def set_lines(view):
+    """The function that makes a struct of C of a value."""
+    path, name = f"{view.snake}::{view.camel}", f"Raw{view.camel}"
+    anonymous = "<'_>" if view.borrows else ""
+    lines = ["", "/// The view that shows a value.", f"fn {view.snake}_raw(value: {path}{anonymous}) -> {name} {{"]
+    if view.cases is None:
+        inner = [f"        {it.name}: {set_of(it.kind, f'value.{it.name}')}," for it in view.fields]
+        return [*lines, f"    {name} {{", *inner, "    }", "}"]
+    lines.append("    match value {")
+    for case in view.cases:
+        if not case.fields:
+            lines += [f"        {path}::{case.name} => {name} {{",
+                      f"            tag: {case.tag},", "            ..unsafe { self::zeros() }", "        },"]
+            continue
+        names = ", ".join(it.name for it in case.fields)
+        inner = [f"                {it.name}: {set_of(it.kind, it.name)}," for it in case.fields]
+        lines += [f"        {path}::{case.name} {{ {names} }} => {name} {{", f"            tag: {case.tag},",
+                  f"            {case.snake}: {name}{case.name} {{", *inner, "            },",
+                  "            ..unsafe { self::zeros() }", "        },"]
+    return [*lines, "    }", "}"]
 
 
 def made_lines(view):
@@ -163,12 +258,21 @@ def type_text(view):
 
 def read_text(library, view):
     """The functions of a type's module that read it."""
-    return type_text(view) + READ.format(
+    found = type_text(view) + READ.format(
         library=library.name, snake=view.snake, camel=view.camel, name=view.camel, life=life(view),
         a="'a " if view.borrows else "", captured=" + 'a" if view.borrows else " + '_")
+    if view.item.writable:
+        found += WRITE.format(library=library.name, snake=view.snake, name=view.camel,
+                              anonymous="<'_>" if view.borrows else "")
+    return found
 
 
 def declaration(library, view):
-    """The declaration of the call that reads a type."""
-    return f"    fn {library.name}_{view.snake}_read(\n        bytes: *const u8,\n        length: usize,\n" \
+    """The declarations of the calls that read a type, and write it."""
+    read = f"    fn {library.name}_{view.snake}_read(\n        bytes: *const u8,\n        length: usize,\n" \
            f"        order: u32,\n        view: *mut Raw{view.camel},\n        size: *mut usize,\n    ) -> u32;"
+    if not view.item.writable:
+        return read
+    return f"{read}\n    fn {library.name}_{view.snake}_write(\n        view: *const Raw{view.camel},\n" \
+           "        order: u32,\n        buffer: *mut u8,\n        room: usize,\n        size: *mut usize,\n" \
+           "    ) -> u32;"

@@ -35,7 +35,7 @@ pub enum Kind {{
 #[derive(Debug, Clone, Copy, PartialEq, Eq)]
 pub struct Refused {{
     pub kind: Kind,
-    /// How many bytes were read before that.
+    /// How many bytes were read before that, or how many a buffer has to have that is too short.
     pub at: usize,
 }}
 

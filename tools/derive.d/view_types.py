@@ -60,18 +60,30 @@ def value(kind, place, reference):
     """The expression of what is shown of a value: by its place, and by a reference to it."""
     if kind.what in ("own", "maybe"):
         return f"View::of({reference})"
-    return {"text": f"{place}.as_bytes()", "flag": f"flag_number({place})", "char": f"{place} as u32",
+    return {"text": f"{place}.as_bytes()", "flag": f"flag_number({place})", "char": f"character_number({place})",
             "float": f"{place}.bits()"}.get(kind.what, place)
+
+
+def made(kind, place):
+    """The expression of the value that a view shows at a place, which returns where it shows none."""
+    if kind.what in ("own", "maybe"):
+        return f"{place}.value()?"
+    call = {"text": "text_shown", "flag": "flag_shown", "char": "character_shown"}.get(kind.what)
+    if call:
+        return f"{call}({place})?"
+    return f"{source_type(kind)}::from_bits({place})" if kind.what == "float" else place
 
 
 def fact(kind, view, seen):
     """What a clause says of a view and of the value that it shows."""
     if kind.what in ("own", "maybe"):
         return f"⟦<{shown_type(kind)} as View<{source_type(kind)}>>⟧.shows {seen} {view}"
-    if kind.what in ("text", "bytes"):
+    if kind.what == "text":
+        return f"ShowsText {seen}.now {view}.now"
+    if kind.what == "bytes":
         return f"{view}.now ≡ {seen}.now"
-    if kind.what == "flag":
-        return f"{view} ≡ flag_as_number {seen}"
+    if kind.what in ("flag", "char"):
+        return f"{'ShowsFlag' if kind.what == 'flag' else 'ShowsCharacter'} {seen} {view}"
     if kind.what == "float":
         return f"{view} ≡ {kind.of}_bits {seen}"
     return f"{view} ≡ {seen}"
@@ -111,6 +123,7 @@ class ViewTypes:
     def __init__(self, library):
         self.library, self.views = library, list(library.views)
         self.empties = self.needed_empties()
+        self.written = {it.label for it in maybes([it for it in self.views if it.item.writable])}
 
     def needed_empties(self):
         """The labels of those kinds that some view shows nothing of."""
@@ -143,8 +156,9 @@ class ViewTypes:
         names = [it for it in ("f32_bits", "f64_bits") if it in text]
         prelude = ["◌≡◌"] + ["Some", "None"] * ("| None ↦" in text)
         found = [f"ghost use Rattle.std.specs.Prelude.{{{', '.join(prelude)}}};"]
-        if "flag_as_number" in text:
-            found.append("ghost use Rattle.speedy.specs.Exports.{flag_as_number};")
+        words = [it for it in ("ShowsCharacter", "ShowsFlag", "ShowsText") if it in text]
+        if words:
+            found.append(f"ghost use Rattle.speedy.specs.Exports.{{{', '.join(words)}}};")
         if names:
             found.append(f"ghost use Rattle.speedy.specs.Floats.{{{', '.join(names)}}};")
         found.append("")
@@ -152,9 +166,11 @@ class ViewTypes:
             path = "::".join(("crate", self.library.module, *view.exported.path))
             same = view.exported.path[-1] == view.camel
             found.append(f"use {path}{'' if same else f' as {view.camel}'};")
-        calls = ["View"] + ["flag_number"] * ("flag_number(" in text)
+        calls = ["View"] + ["Shown", "Unshown"] * ("Shown<" in text)
+        calls += [it for it in ("character_number", "character_shown", "flag_number", "flag_shown", "text_shown")
+                  if f"{it}(" in text]
         found.append(f"use speedy::exports::{{{', '.join(calls)}}};")
-        floats = [it for it in ("F32", "F64") if f"Option<{it}>" in text]
+        floats = [it for it in ("F32", "F64") if f"Option<{it}>" in text or f"{it}::" in text]
         return found + [f"use speedy::{it};" for it in floats] + [""]
 
     def maybe(self, kind):
@@ -175,7 +191,15 @@ class ViewTypes:
             f"      | Some it ↦ {shown}", "    ] };", "",
             f"    fn of(value: &{of}) -> {name}{borrowed} {{ match value {{",
             f"        Some(it) => {'{ let items = *it; ' + some + ' }' if is_array else some + ','}",
-            f"        None => {name} {{ is_some: 0, value: {empty(kind.of)} }},", "    } }", "}", ""]
+            f"        None => {name} {{ is_some: 0, value: {empty(kind.of)} }},", "    } }", "}", "",
+            *(self.maybe_made(kind, name, borrowed, of) if kind.label in self.written else ())]
+
+    def maybe_made(self, kind, name, borrowed, of):
+        """How an option is made again of its view."""
+        return [f"impl{borrowed} Shown<{of}> for {name}{borrowed} {{",
+                f"    fn value(&self) -> Result<{of}, Unshown> {{ match self.is_some {{", "        0 => Ok(None),",
+                f"        1 => {{ let it = {made(kind.of, 'self.value')}; Ok(Some(it)) }}",
+                "        _ => Err(Unshown::Tag),", "    } }", "}", ""]
 
     def struct_view(self, view):
         """The view of a struct."""
@@ -198,7 +222,18 @@ class ViewTypes:
             f"impl{generic} View<{item}> for {name}{borrowed} {{",
             f"    ghost shows = {{ λ value view.\n        {facts} }};", "",
             f"    fn of(value: &{item}) -> {name}{borrowed} {{", *lets, f"{name} {{ {', '.join(inits)} }}",
-            "    }", "}", ""]
+            "    }", "}", "", *(self.struct_made(view, name, borrowed, generic, item) if view.item.writable else ())]
+
+    def struct_made(self, view, name, borrowed, generic, item):
+        """How a struct is made again of its view."""
+        lets = [f"let t{at} = {made(it.kind, f'self.{it.name}')};" for at, it in enumerate(view.fields)]
+        if view.item.shape == "named":
+            built = " { " + ", ".join(f"{it.access}: t{at}" for at, it in enumerate(view.fields)) + " }"
+        else:
+            built = "(" + ", ".join(f"t{at}" for at in range(len(view.fields))) + ")"
+        return [f"impl{generic} Shown<{item}> for {name}{borrowed} {{",
+                f"    fn value(&self) -> Result<{item}, Unshown> {{", *lets, f"Ok({view.camel}{built})",
+                "    }", "}", ""]
 
     def case_view(self, view):
         """The view of an enum."""
@@ -222,7 +257,23 @@ class ViewTypes:
             f"    ghost use {path}.{{{view.exported.path[-1]}}};", "",
             "    ghost shows = { λ value view. elim value [", *arms, "    ] };", "",
             f"    fn of(value: &{item}) -> {name}{borrowed} {{", f"let mut view = {name}::empty();", "match value {",
-            *(self.case_arm(view, case) for case in view.cases), "}", "view", "    }", "}", ""]
+            *(self.case_arm(view, case) for case in view.cases), "}", "view", "    }", "}", "",
+            *(self.case_made(view, name, borrowed, generic, item) if view.item.writable else ())]
+
+    def case_made(self, view, name, borrowed, generic, item):
+        """How an enum is made again of its view."""
+        arms = []
+        for case in view.cases:
+            if not case.fields:
+                arms.append(f"{case.tag} => Ok({view.camel}::{case.name}),")
+                continue
+            bound = [f"t{at}" for at in range(len(case.fields))]
+            lets = [f"let {name} = {made(it.kind, f'self.{case.snake}.{it.name}')};"
+                    for it, name in zip(case.fields, bound)]
+            arms.append(f"{case.tag} => {{ {' '.join(lets)} Ok({view.camel}::{case.name}{pattern(case, bound)}) }}")
+        return [f"impl{generic} Shown<{item}> for {name}{borrowed} {{",
+                f"    fn value(&self) -> Result<{item}, Unshown> {{", "match self.tag {", *arms,
+                "_ => Err(Unshown::Tag),", "}", "    }", "}", ""]
 
     def case_fact(self, view, case):
         """What is shown of a variant."""
@@ -238,10 +289,6 @@ class ViewTypes:
         if not case.fields:
             return f"{head} => view.tag = {case.tag},"
         bound = [f"t{at}" for at in range(len(case.fields))]
-        if case.shape == "named":
-            pattern = " { " + ", ".join(f"{it.access}: {name}" for it, name in zip(case.fields, bound)) + " }"
-        else:
-            pattern = f"({', '.join(bound)})"
         lets, inits = "", []
         for it, name in zip(case.fields, bound):
             if it.kind.what == "array":
@@ -250,7 +297,14 @@ class ViewTypes:
             else:
                 inits.append(f"{it.name}: {strip(value(it.kind, f'*{name}', name))}")
         built = f"{view.camel}{case.name}View {{ {', '.join(inits)} }}"
-        return f"{head}{pattern} => {{ {lets}view.tag = {case.tag}; view.{case.snake} = {built}; }}"
+        return f"{head}{pattern(case, bound)} => {{ {lets}view.tag = {case.tag}; view.{case.snake} = {built}; }}"
+
+
+def pattern(case, bound):
+    """The fields of a variant by the names that they are bound to."""
+    if case.shape == "named":
+        return " { " + ", ".join(f"{it.access}: {name}" for it, name in zip(case.fields, bound)) + " }"
+    return f"({', '.join(bound)})"
 
 
 def strip(text):

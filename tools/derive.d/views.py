@@ -27,7 +27,7 @@ WORDS = frozenset("""
     NULL EOF errno stdin stdout stderr unix linux
     """.split()) | KEYWORDS | NOWHERE
 # The functions of a class in Python.
-OF_PYTHON = ("check", "read", "walk")
+OF_PYTHON = ("check", "read", "walk", "to_bytes")
 
 
 @dataclass(frozen=True)
@@ -66,6 +66,16 @@ class Shown:
     def python(self):
         """Its name in Python, where a class has functions too."""
         return self.name + "_" * (self.name in OF_PYTHON)
+
+    @property
+    def in_struct(self):
+        """Its name in Python in a struct of C, whose class has functions too."""
+        return self.name + "_" * (self.name in ("of", "value_of"))
+
+    @property
+    def in_case(self):
+        """Its name in Python in the class of a variant."""
+        return self.name + "_" * (self.name == "to_bytes")
 
 
 @dataclass
@@ -136,7 +146,7 @@ class Views:
         if self.types[path].is_whole:
             raise Unshown(line, f"`{path[-1]}` ends where the bytes do")
         item = self.items[path]
-        if item.name in PRELUDE or item.name in ("Iterator", "View", "Walk", "F32", "F64"):
+        if item.name in PRELUDE or item.name in ("Iterator", "View", "Shown", "Unshown", "Walk", "F32", "F64"):
             raise Unshown(item.line, f"Rust has another `{item.name}`")
         self.open.add(path)
         try:

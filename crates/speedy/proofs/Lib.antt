@@ -1,3 +1,4 @@
 pub mod ExportLemmas
+pub mod ExportWriteLemmas
 pub mod PrefixLemmas
 pub mod ToldFrameLemmas

@@ -1,16 +1,21 @@
 //! What functions that are exported to other languages call: `tools/derive --library` writes these for the types of a
 //! Rust file.
-ghost use Rattle.std.specs.Prelude.{◌≡◌, ◌<◌, ◌↔◌, Some, None};
+ghost use Rattle.std.specs.Prelude.{◌≡◌, ◌<◌, ◌↔◌, ℕ, List, ◌++◌, take, Some, None, MatchResult};
+ghost use Rattle.std.specs.Str.{IsUtf8};
 ghost use Rattle.speedy_base.specs.Error.{kind_of};
-ghost use Rattle.speedy.specs.Exports.{number_of_kind, number_of_order, flag_as_number};
-ghost use Rattle.speedy.specs.Exports.{Checks, ChecksWhole, Reads, Steps};
+ghost use Rattle.speedy.specs.Exports.{number_of_kind, number_of_order, flag_as_number, number_of_unshown};
+ghost use Rattle.speedy.specs.Exports.{Checks, ChecksWhole, Reads, Steps, Writes, TakesWhole};
+ghost use Rattle.speedy.specs.Exports.{MakesShown, ShowsText, ShowsCharacter, ShowsFlag};
 
 use crate::laws::refused_is_none;
 use speedy_base::endianness::Endianness;
 use speedy_base::error::{Error, ErrorKind, get_error_kind};
+use speedy_layout::Layout;
 use speedy_read::buffer::Buffer;
 use speedy_read::readable::ReadFrom;
+use speedy_read::utf8::bytes_to_str;
 use speedy_read::whole::{ReadWhole, ReadableWhole};
+use speedy_write::Writable;
 use std::alloc::Global;
 
 /// The answer to a number that is no byte order.
@@ -180,3 +185,116 @@ pub fn next<'a, T: ReadFrom<&'a [u8], Endianness>, V: View<T> + Drop>(
     }
     answer
 }
+
+/// Why a view shows no value.
+#[derive(Debug, Clone, Copy, PartialEq)]
+pub enum Unshown {
+    /// A number that should be a character is no Unicode scalar value.
+    Character,
+    /// A tag that no variant has, or a flag that is neither 0 nor 1.
+    Tag,
+    /// Bytes that should be a text are not UTF-8.
+    Text,
+}
+
+/// The number of the kind that says the same of bytes.
+fn unshown_number(why: Unshown) -> u32
+    ensures { result ≡ number_of_unshown why }
+{
+    match why {
+        Unshown::Character => 1,
+        Unshown::Tag => 2,
+        Unshown::Text => 3,
+    }
+}
+
+/// The number of a character.
+#[inline]
+pub fn character_number(character: char) -> u32
+    ensures { ShowsCharacter character result }
+{
+    character as u32
+}
+
+/// The character of a number.
+#[inline]
+pub fn character_shown(number: u32) -> Result<char, Unshown>
+    ensures { MakesShown (λ it. it) ShowsCharacter number result }
+{
+    match char::from_u32(number) {
+        Some(character) => Ok(character),
+        None => Err(Unshown::Character),
+    }
+}
+
+/// The flag of a number: no other number than 0 and 1 shows one.
+#[inline]
+pub fn flag_shown(number: u8) -> Result<bool, Unshown>
+    ensures { MakesShown (λ it. it) ShowsFlag number result }
+{
+    match number {
+        0 => Ok(false),
+        1 => Ok(true),
+        _ => Err(Unshown::Tag),
+    }
+}
+
+/// The text whose UTF-8 the bytes are.
+#[inline]
+pub fn text_shown(bytes: &[u8]) -> Result<&str, Unshown>
+    ensures { MatchResult result (λ text. ShowsText text.now bytes.now) (λ _. ¬ IsUtf8 bytes.now) }
+{
+    match bytes_to_str::<Error>(bytes) {
+        Ok(text) => Ok(text),
+        Err(_) => Err(Unshown::Text),
+    }
+}
+
+/// Views of which the value is made again that they show, to be written.
+pub trait Shown<T: Layout>: View<T> {
+    /// The value that the view shows, or why it shows none. Texts and bytes lie where the view has them.
+    fn value(&self) -> Result<T, Unshown>
+        ensures { MakesShown T.seen Self.shows self.now result };
+}
+
+/// Writes the value that a view shows to the beginning of a buffer, in the byte order of a number.
+///
+/// The answer is 0 where its canonical encoding fits, and `size` is then how long that is. It is the number of
+/// `OutputBufferIsTooSmall` where the buffer is shorter, and `size` is how long it has to be. Else it is why the view
+/// shows no value, or why the value has no encoding, or [`UNKNOWN_ORDER`], and `size` is 0. Where the answer is not 0,
+/// the buffer stays as it is.
+pub fn write<T: Writable<Endianness> + Drop, V: Shown<T>>(
+    view: &V,
+    order: u32,
+    buffer: &mut [u8],
+    size: &mut usize,
+) -> u32
+    ensures { Writes T.seen V.shows T.layout view.now order result size.new buffer.old buffer.new }
+{
+    *size = 0;
+    let mut order = match order_of(order) {
+        Some(order) => order,
+        None => return UNKNOWN_ORDER,
+    };
+    let value = match view.value() {
+        Ok(value) => value,
+        Err(why) => return unshown_number(why),
+    };
+    let needed = match value.bytes_needed(&mut order) {
+        Ok(needed) => needed,
+        Err(error) => return kind_number(&error),
+    };
+    *size = needed;
+    match value.write_to_buffer_with_ctx(order, buffer) {
+        Ok(()) => 0,
+        Err(error) => kind_number(&error),
+    }
+}
+
+/// What was written of a view is an encoding to a check of the bytes that begin with it, whatever stands behind it.
+pub fn written_is_checked<T: Layout, V: View<T>>()
+    ensures { (view : V) (order size answer found : ℕ) (old new more : List ℕ) →
+        Writes T.seen V.shows T.layout view order 0 size old new
+        → Checks T.layout order (take size new ++ more) answer found
+        → TakesWhole T.layout order answer found size }
+{}

@@ -33,9 +33,9 @@ pub fn cow_bytes_to_cow_str<'a, E: From<Error>>(bytes: CowSlice<'a, u8>) -> Resu
     }
 }
 
-// The text whose UTF-8 the bytes are, or a refusal with `InvalidUtf8`.
+/// The text whose UTF-8 the bytes are, where they lie, or the error `InvalidUtf8`.
 #[inline]
-pub(crate) fn bytes_to_str<E: From<Error>>(bytes: &[u8]) -> Result<&str, E>
+pub fn bytes_to_str<E: From<Error>>(bytes: &[u8]) -> Result<&str, E>
     ensures { MatchResult result (λ text. (text.now ≡ bytes.now) × IsUtf8 bytes.now)
         (λ e. E.from_gives (error_of ErrorKind.InvalidUtf8) e × ¬ IsUtf8 bytes.now) }
 {

@@ -16,6 +16,8 @@ mod endianness;
 #[cfg(test)]
 mod errors;
 #[cfg(test)]
+mod exports;
+#[cfg(test)]
 mod floats;
 #[cfg(test)]
 mod frames;

@@ -12,12 +12,25 @@ static char line[MOST];
 static char kind[MOST];
 static char hex[MOST];
 
-/* Prints bytes in hex, or `-`. */
-static void print_bytes(struct telemetry_bytes it) {
-    printf(it.length == 0 ? " -" : " ");
-    for (telemetry_size at = 0; at < it.length; at++) {
-        printf("%02x", it.at[at]);
+/* Memory of just so many bytes. */
+static unsigned char *room_of(telemetry_size count) {
+    unsigned char *found = (unsigned char *)malloc(count == 0 ? 1 : count);
+    if (found == NULL) {
+        exit(1);
     }
+    return found;
+}
+
+/* Prints bytes in hex, or `-`. */
+static void print_hex(const unsigned char *start, telemetry_size length) {
+    printf(length == 0 ? " -" : " ");
+    for (telemetry_size at = 0; at < length; at++) {
+        printf("%02x", start[at]);
+    }
+}
+
+static void print_bytes(struct telemetry_bytes it) {
+    print_hex(it.at, it.length);
 }
 
 static void print_reading(const struct telemetry_reading *it) {
@@ -47,6 +60,50 @@ static void print_message(const struct telemetry_message *it) {
     }
 }
 
+/* Prints what is written of a view, in memory of just so many bytes. One byte less is too short. */
+static void write_reading(const struct telemetry_reading *it, unsigned int order) {
+    telemetry_size size = 0, needed;
+    unsigned char *buffer = room_of(0);
+    unsigned int answer = telemetry_reading_write(it, order, buffer, 0, &size);
+    free(buffer);
+    if (answer != (size == 0 ? TELEMETRY_OK : TELEMETRY_OUTPUT_BUFFER_IS_TOO_SMALL)) {
+        exit(1);
+    }
+    buffer = room_of(size);
+    if (telemetry_reading_write(it, order, buffer, size, &needed) != TELEMETRY_OK || needed != size) {
+        exit(1);
+    }
+    printf(" =");
+    print_hex(buffer, size);
+    if (size != 0 && (telemetry_reading_write(it, order, buffer, size - 1, &needed) != TELEMETRY_OUTPUT_BUFFER_IS_TOO_SMALL
+        || needed != size)) {
+        exit(1);
+    }
+    free(buffer);
+}
+
+/* Prints what is written of a view, in memory of just so many bytes. One byte less is too short. */
+static void write_message(const struct telemetry_message *it, unsigned int order) {
+    telemetry_size size = 0, needed;
+    unsigned char *buffer = room_of(0);
+    unsigned int answer = telemetry_message_write(it, order, buffer, 0, &size);
+    free(buffer);
+    if (answer != (size == 0 ? TELEMETRY_OK : TELEMETRY_OUTPUT_BUFFER_IS_TOO_SMALL)) {
+        exit(1);
+    }
+    buffer = room_of(size);
+    if (telemetry_message_write(it, order, buffer, size, &needed) != TELEMETRY_OK || needed != size) {
+        exit(1);
+    }
+    printf(" =");
+    print_hex(buffer, size);
+    if (size != 0 && (telemetry_message_write(it, order, buffer, size - 1, &needed) != TELEMETRY_OUTPUT_BUFFER_IS_TOO_SMALL
+        || needed != size)) {
+        exit(1);
+    }
+    free(buffer);
+}
+
 /* Reads what was checked, and prints it. It has to be of the same size, also as the one value of a walk. */
 static void show(const unsigned char *bytes, telemetry_size length, unsigned int order, telemetry_size size) {
     if (strcmp(kind, "reading") == 0) {
@@ -62,6 +119,7 @@ static void show(const unsigned char *bytes, telemetry_size length, unsigned int
         }
         print_reading(&again);
         print_reading(&view);
+        write_reading(&view, order);
     }
     if (strcmp(kind, "message") == 0) {
         struct telemetry_message view, again;
@@ -76,6 +134,7 @@ static void show(const unsigned char *bytes, telemetry_size length, unsigned int
         }
         print_message(&again);
         print_message(&view);
+        write_message(&view, order);
     }
     (void)bytes, (void)length, (void)order, (void)size;
 }
@@ -99,10 +158,7 @@ static unsigned int check(const unsigned char *bytes, telemetry_size length, uns
 /* The bytes of a line, in memory of just their number, so that a read past them is found. */
 static unsigned char *bytes_of(const char *text, telemetry_size *length) {
     telemetry_size count = strcmp(text, "-") == 0 ? 0 : strlen(text) / 2;
-    unsigned char *found = (unsigned char *)malloc(count == 0 ? 1 : count);
-    if (found == NULL) {
-        exit(1);
-    }
+    unsigned char *found = room_of(count);
     for (telemetry_size at = 0; at < count; at++) {
         char digits[3] = {text[2 * at], text[2 * at + 1], 0};
         found[at] = (unsigned char)strtoul(digits, NULL, 16);

@@ -26,8 +26,9 @@ def show(kind, data, order):
     if kind not in SHOWN:
         return ""
     read, say = SHOWN[kind]
-    text = say(read(data, order)[0])
-    return text + text
+    value = read(data, order)[0]
+    text = say(value)
+    return text + text + (" =" + shown(value.to_bytes(order)) if hasattr(value, "to_bytes") else "")
 
 
 def say_reading(it):

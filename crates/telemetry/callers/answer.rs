@@ -25,6 +25,7 @@ fn show(kind: &str, bytes: &[u8], order: Order, size: usize) -> String {
             assert!(read == size);
             let again = if size == 0 { value } else { walked.expect("one").expect("the same") };
             say_reading(&again) + &say_reading(&value)
+                + &written(value.to_bytes(order), |buffer| value.write_to(buffer, order))
         }
         "message" => {
             let (value, read) = telemetry::message::read(bytes, order).expect("a value");
@@ -32,6 +33,7 @@ fn show(kind: &str, bytes: &[u8], order: Order, size: usize) -> String {
             assert!(read == size);
             let again = if size == 0 { value } else { walked.expect("one").expect("the same") };
             say_message(&again) + &say_message(&value)
+                + &written(value.to_bytes(order), |buffer| value.write_to(buffer, order))
         }
         _ => String::new(),
     }
@@ -41,6 +43,19 @@ fn show(kind: &str, bytes: &[u8], order: Order, size: usize) -> String {
 fn hex(bytes: &[u8]) -> String {
     let digits: String = bytes.iter().map(|it| format!("{it:02x}")).collect();
     if digits.is_empty() { " -".to_string() } else { format!(" {digits}") }
+}
+
+/// What is written of a value. A buffer of one byte less is too short.
+fn written(
+    bytes: Result<Vec<u8>, Refused>,
+    write: impl Fn(&mut [u8]) -> Result<usize, Refused>,
+) -> String {
+    let bytes = bytes.expect("bytes");
+    if let Some(less) = bytes.len().checked_sub(1) {
+        let short = write(&mut vec![0; less]).expect_err("too short");
+        assert!(short.kind == Kind::OutputBufferIsTooSmall && short.at == bytes.len());
+    }
+    format!(" ={}", hex(&bytes))
 }
 
 fn say_reading(it: &telemetry::reading::Reading) -> String {

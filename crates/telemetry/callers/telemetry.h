@@ -26,7 +26,7 @@ enum telemetry_answer {
     TELEMETRY_OK = 0,
     /* a number that should be a character is none */
     TELEMETRY_INVALID_CHAR = 1,
-    /* a tag that no variant has */
+    /* a tag that no variant has, or in a view a flag that is neither 0 nor 1 */
     TELEMETRY_INVALID_ENUM_VARIANT = 2,
     /* a text is not UTF-8 */
     TELEMETRY_INVALID_UTF8 = 3,
@@ -40,11 +40,11 @@ enum telemetry_answer {
     TELEMETRY_OUT_OF_RANGE_USIZE = 7,
     /* the bytes end too soon: with more of them there may be a value */
     TELEMETRY_UNEXPECTED_END_OF_INPUT = 8,
-    /* a buffer has no room, which no check answers */
+    /* a buffer has no room, which no call answers */
     TELEMETRY_UNEXPECTED_END_OF_OUTPUT_BUFFER = 9,
     /* the bytes are fewer than any value has: with more of them there may be one */
     TELEMETRY_INPUT_BUFFER_IS_TOO_SMALL = 10,
-    /* a buffer has no room, which no check answers */
+    /* the buffer is shorter than what is written */
     TELEMETRY_OUTPUT_BUFFER_IS_TOO_SMALL = 11,
     /* a length is another than the field says that tells it */
     TELEMETRY_LENGTH_IS_NOT_THE_SAME_AS_LENGTH_ATTRIBUTE = 12,
@@ -80,7 +80,11 @@ enum telemetry_order {
 /* What each call relies on, and no proof sees:
    - `bytes` is not null, even where `length` is 0, and so many bytes can be read there.
    - `size`, `view` and `walk` are not null, point to no two overlapping places, and can be written.
-   - What stands in `view` before a call is not read. What it shows after it lies in the bytes of that call.
+   - What stands in `view` before a read is not read. What it shows after it lies in the bytes of that call.
+   - A view that is written was set by a read, or began as zeros. Where a `length` in it is not 0, so many bytes
+     can be read at the pointer beside it. The structs of other variants than that of the tag do not matter.
+   - `buffer` is not null, even where `room` is 0, and so many bytes can be read and written there. No byte of
+     it lies in the view, or in what the view shows.
    - Nothing writes to the bytes before the call returns. No call changes them, or keeps a pointer.
    - `malloc`, `realloc` and `free` are those of the C library, or keep its promises.
    - No call is made from a signal handler, or in a process forked from one with several threads.
@@ -161,6 +165,14 @@ unsigned int telemetry_reading_read(
 unsigned int telemetry_reading_next(
     struct telemetry_walk *walk, unsigned int order, struct telemetry_reading *view);
 
+/* Writes the `Reading` that `view` shows to the front of `buffer`, which has `room` bytes. The answer is 0 where
+   that fits, and `size` is then how many bytes it takes. It is TELEMETRY_OUTPUT_BUFFER_IS_TOO_SMALL where `room`
+   is less, and `size` is then how much is needed. Else the view shows no value, or one without an encoding, and
+   `size` is 0. Where the answer is not 0, the buffer stays as it is. */
+unsigned int telemetry_reading_write(
+    const struct telemetry_reading *view, unsigned int order, unsigned char *buffer,
+    telemetry_size room, telemetry_size *size);
+
 /* `Message`: A message.
 
    Says whether the bytes begin with an encoding of one: 0 where they do, and `size` is then how many bytes it
@@ -178,6 +190,14 @@ unsigned int telemetry_message_read(
    they are. */
 unsigned int telemetry_message_next(
     struct telemetry_walk *walk, unsigned int order, struct telemetry_message *view);
+
+/* Writes the `Message` that `view` shows to the front of `buffer`, which has `room` bytes. The answer is 0 where
+   that fits, and `size` is then how many bytes it takes. It is TELEMETRY_OUTPUT_BUFFER_IS_TOO_SMALL where `room`
+   is less, and `size` is then how much is needed. Else the view shows no value, or one without an encoding, and
+   `size` is 0. Where the answer is not 0, the buffer stays as it is. */
+unsigned int telemetry_message_write(
+    const struct telemetry_message *view, unsigned int order, unsigned char *buffer,
+    telemetry_size room, telemetry_size *size);
 
 /* `Line`: A line of a log: a level, and a text up to the end of the bytes.
 

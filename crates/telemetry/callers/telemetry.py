@@ -30,7 +30,7 @@ class Kind(enum.IntEnum):
 
     # a number that should be a character is none
     INVALID_CHAR = 1
-    # a tag that no variant has
+    # a tag that no variant has, or in a view a flag that is neither 0 nor 1
     INVALID_ENUM_VARIANT = 2
     # a text is not UTF-8
     INVALID_UTF8 = 3
@@ -44,11 +44,11 @@ class Kind(enum.IntEnum):
     OUT_OF_RANGE_USIZE = 7
     # the bytes end too soon: with more of them there may be a value
     UNEXPECTED_END_OF_INPUT = 8
-    # a buffer has no room, which no check answers
+    # a buffer has no room, which no call answers
     UNEXPECTED_END_OF_OUTPUT_BUFFER = 9
     # the bytes are fewer than any value has: with more of them there may be one
     INPUT_BUFFER_IS_TOO_SMALL = 10
-    # a buffer has no room, which no check answers
+    # the buffer is shorter than what is written
     OUTPUT_BUFFER_IS_TOO_SMALL = 11
     # a length is another than the field says that tells it
     LENGTH_IS_NOT_THE_SAME_AS_LENGTH_ATTRIBUTE = 12
@@ -129,6 +129,32 @@ class _Bytes(ctypes.Structure):
         """A copy of the bytes."""
         return ctypes.string_at(self.at, self.length) if self.length else b""
 
+    @staticmethod
+    def of(data, kept):
+        """Where the bytes lie, for as long as `kept` is there."""
+        data = bytes(memoryview(data))
+        kept.append(data)
+        return _Bytes(ctypes.cast(data, ctypes.c_void_p).value, len(data))
+
+
+def _number(value, kind):
+    """A number that is one of its kind of ctypes."""
+    if kind(value).value != value:
+        raise ValueError(f"{value} is out of range")
+    return value
+
+
+def _array(value, kind):
+    """An array of numbers, as many as its kind of ctypes has."""
+    if len(value) != kind._length_:
+        raise ValueError(f"{len(value)} items, where {kind._length_} are wanted")
+    return kind(*(_number(it, kind._type_) for it in value))
+
+
+def _maybe(raw, value, of):
+    """An option, whose value is given by a function."""
+    return raw() if value is None else raw(1, of(value))
+
 
 def _read(name, raw, data, order, at):
     """What a view shows of the value at a place of the bytes, where they lie, and how many bytes it has."""
@@ -158,6 +184,23 @@ def _walk(read, data, order):
         yield value
 
 
+def _written(name, raw, order):
+    """The bytes that a call writes of a view."""
+    size, room = ctypes.c_size_t(), 64
+    call = getattr(_LIBRARY, name)
+    call.restype = ctypes.c_uint32
+    call.argtypes = (ctypes.POINTER(type(raw)), ctypes.c_uint32, ctypes.c_void_p, ctypes.c_size_t,
+                     ctypes.POINTER(ctypes.c_size_t))
+    while True:
+        buffer = ctypes.create_string_buffer(room)
+        answer = call(ctypes.byref(raw), order, buffer, room, ctypes.byref(size))
+        if answer == 0:
+            return buffer.raw[:size.value]
+        if answer != Kind.OUTPUT_BUFFER_IS_TOO_SMALL:
+            raise Refused(answer)
+        room = size.value
+
+
 class _RawReading(ctypes.Structure):
     _fields_ = [
         ("second", ctypes.c_uint32),
@@ -171,6 +214,15 @@ class _RawReading(ctypes.Structure):
             value=self.value,
             is_exact=bool(self.is_exact),
         )
+
+    @staticmethod
+    def of(value, kept):
+        """The view of a value, for as long as `kept` is there."""
+        raw = _RawReading()
+        raw.second = _number(value.second, ctypes.c_uint32)
+        raw.value = _number(value.value, ctypes.c_int32)
+        raw.is_exact = int(bool(value.is_exact))
+        return raw
 
 
 class _RawMaybeText(ctypes.Structure):
@@ -229,6 +281,28 @@ class _RawMessage(ctypes.Structure):
             )
         raise ValueError("the library shows a tag that this module does not know")
 
+    @staticmethod
+    def of(value, kept):
+        """The view of a value, for as long as `kept` is there."""
+        raw = _RawMessage()
+        if isinstance(value, Message.Ping):
+            raw.tag = 1
+        elif isinstance(value, Message.Hello):
+            raw.tag = 2
+            raw.hello.name = _Bytes.of(value.name.encode(), kept)
+            raw.hello.version = _array(value.version, ctypes.c_uint8 * 3)
+            raw.hello.mail = _maybe(_RawMaybeText, value.mail, lambda it: _Bytes.of(it.encode(), kept))
+        elif isinstance(value, Message.Measured):
+            raw.tag = 3
+            raw.measured.sensor = _number(value.sensor, ctypes.c_uint16)
+            raw.measured.reading = _RawReading.of(value.reading, kept)
+        elif isinstance(value, Message.Blob):
+            raw.tag = 4
+            raw.blob.t0 = _Bytes.of(value.t0, kept)
+        else:
+            raise TypeError(f"{value!r} is no `Message`")
+        return raw
+
 
 @dataclasses.dataclass(frozen=True)
 class Reading:
@@ -258,13 +332,21 @@ class Reading:
         """The values that stand one after another, up to the end of the bytes."""
         return _walk(Reading._read, bytes(data), order)
 
+    def to_bytes(self, order=_LITTLE):
+        """The canonical encoding of the value. Where it has none, `Refused` is raised."""
+        kept = []
+        return _written("telemetry_reading_write", _RawReading.of(self, kept), order)
+
 
 class Message:
     """A message."""
 
     @dataclasses.dataclass(frozen=True)
     class Ping:
-        pass
+        def to_bytes(self, order=_LITTLE):
+            """The canonical encoding of the value. Where it has none, `Refused` is raised."""
+            kept = []
+            return _written("telemetry_message_write", _RawMessage.of(self, kept), order)
 
     @dataclasses.dataclass(frozen=True)
     class Hello:
@@ -272,14 +354,29 @@ class Message:
         version: object
         mail: object
 
+        def to_bytes(self, order=_LITTLE):
+            """The canonical encoding of the value. Where it has none, `Refused` is raised."""
+            kept = []
+            return _written("telemetry_message_write", _RawMessage.of(self, kept), order)
+
     @dataclasses.dataclass(frozen=True)
     class Measured:
         sensor: object
         reading: object
 
+        def to_bytes(self, order=_LITTLE):
+            """The canonical encoding of the value. Where it has none, `Refused` is raised."""
+            kept = []
+            return _written("telemetry_message_write", _RawMessage.of(self, kept), order)
+
     @dataclasses.dataclass(frozen=True)
     class Blob:
         t0: object
+
+        def to_bytes(self, order=_LITTLE):
+            """The canonical encoding of the value. Where it has none, `Refused` is raised."""
+            kept = []
+            return _written("telemetry_message_write", _RawMessage.of(self, kept), order)
 
     @staticmethod
     def check(data, order=_LITTLE):

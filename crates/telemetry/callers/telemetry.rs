@@ -25,7 +25,7 @@ pub enum Order {
 pub enum Kind {
     /// a number that should be a character is none
     InvalidChar,
-    /// a tag that no variant has
+    /// a tag that no variant has, or in a view a flag that is neither 0 nor 1
     InvalidEnumVariant,
     /// a text is not UTF-8
     InvalidUtf8,
@@ -39,11 +39,11 @@ pub enum Kind {
     OutOfRangeUsize,
     /// the bytes end too soon: with more of them there may be a value
     UnexpectedEndOfInput,
-    /// a buffer has no room, which no check answers
+    /// a buffer has no room, which no call answers
     UnexpectedEndOfOutputBuffer,
     /// the bytes are fewer than any value has: with more of them there may be one
     InputBufferIsTooSmall,
-    /// a buffer has no room, which no check answers
+    /// the buffer is shorter than what is written
     OutputBufferIsTooSmall,
     /// a length is another than the field says that tells it
     LengthIsNotTheSameAsLengthAttribute,
@@ -71,7 +71,7 @@ pub enum Kind {
 #[derive(Debug, Clone, Copy, PartialEq, Eq)]
 pub struct Refused {
     pub kind: Kind,
-    /// How many bytes were read before that.
+    /// How many bytes were read before that, or how many a buffer has to have that is too short.
     pub at: usize,
 }
 
@@ -134,12 +134,26 @@ unsafe extern "C" {
         view: *mut RawReading,
         size: *mut usize,
     ) -> u32;
+    fn telemetry_reading_write(
+        view: *const RawReading,
+        order: u32,
+        buffer: *mut u8,
+        room: usize,
+        size: *mut usize,
+    ) -> u32;
     fn telemetry_message_check(bytes: *const u8, length: usize, order: u32, size: *mut usize) -> u32;
     fn telemetry_message_read(
         bytes: *const u8,
         length: usize,
         order: u32,
         view: *mut RawMessage,
+        size: *mut usize,
+    ) -> u32;
+    fn telemetry_message_write(
+        view: *const RawMessage,
+        order: u32,
+        buffer: *mut u8,
+        room: usize,
         size: *mut usize,
     ) -> u32;
     fn telemetry_line_check_whole(bytes: *const u8, length: usize, order: u32) -> u32;
@@ -158,6 +172,11 @@ impl RawBytes {
     unsafe fn get<'a>(self) -> &'a [u8] {
         // SAFETY: by the contract of the call, so many bytes lie there, within those that were read.
         unsafe { std::slice::from_raw_parts(self.at, self.length) }
+    }
+
+    /// Where bytes lie.
+    fn of(bytes: &[u8]) -> RawBytes {
+        RawBytes { at: bytes.as_ptr(), length: bytes.len() }
     }
 
     /// The text.
@@ -188,6 +207,15 @@ unsafe fn reading_of(raw: RawReading) -> reading::Reading {
         second: raw.second,
         value: raw.value,
         is_exact: raw.is_exact != 0,
+    }
+}
+
+/// The view that shows a value.
+fn reading_raw(value: reading::Reading) -> RawReading {
+    RawReading {
+        second: value.second,
+        value: value.value,
+        is_exact: value.is_exact as u8,
     }
 }
 
@@ -237,6 +265,73 @@ unsafe fn message_of<'a>(raw: RawMessage) -> message::Message<'a> {
         _ => message::Message::Blob {
             t0: unsafe { raw.blob.t0.get() },
         },
+    }
+}
+
+/// The view that shows a value.
+fn message_raw(value: message::Message<'_>) -> RawMessage {
+    match value {
+        message::Message::Ping => RawMessage {
+            tag: 1,
+            ..unsafe { self::zeros() }
+        },
+        message::Message::Hello { name, version, mail } => RawMessage {
+            tag: 2,
+            hello: RawMessageHello {
+                name: RawBytes::of(name.as_bytes()),
+                version: version,
+                mail: self::maybe_text_raw(mail),
+            },
+            ..unsafe { self::zeros() }
+        },
+        message::Message::Measured { sensor, reading } => RawMessage {
+            tag: 3,
+            measured: RawMessageMeasured {
+                sensor: sensor,
+                reading: self::reading_raw(reading),
+            },
+            ..unsafe { self::zeros() }
+        },
+        message::Message::Blob { t0 } => RawMessage {
+            tag: 4,
+            blob: RawMessageBlob {
+                t0: RawBytes::of(t0),
+            },
+            ..unsafe { self::zeros() }
+        },
+    }
+}
+
+/// The view that shows an option.
+fn maybe_text_raw(value: Option<&str>) -> RawMaybeText {
+    match value {
+        None => unsafe { self::zeros() },
+        Some(it) => RawMaybeText { is_some: 1, value: RawBytes::of(it.as_bytes()) },
+    }
+}
+
+/// A struct of C in which nothing is set.
+///
+/// # Safety
+///
+/// `T` is a struct of numbers and pointers.
+unsafe fn zeros<T>() -> T {
+    // SAFETY: zeros are numbers and pointers.
+    unsafe { std::mem::zeroed() }
+}
+
+/// What is written, in a buffer that grows as it says.
+fn grown(write: impl Fn(&mut [u8]) -> Result<usize, Refused>) -> Result<Vec<u8>, Refused> {
+    let mut buffer = vec![0; 64];
+    loop {
+        match write(&mut buffer) {
+            Ok(size) => {
+                buffer.truncate(size);
+                return Ok(buffer);
+            }
+            Err(Refused { kind: Kind::OutputBufferIsTooSmall, at }) => buffer.resize(at, 0),
+            Err(refused) => return Err(refused),
+        }
     }
 }
 
@@ -296,6 +391,25 @@ pub mod reading {
             }
         })
     }
+
+    impl Reading {
+        /// Writes the value to the front of the buffer, in its canonical encoding, and says how many bytes that takes.
+        /// Where the buffer is shorter, `at` of the error says how many are needed.
+        pub fn write_to(&self, buffer: &mut [u8], order: super::Order) -> Result<usize, super::Refused> {
+            let raw = super::reading_raw(*self);
+            let (start, room) = (buffer.as_mut_ptr(), buffer.len());
+            let mut size = 0;
+            // SAFETY: what the view shows stays while `self` is borrowed, so many bytes can be written, and nothing
+            // keeps a pointer.
+            let answer = unsafe { super::telemetry_reading_write(&raw, order as u32, start, room, &mut size) };
+            if answer == 0 { Ok(size) } else { Err(super::Refused::of(answer, size)) }
+        }
+
+        /// The canonical encoding of the value.
+        pub fn to_bytes(&self, order: super::Order) -> Result<Vec<u8>, super::Refused> {
+            super::grown(|buffer| self.write_to(buffer, order))
+        }
+    }
 }
 
 /// A message.
@@ -354,6 +468,25 @@ pub mod message {
                 }
             }
         })
+    }
+
+    impl Message<'_> {
+        /// Writes the value to the front of the buffer, in its canonical encoding, and says how many bytes that takes.
+        /// Where the buffer is shorter, `at` of the error says how many are needed.
+        pub fn write_to(&self, buffer: &mut [u8], order: super::Order) -> Result<usize, super::Refused> {
+            let raw = super::message_raw(*self);
+            let (start, room) = (buffer.as_mut_ptr(), buffer.len());
+            let mut size = 0;
+            // SAFETY: what the view shows stays while `self` is borrowed, so many bytes can be written, and nothing
+            // keeps a pointer.
+            let answer = unsafe { super::telemetry_message_write(&raw, order as u32, start, room, &mut size) };
+            if answer == 0 { Ok(size) } else { Err(super::Refused::of(answer, size)) }
+        }
+
+        /// The canonical encoding of the value.
+        pub fn to_bytes(&self, order: super::Order) -> Result<Vec<u8>, super::Refused> {
+            super::grown(|buffer| self.write_to(buffer, order))
+        }
     }
 }
 

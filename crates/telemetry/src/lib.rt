@@ -4,12 +4,12 @@
 #![tactic(auto)]
 
 ghost use Rattle.std.specs.Prelude.{◌≡◌};
-ghost use Rattle.speedy.specs.Exports.{Checks, ChecksWhole, Reads, Steps};
+ghost use Rattle.speedy.specs.Exports.{Checks, ChecksWhole, Reads, Steps, Writes};
 
 use crate::messages::{Line, Message, Reading};
 use crate::views::{MessageView, ReadingView};
 use speedy::Layout;
-use speedy::exports::{View, Walk, check, check_whole, next, read};
+use speedy::exports::{View, Walk, check, check_whole, next, read, write};
 use speedy::whole::Whole;
 use std::alloc::Global;
 
@@ -69,6 +69,21 @@ pub extern "C" fn telemetry_reading_next<'a>(
     next::<Reading, ReadingView>(alloc, walk, order, view)
 }
 
+/// Writes the [`Reading`] that a view shows.
+#[unsafe(no_mangle)]
+pub extern "C" fn telemetry_reading_write(
+    view: &ReadingView,
+    order: u32,
+    buffer: &mut [u8],
+    size: &mut usize,
+) -> u32
+    ensures { let it = ⟦<Reading as Layout>⟧ in
+        let shows = ⟦<ReadingView as View<Reading>>⟧.shows in
+        Writes it.seen shows it.layout view.now order result size.new buffer.old buffer.new }
+{
+    write::<Reading, ReadingView>(view, order, buffer, size)
+}
+
 /// Says whether bytes begin with an encoding of [`Message`].
 #[unsafe(no_mangle)]
 pub extern "C" fn telemetry_message_check<'a>(
@@ -112,6 +127,21 @@ pub extern "C" fn telemetry_message_next<'a>(
         view.old view.new }
 {
     next::<Message<'a>, MessageView<'a>>(alloc, walk, order, view)
+}
+
+/// Writes the [`Message`] that a view shows.
+#[unsafe(no_mangle)]
+pub extern "C" fn telemetry_message_write<'a>(
+    view: &MessageView<'a>,
+    order: u32,
+    buffer: &mut [u8],
+    size: &mut usize,
+) -> u32
+    ensures { let it = ⟦<Message<'a> as Layout>⟧ in
+        let shows = ⟦<MessageView<'a> as View<Message<'a>>>⟧.shows in
+        Writes it.seen shows it.layout view.now order result size.new buffer.old buffer.new }
+{
+    write::<Message<'a>, MessageView<'a>>(view, order, buffer, size)
 }
 
 /// Says whether bytes, all of them, are an encoding of [`Line`].

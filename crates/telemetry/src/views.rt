@@ -2,10 +2,10 @@
 //!
 //! Made from `messages.rs` by `tools/derive --library`: change that, and make this again.
 ghost use Rattle.std.specs.Prelude.{◌≡◌, Some, None};
-ghost use Rattle.speedy.specs.Exports.{flag_as_number};
+ghost use Rattle.speedy.specs.Exports.{ShowsFlag, ShowsText};
 
 use crate::messages::{Message, Reading};
-use speedy::exports::{View, flag_number};
+use speedy::exports::{Shown, Unshown, View, flag_number, flag_shown, text_shown};
 
 /// An option: whether there is a value (0 or 1), and which.
 #[repr(C)]
@@ -28,7 +28,7 @@ impl<'a> MaybeTextView<'a> {
 impl<'a> View<Option<&'a str>> for MaybeTextView<'a> {
     ghost shows = { λ value view. elim value [
       | None ↦ view.is_some ≡ 0
-      | Some it ↦ (view.is_some ≡ 1) × (view.value.now ≡ it.now)
+      | Some it ↦ (view.is_some ≡ 1) × (ShowsText it.now view.value.now)
     ] };
 
     fn of(value: &Option<&'a str>) -> MaybeTextView<'a> {
@@ -41,6 +41,19 @@ impl<'a> View<Option<&'a str>> for MaybeTextView<'a> {
                 is_some: 0,
                 value: &[],
             },
+        }
+    }
+}
+
+impl<'a> Shown<Option<&'a str>> for MaybeTextView<'a> {
+    fn value(&self) -> Result<Option<&'a str>, Unshown> {
+        match self.is_some {
+            0 => Ok(None),
+            1 => {
+                let it = text_shown(self.value)?;
+                Ok(Some(it))
+            }
+            _ => Err(Unshown::Tag),
         }
     }
 }
@@ -67,8 +80,7 @@ impl ReadingView {
 
 impl View<Reading> for ReadingView {
     ghost shows = { λ value view.
-        (view.second ≡ value.second) × (view.value ≡ value.value)
-        × (view.is_exact ≡ flag_as_number value.is_exact) };
+        (view.second ≡ value.second) × (view.value ≡ value.value) × (ShowsFlag value.is_exact view.is_exact) };
 
     fn of(value: &Reading) -> ReadingView {
         ReadingView {
@@ -76,6 +88,19 @@ impl View<Reading> for ReadingView {
             value: value.value,
             is_exact: flag_number(value.is_exact),
         }
+    }
+}
+
+impl Shown<Reading> for ReadingView {
+    fn value(&self) -> Result<Reading, Unshown> {
+        let t0 = self.second;
+        let t1 = self.value;
+        let t2 = flag_shown(self.is_exact)?;
+        Ok(Reading {
+            second: t0,
+            value: t1,
+            is_exact: t2,
+        })
     }
 }
 
@@ -160,7 +185,7 @@ impl<'a> View<Message<'a>> for MessageView<'a> {
       | Message.Ping ↦
           view.tag ≡ 1
       | Message.Hello t0 t1 t2 ↦
-          (view.tag ≡ 2) × (view.hello.name.now ≡ t0.now) × (view.hello.version ≡ t1)
+          (view.tag ≡ 2) × (ShowsText t0.now view.hello.name.now) × (view.hello.version ≡ t1)
           × (⟦<MaybeTextView<'a> as View<Option<&'a str>>>⟧.shows t2 view.hello.mail)
       | Message.Measured t0 t1 ↦
           (view.tag ≡ 3) × (view.measured.sensor ≡ t0)
@@ -202,5 +227,36 @@ impl<'a> View<Message<'a>> for MessageView<'a> {
             }
         }
         view
+    }
+}
+
+impl<'a> Shown<Message<'a>> for MessageView<'a> {
+    fn value(&self) -> Result<Message<'a>, Unshown> {
+        match self.tag {
+            1 => Ok(Message::Ping),
+            2 => {
+                let t0 = text_shown(self.hello.name)?;
+                let t1 = self.hello.version;
+                let t2 = self.hello.mail.value()?;
+                Ok(Message::Hello {
+                    name: t0,
+                    version: t1,
+                    mail: t2,
+                })
+            }
+            3 => {
+                let t0 = self.measured.sensor;
+                let t1 = self.measured.reading.value()?;
+                Ok(Message::Measured {
+                    sensor: t0,
+                    reading: t1,
+                })
+            }
+            4 => {
+                let t0 = self.blob.t0;
+                Ok(Message::Blob(t0))
+            }
+            _ => Err(Unshown::Tag),
+        }
     }
 }
