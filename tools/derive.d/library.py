@@ -133,18 +133,28 @@ class Library:
         self.module = Path(file_name).stem.replace("-", "_")
         if self.module in KEYWORDS | {"lib", "main", name} or not self.module.isidentifier():
             self.module = "types"
-        self.made = Made(source, file_name, [name, self.module])
+        self.make(source, [name, self.module])
         text = self.made.text
         self.docs = [it.removeprefix(" ").rstrip() for it in self.made.file.docs]
-        self.types = exported(self.made.file, public(parse(source)))
         # What a program compares, to see that its header and its library were made of one file.
         self.source = zlib.crc32(source.encode())
-        self.check_names()
-        self.views = Views(self.types, declared(self.made.file))
         self.notes = [*self.made.notes, *self.views.notes]
         self.files = {f"src/{self.module}.rt": text, "src/lib.rt": self.calls(), **self.made.answers, **self.callers()}
         if self.views.by_path:
             self.files["src/views.rt"] = laid_out(ViewTypes(self).text())
+
+    def make(self, source, place):
+        """Makes the module, in which those types borrow whose values are shown then."""
+        kept = set()
+        while True:
+            self.made = Made(source, self.file_name, place, kept)
+            self.types = exported(self.made.file, public(parse(source)))
+            self.check_names()
+            self.views = Views(self.types, declared(self.made.file))
+            more = self.made.lent - set(self.views.by_path)
+            if not more:
+                return
+            kept |= more
 
     def check_names(self):
         """Refuses types whose calls would have one name, and a file that has none to be called."""

@@ -10,6 +10,7 @@ import syntax
 import visibility
 from enums import by_discriminant, enum_lines
 from generics import Generics
+from lend import lend
 from names import field_name
 from parse import parse
 from rattle import type_text
@@ -22,17 +23,21 @@ from whole import ends_early, ends_with_input
 class Made:
     """A made module: its text, and notes on what was left out."""
 
-    def __init__(self, source, name, place):
+    def __init__(self, source, name, place, kept=None):
+        """Where there are `kept`, the types of the file that may borrow do, but those of these paths: `lent` has which.
+        """
         self.notes = []
         try:
             self.file = parse(source)
+            self.lent = set() if kept is None else lend(self.file, kept)
             self.raw = self.made(self.file, name, place)
         except RecursionError as error:
             raise Refusal(1, "a name of this file leads to others on and on: write out what it stands for") from error
 
     def made(self, file, name, place):
         """The text, as it is before it is laid out."""
-        made = f"Made from `{name}` by `tools/derive`: change that, and make this again."
+        by = "`tools/derive --library`" if self.lent else "`tools/derive`"
+        made = f"Made from `{name}` by {by}: change that, and make this again."
         docs = [f"//!{line}".rstrip() for line in file.docs]
         # Proofs by hand, by their paths below the crate's folder.
         self.answers = {}

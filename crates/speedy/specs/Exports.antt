@@ -168,3 +168,9 @@ TakesWhole codec order answer found size =
     ((answer ≡ 18) × ((it : Endianness) × (order ≡ number_of_order it)
     × IsTrue (codec.format (plain_mode it)).asks.memory))
     ⊎ ((answer ≡ 0) × (found ≡ size))
+
+-- What was written of what was read: both encode one value in the order of a number, the one in its canonical encoding.
+abbrev pub WritesAgain : {V : Type 0} → Codec V → ℕ → List ℕ → List ℕ → Type 0
+WritesAgain {V = V} codec order read written =
+    (it : Endianness) → order ≡ number_of_order it → (value : V) × (codec.format (plain_mode it)).encodes value read
+    × (codec.format (plain_mode it)).writes value written × (length written ≤ length read)

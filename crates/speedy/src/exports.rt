@@ -4,7 +4,8 @@ ghost use Rattle.std.specs.Prelude.{◌≡◌, ◌<◌, ◌↔◌, ℕ, List, �
 ghost use Rattle.std.specs.Str.{IsUtf8};
 ghost use Rattle.speedy_base.specs.Error.{kind_of};
 ghost use Rattle.speedy.specs.Exports.{number_of_kind, number_of_order, flag_as_number, number_of_unshown};
-ghost use Rattle.speedy.specs.Exports.{Checks, ChecksWhole, Reads, Steps, Writes, TakesWhole};
+ghost use Rattle.speedy.specs.Exports.{Checks, ChecksWhole, Reads, Steps, Writes};
+ghost use Rattle.speedy.specs.Exports.{TakesWhole, WritesAgain};
 ghost use Rattle.speedy.specs.Exports.{MakesShown, ShowsText, ShowsCharacter, ShowsFlag};
 
 use crate::laws::refused_is_none;
@@ -297,4 +298,13 @@ pub fn written_is_checked<T: Layout, V: View<T>>()
         Writes T.seen V.shows T.layout view order 0 size old new
         → Checks T.layout order (take size new ++ more) answer found
         → TakesWhole T.layout order answer found size }
+{}
+
+/// What a read shows is written again as the canonical encoding of the value that was read, which is no longer than the
+/// encoding that was read.
+pub fn read_is_written<T: Layout, V: View<T>>()
+    ensures { (view before : V) (order size room : ℕ) (bytes old new : List ℕ) →
+        Reads T.seen V.shows T.layout order bytes 0 size before view
+        → Writes T.seen V.shows T.layout view order 0 room old new
+        → WritesAgain T.layout order (take size bytes) (take room new) }
 {}
