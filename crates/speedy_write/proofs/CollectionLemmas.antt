@@ -5,7 +5,7 @@ use Rattle.std.proofs.Common.{sym, ◌∙◌, ap, subst}
 use Rattle.std.proofs.iter.Next.{Yields-more}
 use Rattle.std.proofs.iter.Yields.{gives_left, gives_Drains, listed}
 use Rattle.std.proofs.lemmas.List.{length-map}
-use Rattle.std.specs.Iterator.{Yields, YieldsFirst, Drains, AlwaysYields}
+use Rattle.std.specs.Iterator.{Yields, YieldsThen, YieldsFirst, Drains, AlwaysYields, Count, IsFinite, MakesProgress}
 use Rattle.std.specs.Map.Iter.{TakesFirst, deref, deref_pair}
 use Rattle.speedy_base.specs.declared.error.ErrorKind.{ErrorKind}
 use Rattle.speedy_base.specs.declared.error.Error.{Error}
@@ -21,13 +21,33 @@ use Rattle.speedy_layout.specs.Owned.{owned_content, borrowed_content}
 use Rattle.speedy_layout.specs.Prefixed.{Numbers}
 use Rattle.speedy_layout.specs.Sequences.{sequence}
 use Rattle.speedy_layout.specs.Tuples.{pair, pair_codec}
-use Rattle.speedy_write.specs.Collections.{WritesItems}
+use Rattle.speedy_write.specs.Collections.{TakesSome, WritesItems}
 use Rattle.speedy_write.specs.Sequences.{Writes-as}
 use Rattle.speedy_base.specs.Error.{passed_on}
 use Rattle.speedy_write.specs.Writing.{WriterState, Writes, WritesEach}
 use Rattle.speedy_write.proofs.ListLemmas.{first_items_refused, next_refused}
 
 -- ---- item by item
+
+-- an iterator gives its next item, or none
+pub next_alone : {S A : Type 0} {can : S → Type 0} {left : S → Count} {steps : S → Option A → S → Type 0} {s t : S}
+    {r : Option A} → IsFinite (left s) → steps s r t → MakesProgress can left s r t
+    → TakesSome can left steps [] r s t
+next_alone {s = s} finite step goes = record { gave = (s, refl, step); goes_on = goes.on finite }
+
+-- items, and more behind them
+Yields-append : {S A : Type 0} (steps : S → Option A → S → Type 0) (s : S) (xs ys : List A) (t u : S)
+    → Yields steps s xs t → Yields steps t ys u → Yields steps s (xs ++ ys) u
+Yields-append steps s [] ys t u same more = subst (λ j. Yields steps j ys u) (sym same) more
+Yields-append steps s (x ∷ xs) ys t u first more =
+    (first.0, first.1, Yields-append steps first.0 xs ys t u first.2 more)
+
+-- items, and then others that were put at once, and the next one
+pub Yields-put : {S A : Type 0} {can : S → Type 0} {left : S → Count} {steps : S → Option A → S → Type 0}
+    (s : S) {t u : S} {r : Option A} (xs : List A) {put : List A} → Yields steps s xs t
+    → TakesSome can left steps put r t u → YieldsThen steps s (xs ++ put) r u
+Yields-put {steps = steps} s {t = t} xs {put = put} first some =
+    (some.gave.0, Yields-append steps s xs put t some.gave.0 first some.gave.1, some.gave.2)
 
 module _ {E U S A V : Type 0} {gives : Error → E → Type 0} {becomes : U → S → Type 0}
     {steps : S → Option A → S → Type 0} {seen : A → V} {F : Mode → Format V} {items : U} (it : S) (walked : List A)

@@ -34,23 +34,40 @@ prefix_behind at k more xs ys within fits =
     ∙ omega (arith, length-take-le at xs within, length-take-le more ys fits) in
     ap (take (at + more)) parts ∙ take_at (take at xs ++ take more ys) rest (at + more) size
 
--- one more item is written behind the first ones
+-- one more item is written behind others
+pub item_filled : {A V : Type 0} {x : A} {end more : ℕ} {ys : List ℕ} (writes : V → List ℕ → Type 0)
+    (seen : A → V) (items : List A) (k : ℕ) (xs : List ℕ)
+    → length (put_mid end k xs ys) ≡ length xs → end + length ys ≡ length xs
+    → IsAtFront (Each writes) (map seen items) xs end → IsAtFront writes (seen x) ys more
+    → IsAtFront (Each writes) (map seen (items ++ x ∷ [])) (put_mid end k xs ys) (end + more)
+item_filled {x = x} {end = end} {more = more} {ys = ys} writes seen items k xs same ends h one =
+    let inside = one.within in
+    record {
+      within = omega (arith, same, ends, inside);
+      is_written = subst (Each writes (map seen (items ++ x ∷ [])))
+          (sym (prefix_behind end k more xs ys h.within inside))
+          (subst (λ vs. Each writes vs (take end xs ++ take more ys)) (sym (map-append seen items (x ∷ [])))
+          (each_more writes (map seen items) (seen x) (take end xs) (take more ys) h.is_written one.is_written));
+    }
+
+-- and behind the first ones of a list
 pub one_more_filled : {A V : Type 0} {x : A} {end more : ℕ} {ys : List ℕ} (writes : V → List ℕ → Type 0)
     (seen : A → V) (items : List A) (i k : ℕ) (xs : List ℕ) → i < length items → x ≡ get_or items i x
     → length (put_mid end k xs ys) ≡ length xs → end + length ys ≡ length xs
     → IsAtFront (Each writes) (map seen (take i items)) xs end → IsAtFront writes (seen x) ys more
     → IsAtFront (Each writes) (map seen (take (i + 1) items)) (put_mid end k xs ys) (end + more)
-one_more_filled {x = x} {end = end} {more = more} {ys = ys} writes seen items i k xs within is same ends h one =
-    let inside = one.within in
-    record {
-      within = omega (arith, same, ends, inside);
-      is_written = subst (Each writes (map seen (take (i + 1) items)))
-          (sym (prefix_behind end k more xs ys h.within inside))
-          (subst (λ vs. Each writes vs (take end xs ++ take more ys))
-          (sym (ap (map seen) (first_items items i within is) ∙ map-append seen (take i items) (x ∷ [])))
-          (each_more writes (map seen (take i items)) (seen x) (take end xs) (take more ys) h.is_written
-          one.is_written));
-    }
+one_more_filled {end = end} {more = more} {ys = ys} writes seen items i k xs within is same ends h one =
+    subst (λ some. IsAtFront (Each writes) (map seen some) (put_mid end k xs ys) (end + more))
+    (sym (first_items items i within is)) (item_filled writes seen (take i items) k xs same ends h one)
+
+-- what lies behind the front may change
+pub still_filled : {V : Type 0} {writes : V → List ℕ → Type 0} {v : V} {end : ℕ} (k : ℕ) (xs ys : List ℕ)
+    → length (put_mid end k xs ys) ≡ length xs → IsAtFront writes v xs end
+    → IsAtFront writes v (put_mid end k xs ys) end
+still_filled {writes = writes} {v = v} {end = end} k xs ys same h = record {
+  within = let inside = h.within in omega (arith, same, inside);
+  is_written = subst (writes v) (sym (take-put_mid_below end k xs ys end (omega arith) h.within)) h.is_written;
+}
 
 -- what is written behind what waits in a room waits too
 pub waits_behind : {V : Type 0} {writes : V → List ℕ → Type 0} {v : V} {end : ℕ} {put : List ℕ} (start at k : ℕ)

@@ -1,10 +1,17 @@
 -- What the write of a collection's items does.
-use Rattle.std.specs.Prelude.{ℕ, List, Option, Result, MatchResult}
-use Rattle.std.specs.Iterator.{Yields, Drains}
+use Rattle.std.specs.Prelude.{ℕ, ◌<◌, List, Option, OnSome, Result, MatchResult}
+use Rattle.std.specs.Iterator.{Yields, YieldsThen, Drains, Count, IsFinite, size}
 use Rattle.speedy_base.specs.declared.error.Error.{Error}
 use Rattle.speedy_base.specs.Mode.{Mode}
 use Rattle.speedy_layout.specs.Format.{Format}
 use Rattle.speedy_write.specs.Writing.{WriterState, WritesEach}
+
+-- From one state of an iterator on the first items were taken of it, and then the next one, or it had none. Behind an
+-- item it may go on, and has fewer left.
+pub record TakesSome {S A : Type 0} (can : S → Type 0) (left : S → Count) (steps : S → Option A → S → Type 0)
+    (taken : List A) (next : Option A) (old new : S) : Type 0 where
+  pub gave : YieldsThen steps old taken next new
+  pub goes_on : OnSome next (can new × IsFinite (left new) × (size (left new) < size (left old)))
 
 module _ {U S A V : Type 0} (becomes : U → S → Type 0) (steps : S → Option A → S → Type 0) (seen : A → V) where
   -- The write of the items that an iterator gives, one after the other. Where it succeeds they are all its items, and

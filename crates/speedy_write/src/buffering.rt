@@ -2,12 +2,14 @@
 #![tactic(auto, using(crate::proofs::BufferingLemmas::pushes))]
 
 ghost use Rattle.std.specs.Borrow.{GName};
-ghost use Rattle.std.specs.Prelude.{◌≡◌, ◌+◌, ◌-◌, ◌*◌, ◌≤◌, ◌↔◌, [], ◌++◌, length, map, take, drop, None, Ok};
+ghost use Rattle.std.specs.Iterator.{IsFinite};
+ghost use Rattle.std.specs.Prelude.{◌≡◌, ◌+◌, ◌-◌, ◌*◌, ◌≤◌, ◌↔◌, List, [], ◌++◌, length, map, take, drop, None, Ok};
 ghost use Rattle.std.specs.Prelude.{IsTrue, false, OnOk, refl};
 ghost use Rattle.speedy_base.specs.Mode.{Mode};
 ghost use Rattle.speedy_write.specs.Collectors.{sink_state};
 ghost use Rattle.speedy_write.specs.FixedBytes.{PutsBehind};
 ghost use Rattle.speedy_write.specs.Writing.{WritesBytes, RefusesFull, WritesValues, WritesSlice};
+ghost use Rattle.speedy_write.specs.Collections.{TakesSome};
 ghost use Rattle.speedy_write.specs.Buffering.{Buffers, PushesWaiting, WaitsBehind, buffers_nothing};
 ghost use Rattle.speedy_write.specs.Buffering.{buffers_additive};
 ghost use Rattle.speedy_layout.specs.Format.{Each};
@@ -25,6 +27,8 @@ use std::alloc::Global;
 
 // The use of a buffer as the room of what waits.
 struct Room {}
+
+struct RoomFrom {}
 
 /// Bytes that wait to be pushed, in room that is lent.
 #[derive(Drop)]
@@ -81,26 +85,24 @@ impl<'b> Waiting<'b> {
         self.end = put_values_at::<T, P>(values, order, &mut *self.room, self.end);
     }
 
-    // Appends the bytes of this item to those that wait, if they fit, and says whether they did.
+    // Has the first of the items that an iterator gives wait too, as many as have room, and returns the next one, or
+    // `None` where none is left.
     #[inline(always)]
-    fn add_whole<C: Context, T: Layout, P: FillsFront<T, C>>(
+    fn add_from<C: Context, T: Layout + Drop, P: FillsFront<T, C>, I: Iterator<Item = T>>(
         &mut self,
-        item: &T,
+        items: &mut I,
         context: &mut C,
-    ) -> bool
+    ) -> Option<T>
+        requires { I.can_next items.old × IsFinite (I.remaining items.old) }
         ensures mode { C.mode context.new ≡ C.mode context.old }
-        ensures adds { let format = T.layout.format (C.mode context.old) in
-            IsTrue result → WaitsBehind format.writes (T.seen item.now) (waiting self.old) (waiting self.new) }
-        ensures unchanged { result ≡ false → waiting self.new ≡ waiting self.old }
+        ensures adds { let format = T.layout.format (C.mode context.old) in (put : List T)
+            × TakesSome I.can_next I.remaining I.next_gives put result items.old items.new
+            × WaitsBehind (Each format.writes) (map T.seen put) (waiting self.old) (waiting self.new) }
     {
         let start = self.end;
-        match P::fill_prefix::<Room>(item, context, &mut self.room[start..]) {
-            Some(end) => {
-                self.end = start + end;
-                true
-            }
-            None => false,
-        }
+        let (end, next) = P::fill_from::<RoomFrom, I>(items, context, &mut self.room[start..]);
+        self.end = start + end;
+        next
     }
 
     // Has the first of these items wait too, as many as have room, and says how many.
@@ -364,10 +366,14 @@ impl<'s, S: Sink, C: Context> Writer<C> for BufferingCollector<'s, S, C> {
         self.write_past(slice)
     }
 
-    /// Writes the item where others wait, if it has room there.
+    /// Writes the items where others wait, as many as have room there.
     #[inline]
-    fn put_whole<T: Layout, P: FillsFront<T, C>>(&mut self, item: &T) -> bool {
-        self.waiting.add_whole::<C, T, P>(item, &mut self.context)
+    fn put_from<T: Layout + Drop, P: FillsFront<T, C>, I: Iterator<Item = T>>(
+        &mut self,
+        items: &mut I,
+    ) -> Option<T> {
+        self.waiting
+            .add_from::<C, T, P, I>(items, &mut self.context)
     }
 
     /// Writes the items where others wait, as many as have room there.

@@ -208,10 +208,14 @@ impl<'a, C> VecCollector<'a, C> {
     }
 }
 
-// The use of a buffer as the zeros behind a vector.
+// The use of a buffer as the zeros behind a vector, for the items of a list, and for those of an iterator.
 struct Zeros {}
 
+struct ZerosFrom {}
+
 impl<'a, C: Context> Writer<C> for VecCollector<'a, C> {
+    const PUTS: bool = true;
+
     ghost use Rattle.speedy_write.specs.CollectorModels.{vec_model};
 
     ghost at = { λ w. w.context.now };
@@ -247,6 +251,19 @@ impl<'a, C: Context> Writer<C> for VecCollector<'a, C> {
         }
         self.position += slice.len();
         Ok(())
+    }
+
+    /// Writes the items over the zeros, as many as fit there.
+    #[inline]
+    fn put_from<T: Layout + Drop, P: FillsFront<T, C>, I: Iterator<Item = T>>(
+        &mut self,
+        items: &mut I,
+    ) -> Option<T> {
+        let start = self.position;
+        let zeros = &mut self.bytes.as_mut_slice()[start..];
+        let (end, next) = P::fill_from::<ZerosFrom, I>(items, &mut *self.context, zeros);
+        self.position = start + end;
+        next
     }
 
     /// Writes the items over the zeros, as many as fit there.

@@ -3,7 +3,6 @@ ghost use Rattle.std.specs.Prelude.{◌≡◌, map, IfSome};
 ghost use Rattle.speedy_write.specs.Counting.{CountsEach};
 ghost use Rattle.speedy_write.specs.Writing.{WritesValue, WritesValues};
 
-use crate::filling::Whole;
 use crate::writable::Writable;
 use crate::writer::Writer;
 use speedy_base::context::Context;
@@ -26,8 +25,7 @@ pub(crate) fn write_items<C: Context, T: Writable<C>, W: Writer<C>>(
     T::write_many(items, writer)
 }
 
-// Writes an item of a collection. A writer that only counts gets its size in one call, and one that has room for all
-// of it gets it whole.
+// Writes an item of a collection by its parts. A writer that only counts gets its size in one call.
 #[inline]
 pub(crate) fn write_item<C: Context, T: Writable<C>, W: Writer<C>>(
     item: &T,
@@ -43,12 +41,12 @@ pub(crate) fn write_item<C: Context, T: Writable<C>, W: Writer<C>>(
             }
         }
     }
-    put_or_write(item, writer)
+    by_parts(item, writer)
 }
 
-// Writes an item whole, where the writer has room for it, and else by its parts.
+// Writes an item by its parts. It stands apart where those that have room are put whole.
 #[inline]
-fn put_or_write<C: Context, T: Writable<C>, W: Writer<C>>(
+fn by_parts<C: Context, T: Writable<C>, W: Writer<C>>(
     item: &T,
     writer: &mut W,
 ) -> Result<(), C::Error>
@@ -56,9 +54,6 @@ fn put_or_write<C: Context, T: Writable<C>, W: Writer<C>>(
         result writer.old writer.new }
 {
     if W::PUTS {
-        if writer.put_whole::<T, Whole>(item) {
-            return Ok(());
-        }
         return write_by_parts(item, writer);
     }
     item.write_to(writer)

@@ -1,6 +1,8 @@
 //! How items are written whole where a writer has room: to the front of a buffer, as many as fit (`FillsFront`).
-ghost use Rattle.std.specs.Prelude.{◌≡◌, ◌≤◌, length, map, take, IfSome};
+ghost use Rattle.std.specs.Iterator.{IsFinite};
+ghost use Rattle.std.specs.Prelude.{◌≡◌, ◌≤◌, List, length, map, take, IfSome};
 ghost use Rattle.speedy_layout.specs.Format.{Each};
+ghost use Rattle.speedy_write.specs.Collections.{TakesSome};
 ghost use Rattle.speedy_write.specs.Collectors.{IsAtFront};
 
 use crate::collectors::BufferCollector;
@@ -13,30 +15,34 @@ use speedy_layout::Layout;
 /// `Writer` comes before `Writable`, and cannot name it. So a writer that lends its room takes the way of writing to it
 /// as a type.
 pub trait FillsFront<T: Layout, C: Context> {
-    /// Writes a value to the front of a buffer, and says where it ends, or `None` where it does not fit, or has no
-    /// encoding. `U` says what the buffer is used for.
-    fn fill_prefix<U>(value: &T, context: &mut C, buffer: &mut [u8]) -> Option<usize>
-        ensures mode { C.mode context.new ≡ C.mode context.old }
-        ensures fills { let format = T.layout.format (C.mode context.old) in
-            IfSome result (λ end. IsAtFront format.writes (T.seen value.now) buffer.new end) };
-
     /// Writes the first of the items to the front of a buffer, as many as fit, and says how many, and where they end.
+    /// `U` says what the buffer is used for.
     fn fill_each<U>(items: &[T], context: &mut C, buffer: &mut [u8]) -> (usize, usize)
         ensures mode { C.mode context.new ≡ C.mode context.old }
         ensures some { result.0 ≤ length items.now }
         ensures fills { let format = T.layout.format (C.mode context.old) in
             IsAtFront (Each format.writes) (map T.seen (take result.0 items.now)) buffer.new result.1 };
+
+    /// Writes the first of the items that an iterator gives to the front of a buffer, as many as fit. It says where
+    /// they end, and returns the next item, or `None` where none is left.
+    fn fill_from<U, I: Iterator<Item = T>>(
+        items: &mut I,
+        context: &mut C,
+        buffer: &mut [u8],
+    ) -> (usize, Option<T>)
+    where
+        T: Drop,
+        requires { I.can_next items.old × IsFinite (I.remaining items.old) }
+        ensures mode { C.mode context.new ≡ C.mode context.old }
+        ensures fills { let format = T.layout.format (C.mode context.old) in (put : List T)
+            × TakesSome I.can_next I.remaining I.next_gives put result.1 items.old items.new
+            × IsAtFront (Each format.writes) (map T.seen put) buffer.new result.0 };
 }
 
 /// The way of `Writable`: each value is written whole, or not at all.
 pub(crate) struct Whole {}
 
 impl<C: Context, T: Writable<C>> FillsFront<T, C> for Whole {
-    #[inline]
-    fn fill_prefix<U>(value: &T, context: &mut C, buffer: &mut [u8]) -> Option<usize> {
-        fill_prefix::<C, T, U>(value, context, buffer)
-    }
-
     #[inline]
     fn fill_each<U>(items: &[T], context: &mut C, buffer: &mut [u8]) -> (usize, usize) {
         let mut count = 0;
@@ -49,6 +55,25 @@ impl<C: Context, T: Writable<C>> FillsFront<T, C> for Whole {
             end += more;
         }
         (count, end)
+    }
+
+    #[inline]
+    fn fill_from<U, I: Iterator<Item = T>>(
+        items: &mut I,
+        context: &mut C,
+        buffer: &mut [u8],
+    ) -> (usize, Option<T>)
+    where
+        T: Drop,
+    {
+        let mut end = 0;
+        while let Some(item) = items.next() {
+            let Some(more) = fill_prefix::<C, T, U>(&item, context, &mut buffer[end..]) else {
+                return (end, Some(item));
+            };
+            end += more;
+        }
+        (end, None)
     }
 }
 

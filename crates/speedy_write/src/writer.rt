@@ -1,15 +1,15 @@
 //! Writers: where values are written, and the writes that each has.
 ghost use Rattle.std.specs.Prelude.{◌≡◌, ◌≤◌, ℕ, [], ◌++◌, List, Option, Bool, false, IsTrue, Ok, length, take};
 ghost use Rattle.std.specs.Borrow.{sem, Lends};
-ghost use Rattle.std.specs.Iterator.{IsFiniteIterable};
+ghost use Rattle.std.specs.Iterator.{IsFinite, IsFiniteIterable};
 ghost use Rattle.std.specs.Int.{w8, w16, w32, w64, w128};
 ghost use Rattle.speedy_layout.specs.Codecs.{varint_codec};
-ghost use Rattle.speedy_write.specs.Collections.{WritesItems};
+ghost use Rattle.speedy_write.specs.Collections.{TakesSome, WritesItems};
 ghost use Rattle.speedy_write.specs.Writing.{WriterState, WritesValue, WritesValues, WritesSlice, WritesNumber};
 ghost use Rattle.speedy_write.specs.Writing.{WritesSigned, WritesAtOnce, RefusesFull, CountsBytes, IsRight};
 
 use crate::each::{write_item, write_items};
-use crate::filling::FillsFront;
+use crate::filling::{FillsFront, Whole};
 use crate::fixed::{FixedBytes, write_number};
 use crate::writable::Writable;
 use speedy_base::context::Context;
@@ -21,7 +21,7 @@ pub trait Writer<C: Context> {
     /// Whether `count_bytes` ever answers `Some`. It is a hint: nothing rests on it but speed.
     const COUNTS: bool = false;
 
-    /// Whether `put_whole` ever answers `true`. It is a hint: nothing rests on it but speed.
+    /// Whether `put_from` ever puts an item. It is a hint: nothing rests on it but speed.
     const PUTS: bool = false;
 
     /// The context that the writer holds.
@@ -66,17 +66,21 @@ pub trait Writer<C: Context> {
         false
     }
 
-    /// Writes the item whole, where the writer puts it at once in the room that it has, and says whether it did. This
-    /// body says that it did not, and does nothing.
+    /// Writes the first of the items that an iterator gives, each of them whole, as many as the writer puts at once in
+    /// the room that it has, and returns the next one, or `None` where none is left. This body writes none.
     #[inline(always)]
-    fn put_whole<T: Layout, P: FillsFront<T, C>>(&mut self, _item: &T) -> bool
+    fn put_from<T: Layout + Drop, P: FillsFront<T, C>, I: Iterator<Item = T>>(
+        &mut self,
+        items: &mut I,
+    ) -> Option<T>
     where
         Self: Sized,
-        ensures puts { IsTrue result → WritesValue C.Error.from_gives state appends T.seen T.layout
-            _item.now (Ok tt) self.old self.new }
-        ensures nothing { result ≡ false → (state self.new ≡ state self.old) × appends self.old [] self.new }
+        requires { I.can_next items.old × IsFinite (I.remaining items.old) }
+        ensures { (put : List T)
+            × TakesSome I.can_next I.remaining I.next_gives put result items.old items.new
+            × WritesValues C.Error.from_gives state appends T.seen T.layout put (Ok tt) self.old self.new }
     {
-        return false;
+        items.next()
     }
 
     /// Writes the first of the items, each of them whole, as many as the writer puts at once in the room that it has,
@@ -286,7 +290,8 @@ pub trait Writer<C: Context> {
             C.Error.from_gives T.layout.format items result
             (state self.old) (state self.new) (λ b. appends self.old b self.new) }
     {
-        for item in items {
+        let mut items = items.into_iter();
+        while let Some(item) = self.put_from::<T, Whole, I::IntoIter>(&mut items) {
             write_item(&item, self)?;
         }
         Ok(())

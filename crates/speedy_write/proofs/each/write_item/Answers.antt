@@ -32,4 +32,4 @@ returns g c =
           (suffix w _ _ _ h.context_mut.ensures.value h.bytes_needed.ensures.mode h.writer-is).0
       | else-COUNTS h ↦ subst (StaysAs g.W.Writer.state g.W.Writer.appends w) (sym h.writer-is) stays_same
     ] in
-    Writes-from same.state_is (λ b. same.joins b _) c.put_or_write.ensures
+    Writes-from same.state_is (λ b. same.joins b _) c.by_parts.ensures
