@@ -1,11 +1,12 @@
 -- Reads of values and of items make reads of all of the bytes.
-use Rattle.std.specs.Prelude.{map, ◌≡◌, ℕ, ◌+◌, ◌<◌, ◌≤◌, List, [], ◌∷◌, ◌++◌, length, Bool, false}
-use Rattle.std.specs.Prelude.{IsTrue, ◌⊎◌, Result}
+use Rattle.std.specs.Prelude.{map, ◌≡◌, ℕ, ◌+◌, ◌*◌, ◌<◌, ◌≤◌, List, [], ◌∷◌, ◌++◌, length, Bool, false}
+use Rattle.std.specs.Prelude.{⊤, IsTrue, ◌⊎◌, Option, Some, None, MatchOption, Result}
 use Rattle.std.specs.Prelude.{Ok, Err, IsErrAnd, refl}
 use Rattle.std.specs.Result.{is_ok, is_err}
 use Rattle.std.specs.Prelude.{cond}
 use Rattle.std.proofs.Common.{sym, ◌∙◌, ap, subst, arith, inl, inr}
 use Rattle.std.proofs.lemmas.Bool.{true≢false, cases_lt}
+use Rattle.std.proofs.lemmas.Nat.{mul-le}
 use Rattle.std.proofs.lemmas.List.{append-nil, append_assoc, length-append, nil_from_length, map-append, length-map}
 use Rattle.speedy_base.specs.declared.error.ErrorKind.{ErrorKind}
 use Rattle.speedy_base.specs.declared.error.ErrorKind.TheVariants as kinds
@@ -31,7 +32,7 @@ use Rattle.speedy_read.specs.Reading.{ReaderKind, ReaderState, Kept, IsTold, ref
 use Rattle.speedy_read.specs.Reading.{Undecodable, Reads}
 use Rattle.speedy_read.specs.ReadingLemmas.{Kept-same, Kept-after, IsTold-after, no_parts}
 use Rattle.speedy_read.specs.ReadingLemmas.{ReadSoFar, none_so_far, prefixes_nest}
-use Rattle.speedy_read.specs.Wholes.{InMemory, ReadsWhole}
+use Rattle.speedy_read.specs.Wholes.{HaveSize, InMemory, ReadsWhole}
 use Rattle.speedy_read.proofs.ListLemmas.{next_item, item_more}
 
 -- no call of a device fails in a read of bytes in memory, so what excuses it is want of memory
@@ -59,6 +60,17 @@ module _ {E : Type 0} {gives : Error → E → Type 0} {eof : E → Bool} {V B :
       → ReadsWhole gives eof seen F misfits (Err e) old new → ReadsWhole gives eof seen F misfits result old new
   ReadsWhole-passed {e = e} {result = result} {new = new} passed r =
       subst (λ (x : Result B E). ReadsWhole gives eof seen F misfits x old new) (passed_on result e passed) r
+
+  -- another value of the same bytes is read, or refused, where the same is seen of it
+  pub whole_as : {A : Type 0} {first : A → V} {x : A} {y : B} {new : ReaderState} → seen y ≡ first x
+      → ReadsWhole gives eof first F misfits (Ok x) old new → ReadsWhole gives eof seen F misfits (Ok y) old new
+  whole_as same r =
+      record { kept = r.kept; answer = subst (λ (v : V). F.encodes v old.remaining) (sym same) r.answer }
+
+  pub not_whole_as : {A : Type 0} {first : A → V} {e : E} {result : Result B E} {new : ReaderState}
+      → IsErrAnd result (λ x. x ≡ e) → ReadsWhole gives eof first F misfits (Err e) old new
+      → ReadsWhole gives eof seen F misfits result old new
+  not_whole_as passed r = ReadsWhole-passed passed (record { kept = r.kept; answer = r.answer })
 
   -- a part L that is refused from `mid` on, so that the bytes are those of no value
   pub part_not_whole : {A U : Type 0} {part : A → U} {L : Format U} {e : E} {result : Result B E}
@@ -264,46 +276,125 @@ some_length : (bytes : List ℕ) → (bytes ≡ [] → ⊥) → 1 ≤ length byt
 some_length [] some = absurd (some refl)
 some_length (b ∷ bytes) some = omega arith
 
+-- items of a size that are fewer have fewer bytes
+fewer_bytes : (n m size : ℕ) → 0 < size → n < m → (n + 1) * size ≤ m * size
+fewer_bytes n m size some fewer = mul-le (n + 1) size m size (omega arith) (omega arith)
+
+more_bytes : (n size : ℕ) → (n + 1) * size ≡ n * size + size
+more_bytes n size = grind arith
+
+-- so as many bytes are those of as many items
+same_number : (n m size : ℕ) → 0 < size → n * size ≡ m * size → n ≡ m
+same_number n m size some same =
+    elim (cases_lt n m) [
+      | inl fewer ↦
+          let less = fewer_bytes n m size some fewer in
+          let more = more_bytes n size in
+          absurd (omega arith)
+      | inr enough ↦ elim (cases_lt m n) [
+        | inl fewer ↦
+            let less = fewer_bytes m n size some fewer in
+            let more = more_bytes m size in
+            absurd (omega arith)
+        | inr most ↦ omega arith
+      ]
+    ]
+
+-- and no whole ones end within one
+within_one : (k n size : ℕ) → 0 < size → k * size < n * size → n * size < (k + 1) * size → ⊥
+within_one k n size some above below =
+    elim (cases_lt k n) [
+      | inl fewer ↦ let less = fewer_bytes k n size some fewer in omega arith
+      | inr enough ↦ let less = mul-le n size k size enough (omega arith) in omega arith
+    ]
+
 module _ {E : Type 0} {gives : Error → E → Type 0} {eof : E → Bool} {V A : Type 0} (f : Mode) (counting : Counting V)
-    {seen : A → V} (bytewise : (n : ℕ) (v : V) (bytes : List ℕ) → ((counting.of_length n).format f).encodes v bytes
-    → length bytes ≡ n) {n : ℕ} {old new : ReaderState} (before : InMemory old) (since : InMemory new)
-    (is : n ≡ length old.remaining) where
-  pub bytes_whole : (result : Result A E) → Reads gives eof seen ((counting.of_length n).format f) result old new
+    {seen : A → V} {size : ℕ} (some : 0 < size) (sized : (n : ℕ) (v : V) (bytes : List ℕ)
+    → ((counting.of_length n).format f).encodes v bytes → length bytes ≡ n * size) {n : ℕ} {old new : ReaderState}
+    (before : InMemory old) (since : InMemory new) (is : n * size ≡ length old.remaining) where
+  pub sized_whole : (result : Result A E) → Reads gives eof seen ((counting.of_length n).format f) result old new
       → ReadsWhole gives eof seen (rest f counting) (rest_misfits f counting) result old new
   unfolding rest
-  bytes_whole (Ok x) r = record {
+  sized_whole (Ok x) r = record {
     kept = r.kept;
     answer =
         let got = r.answer in
         let taken = got.taken before.tells in
         let long = ap length taken ∙ length-append got.prefix new.remaining in
-        let own = bytewise n (seen x) got.prefix got.prefix_is in
+        let own = sized n (seen x) got.prefix got.prefix_is in
         let none = nil_from_length new.remaining (omega arith) in
         let all = taken ∙ (ap (λ s. got.prefix ++ s) none ∙ append-nil got.prefix) in
         let count = counting.is_count f n (seen x) got.prefix got.prefix_is in (
           subst (λ m. ((counting.of_length m).format f).encodes (seen x) old.remaining) (sym count)
               (subst (((counting.of_length n).format f).encodes (seen x)) (sym all) got.prefix_is),
-          λ nothing. count ∙ (is ∙ ap length nothing),
+          λ nothing.
+              let zero = is ∙ ap length nothing in
+              count ∙ same_number n 0 size some (omega arith),
         );
   }
-  bytes_whole (Err e) r =
+  sized_whole (Err e) r =
       part_not_whole refl Kept-same before since (counting.within f n).memory (counting.within f n).lending
       (λ kind h. inl (n, h))
       (λ told un. record {
         none = λ v h.
-            let count = bytewise (counting.count v) v old.remaining h.0 in
+            let count = same_number (counting.count v) n size some
+            (sym (sized (counting.count v) v old.remaining h.0) ∙ sym is) in
             un.no_prefix v old.remaining [] (sym (append-nil old.remaining))
-            (subst (λ m. ((counting.of_length m).format f).encodes v old.remaining) (sym count ∙ sym is) h.0);
+            (subst (λ m. ((counting.of_length m).format f).encodes v old.remaining) count h.0);
         many = λ h. absurd h;
         few = λ h.
-            let before = bytewise h.n h.before h.prefix h.before_is in
-            let after = bytewise (h.n + 1) h.after (old.remaining ++ h.more) h.after_is in
+            let before = sized h.n h.before h.prefix h.before_is in
+            let after = sized (h.n + 1) h.after (old.remaining ++ h.more) h.after_is in
             let long = ap length h.whole_is ∙ length-append h.prefix h.rest in
             let longer = length-append old.remaining h.more in
             let one = some_length h.rest h.some in
             let two = some_length h.more h.lacks in
-            absurd (omega arith);
+            absurd (within_one h.n n size some (omega arith) (omega arith));
       }) r
+
+-- the same of what has as many bytes as its length says
+pub bytes_whole : {E : Type 0} {gives : Error → E → Type 0} {eof : E → Bool} {V A : Type 0} (f : Mode)
+    (counting : Counting V) {seen : A → V} → ((n : ℕ) (v : V) (bytes : List ℕ)
+    → ((counting.of_length n).format f).encodes v bytes → length bytes ≡ n) → {n : ℕ} {old new : ReaderState}
+    → InMemory old → InMemory new → n ≡ length old.remaining → (result : Result A E)
+    → Reads gives eof seen ((counting.of_length n).format f) result old new
+    → ReadsWhole gives eof seen (rest f counting) (rest_misfits f counting) result old new
+bytes_whole f counting bytewise {n = n} before since is =
+    sized_whole f counting {size = 1} (omega arith) (λ m v bytes h. bytewise m v bytes h ∙ omega arith) before since
+    (omega (arith, is))
+
+-- and of items that each have as many
+items_sized : {V : Type 0} (F : Format V) {size : ℕ} → ((v : V) (bytes : List ℕ) → F.encodes v bytes
+    → length bytes ≡ size) → (vs : List V) (bytes : List ℕ) → Each F.encodes vs bytes
+    → length bytes ≡ length vs * size
+items_sized F sized [] bytes h = ap length h ∙ omega arith
+items_sized F {size = size} sized (v ∷ vs) bytes h =
+    let one = sized v h.prefix h.first_is in
+    let more = items_sized F sized vs h.suffix h.second_is in
+    let l = ap length h.whole_is ∙ length-append h.prefix h.suffix in
+    omega (arith, one, more, l)
+
+vector_sized : {V : Type 0} (F : Format V) {size : ℕ} → ((v : V) (bytes : List ℕ) → F.encodes v bytes
+    → length bytes ≡ size) → (n : ℕ) (vs : List V) (bytes : List ℕ) → (vector n F).encodes vs bytes
+    → length bytes ≡ n * size
+unfolding vector owned_content repeat
+vector_sized F {size = size} sized n vs bytes h = items_sized F sized vs bytes h.1 ∙ ap (λ m. m * size) h.0
+
+-- what tells how many items of a size there are
+abbrev pub AreWhole : Option ℕ → ℕ → ℕ → Type 0
+AreWhole size count bytes = MatchOption size ⊥ (λ each. (0 < each) × (count * each ≡ bytes))
+
+pub items_at_once : {E : Type 0} {gives : Error → E → Type 0} {eof : E → Bool} {V A : Type 0} (f : Mode)
+    (item : Codec V) {seen : A → List V} (size : Option ℕ) → MatchOption size ⊤ (λ each. HaveSize each item)
+    → (n : ℕ) {left : ℕ} → AreWhole size n left → {old new : ReaderState} → InMemory old → InMemory new
+    → left ≡ length old.remaining → (result : Result A E)
+    → Reads gives eof seen (vector n (item.format f)) result old new
+    → ReadsWhole gives eof seen (rest f (list_counting item)) (rest_misfits f (list_counting item)) result old new
+items_at_once f item (Some each) have n whole before since is =
+    sized_whole f (list_counting item) {size = each} whole.0
+    (λ m vs bytes h. vector_sized (item.format f) (λ v bytes h. have f v bytes h) m vs bytes h) before since
+    (whole.1 ∙ is)
+items_at_once f item None have n whole before since is = absurd whole
 
 -- a text, and bytes, are as long as the bytes that encode them
 pub text_bytewise : (f : Mode) (n : ℕ) (v bytes : List ℕ) → (text_of_length f n).encodes v bytes → length bytes ≡ n

@@ -1,5 +1,5 @@
 -- How values are read that have all of the bytes.
-use Rattle.std.specs.Prelude.{◌≡◌, ℕ, List, Bool, false, IsTrue, ◌⊎◌, Result, MatchResult, refl}
+use Rattle.std.specs.Prelude.{◌≡◌, ℕ, List, length, Bool, false, IsTrue, ◌⊎◌, Result, MatchResult, refl}
 use Rattle.std.specs.Borrow.{GName}
 use Rattle.speedy_base.specs.declared.error.ErrorKind.TheVariants as kinds
 use Rattle.speedy_base.specs.declared.error.Error.{Error}
@@ -7,9 +7,15 @@ use Rattle.speedy_base.specs.Error.{error_of, Errors, IsNamed}
 use Rattle.speedy_base.specs.MemoryDevices.{no_faults}
 use Rattle.speedy_base.specs.Mode.{Mode}
 use Rattle.speedy_layout.specs.Format.{Format}
+use Rattle.speedy_layout.specs.Laws.{Codec}
 use Rattle.speedy_layout.specs.Wholes.{Misfits, WholeCodec}
 use Rattle.speedy_read.specs.Buffers.{memory_state, held_state}
 use Rattle.speedy_read.specs.Reading.{ReaderState, Kept, IsTold, refusing_kinds, IsEnd}
+
+-- each value has so many bytes
+abbrev pub HaveSize : {V : Type 0} → ℕ → Codec V → Type 0
+HaveSize {V = V} size codec =
+    (f : Mode) (v : V) (bytes : List ℕ) → (codec.format f).encodes v bytes → length bytes ≡ size
 
 -- a reader of bytes that lie in memory: it asks for none, and no call of a device fails
 pub record InMemory (state : ReaderState) : Type 0 where

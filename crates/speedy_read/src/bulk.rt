@@ -31,6 +31,11 @@ pub struct Numbers {}
 impl<L: AsSlice<u8> + Drop, C: Context, T: FixedNumber> Strategy<L, C, T> for Numbers {
     const IN_BULK: bool = true;
 
+    #[inline(always)]
+    fn size_of_each() -> Option<usize> {
+        Some(T::SIZE)
+    }
+
     fn read_many_lent<W: FromLent<L, T>, R: LendingReader<L, C>>(
         reader: &mut R,
         length: usize,
@@ -73,6 +78,11 @@ pub struct Bytes {}
 
 impl<L: AsSlice<u8> + Drop, C: Context> Strategy<L, C, u8> for Bytes {
     const IN_BULK: bool = true;
+
+    #[inline(always)]
+    fn size_of_each() -> Option<usize> {
+        Some(1)
+    }
 
     #[inline]
     fn read_many_lent<W: FromLent<L, u8>, R: LendingReader<L, C>>(
@@ -140,6 +150,11 @@ pub struct Flags {}
 
 impl<L: AsSlice<u8> + Drop, C: Context> Strategy<L, C, bool> for Flags {
     const IN_BULK: bool = true;
+
+    #[inline(always)]
+    fn size_of_each() -> Option<usize> {
+        Some(1)
+    }
 
     fn read_many_lent<W: FromLent<L, bool>, R: LendingReader<L, C>>(
         reader: &mut R,

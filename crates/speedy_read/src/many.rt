@@ -9,6 +9,7 @@ ghost use Rattle.speedy_layout.specs.Lists.{vector};
 ghost use Rattle.speedy_read.specs.Collections.{gatherer, CollectsValues};
 ghost use Rattle.speedy_read.specs.Lending.{many_items};
 ghost use Rattle.speedy_read.specs.Reading.{ReadsValue};
+ghost use Rattle.speedy_read.specs.Wholes.{HaveSize};
 
 use crate::collections::{FromItems, collect_items};
 use crate::readable::ReadFrom;
@@ -30,6 +31,14 @@ pub trait Strategy<L: AsSlice<u8> + Drop, C: Context, T: Layout + Drop> {
     /// Whether many values are read in bulk, so that a count of more than there are is refused before any is read. It
     /// is a hint: no value rests on it.
     const IN_BULK: bool = false;
+
+    /// How many bytes each value has, where all have as many and are read at once. This body says `None`.
+    #[inline(always)]
+    fn size_of_each() -> Option<usize>
+        ensures { MatchOption result ⊤ (λ size. HaveSize size T.layout) }
+    {
+        None
+    }
 
     /// Reads `length` values, one after another, into what is asked for where bytes are lent, or into a vector. `None`
     /// where each is to be read by itself: then nothing is read. This body says `None`.
@@ -143,6 +152,10 @@ pub trait ReadMany<L: AsSlice<u8> + Drop, C: Context>: ReadFrom<L, C> {
     /// is a hint: no value rests on it.
     const IN_BULK: bool;
 
+    /// How many bytes each value has, where all have as many and are read at once.
+    fn size_of_each() -> Option<usize>
+        ensures { MatchOption result ⊤ (λ size. HaveSize size Self.layout) };
+
     /// Reads `length` values, one after another, into a vector.
     #[inline]
     final fn read_many<R: LendingReader<L, C>>(
@@ -203,6 +216,11 @@ where
     T::Strategy: Strategy<L, C, T>,
 {
     const IN_BULK: bool = <T::Strategy as Strategy<L, C, T>>::IN_BULK;
+
+    #[inline(always)]
+    fn size_of_each() -> Option<usize> {
+        <T::Strategy as Strategy<L, C, T>>::size_of_each()
+    }
 
     #[inline]
     fn read_many_cow<W: FromLent<L, T>, R: LendingReader<L, C>>(

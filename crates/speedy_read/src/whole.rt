@@ -1,5 +1,5 @@
 //! How values are read that have all of the bytes, and how a text or a list is that takes the rest of them.
-ghost use Rattle.std.specs.Prelude.{◌≡◌, ℕ, List, length, map};
+ghost use Rattle.std.specs.Prelude.{⊤, ◌≡◌, ◌*◌, ◌<◌, ℕ, List, length, map, MatchOption};
 ghost use Rattle.speedy_base.specs.Mode.{Mode, plain_mode};
 ghost use Rattle.speedy_layout.specs.Growing.{some_bytes};
 ghost use Rattle.speedy_layout.specs.Lengths.{list_counting};
@@ -11,8 +11,9 @@ ghost use Rattle.speedy_read.specs.Wholes.{ReadsAll, ReadsWhole, AnswersWhole};
 
 use crate::buffer_reader::BufferReader;
 use crate::lengths::ReadOfLength;
+use crate::many::FromLent;
 use crate::memory_reader::MemoryReader;
-use crate::readable::ReadFrom;
+use crate::readable::{ReadFrom, ReadMany};
 use speedy_base::bytes::bytes_in_range;
 use speedy_base::context::{Context, PlainContext};
 use speedy_base::endianness::Endianness;
@@ -223,28 +224,28 @@ impl<'a, C: Context> ReadRest<&'a [u8], C> for &'a [u8] {
     }
 }
 
-impl<L: AsSlice<u8> + Drop, C: Context, T: ReadFrom<L, C>> ReadRest<L, C> for Vec<T> {
+impl<L: AsSlice<u8> + Drop, C: Context, T: ReadMany<L, C>> ReadRest<L, C> for Vec<T> {
     #[inline]
     fn read_rest<R: MemoryReader<L, C>>(reader: &mut R) -> Result<Vec<T>, C::Error> {
         read_items_to_end(reader)
     }
 }
 
-impl<L: AsSlice<u8> + Drop, C: Context, T: ReadFrom<L, C>> ReadRest<L, C> for BoxedSlice<T> {
+impl<L: AsSlice<u8> + Drop, C: Context, T: ReadMany<L, C>> ReadRest<L, C> for BoxedSlice<T> {
     #[inline]
     fn read_rest<R: MemoryReader<L, C>>(reader: &mut R) -> Result<BoxedSlice<T>, C::Error> {
-        let items = read_items_to_end(reader)?;
+        let items: Vec<T> = read_items_to_end(reader)?;
         Ok(items.into_boxed_slice())
     }
 }
 
-impl<'a, C: Context, T: ReadFrom<&'a [u8], C> + 'a> ReadRest<&'a [u8], C> for CowSlice<'a, T> {
+// Bytes point into those that the reader lends; other items are owned.
+impl<'a, C: Context, T: ReadMany<&'a [u8], C> + 'a> ReadRest<&'a [u8], C> for CowSlice<'a, T> {
     #[inline]
     fn read_rest<R: MemoryReader<&'a [u8], C>>(
         reader: &mut R,
     ) -> Result<CowSlice<'a, T>, C::Error> {
-        let items = read_items_to_end(reader)?;
-        Ok(CowSlice::Owned(items))
+        read_items_to_end(reader)
     }
 }
 
@@ -262,8 +263,41 @@ fn read_bytewise<T: ReadOfLength<L, C>, L: AsSlice<u8> + Drop, C: Context, R: Me
     T::read_of_length(reader, length)
 }
 
-// Items until no byte is left. One that takes no byte would never end.
-fn read_items_to_end<T: ReadFrom<L, C>, L: AsSlice<u8> + Drop, C: Context, R: MemoryReader<L, C>>(
+// How many items of this size so many bytes are, where no part of one is left over.
+#[inline]
+fn whole_items(size: Option<usize>, bytes: usize) -> Option<usize>
+    ensures { MatchOption result ⊤ (λ count. MatchOption size ⊥ (λ each. (0 < each) × (count * each ≡ bytes))) }
+{
+    let each = size?;
+    if each == 0 || bytes % each != 0 {
+        return None;
+    }
+    Some(bytes / each)
+}
+
+// Items until no byte is left: at once, where each has as many bytes and the last one has all of its own.
+#[inline]
+fn read_items_to_end<
+    W: FromLent<L, T>,
+    T: ReadMany<L, C>,
+    L: AsSlice<u8> + Drop,
+    C: Context,
+    R: MemoryReader<L, C>,
+>(reader: &mut R) -> Result<W, C::Error>
+    ensures { ReadsAll C.Error.IsEof R.state (λ w. map T.seen (W.shown w))
+        (rest_codec (list_counting T.layout)) result reader.old reader.new }
+{
+    let size = T::size_of_each();
+    let left = reader.left();
+    if let Some(count) = whole_items(size, left) {
+        return T::read_many_cow::<W, R>(reader, count);
+    }
+    let items = read_each_to_end::<T, L, C, R>(reader)?;
+    Ok(W::from_values(items))
+}
+
+// Items until no byte is left, one by one. One that takes no byte would never end.
+fn read_each_to_end<T: ReadFrom<L, C>, L: AsSlice<u8> + Drop, C: Context, R: MemoryReader<L, C>>(
     reader: &mut R,
 ) -> Result<Vec<T>, C::Error>
     ensures { ReadsAll C.Error.IsEof R.state (λ v. map T.seen v.items)

@@ -1,5 +1,5 @@
 use Rattle.speedy_read.proofs.WholeLemmas.{ItemsTaken}
-use Rattle.speedy_read.proofs.whole.read_items_to_end.Given as goal
+use Rattle.speedy_read.proofs.whole.read_each_to_end.Given as goal
 
 abbrev pub invariant-loop-left : goal.invariant-loop-left
 invariant-loop-left g l =
