@@ -28,8 +28,6 @@ use std::alloc::Global;
 // The use of a buffer as the room of what waits.
 struct Room {}
 
-struct RoomFrom {}
-
 /// Bytes that wait to be pushed, in room that is lent.
 #[derive(Drop)]
 pub struct Waiting<'b> {
@@ -100,7 +98,7 @@ impl<'b> Waiting<'b> {
             × WaitsBehind (Each format.writes) (map T.seen put) (waiting self.old) (waiting self.new) }
     {
         let start = self.end;
-        let (end, next) = P::fill_from::<RoomFrom, I>(items, context, &mut self.room[start..]);
+        let (end, next) = P::fill_from::<Room, I>(items, context, &mut self.room[start..]);
         self.end = start + end;
         next
     }

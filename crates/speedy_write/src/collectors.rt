@@ -23,7 +23,8 @@ use std::marker::PhantomData;
 
 /// A writer to the beginning of a buffer. Bytes that do not fit are the error `UnexpectedEndOfOutputBuffer`.
 ///
-/// `U` says what it is used for. Code for each use is compiled apart, so that it can stand inline where it is used.
+/// `U` says what it is used for, and for which type. Code for each use is compiled apart, so that it can stand inline
+/// where it is used.
 #[derive(Drop)]
 pub struct BufferCollector<'a, C, U = ()> {
     context: &'a mut C,
@@ -208,10 +209,8 @@ impl<'a, C> VecCollector<'a, C> {
     }
 }
 
-// The use of a buffer as the zeros behind a vector, for the items of a list, and for those of an iterator.
+// The use of a buffer as the zeros behind a vector.
 struct Zeros {}
-
-struct ZerosFrom {}
 
 impl<'a, C: Context> Writer<C> for VecCollector<'a, C> {
     const PUTS: bool = true;
@@ -261,7 +260,7 @@ impl<'a, C: Context> Writer<C> for VecCollector<'a, C> {
     ) -> Option<T> {
         let start = self.position;
         let zeros = &mut self.bytes.as_mut_slice()[start..];
-        let (end, next) = P::fill_from::<ZerosFrom, I>(items, &mut *self.context, zeros);
+        let (end, next) = P::fill_from::<Zeros, I>(items, &mut *self.context, zeros);
         self.position = start + end;
         next
     }

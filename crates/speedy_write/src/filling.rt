@@ -78,7 +78,8 @@ impl<C: Context, T: Writable<C>> FillsFront<T, C> for Whole {
 }
 
 // Writes a value to the front of a buffer, and says where it ends. Where it does not fit, or has no encoding, this is
-// `None`. `U` says what the buffer is used for.
+// `None`. `U` says what the buffer is used for. The collector names the type too, so that what several types share, as
+// the write of a text, stands inline in each.
 #[inline]
 pub(crate) fn fill_prefix<C: Context, T: Writable<C>, U>(
     value: &T,
@@ -89,7 +90,7 @@ pub(crate) fn fill_prefix<C: Context, T: Writable<C>, U>(
     ensures fills { let format = T.layout.format (C.mode context.old) in
         IfSome result (λ end. IsAtFront format.writes (T.seen value.now) buffer.new end) }
 {
-    let mut collector: BufferCollector<C, U> = BufferCollector::for_use(context, buffer);
+    let mut collector: BufferCollector<C, (U, T)> = BufferCollector::for_use(context, buffer);
     let outcome = value.write_to(&mut collector);
     let end = collector.finish();
     match outcome {

@@ -339,7 +339,7 @@ fn fill<C: Context, T: Writable<C>, U>(
     ensures stands { let format = T.layout.format (C.mode context.old) in
         Stands format (T.seen value.now) buffer.old buffer.new }
 {
-    let mut collector: BufferCollector<C, U> = BufferCollector::for_use(context, buffer);
+    let mut collector: BufferCollector<C, (U, T)> = BufferCollector::for_use(context, buffer);
     let outcome = value.write_to(&mut collector);
     collector.finish();
     outcome
