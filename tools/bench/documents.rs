@@ -4,7 +4,7 @@
 use crate::ports::{port_lent_log_line, port_lent_snapshot, LentFn, PortedJson};
 use crate::rows::{measure_together, named_sides, Buffer, Input, Side};
 use crate::values::Rng;
-use crate::{in_place, peers};
+use crate::{in_place, peers, protobuf};
 use std::hint::black_box as bb;
 
 /// What encodes a document: how many bytes it takes for it, and its calls, from a slice and to a
@@ -55,7 +55,7 @@ struct Document {
 impl Document {
     fn new<T>(case: &'static str, value: T, lent: Option<LentFn>) -> Document
     where
-        T: PortedJson + peers::Peered + in_place::Peered,
+        T: PortedJson + peers::Peered + in_place::Peered + protobuf::Peered,
     {
         let value: &'static T = Box::leak(Box::new(value));
         let input = Input::new(case, 1, false, value);
@@ -73,6 +73,7 @@ impl Document {
         ];
         coders.extend(lent.map(|lent| coder(LENT, lent_side(input.bytes, lent), None)));
         coders.extend(peers::coders_of(value));
+        coders.extend(protobuf::coders_of(value));
         coders.extend(in_place::coders_of(value));
         coders.push(json_coder::<T>(input));
         Document { case, coders }

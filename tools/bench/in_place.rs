@@ -75,12 +75,22 @@ impl Digest for Place {
     fn digest(&self) -> usize {
         (self.key, self.offset, self.length).digest()
     }
+
+    #[inline(always)]
+    fn first(&self) -> usize {
+        self.key as usize
+    }
 }
 
 impl Digest for ArchivedPlace {
     #[inline(always)]
     fn digest(&self) -> usize {
         (self.key, self.offset, self.length).digest()
+    }
+
+    #[inline(always)]
+    fn first(&self) -> usize {
+        self.key as usize
     }
 }
 
@@ -89,12 +99,22 @@ impl Digest for Little {
     fn digest(&self) -> usize {
         (self.key.get(), self.offset.get(), self.length.get()).digest()
     }
+
+    #[inline(always)]
+    fn first(&self) -> usize {
+        self.key.get() as usize
+    }
 }
 
 impl Digest for U32<LittleEndian> {
     #[inline(always)]
     fn digest(&self) -> usize {
         self.get() as usize
+    }
+
+    #[inline(always)]
+    fn first(&self) -> usize {
+        self.digest()
     }
 }
 

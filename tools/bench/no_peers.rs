@@ -1,4 +1,4 @@
-//! In place of peers.rs and in_place.rs, where the packages of the other crates are not installed.
+//! In place of peers.rs, protobuf.rs and in_place.rs, where the packages of the other crates are not installed.
 
 use crate::documents::Coder;
 use crate::ports::Slot;

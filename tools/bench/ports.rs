@@ -279,9 +279,9 @@ json_ports! {
     BTreeMap<u32, Account>: "snapshot",
 }
 
-/// Reads a list again and again, and returns the digests that it summed up, of the item at an index
-/// or of all items.
-pub type LookFn = unsafe extern "C" fn(*const u8, usize, bool, usize, usize) -> usize;
+/// Reads a list again and again, and returns what it summed up, by a number: the digests of the item at
+/// an index (0) or of all items (1), or their first parts (2).
+pub type LookFn = unsafe extern "C" fn(*const u8, usize, u8, usize, usize) -> usize;
 
 /// Reads a document again and again as what borrows from the bytes.
 pub type LentFn = unsafe extern "C" fn(*const u8, usize, usize) -> usize;
@@ -289,7 +289,7 @@ pub type LentFn = unsafe extern "C" fn(*const u8, usize, usize) -> usize;
 macro_rules! looks {
     ($($name:ident)*) => {
         extern "C" {
-            $(pub fn $name(bytes: *const u8, length: usize, all: bool, at: usize, rounds: usize) -> usize;)*
+            $(pub fn $name(bytes: *const u8, length: usize, what: u8, at: usize, rounds: usize) -> usize;)*
         }
     };
 }

@@ -1,4 +1,4 @@
-//! Lists of which one item or all are looked at: where the bytes lie, or decoded first.
+//! Lists of which one item, all, or a part of each is looked at: where the bytes lie, or decoded first.
 
 use crate::documents::nanoseconds;
 use crate::in_place;
@@ -9,17 +9,24 @@ use crate::values::Rng;
 use speedy::{LittleEndian, Readable};
 use std::hint::black_box as bb;
 
-const ITEMS: u32 = 10_000;
-
-/// A number that needs the item, the same on either side.
+/// Numbers of an item, the same on either side.
 pub trait Digest {
+    /// One that needs all of it.
     fn digest(&self) -> usize;
+
+    /// Its first part, or all of it.
+    fn first(&self) -> usize;
 }
 
 impl Digest for Slot {
     #[inline(always)]
     fn digest(&self) -> usize {
         (self.0 as usize) ^ (self.1 as usize) ^ (self.2 as usize)
+    }
+
+    #[inline(always)]
+    fn first(&self) -> usize {
+        self.0 as usize
     }
 }
 
@@ -28,22 +35,46 @@ impl Digest for u32 {
     fn digest(&self) -> usize {
         *self as usize
     }
+
+    #[inline(always)]
+    fn first(&self) -> usize {
+        *self as usize
+    }
 }
 
 /// A way to look at a list: how many bytes the list takes, and the calls that find it in them, look
-/// at one item or at all, and that write it to a vector, where it is not written as by the viewer
-/// before.
+/// at one item, at all or at the first part of each, and that write it to a vector, where it is not
+/// written as by the viewer before.
 pub struct Viewer {
     name: &'static str,
     bytes: usize,
     one: Side,
     all: Side,
+    firsts: Side,
     write: Option<Side>,
+}
+
+/// A side that finds the list by `open`, and adds up a number of each item.
+fn adding_up<S: AsRef<[I]>, I: Digest + 'static>(
+    bytes: &'static [u8],
+    open: impl Fn(&'static [u8]) -> S + Copy + 'static,
+    number_of: impl Fn(&I) -> usize + Copy + 'static,
+) -> Side {
+    Side::new(move |rounds| {
+        let mut sum = 0usize;
+        for _ in 0..rounds {
+            let list = open(front_of(bytes).unwrap());
+            let items = list.as_ref().iter();
+            let numbers = items.fold(0usize, |sum, item| sum.wrapping_add(number_of(item)));
+            sum = sum.wrapping_add(numbers);
+        }
+        sum
+    })
 }
 
 impl Viewer {
     /// A viewer that finds the list by `open` and looks at the item `at`.
-    pub fn new<S: AsRef<[I]>, I: Digest>(
+    pub fn new<S: AsRef<[I]>, I: Digest + 'static>(
         name: &'static str,
         bytes: &'static [u8],
         at: usize,
@@ -59,21 +90,12 @@ impl Viewer {
             }
             sum
         });
-        let all = Side::new(move |rounds| {
-            let mut sum = 0usize;
-            for _ in 0..rounds {
-                let list = open(front_of(bytes).unwrap());
-                let items = list.as_ref().iter();
-                let digests = items.fold(0usize, |sum, item| sum.wrapping_add(item.digest()));
-                sum = sum.wrapping_add(digests);
-            }
-            sum
-        });
         Viewer {
             name,
             bytes: bytes.len(),
             one,
-            all,
+            all: adding_up(bytes, open, I::digest),
+            firsts: adding_up(bytes, open, I::first),
             write,
         }
     }
@@ -86,13 +108,15 @@ impl Viewer {
         look: LookFn,
         write: Option<Side>,
     ) -> Viewer {
-        let side =
-            |all| Side::new(move |k| unsafe { look(bb(bytes).as_ptr(), bytes.len(), all, at, k) });
+        let side = |what| {
+            Side::new(move |k| unsafe { look(bb(bytes).as_ptr(), bytes.len(), what, at, k) })
+        };
         Viewer {
             name,
             bytes: bytes.len(),
-            one: side(false),
-            all: side(true),
+            one: side(0),
+            all: side(1),
+            firsts: side(2),
             write,
         }
     }
@@ -144,7 +168,7 @@ impl List {
         let mut seen = self
             .viewers
             .iter_mut()
-            .map(|it| [it.one.answer(1), it.all.answer(1)]);
+            .map(|it| [&mut it.one, &mut it.all, &mut it.firsts].map(|side| side.answer(1)));
         let first = seen.next().unwrap();
         assert!(
             first.iter().all(|sum| *sum > 0) && seen.all(|it| it == first),
@@ -154,26 +178,28 @@ impl List {
     }
 
     fn measure(&mut self, reps: usize) {
-        let (mut ones, mut alls, mut writes) = (Vec::new(), Vec::new(), Vec::new());
+        let [mut ones, mut alls, mut firsts, mut writes] = [(); 4].map(|_| Vec::new());
         for it in &mut self.viewers {
             ones.push(&mut it.one);
             alls.push(&mut it.all);
+            firsts.push(&mut it.firsts);
             writes.extend(&mut it.write);
         }
-        for mut sides in [ones, alls, writes] {
+        for mut sides in [ones, alls, firsts, writes] {
             measure_together(&mut sides, reps);
         }
     }
 
     fn print(&self) {
         for it in &self.viewers {
-            let [one, all] = [&it.one, &it.all].map(|side| nanoseconds(side.best));
+            let [one, all, firsts] =
+                [&it.one, &it.all, &it.firsts].map(|side| nanoseconds(side.best));
             let written = it
                 .write
                 .as_ref()
                 .map_or("–".into(), |side| nanoseconds(side.best));
             println!(
-                "| {} | {} | {} | {one} | {all} | {written} |",
+                "| {} | {} | {} | {one} | {all} | {firsts} | {written} |",
                 self.case, it.name, it.bytes
             );
         }
@@ -185,6 +211,7 @@ impl List {
             let ways = [
                 ("one", Some(it.one)),
                 ("all", Some(it.all)),
+                ("first parts", Some(it.firsts)),
                 ("written", it.write),
             ];
             named_sides(case, it.name, ways)
@@ -214,19 +241,23 @@ fn written<T: Ported>(
     (input.bytes, Some(write.port), Some(write.original))
 }
 
-fn lists(rng: &mut Rng) -> [List; 2] {
-    let numbers = (0..ITEMS).map(|_| rng.next() as u32).collect();
-    let slots = (0..ITEMS).map(|_| rng.slot()).collect();
+fn lists(rng: &mut Rng) -> [List; 3] {
+    let numbers = (0..10_000).map(|_| rng.next() as u32).collect();
+    let mut slots = |count| (0..count).map(|_| rng.slot()).collect();
+    let (some, many) = (slots(10_000), slots(1_000_000));
     [
         List::numbers("10,000 `u32`", numbers),
-        List::slots("10,000 records", slots),
+        List::slots("10,000 records", some),
+        List::slots("1,000,000 records", many),
     ]
 }
 
 /// Times the lists.
 pub fn run_views(rng: &mut Rng, reps: usize) {
-    println!("| list | looked at by | bytes | one item, ns | all, ns | written, ns |");
-    println!("|---|---|---|---|---|---|");
+    println!(
+        "| list | looked at by | bytes | one item, ns | all, ns | first parts, ns | written, ns |"
+    );
+    println!("|---|---|---|---|---|---|---|");
     for mut list in lists(rng) {
         list.compare();
         list.measure(reps);
