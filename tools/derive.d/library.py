@@ -9,6 +9,7 @@ from pathlib import Path
 import library_scripts
 import rattle
 import syntax
+import view_answers
 from c_header import header_text
 from module import Made
 from names import Fresh
@@ -142,6 +143,7 @@ class Library:
         self.files = {f"src/{self.module}.rt": text, "src/lib.rt": self.calls(), **self.made.answers, **self.callers()}
         if self.views.by_path:
             self.files["src/views.rt"] = laid_out(ViewTypes(self).text())
+            self.files |= view_answers.answers(self)
 
     def make(self, source, place):
         """Makes the module, in which those types borrow whose values are shown then."""

@@ -113,3 +113,4 @@ pub mod Layers
 pub mod ReadLayers
 pub mod WriteLayers
 pub mod TaggedLayers
+pub mod ViewArms

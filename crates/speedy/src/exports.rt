@@ -1,6 +1,6 @@
 //! What functions that are exported to other languages call: `tools/derive --library` writes these for the types of a
 //! Rust file.
-ghost use Rattle.std.specs.Prelude.{◌≡◌, ◌<◌, ◌↔◌, ℕ, List, ◌++◌, take, Some, None, MatchResult};
+ghost use Rattle.std.specs.Prelude.{◌≡◌, ◌<◌, ◌↔◌, ℕ, List, ◌++◌, take, Some, None, IfErr, MatchResult};
 ghost use Rattle.std.specs.Str.{IsUtf8};
 ghost use Rattle.speedy_base.specs.Error.{kind_of};
 ghost use Rattle.speedy.specs.Exports.{number_of_kind, number_of_order, flag_as_number, number_of_unshown};
@@ -220,7 +220,8 @@ pub fn character_number(character: char) -> u32
 /// The character of a number.
 #[inline]
 pub fn character_shown(number: u32) -> Result<char, Unshown>
-    ensures { MakesShown (λ it. it) ShowsCharacter number result }
+    ensures shown { MakesShown (λ it. it) ShowsCharacter number result }
+    ensures kind { IfErr result (λ why. why ≡ Unshown.Character) }
 {
     match char::from_u32(number) {
         Some(character) => Ok(character),
@@ -231,7 +232,8 @@ pub fn character_shown(number: u32) -> Result<char, Unshown>
 /// The flag of a number: no other number than 0 and 1 shows one.
 #[inline]
 pub fn flag_shown(number: u8) -> Result<bool, Unshown>
-    ensures { MakesShown (λ it. it) ShowsFlag number result }
+    ensures shown { MakesShown (λ it. it) ShowsFlag number result }
+    ensures kind { IfErr result (λ why. why ≡ Unshown.Tag) }
 {
     match number {
         0 => Ok(false),
@@ -243,7 +245,8 @@ pub fn flag_shown(number: u8) -> Result<bool, Unshown>
 /// The text whose UTF-8 the bytes are.
 #[inline]
 pub fn text_shown(bytes: &[u8]) -> Result<&str, Unshown>
-    ensures { MatchResult result (λ text. ShowsText text.now bytes.now) (λ _. ¬ IsUtf8 bytes.now) }
+    ensures shown { MatchResult result (λ text. ShowsText text.now bytes.now) (λ _. ¬ IsUtf8 bytes.now) }
+    ensures kind { IfErr result (λ why. why ≡ Unshown.Text) }
 {
     match bytes_to_str::<Error>(bytes) {
         Ok(text) => Ok(text),
