@@ -291,7 +291,7 @@ def python_dump(library):
             parts = "".join(f"        {python_say(it.kind, f'it.{it.python}')},\n" for it in view.fields)
             functions += f'    return "".join((\n{parts}    ))\n\n\n'
         for case in view.cases or ():
-            parts = [f'" {case.name}"', *(python_say(it.kind, f"it.{it.name}") for it in case.fields)]
+            parts = [f'" {case.name}"', *(python_say(it.kind, f"it.{it.in_case}") for it in case.fields)]
             parts = "".join(f"            {it},\n" for it in parts)
             functions += f"    if isinstance(it, {library.name}.{view.exported.python}.{case.name}):\n" \
                          f'        return "".join((\n{parts}        ))\n'
