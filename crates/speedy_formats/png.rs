@@ -24,7 +24,7 @@ pub struct Chunk<'a> {
 }
 
 /// The content of the chunk `IHDR` (section 11.2.1).
-#[derive(Readable, Writable)]
+#[derive(Readable)]
 pub struct ImageHeader {
     pub width: u32,
     pub height: u32,

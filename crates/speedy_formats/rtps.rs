@@ -14,7 +14,7 @@ pub struct Header {
 }
 
 /// A submessage (section 9.4.5.1). Bit 0 of its flags tells the order of its length and of its body.
-#[derive(Readable, Writable)]
+#[derive(Readable)]
 pub struct Frame<'a> {
     pub kind: u8,
     pub flags: u8,
@@ -95,7 +95,7 @@ pub struct Parameter<'a> {
 }
 
 /// A text of CDR: its bytes with a NUL, and padding up to a multiple of four.
-#[derive(Readable, Writable)]
+#[derive(Readable)]
 pub struct CdrText<'a> {
     pub size: u32,
     #[speedy(length = size)]

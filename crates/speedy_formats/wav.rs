@@ -33,7 +33,7 @@ pub struct Chunk<'a> {
 }
 
 /// What the chunk `fmt ` begins with: how samples are written. Some formats have more after it.
-#[derive(Readable, Writable)]
+#[derive(Readable)]
 pub struct SampleFormat {
     /// 1 is PCM.
     pub tag: u16,

@@ -65,7 +65,7 @@ pub struct Directory<'a> {
 }
 
 /// What stands before the packed bytes of a file.
-#[derive(Readable, Writable)]
+#[derive(Readable)]
 pub struct LocalHeader<'a> {
     #[speedy(constant_prefix = b"PK\x03\x04")]
     pub about: About,

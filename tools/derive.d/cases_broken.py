@@ -302,6 +302,12 @@ BROKEN = [
     ("a parameter before a NUL", "use speedy::CText;\n" + struct("    a: CText<T>", "A<T>"), 5, "and `T` is neither"),
     ("a key that ends with a NUL", "use speedy::CText;\nuse std::collections::BTreeSet;\n"
      + struct("    a: BTreeSet<CText<String>>"), 6, "`CText` has no `SameKey`"),
+    ("a list up to a text", "use speedy::ListUntil;\n" + struct("    a: ListUntil<String, u8, 0>"), 5,
+     "the numbers of a `ListUntil` are one of u8, u16, u32, u64, VarInt64, and `String` is none of these"),
+    ("a list without a mark", "use speedy::ListUntil;\n" + struct("    a: ListUntil<u8, u8>"), 5,
+     "`ListUntil` needs a type of numbers, a type and the number that ends the list"),
+    ("a key that ends with a mark", "use speedy::ListUntil;\nuse std::collections::BTreeSet;\n"
+     + struct("    a: BTreeSet<ListUntil<u8, u8, 0>>"), 6, "`ListUntil` has no `SameKey`"),
     ("padding of a type", "use speedy::Padding;\n" + struct("    a: Padding<String>"), 5, "write a number"),
     ("padding of nothing", "use speedy::Padding;\n" + struct("    a: Padding"), 5,
      "`Padding` needs a number of bytes, as `Padding<3>`"),

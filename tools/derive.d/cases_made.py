@@ -53,6 +53,11 @@ pub struct Contact {
      + "struct B<'a>(CText<&'a str>, CText<Cow<'a, str>>, CText<Cow<'a, [u8]>>, CText<&'a [u8]>);\n",
      ["    a: CText<String>,", "    c: CText<BoxedSlice<u8>>,", "    d: Vec<CText<BoxedStr>>,", "        7\n",
       "CText<CowStr<'a>>", "CText<CowSlice<'a, u8>>", "ReadFrom<&'a [u8], C> for B<'a>", "        4\n"]),
+    ("lists up to a mark", "use speedy::ListUntil;\nconst END: usize = 9;\n" + DERIVES
+     + "struct A<'a> { a: ListUntil<u16, &'a [u8], 1>, b: Vec<ListUntil<u8, B<u32>, END>> }\n" + DERIVES
+     + "struct B<T>(ListUntil<u64, T, 0>);\n",
+     ["    a: ListUntil<u16, &'a [u8], 1>,", "    b: Vec<ListUntil<u8, B<u32>, END>>,", "        6\n",
+      "T: ReadFrom<L, C>> ReadFrom<L, C> for B<T>", "        8\n"]),
     ("bytes that mean nothing", "use speedy::{Padding, Zeros};\nconst GAP: usize = 5;\n" + DERIVES
      + "struct A { a: Padding<3>, b: std::collections::BTreeSet<B>, c: Zeros<0x10> }\n"
      "#[derive(PartialEq, Eq, PartialOrd, Ord, Readable, Writable)]\nstruct B(Zeros<GAP>, u8);\n" + DERIVES

@@ -15,7 +15,7 @@ VIEWS = ("SliceView", "ArrayView")
 CELLS = ("Cell", "RefCell")
 NON_ZERO = tuple(f"NonZero{sign}{bits}" for sign in "UI" for bits in (8, 16, 32, 64))
 OWNING = ("String", "BoxedStr", "CowStr", "Vec", "BoxedSlice", "CowSlice", "Box", "BTreeMap", "BTreeSet",
-          *MAPS_BY_HASH,
+          *MAPS_BY_HASH, "ListUntil",
           "SmallVec", "VecDeque", "Rc", "Arc")
 
 # Which types lack a trait, whatever they hold. All others have it where what they hold has it.

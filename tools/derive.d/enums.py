@@ -21,7 +21,7 @@ MOST_VARIANTS = 256
 # Rattle's borrow checker covers no value made at a later variant of an enum that owns memory or borrows.
 MOST_OWNING = 128
 OWNING = ("Box", "BoxedSlice", "BoxedStr", "BTreeMap", "BTreeSet", "CowSlice", "CowStr", "HashMap", "HashSet",
-          "IndexMap", "IndexSet", "SmallVec", "String", "Vec")
+          "IndexMap", "IndexSet", "ListUntil", "SmallVec", "String", "Vec")
 # An enum of one variant has at most so many parts, made of so many types, of which one of the same file stands for
 # several: its arms have no goals of their own, which could be answered, and the search meets its limit.
 PARTS_OF_ONE = 4

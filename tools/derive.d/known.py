@@ -21,6 +21,8 @@ NUMBERS = ("u8", "u16", "u32", "u64", "u128", "i8", "i16", "i32", "i64", "i128",
 FLOATS = {"f32": "F32", "f64": "F64"}
 # Bytes that mean nothing, so many as a number says.
 BLANKS = ("Padding", "Zeros")
+# The types of the numbers in a list that a mark ends.
+MARKING = ("u8", "u16", "u32", "u64", "VarInt64")
 # What a number is held in that lies in one byte order, with that order.
 ONE_ORDER = {"Big": "big", "Little": "little"}
 
@@ -48,6 +50,7 @@ KNOWN = {
     "speedy::Endianness": Known("Endianness", "speedy"),
     "speedy::U24": Known("U24", "speedy"),
     "speedy::CText": Known("CText", "speedy", ((PART,),)),
+    "speedy::ListUntil": Known("ListUntil", "speedy", ((), (PART,))),
     "speedy::private::VarInt64": Known("VarInt64", "speedy::varint"),
 }
 for blank in BLANKS:

@@ -3,7 +3,7 @@ import expressions
 import rattle
 import syntax
 from derives import Derives
-from known import BLANKS, BOUNDS, FLOATS, KNOWN, NONE_OF_OURS, NUMBERS, ONE_ORDER, PRELUDE, PRELUDE_BOUNDS
+from known import BLANKS, BOUNDS, FLOATS, KNOWN, MARKING, NONE_OF_OURS, NUMBERS, ONE_ORDER, PRELUDE, PRELUDE_BOUNDS
 from known import PRELUDE_MODULES, PRIMITIVES
 from names import Fresh, field_name
 from rattle import Foreign, Listed, Own, Variable, type_text
@@ -421,7 +421,8 @@ class Converter:
 
     def known(self, kind, known):
         """A type of the list."""
-        special = {"Cow": self.cow, "Box": self.boxed, "SmallVec": self.small_vec}.get(known.name)
+        special = {"Cow": self.cow, "Box": self.boxed, "SmallVec": self.small_vec,
+                   "ListUntil": self.list_until}.get(known.name)
         if special:
             return special(kind)
         if known.name in BLANKS:
@@ -458,6 +459,19 @@ class Converter:
             raise Refusal(kind.line, f"`{known.name}` needs a number of bytes, as `{known.name}<3>`")
         count = self.constant(kind.line, kind.arguments[0])
         return Listed(kind.line, known.name, (count,), self.scope.need(known.module, known.name))
+
+    def list_until(self, kind):
+        """`ListUntil<N, T, MARK>`."""
+        arguments = kind.arguments
+        if len(arguments) != 3 or any(isinstance(it, syntax.Lifetime) for it in arguments):
+            raise Refusal(kind.line, "`ListUntil` needs a type of numbers, a type and the number that ends the list, "
+                                     "as `ListUntil<u16, String, 0>`")
+        number, value = (self.convert(it) for it in arguments[:2])
+        if not rattle.is_listed(number, *MARKING):
+            raise Refusal(kind.line, f"the numbers of a `ListUntil` are one of {', '.join(MARKING)}, and "
+                                     f"`{type_text(number)}` is none of these")
+        mark = self.constant(kind.line, arguments[2])
+        return Listed(kind.line, "ListUntil", (number, value, mark), self.scope.need("speedy", "ListUntil"))
 
     def cow(self, kind):
         """`Cow<'a, str>`, `Cow<'a, [T]>` or `Cow<'a, T>`."""

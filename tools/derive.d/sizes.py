@@ -13,7 +13,7 @@ LEAST |= dict.fromkeys(("String", "Vec", "BoxedStr", "BoxedSlice", "CowStr", "Co
                         "BTreeSet", "HashMap", "HashSet", "IndexMap", "IndexSet"), 4)
 # Which argument of a type has its least size.
 WITHIN = {"Box": 0, "Cow": -1, "Magic": 0, "Other": 0, "Prefixed": 0, "WithLength": 1, "WithFrame": 1,
-          "Big": 0, "Little": 0}
+          "Big": 0, "Little": 0, "ListUntil": 0}
 TWICE = ("Range", "RangeInclusive")
 # Numbers and what is as small: written as they are, since each `Part` of a tuple takes longer to prove.
 UNSIGNED = {f"u{bits}" for bits in (8, 16, 32, 64, 128)} | {"usize", "bool", "char", "F32", "F64", "U24"}

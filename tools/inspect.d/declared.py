@@ -2,12 +2,12 @@
 from functools import cached_property
 
 import texts
-from composed import total
-from cursor import Cursor, count_of
+from composed import Tuple, total
+from cursor import MOST_SHOWN, Cursor, Gap, count_of
 from faults import Fault, Kind
 from layouts import Layout, joined
 from leaves import Number, Varint
-from lists import Counted
+from lists import Counted, parts_of
 
 
 class Magic(Layout):
@@ -61,6 +61,75 @@ class NulEnded(Layout):
 
     def pieces(self, node, data):
         return ["CText(", *self.held.pieces(node.parts[0], data), ")"]
+
+
+class Mark(Layout):
+    """The number that ends a list."""
+    name = "mark"
+
+    def pieces(self, node, data):
+        return [f"mark {node.value}"]
+
+
+class Until(Layout):
+    """`ListUntil<N, T, MARK>`: entries, each a number that is not the mark and a value behind it, and then the mark."""
+    has_rows = True
+
+    def __init__(self, number, item, mark):
+        self.name = f"ListUntil<{number.name}, {item.name}, {mark}>"
+        self.number = number
+        self.mark = mark
+        self.entry = Tuple(f"({number.name}, {item.name})", ((".0", number), (".1", item)))
+        self.least = number.least
+        self.can_shrink = self.entry.can_shrink
+
+    def read(self, cursor, label):
+        node = cursor.open(label, self)
+        place = 0
+        while not self.is_at_mark(cursor, place):
+            if cursor.shows_all or place < MOST_SHOWN:
+                self.entry.read(cursor, f"[{place}]")
+                place += 1
+            else:
+                place = self.fold(cursor, place)
+        at = cursor.at
+        cursor.leaf("", Mark(), at, self.number.number(cursor, ""))
+        node.value = place
+        return cursor.close(node)
+
+    def is_at_mark(self, cursor, place):
+        """Whether the mark comes next."""
+        at = cursor.at
+        number = self.number.number(cursor, f"[{place}].0")
+        cursor.at = at
+        return number == self.mark
+
+    def fold(self, cursor, first):
+        """Passes over the entries that are not shown, up to the mark, and answers how many there are."""
+        begin, mark, last = cursor.at, cursor.mark(), first
+        try:
+            while not self.is_at_mark(cursor, last):
+                self.entry.skip(cursor)
+                last, at = last + 1, cursor.at
+        except Fault:
+            # Read once more, so that the tree shows where it is refused.
+            cursor.reset(mark, at)
+            cursor.keep(Gap(first, last - first, begin, at))
+            self.entry.read(cursor, f"[{last}]")
+            raise
+        cursor.keep(Gap(first, last - first, begin, at))
+        return last
+
+    def pieces(self, node, data):
+        entries = [part.layout.pieces(part, data) for part in parts_of(node, data) if part.label]
+        return ["ListUntil { entries: [", *joined(entries), "], number: PhantomData<_> }"]
+
+    def written(self, node, data, order):
+        entries = (part.layout.written(part, data, order) for part in parts_of(node, data) if part.label)
+        return b"".join(entries) + self.number.encoded(self.mark, order)
+
+    def summary(self, node, data):
+        return "" if node.value is None else count_of(node.value, "entry")
 
 
 class Part:

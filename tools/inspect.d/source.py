@@ -16,7 +16,7 @@ import syntax
 import visibility
 import whole
 from declared import (Choice, FramePart, Magic, Missing, NulEnded, Part, Parts, Rest, Skipped, Struct, ToldPart,
-                      Variant)
+                      Until, Variant)
 from known import BLANKS, KNOWN, ONE_ORDER
 from lengths import is_framed
 from module import Made, ModuleMaker
@@ -77,6 +77,8 @@ APPLIED = {
     "SmallVec": lambda item, count: listed(f"SmallVec<[{item.name}; {count}]>", item),
     "CowStr": lambda _: lists.Counted("Cow<str>", U32, lists.Text()),
     "CText": NulEnded,
+    "ListUntil": lambda number, item, mark: Until(leaves.Varint("VarInt64") if isinstance(number, leaves.Varint)
+                                                  else number, item, mark),
     "Cow": lambda _, inner: inner,
     "Box": lambda inner: inner,
     "Option": composed.option,

@@ -47,6 +47,7 @@ pub use Rattle.speedy_layout.specs.Orders
 pub use Rattle.speedy_layout.specs.Owned
 pub use Rattle.speedy_layout.specs.Padding
 pub use Rattle.speedy_layout.specs.CText
+pub use Rattle.speedy_layout.specs.Until
 pub use Rattle.speedy_layout.specs.EqualityOfMaps
 pub use Rattle.speedy_layout.specs.SeenItems
 pub use Rattle.speedy_layout.specs.Prefixed

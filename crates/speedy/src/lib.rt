@@ -43,10 +43,12 @@ pub use reader::{LendingReader, Reader};
 pub use same_key::SameKey;
 pub use speedy_base::{circular_buffer, context, device, endianness, error};
 pub use speedy_layout::{
-    c_text, floats, magic, one_order, padding, same_key, three_bytes, varint, view_items, views,
+    c_text, floats, magic, one_order, padding, same_key, three_bytes, until, varint, view_items,
+    views,
 };
 pub use speedy_read::{buffer, codes, collections, lent, many, readable};
 pub use speedy_write::{part, writable, writer};
 pub use three_bytes::U24;
+pub use until::ListUntil;
 pub use writable::Writable;
 pub use writer::Writer;

@@ -26,3 +26,4 @@ pub mod sums;
 pub mod tags;
 pub mod told_frames;
 pub mod told_lengths;
+pub mod until;

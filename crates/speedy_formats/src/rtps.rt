@@ -151,17 +151,6 @@ impl<'a, C: Context> ReadFrom<&'a [u8], C> for Frame<'a> {
     }
 }
 
-impl<'a, C: Context> Writable<C> for Frame<'a> {
-    fn write_to<W: Writer<C>>(&self, writer: &mut W) -> Result<(), C::Error> {
-        let body: WithLength<FrameBodyLength, _, _> = WithLength {
-            before: self.size,
-            value: Part(&self.body),
-            length: PhantomData,
-        };
-        writer.write_value(&(self.kind, self.flags, body))
-    }
-}
-
 /// Who sends or receives, within a participant (section 9.3.1.2).
 #[derive(Clone, Copy)]
 pub struct EntityId {
@@ -727,21 +716,5 @@ impl<'a, C: Context> ReadFrom<&'a [u8], C> for CdrText<'a> {
         ensures { result ≡ ⟦<CdrTextParts<'a> as Layout>⟧.layout.least }
     {
         4
-    }
-}
-
-impl<'a, C: Context> Writable<C> for CdrText<'a> {
-    fn write_to<W: Writer<C>>(&self, writer: &mut W) -> Result<(), C::Error> {
-        let text: WithLength<CdrTextTextLength, _, _> = WithLength {
-            before: self.size,
-            value: Part(&self.text),
-            length: PhantomData,
-        };
-        let padding: WithLength<CdrTextPaddingLength, _, _> = WithLength {
-            before: text,
-            value: Part(&self.padding),
-            length: PhantomData,
-        };
-        writer.write_value(&padding)
     }
 }

@@ -318,16 +318,3 @@ impl<L: AsSlice<u8> + Drop, C: Context> ReadFrom<L, C> for SampleFormat {
         16
     }
 }
-
-impl<C: Context> Writable<C> for SampleFormat {
-    fn write_to<W: Writer<C>>(&self, writer: &mut W) -> Result<(), C::Error> {
-        writer.write_value(&(
-            self.tag,
-            self.channels,
-            self.rate,
-            self.bytes_per_second,
-            self.alignment,
-            self.bits,
-        ))
-    }
-}

@@ -10,6 +10,7 @@ pub use Rattle.speedy_layout.specs.Addresses.{address_codec, ip_address_codec}
 pub use Rattle.speedy_layout.specs.Texts.{raw_bytes_codec, constant_codec, text_codec, prefixed_text_codec}
 pub use Rattle.speedy_layout.specs.Padding.{padding_codec, zeros_codec}
 pub use Rattle.speedy_layout.specs.CText.{nul_ended_codec, nul_ended_text_codec}
+pub use Rattle.speedy_layout.specs.Until.{entry_codec, until_codec}
 pub use Rattle.speedy_layout.specs.Owned.{owned_codec, borrowed_codec}
 pub use Rattle.speedy_layout.specs.Tuples.{unit_codec, pair_codec}
 pub use Rattle.speedy_layout.specs.Flags.{flag_codec, option_codec, alternative_codec}

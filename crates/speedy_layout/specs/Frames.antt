@@ -6,7 +6,7 @@ use Rattle.std.proofs.lemmas.List.{length-append}
 use Rattle.speedy_base.specs.declared.error.ErrorKind.{ErrorKind}
 use Rattle.speedy_base.specs.declared.error.ErrorKind.TheVariants as kinds
 use Rattle.speedy_base.specs.Mode.{Mode}
-use Rattle.speedy_layout.specs.Codes.{Accepts, Code, IsCode, MeansNothing, coding, coding_laws, coding_written}
+use Rattle.speedy_layout.specs.Codes.{Accepts, Code, IsCode, MeansNothing, coding, coding_laws}
 use Rattle.speedy_layout.specs.Format.{Asks, Format, IsOwnKind, Parts-joined}
 use Rattle.speedy_layout.specs.Laws.{Laws, Laws-less, Laws-lengths, Laws-refusing, WritesToo, writes_itself}
 use Rattle.speedy_layout.specs.Numbers.{WritesSmaller}

@@ -4,7 +4,7 @@ use Rattle.std.proofs.Common.{sym, ◌∙◌, ap, arith, inl, inr}
 use Rattle.std.proofs.lemmas.List.{append-nil}
 use Rattle.speedy_base.specs.declared.error.ErrorKind.TheVariants as kinds
 use Rattle.speedy_layout.specs.Codes.{one_kind}
-use Rattle.speedy_layout.specs.Format.{Format, plain_format}
+use Rattle.speedy_layout.specs.Format.{Format}
 use Rattle.speedy_layout.specs.Laws.{Laws, Codec, Decided, WritesToo}
 use Rattle.speedy_layout.specs.Lists.{both_none}
 use Rattle.speedy_layout.specs.Sequences.{sequence, sequence_written}

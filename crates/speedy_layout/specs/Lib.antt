@@ -37,6 +37,7 @@ pub mod Varint
 pub mod Zigzag
 pub mod Codecs
 pub mod Prefixed
+pub mod Until
 pub mod Choices
 pub mod Wholes
 pub mod Frames

@@ -28,3 +28,4 @@ pub mod WholeLemmas
 pub mod GrowingLemmas
 pub mod PaddingLemmas
 pub mod CTextLemmas
+pub mod UntilLemmas

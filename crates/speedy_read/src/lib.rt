@@ -46,6 +46,7 @@ pub mod sets;
 pub mod stream_reader;
 pub mod texts;
 pub mod tuples;
+mod until;
 mod until_end;
 pub mod utf8;
 pub mod varint;

@@ -58,6 +58,8 @@ mod told_frames;
 #[cfg(test)]
 mod tuples;
 #[cfg(test)]
+mod until;
+#[cfg(test)]
 mod varint;
 #[cfg(test)]
 mod views;

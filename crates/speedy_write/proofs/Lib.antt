@@ -19,3 +19,4 @@ pub mod WholeLemmas
 pub mod GrowingLemmas
 pub mod PaddingLemmas
 pub mod CTextLemmas
+pub mod UntilLemmas

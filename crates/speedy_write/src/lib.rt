@@ -36,6 +36,7 @@ pub mod ranges;
 pub mod sets;
 pub mod texts;
 pub mod tuples;
+mod until;
 pub mod varint;
 pub mod views;
 pub mod whole;

@@ -1,4 +1,4 @@
-use Rattle.std.proofs.Common.{rules, ◌≡◌, List, ℕ, true, false, refl}
+use Rattle.std.proofs.Common.{true, false, refl}
 use Rattle.speedy_base.specs.Mode.{plain_mode, strict_mode}
 use Rattle.speedy_layout.proofs.laws.strict_is_canonical.Goals as goal
 
