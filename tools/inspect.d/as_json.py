@@ -5,7 +5,7 @@ from composed import Chosen
 from cursor import Gap, Run
 from declared import Absent, Choice, Magic
 from leaves import Flag, Float, Number, Varint
-from lists import Array, Counted
+from lists import Array, CountedLayout
 
 
 def value_of(node, data):
@@ -30,7 +30,7 @@ def part_of(node, data, above=""):
     content = getattr(layout, "content", None)
     if content is not None and content.is_bytes:
         return found | of_bytes(node, content, data)
-    if isinstance(layout, (Counted, Array)):
+    if isinstance(layout, (CountedLayout, Array)):
         found["count"] = node.value
         numbers = numbers_of(node, data)
         if numbers is not None:

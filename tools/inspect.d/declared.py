@@ -7,7 +7,7 @@ from cursor import MOST_SHOWN, Cursor, Gap, count_of
 from faults import Fault, Kind
 from layouts import Layout, joined
 from leaves import Number, Varint
-from lists import Counted, parts_of
+from lists import CountedLayout, parts_of
 
 
 class Magic(Layout):
@@ -55,7 +55,7 @@ class NulEnded(Layout):
         end = cursor.data.find(b"\0", cursor.at, cursor.end)
         if end < 0:
             raise cursor.fault(Kind.UNEXPECTED_END_OF_INPUT, cursor.end, "", cursor.at, "no NUL stands here")
-        Counted(self.held.name, None, self.held, end - cursor.at).read(cursor, ".0")
+        CountedLayout(self.held.name, None, self.held, end - cursor.at).read(cursor, ".0")
         self.nul.read(cursor, "")
         return cursor.close(node)
 
@@ -221,7 +221,7 @@ class ToldPart(Part):
 
     def read(self, cursor, numbers):
         count = self.count(cursor, numbers)
-        return Counted(self.layout.name, None, self.layout.content, count).read(cursor, self.label)
+        return CountedLayout(self.layout.name, None, self.layout.content, count).read(cursor, self.label)
 
     def skip(self, cursor, numbers):
         self.layout.content.skip(cursor, self.count(cursor, numbers), True)
@@ -293,7 +293,7 @@ class Rest(Part):
         cursor.apart(self.read, cursor, numbers)
 
 
-class RestLayout(Counted):
+class RestLayout(CountedLayout):
     """What a rest is read as."""
 
     def __init__(self, layout):

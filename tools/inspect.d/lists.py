@@ -324,7 +324,7 @@ class Entries(Content):
         return b"".join(found)
 
 
-class Counted(Layout):
+class CountedLayout(Layout):
     """What stands behind its length, as a number; or, where there is no such number, is of a length that is told."""
 
     def __init__(self, name, number, content, told=None):

@@ -5,7 +5,7 @@ from enum import Enum
 import texts
 from cursor import MOST_SHOWN, Gap, Run, count_of, is_shown
 from declared import Choice, Magic, Struct
-from lists import Array, Counted
+from lists import Array, CountedLayout
 
 # So many bytes stand in a row of a field, and in a row of bytes that follow.
 IN_ROW = 8
@@ -132,7 +132,7 @@ class Table:
             if node.end is not None and node.end > node.head:
                 self.add_bytes(node, depth, "")
             return
-        in_list = isinstance(node.layout, (Counted, Array))
+        in_list = isinstance(node.layout, (CountedLayout, Array))
         for part in parts:
             if isinstance(part, Run):
                 self.add_run(part, depth, path)

@@ -41,8 +41,8 @@ def simple_layouts():
              "Ipv4Addr": leaves.Address("Ipv4Addr", 4), "Ipv6Addr": leaves.Address("Ipv6Addr", 16),
              "IpAddr": leaves.EitherAddress(), "Duration": leaves.Span(), "Uuid": leaves.Octets("Uuid", 16),
              "VarInt64": leaves.Varint("VarInt64", "VarInt64(", ")"),
-             "String": lists.Counted("String", U32, lists.Text()),
-             "BoxedStr": lists.Counted("Box<str>", U32, lists.Text())}
+             "String": lists.CountedLayout("String", U32, lists.Text()),
+             "BoxedStr": lists.CountedLayout("Box<str>", U32, lists.Text())}
     for bits in (8, 16, 32, 64, 128):
         for sign in "ui":
             found[f"{sign}{bits}"] = leaves.Number(f"{sign}{bits}", bits // 8, sign == "i")
@@ -57,7 +57,7 @@ SIMPLE = simple_layouts()
 def listed(name, item):
     """A list of items behind a count."""
     content = lists.Octets() if item is SIMPLE["u8"] else lists.Items(item)
-    return lists.Counted(name, U32, content)
+    return lists.CountedLayout(name, U32, content)
 
 
 def gathered(name, family, arguments):
@@ -66,7 +66,7 @@ def gathered(name, family, arguments):
     types = arguments[:2] if is_map else arguments[:1]
     item = composed.Pair(*types) if is_map else types[0]
     title = f"{name}<{', '.join(it.name for it in types)}>"
-    return lists.Counted(title, U32, lists.Entries(title, item, is_map, family))
+    return lists.CountedLayout(title, U32, lists.Entries(title, item, is_map, family))
 
 
 # The layouts of types that are applied to others, made of the layouts of these, by the names that the generator has.
@@ -75,7 +75,7 @@ APPLIED = {
     "BoxedSlice": lambda item: listed(f"Box<[{item.name}]>", item),
     "CowSlice": lambda _, item: listed(f"Cow<[{item.name}]>", item),
     "SmallVec": lambda item, count: listed(f"SmallVec<[{item.name}; {count}]>", item),
-    "CowStr": lambda _: lists.Counted("Cow<str>", U32, lists.Text()),
+    "CowStr": lambda _: lists.CountedLayout("Cow<str>", U32, lists.Text()),
     "CText": NulEnded,
     "ListUntil": lambda number, item, mark: Until(leaves.Varint("VarInt64") if isinstance(number, leaves.Varint)
                                                   else number, item, mark),
@@ -149,7 +149,7 @@ class Module:
     def lent(self, target, bound):
         """What a reference lends."""
         if rattle.is_listed(target, "str"):
-            return lists.Counted("&str", U32, lists.Text())
+            return lists.CountedLayout("&str", U32, lists.Text())
         if isinstance(target, syntax.Slice):
             item = self.layout(target.item, bound)
             return listed(f"&[{item.name}]", item)
@@ -282,7 +282,7 @@ class FieldReader:
     @staticmethod
     def has_content(it, layout, setting):
         """Refuses a length of what has none."""
-        if not isinstance(layout, lists.Counted):
+        if not isinstance(layout, lists.CountedLayout):
             raise Refusal(it.line, f"`{setting}` is not taken of this type: tools/derive says of which it is")
 
     def holding(self, kind):
@@ -291,7 +291,7 @@ class FieldReader:
             return self.module.layout(kind, self.bound)
         if rattle.is_listed(kind, "Vec"):
             item = self.holding(kind.arguments[0])
-            return lists.Counted(f"Vec<{item.name}>", U32, lists.Items(item, False))
+            return lists.CountedLayout(f"Vec<{item.name}>", U32, lists.Items(item, False))
         if rattle.is_listed(kind, "Option"):
             return composed.option(self.holding(kind.arguments[0]))
         if rattle.is_listed(kind, "Box"):
@@ -346,7 +346,7 @@ def behind(layout, number):
     """What has a count, or an option of that, with one of another width."""
     if isinstance(layout, composed.Chosen):
         return composed.option(behind(layout.cases[0][1], number))
-    return lists.Counted(layout.name, number, layout.content)
+    return lists.CountedLayout(layout.name, number, layout.content)
 
 
 DEFAULTS = {"bool": "false", "char": "'\\0'", "F32": "0.0", "F64": "0.0", "U24": "0", "String": '""', "BoxedStr": '""',

@@ -23,7 +23,7 @@ use Rattle.speedy_write.specs.WaysOfWriting.{NeedsIn}
 use Rattle.speedy_write.specs.Writing.{WriterState, Writes}
 use Rattle.speedy_write.proofs.FrameLemmas.{counted_below}
 use Rattle.speedy_write.proofs.NumberLemmas.{undecodable_refused}
-use Rattle.speedy.specs.ToldFrames.{Takes, bytes_asking, bytes_asking_laws, told_frame, told_frame_code}
+use Rattle.speedy.specs.ToldFrames.{WrittenIn, bytes_asking, bytes_asking_laws, told_frame, told_frame_code}
 use Rattle.speedy.specs.ToldFrames.{filling_means, raw_length, told_frame_asks, told_frame_fills, told_frame_means}
 use Rattle.speedy.specs.ToldFrames.{with_frame_codec}
 
@@ -45,7 +45,7 @@ filling_covers f misfits laws n = record {
 
 -- a value that fills n bytes, and is written in as many
 filling_told : {V : Type 0} (f : Mode) {F : Format V} (misfits : Misfits) → WholeLaws f.strict F → (n : ℕ) (v : V)
-    → Takes F v n → (s : List ℕ) → (filling f F misfits n).encodes v s → (told_frame f F misfits n).encodes v s
+    → WrittenIn F v n → (s : List ℕ) → (filling f F misfits n).encodes v s → (told_frame f F misfits n).encodes v s
 unfolding told_frame coding raw_bytes
 filling_told f {F = F} misfits laws n v takes s h =
     let means = filling_means f laws v h.code h.stands in
@@ -95,7 +95,7 @@ module _ {E A V : Type 0} {gives : Error → E → Type 0} {eof : E → Bool} {s
       let nothing : (v : V) → Accepts f.strict (told_frame_code F) h.code v → ⊥ = λ v stands.
       let told = told_frame_means f laws v h.code stands in
       let same = laws.one_value v (seen x) h.code told.0 means.0 in
-      let takes = subst (λ y. Takes F y (length h.code)) same told.2 in
+      let takes = subst (λ y. WrittenIn F y (length h.code)) same told.2 in
       let own = needs.written in
       let lengths = one_whole_length laws (seen x) own.0 takes.0 own.1 takes.1 in
       other (own.2 ∙ (lengths ∙ (sym takes.2 ∙ long))) in
@@ -183,7 +183,7 @@ module _ {N B V : Type 0} (is_told : N → Type 0) (told : N → ℕ) (numbers :
 
   -- nor has one that is written in no such number of bytes
   other_undecodable : (f : Mode) (b : B) (v : V)
-      → (Takes (value.format f) v (told (numbers b)) → told (numbers b) < 2 ^ 64 - 1 → ⊥) → (s : List ℕ)
+      → (WrittenIn (value.format f) v (told (numbers b)) → told (numbers b) < 2 ^ 64 - 1 → ⊥) → (s : List ℕ)
       → ((with_frame_codec is_told told numbers field before value).format f).encodes (b, v) s → ⊥
   unfolding sequence told_frame coding
   other_undecodable f b v other s h =

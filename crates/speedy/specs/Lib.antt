@@ -67,7 +67,7 @@ pub use Rattle.speedy_layout.specs.Zigzag
 pub use Rattle.speedy_read.specs.Buffers
 pub use Rattle.speedy_read.specs.Codes as ReadCodes
 pub use Rattle.speedy_read.specs.Collections as ReadCollections
-pub use Rattle.speedy_read.specs.Counted as ReadCounted
+pub use Rattle.speedy_read.specs.BehindCounts as ReadBehindCounts
 pub use Rattle.speedy_read.specs.BytesModel
 pub mod Decoding
 pub use Rattle.speedy_read.specs.Flags as ReadFlags
@@ -93,7 +93,7 @@ pub use Rattle.speedy_write.specs.Collections as WriteCollections
 pub use Rattle.speedy_write.specs.CollectorLemmas
 pub use Rattle.speedy_write.specs.CollectorModels
 pub use Rattle.speedy_write.specs.Collectors
-pub use Rattle.speedy_write.specs.Counted as WriteCounted
+pub use Rattle.speedy_write.specs.BehindCounts as WriteBehindCounts
 pub use Rattle.speedy_write.specs.Counting
 pub use Rattle.speedy_write.specs.FixedBytes
 pub use Rattle.speedy_write.specs.Lengths

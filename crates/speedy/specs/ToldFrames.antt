@@ -5,7 +5,7 @@ use Rattle.speedy_base.specs.declared.error.ErrorKind.{ErrorKind}
 use Rattle.speedy_base.specs.declared.error.ErrorKind.TheVariants as kinds
 use Rattle.speedy_base.specs.Mode.{Mode}
 use Rattle.speedy_layout.specs.Codecs.{Codec}
-use Rattle.speedy_layout.specs.Codes.{Accepts, Accepts-is, Accepts-means, Code, IsCode, coding, coding_laws}
+use Rattle.speedy_layout.specs.Codes.{Accepts, Accepts-is, Accepts-means, Codebook, IsCode, coding, coding_laws}
 use Rattle.speedy_layout.specs.Format.{Asks, Format, IsOwnKind}
 use Rattle.speedy_layout.specs.Frames.{AreCounted, frame_asks, frame_code}
 use Rattle.speedy_layout.specs.Laws.{Laws, Laws-asking, Laws-less, WritesToo}
@@ -16,17 +16,17 @@ use Rattle.speedy_layout.specs.Wholes.{Misfits, WholeLaws, WholeCodec}
 use Rattle.speedy_read.specs.Frames.{filling}
 
 -- the value is written in n bytes
-abbrev pub Takes : {V : Type 0} → Format V → V → ℕ → Type 0
-Takes F v n = (bytes : List ℕ) × F.writes v bytes × (n ≡ length bytes)
+abbrev pub WrittenIn : {V : Type 0} → Format V → V → ℕ → Type 0
+WrittenIn F v n = (bytes : List ℕ) × F.writes v bytes × (n ≡ length bytes)
 
 -- n bytes, of which reading asks so much
 abbrev pub bytes_asking : Asks → ℕ → Format (List ℕ)
 bytes_asking asks n = record (raw_bytes n) { asks = asks }
 
 -- What bytes stand for whose number is told: a value that all of them encode, and that is written in as many.
-abbrev pub told_frame_code : {V : Type 0} → Format V → Code (List ℕ) V
+abbrev pub told_frame_code : {V : Type 0} → Format V → Codebook (List ℕ) V
 told_frame_code F = record {
-  means = λ bytes v. F.encodes v bytes × AreCounted bytes × Takes F v (length bytes);
+  means = λ bytes v. F.encodes v bytes × AreCounted bytes × WrittenIn F v (length bytes);
   chosen = λ bytes v. F.writes v bytes × AreCounted bytes;
   refusals = λ kind. F.names kind ⊎ (kind ≡ kinds.OutOfRangeLength);
 }
@@ -38,7 +38,7 @@ pub record Overlong {V : Type 0} (f : Mode) (F : Format V) (misfits : Misfits) (
   pub rest : List ℕ
   pub whole_is : bytes ≡ prefix ++ rest
   pub fills : (filling f F misfits n).encodes value prefix
-  pub other : Takes F value n → ⊥
+  pub other : WrittenIn F value n → ⊥
 
 -- A value that fills n bytes, and is written in as many. It is refused as one that fills them is, and one that is
 -- written in fewer as a length that is wrong.
@@ -59,7 +59,7 @@ filling_means f {F = F} laws v u h =
     Accepts-means f.strict (frame_code F) u v (λ k. (laws.written_encodes v u k.0, k.1)) h
 
 pub told_frame_means : {V : Type 0} (f : Mode) {F : Format V} → WholeLaws f.strict F → (v : V) (u : List ℕ)
-    → Accepts f.strict (told_frame_code F) u v → F.encodes v u × AreCounted u × Takes F v (length u)
+    → Accepts f.strict (told_frame_code F) u v → F.encodes v u × AreCounted u × WrittenIn F v (length u)
 told_frame_means f {F = F} laws v u h =
     Accepts-means f.strict (told_frame_code F) u v (λ k. (laws.written_encodes v u k.0, k.1, (u, k.0, refl))) h
 
@@ -129,7 +129,7 @@ malformed_alone f {F = F} misfits laws n v prefix rest (inr x) h =
     let means = told_frame_means f laws v h.code h.stands in
     let other = filling_means f laws x.value x.fills.code x.fills.stands in
     let value = laws.one_value v x.value h.code means.0 (subst (F.encodes x.value) same.0 other.0) in
-    let takes = subst (λ y. Takes F y (length h.code)) value means.2 in
+    let takes = subst (λ y. WrittenIn F y (length h.code)) value means.2 in
     let long = raw_length n h.code prefix h.code_is in
     x.other (takes.0, takes.1, sym long ∙ takes.2)
 

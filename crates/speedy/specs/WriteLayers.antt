@@ -5,7 +5,7 @@ use Rattle.speedy_base.specs.declared.error.ErrorKind.TheVariants as kinds
 use Rattle.speedy_base.specs.declared.error.Error.{Error}
 use Rattle.speedy_base.specs.Error.{error_of}
 use Rattle.speedy_layout.specs.Sequences.{counted_parts}
-use Rattle.speedy_write.specs.Counted.{counts_items}
+use Rattle.speedy_write.specs.BehindCounts.{counts_items}
 use Rattle.speedy_write.specs.Sequences.{Kept-same as same_writer}
 use Rattle.speedy_write.specs.Writing.{WriterState, Writes}
 use Rattle.speedy.specs.Layers.{Layer, Seen, above, at_level, at_bottom, at_above}

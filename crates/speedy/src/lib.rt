@@ -25,7 +25,7 @@ pub mod writable_impl;
 
 pub use buffer::Buffer;
 pub use c_text::CText;
-pub use codes::{Decode, Encode};
+pub use codes::{FromCode, ToCode};
 pub use collections::FromItems;
 pub use context::{
     BigEndian, Context, LittleEndian, PlainContext, StrictBigEndian, StrictLittleEndian,

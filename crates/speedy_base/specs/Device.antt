@@ -34,8 +34,8 @@ abbrev pub SinkKept : SinkState → SinkState → Type 0
 SinkKept old new = DeviceKept old.tells new.tells old.faults new.faults
 
 -- the source tells its bytes, and at least n remain
-abbrev pub Holds : SourceState → ℕ → Type 0
-Holds source size = IsTrue source.tells × (size ≤ length source.remaining)
+abbrev pub SourceHolds : SourceState → ℕ → Type 0
+SourceHolds source size = IsTrue source.tells × (size ≤ length source.remaining)
 
 -- one call of `pull`, which left this output
 pub record Pulls (result : Result ℕ StdIoError) (old new : SourceState) (output : List ℕ) : Type 0 where

@@ -4,7 +4,7 @@ ghost use Rattle.std.specs.Prelude.{IsTrue, false};
 ghost use Rattle.speedy_base.specs.FailedCalls.{OneFailed};
 ghost use Rattle.std.specs.IoError.{error_kind};
 ghost use Rattle.std.specs.Io.KnownBytes.{ReadConsumes, WriteAppends, Keeps};
-ghost use Rattle.speedy_base.specs.Device.{SourceState, SinkState, Holds, Pulls, Pushes, Flushes};
+ghost use Rattle.speedy_base.specs.Device.{SourceState, SinkState, SourceHolds, Pulls, Pushes, Flushes};
 ghost use Rattle.speedy_base.specs.MemoryDevices.{bytes_source, vec_sink_bytes, vec_sink_faults, vec_sink_state};
 ghost use Rattle.speedy_base.specs.MemoryDevices.{counted_inner, counted_faults, counted_settled, counted_source};
 ghost use Rattle.speedy_base.specs.MemoryDevices.{counted_sink, no_faults};
@@ -60,7 +60,7 @@ pub trait Source {
     /// answer `true`. A reader then makes room for a long list at once. This body answers `false`.
     #[inline(always)]
     fn can_pull_at_least(&self, _size: usize) -> bool
-        ensures { IsTrue result → Holds (source self.now) _size }
+        ensures { IsTrue result → SourceHolds (source self.now) _size }
     {
         false
     }
@@ -98,7 +98,7 @@ impl Source for &[u8] {
     /// Whether `size` bytes are left.
     #[inline(always)]
     fn can_pull_at_least(&self, size: usize) -> bool
-        ensures holds { IsTrue result → Holds (bytes_source self.now.now) size }
+        ensures holds { IsTrue result → SourceHolds (bytes_source self.now.now) size }
         ensures knows { IsTrue result ↔ (size ≤ length self.now.now) }
     {
         size <= self.len()

@@ -5,7 +5,7 @@ ghost use Rattle.speedy.specs.Decoding.{coded};
 ghost use Rattle.speedy.specs.declared.error.ErrorKind.TheVariants.{InvalidEnumVariant};
 
 use speedy::private::error_invalid_enum_variant;
-use speedy::{Context, Decode, Encode, ItemByItem, Layout, Writable, Writer};
+use speedy::{Context, FromCode, ItemByItem, Layout, ToCode, Writable, Writer};
 
 /// A share in percent, of which there are at most 100.
 #[derive(Debug, Clone, Copy, PartialEq)]
@@ -23,7 +23,7 @@ impl Layout for Percent {
 }
 
 #[tactic(auto, using(speedy::specs::Encoding::encoded))]
-impl Encode for Percent {
+impl ToCode for Percent {
     type Code = u8;
 
     fn encode(&self) -> u8 {
@@ -32,7 +32,7 @@ impl Encode for Percent {
 }
 
 #[tactic(auto, using(speedy::specs::Decoding::decoded))]
-impl Decode for Percent {
+impl FromCode for Percent {
     type Strategy = ItemByItem<()>;
 
     fn decode<C: Context>(number: u8, _: bool) -> Result<Percent, C::Error> {

@@ -6,7 +6,7 @@ ghost use Rattle.speedy.specs.declared.error.ErrorKind.TheVariants.{InvalidEnumV
 
 use speedy::private::error_invalid_enum_variant;
 use speedy::{
-    Context, Decode, Encode, ItemByItem, Layout, LendingReader, Part, ReadFrom, Writable, Writer,
+    Context, FromCode, ItemByItem, Layout, LendingReader, Part, ReadFrom, ToCode, Writable, Writer,
 };
 use std::convert::AsSlice;
 
@@ -23,7 +23,7 @@ impl Layout for Mark {
 }
 
 #[tactic(auto, using(speedy::specs::Encoding::encoded))]
-impl Encode for Mark {
+impl ToCode for Mark {
     type Code = u8;
 
     fn encode(&self) -> u8 {
@@ -32,7 +32,7 @@ impl Encode for Mark {
 }
 
 #[tactic(auto, using(speedy::specs::Decoding::decoded))]
-impl Decode for Mark {
+impl FromCode for Mark {
     type Strategy = ItemByItem<()>;
 
     fn decode<C: Context>(code: u8, _: bool) -> Result<Mark, C::Error> {

@@ -11,12 +11,12 @@ use Rattle.speedy_base.specs.DigitsLemmas.{EncodesNumber-same_bytes, EncodesNumb
 use Rattle.speedy_base.specs.Mode.{Mode}
 use Rattle.speedy_layout.specs.Format.{Format}
 use Rattle.speedy_layout.specs.Laws.{Codec}
-use Rattle.speedy_layout.specs.Codes.{Code, IsCode, coding_codec, exact_code, exact_is_code, one_kind}
+use Rattle.speedy_layout.specs.Codes.{Codebook, IsCode, coding_codec, exact_code, exact_is_code, one_kind}
 use Rattle.speedy_layout.specs.Flags.{Branch, variant_codec}
 use Rattle.speedy_layout.specs.Numbers.{unsigned_number, unsigned_codec}
 
 -- octets, whose number has them as its digits, greatest first
-abbrev pub octets_code : ℕ → Code ℕ (List ℕ)
+abbrev pub octets_code : ℕ → Codebook ℕ (List ℕ)
 octets_code width = exact_code (EncodesNumber width BigEndian) (λ kind. ⊥)
 
 pub octets_is_code : (width : ℕ) (mode : Mode) → IsCode (octets_code width) (unsigned_number width mode)
@@ -46,7 +46,7 @@ abbrev pub address_tag_number : Bool → ℕ
 address_tag_number true = 1
 address_tag_number false = 0
 
-abbrev pub address_tag_code : Code ℕ Bool
+abbrev pub address_tag_code : Codebook ℕ Bool
 address_tag_code = exact_code (λ n is_long. n ≡ address_tag_number is_long) (λ kind. kind ≡ kinds.InvalidEnumVariant)
 
 one_tag : (a b : Bool) → address_tag_number a ≡ address_tag_number b → a ≡ b

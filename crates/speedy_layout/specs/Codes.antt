@@ -8,7 +8,7 @@ use Rattle.speedy_layout.specs.Format.{Format, IsOwnKind}
 use Rattle.speedy_layout.specs.Laws.{Laws, Codec, Decided, Laws-lengths, WritesToo}
 
 -- How values are coded as values of another type.
-pub record Code (U V : Type 0) : Type 1 where
+pub record Codebook (U V : Type 0) : Type 1 where
   -- the code is read as the value
   pub means : U → V → Type 0
   -- the value is written as the code
@@ -35,24 +35,24 @@ pub record MeansNothing {U V : Type 0} (encodes : U → List ℕ → Type 0) (me
 
 -- the code is accepted as the value: each that means it, or the chosen one alone, under a demand for the canonical
 -- encoding
-abbrev pub Accepts : {U V : Type 0} → Bool → Code U V → U → V → Type 0
+abbrev pub Accepts : {U V : Type 0} → Bool → Codebook U V → U → V → Type 0
 Accepts false c = c.means
 Accepts true c = c.chosen
 
 -- some code is read as a value that it is not written as
-pub record ReadsWider {U V : Type 0} (c : Code U V) : Type 0 where
+pub record ReadsWider {U V : Type 0} (c : Codebook U V) : Type 0 where
   pub code : U
   pub value : V
   pub meant : c.means code value
   pub not_chosen : c.chosen code value → ⊥
 
 -- the kind of what is no canonical encoding, where there may be such and the canonical encoding is demanded
-abbrev pub IsDemand : {U V : Type 0} → Bool → Code U V → ErrorKind → Type 0
+abbrev pub IsDemand : {U V : Type 0} → Bool → Codebook U V → ErrorKind → Type 0
 IsDemand strict c kind = IsTrue strict × (kind ≡ kinds.NotWrittenForm) × ReadsWider c
 
 -- Values that are encoded as their codes. This alone reads wider than it writes, and here alone a demand for the
 -- canonical encoding narrows what is read.
-unfoldable pub coding : {U V : Type 0} → Mode → Code U V → Format U → Format V
+unfoldable pub coding : {U V : Type 0} → Mode → Codebook U V → Format U → Format V
 coding mode c F = record {
   encodes = Coded F.encodes (Accepts mode.strict c);
   writes = Coded F.writes c.chosen;
@@ -64,7 +64,7 @@ coding mode c F = record {
 }
 
 -- What makes a code of values of a format lawful.
-pub record IsCode {U V : Type 0} (c : Code U V) (F : Format U) : Type 0 where
+pub record IsCode {U V : Type 0} (c : Codebook U V) (F : Format U) : Type 0 where
   -- a code means at most one value
   pub one_meaning : (u : U) (v w : V) → c.means u v → c.means u w → v ≡ w
   -- at most one code is chosen for a value, where nothing is hashed
@@ -84,35 +84,36 @@ pub record IsCode {U V : Type 0} (c : Code U V) (F : Format U) : Type 0 where
   pub refusals_own : (kind : ErrorKind) → c.refusals kind → IsOwnKind kind
 
 -- what is chosen is accepted
-pub Accepts-chosen : {U V : Type 0} (strict : Bool) (c : Code U V) (u : U) (v : V) → (c.chosen u v → c.means u v)
+pub Accepts-chosen : {U V : Type 0} (strict : Bool) (c : Codebook U V) (u : U) (v : V) → (c.chosen u v → c.means u v)
     → c.chosen u v
     → Accepts strict c u v
 Accepts-chosen false c u v f h = f h
 Accepts-chosen true c u v f h = h
 
 -- what is accepted means the value
-pub Accepts-means : {U V : Type 0} (strict : Bool) (c : Code U V) (u : U) (v : V) → (c.chosen u v → c.means u v)
+pub Accepts-means : {U V : Type 0} (strict : Bool) (c : Codebook U V) (u : U) (v : V) → (c.chosen u v → c.means u v)
     → Accepts strict c u v → c.means u v
 Accepts-means false c u v f h = h
 Accepts-means true c u v f h = f h
 
 -- under a demand it is chosen
-pub Accepts-demanded : {U V : Type 0} (strict : Bool) (c : Code U V) (u : U) (v : V) → IsTrue strict
+pub Accepts-demanded : {U V : Type 0} (strict : Bool) (c : Codebook U V) (u : U) (v : V) → IsTrue strict
     → Accepts strict c u v → c.chosen u v
 Accepts-demanded false c u v s h = absurd (cc)
 Accepts-demanded true c u v s h = h
 
 -- what means the value, and is chosen for it under a demand, is accepted as it
-pub Accepts-is : {U V : Type 0} (strict : Bool) (c : Code U V) (u : U) (v : V) → c.means u v
+pub Accepts-is : {U V : Type 0} (strict : Bool) (c : Codebook U V) (u : U) (v : V) → c.means u v
     → (IsTrue strict → c.chosen u v) → Accepts strict c u v
 Accepts-is false c u v h f = h
 Accepts-is true c u v h f = f refl
 
-demand_own : {U V : Type 0} (strict : Bool) (c : Code U V) (kind : ErrorKind) → IsDemand strict c kind → IsOwnKind kind
+demand_own : {U V : Type 0} (strict : Bool) (c : Codebook U V) (kind : ErrorKind) → IsDemand strict c kind
+    → IsOwnKind kind
 demand_own strict c kind h = subst IsOwnKind (sym h.1) tt
 
 -- the laws of values that are encoded as their codes
-pub coding_laws : {U V : Type 0} (mode : Mode) {c : Code U V} {least : ℕ} {F : Format U}
+pub coding_laws : {U V : Type 0} (mode : Mode) {c : Codebook U V} {least : ℕ} {F : Format U}
     → Laws mode.strict least F → IsCode c F
     → Laws mode.strict least (coding mode c F)
 unfolding coding
@@ -182,14 +183,14 @@ coding_laws {U = U} {V = V} mode {c = c} {F = F} laws is = record {
       ]
 
 -- values are written as their codes are
-pub coding_written : {U V : Type 0} (f g : Mode) (c : Code U V) {F G : Format U} → WritesToo F G
+pub coding_written : {U V : Type 0} (f g : Mode) (c : Codebook U V) {F G : Format U} → WritesToo F G
     → WritesToo (coding f c F) (coding g c G)
 unfolding coding
 coding_written f g c same = record {
   too = λ v b h. record { code = h.code; code_is = same.too h.code b h.code_is; stands = h.stands };
 }
 
-abbrev pub coding_codec : {U V : Type 0} (c : Code U V) (codes : Codec U)
+abbrev pub coding_codec : {U V : Type 0} (c : Codebook U V) (codes : Codec U)
     → ((f : Mode) → IsCode c (codes.format f)) → Codec V
 coding_codec c codes is = record {
   least = codes.least;
@@ -201,7 +202,7 @@ coding_codec c codes is = record {
 -- ---- one code for each value
 
 -- each value is written as just what is read as it
-abbrev pub exact_code : {U V : Type 0} → (U → V → Type 0) → (ErrorKind → Type 0) → Code U V
+abbrev pub exact_code : {U V : Type 0} → (U → V → Type 0) → (ErrorKind → Type 0) → Codebook U V
 exact_code means refusals = record { means = means; chosen = means; refusals = refusals }
 
 -- a code that means a value is accepted as it under a demand too
@@ -245,7 +246,7 @@ one_kind refusal own kind e = subst IsOwnKind (sym e) own
 -- ---- values that pass a test
 
 -- the values that pass the test, as they are
-abbrev pub subset_code : {V : Type 0} → (V → Type 0) → ErrorKind → Code V V
+abbrev pub subset_code : {V : Type 0} → (V → Type 0) → ErrorKind → Codebook V V
 subset_code pass refusal = exact_code (λ u v. (u ≡ v) × pass v) (λ kind. kind ≡ refusal)
 
 -- the values of a format that pass the test; the others are refused with the one kind

@@ -4,7 +4,7 @@ use Rattle.std.proofs.Common.{sym, ◌∙◌, subst}
 use Rattle.speedy_base.specs.declared.error.ErrorKind.{ErrorKind}
 use Rattle.speedy_base.specs.declared.error.ErrorKind.TheVariants as kinds
 use Rattle.speedy_base.specs.Mode.{Mode}
-use Rattle.speedy_layout.specs.Codes.{Code, IsCode, Accepts-means, Accepts-exact_means, coding, coding_codec}
+use Rattle.speedy_layout.specs.Codes.{Codebook, IsCode, Accepts-means, Accepts-exact_means, coding, coding_codec}
 use Rattle.speedy_layout.specs.Codes.{subset_codec, length_subset_codec}
 use Rattle.speedy_layout.specs.Format.{IsOwnKind}
 use Rattle.speedy_layout.specs.Laws.{Codec}
@@ -20,7 +20,7 @@ pub record Encodes {U V : Type 0} (codes : Codec U) (values : Codec V) (code : U
       → (values.format mode).refuses_writing kind
 
 -- a value is encoded as the code that is chosen for it
-pub encoded_as : {U V : Type 0} (c : Code U V) (codes : Codec U) (is : (mode : Mode) → IsCode c (codes.format mode))
+pub encoded_as : {U V : Type 0} (c : Codebook U V) (codes : Codec U) (is : (mode : Mode) → IsCode c (codes.format mode))
     {u : U} {v : V} → ((mode : Mode) → (codes.format mode).asks.hashed ≡ false) → c.chosen u v
     → Encodes codes (coding_codec c codes is) u v
 unfolding coding
@@ -36,7 +36,7 @@ encoded_as {U = U} c codes is {u = u} {v = v} not_hashed chosen = record {
 }
 
 -- where the code is a number
-pub number_encoded : {V : Type 0} (width : ℕ) (c : Code ℕ V)
+pub number_encoded : {V : Type 0} (width : ℕ) (c : Codebook ℕ V)
     (is : (mode : Mode) → IsCode c ((unsigned_codec width).format mode)) {n : ℕ} {v : V} → c.chosen n v
     → Encodes (unsigned_codec width) (coding_codec c (unsigned_codec width) is) n v
 unfolding unsigned_number

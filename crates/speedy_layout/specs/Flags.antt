@@ -6,7 +6,7 @@ use Rattle.speedy_base.specs.DigitsLemmas.{EncodesNumber-digits}
 use Rattle.speedy_base.specs.Mode.{Mode}
 use Rattle.speedy_layout.specs.Format.{either_asks, Format}
 use Rattle.speedy_layout.specs.Laws.{Codec, Laws-less}
-use Rattle.speedy_layout.specs.Codes.{ReadsWider, Code, IsCode, coding_codec}
+use Rattle.speedy_layout.specs.Codes.{ReadsWider, Codebook, IsCode, coding_codec}
 use Rattle.speedy_layout.specs.Numbers.{unsigned_number, unsigned_codec}
 use Rattle.speedy_layout.specs.Sequences.{AsksAtMost, sequence, sequence_laws, sequence_written, asks_left, asks_right}
 use Rattle.speedy_layout.specs.Sequences.{told_apart}
@@ -25,7 +25,7 @@ written_flag true = 1
 written_flag false = 0
 
 -- a byte stands for true unless it is 0, and true is written as 1
-abbrev pub flag_code : Code ℕ Bool
+abbrev pub flag_code : Codebook ℕ Bool
 flag_code = record { means = λ n b. IsFlag b n; chosen = λ n b. n ≡ written_flag b; refusals = λ _. ⊥ }
 
 -- a flag above 1 is read as true, and not written

@@ -6,7 +6,7 @@ use Rattle.std.proofs.lemmas.List.{length-append}
 use Rattle.speedy_base.specs.declared.error.ErrorKind.{ErrorKind}
 use Rattle.speedy_base.specs.declared.error.ErrorKind.TheVariants as kinds
 use Rattle.speedy_base.specs.Mode.{Mode}
-use Rattle.speedy_layout.specs.Codes.{Accepts, Code, IsCode, MeansNothing, coding, coding_laws}
+use Rattle.speedy_layout.specs.Codes.{Accepts, Codebook, IsCode, MeansNothing, coding, coding_laws}
 use Rattle.speedy_layout.specs.Format.{Asks, Format, IsOwnKind, Parts-joined}
 use Rattle.speedy_layout.specs.Laws.{Laws, Laws-less, Laws-lengths, Laws-refusing, WritesToo, writes_itself}
 use Rattle.speedy_layout.specs.Numbers.{WritesSmaller}
@@ -26,7 +26,7 @@ AreCounted bytes = length bytes < 2 ^ 64 - 1
 
 -- What the bytes of a frame stand for: a value that all of them encode. Others are refused as a value is, or as bytes
 -- that are too many or too few for one.
-abbrev pub frame_code : {V : Type 0} → Format V → Code (List ℕ) V
+abbrev pub frame_code : {V : Type 0} → Format V → Codebook (List ℕ) V
 frame_code F = record {
   means = λ bytes v. F.encodes v bytes × AreCounted bytes;
   chosen = λ bytes v. F.writes v bytes × AreCounted bytes;

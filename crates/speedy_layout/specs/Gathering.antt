@@ -5,7 +5,7 @@ use Rattle.std.proofs.lemmas.List.{length-append}
 use Rattle.speedy_base.specs.Mode.{Mode}
 use Rattle.speedy_layout.specs.Format.{Format, Each, Parts-joined}
 use Rattle.speedy_layout.specs.Laws.{Laws, Codec, Laws-asking, Decided, WritesToo}
-use Rattle.speedy_layout.specs.Codes.{Code, Coded, IsCode, coding, coding_laws, coding_written}
+use Rattle.speedy_layout.specs.Codes.{Codebook, Coded, IsCode, coding, coding_laws, coding_written}
 use Rattle.speedy_layout.specs.Numbers.{WritesSmaller}
 use Rattle.speedy_layout.specs.Owned.{owned_content}
 use Rattle.speedy_layout.specs.Prefixed.{Numbers, Behind}
@@ -38,7 +38,7 @@ HasForms {E = E} {S = S} L stands written =
     × written xs
 
 -- a list is read as the thing that it stands for, and one that is a form is written
-abbrev pub gathering : {E S : Type 0} → (List E → S → Type 0) → (List E → Type 0) → Code (List E) S
+abbrev pub gathering : {E S : Type 0} → (List E → S → Type 0) → (List E → Type 0) → Codebook (List E) S
 gathering stands written = record { means = stands; chosen = λ xs s. stands xs s × written xs; refusals = λ _. ⊥ }
 
 -- the items of a thing that has no order of its own

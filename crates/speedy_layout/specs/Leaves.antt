@@ -12,7 +12,7 @@ use Rattle.speedy_base.specs.DigitsLemmas.{EncodesNumber-digits}
 use Rattle.speedy_base.specs.Mode.{Mode}
 use Rattle.speedy_layout.specs.Format.{Format, Parts-joined}
 use Rattle.speedy_layout.specs.Laws.{Codec}
-use Rattle.speedy_layout.specs.Codes.{Code, IsCode, ReadsWider, coding_codec, exact_code, exact_is_code, one_kind}
+use Rattle.speedy_layout.specs.Codes.{Codebook, IsCode, ReadsWider, coding_codec, exact_code, exact_is_code, one_kind}
 use Rattle.speedy_layout.specs.Codes.{subset_codec}
 use Rattle.speedy_layout.specs.Encoding.{Encodes, encoded_as}
 use Rattle.speedy_layout.specs.Numbers.{unsigned_number, unsigned_codec}
@@ -31,7 +31,7 @@ abbrev pub order_number : Endianness → ℕ
 order_number LittleEndian = 0
 order_number BigEndian = 1
 
-abbrev pub order_code : Code ℕ Endianness
+abbrev pub order_code : Codebook ℕ Endianness
 order_code = exact_code (λ n order. n ≡ order_number order) (λ kind. kind ≡ kinds.InvalidEnumVariant)
 
 one_order : (a b : Endianness) → order_number a ≡ order_number b → a ≡ b
@@ -65,7 +65,7 @@ together p = p.0 * 1_000_000_000 + p.1
 
 -- they mean the duration of n nanoseconds, if one can be so long; it is written with less than a second of
 -- nanoseconds
-abbrev pub duration_code : Code (ℕ × ℕ) ℕ
+abbrev pub duration_code : Codebook (ℕ × ℕ) ℕ
 duration_code = record {
   means = λ p n. (n ≡ together p) × FitsDuration n;
   chosen = λ p n. (n ≡ together p) × FitsDuration n × (p.1 < 1_000_000_000);

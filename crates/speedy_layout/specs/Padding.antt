@@ -2,7 +2,7 @@
 use Rattle.std.specs.Prelude.{◌≡◌, ℕ, List, [], ◌∷◌, replicate, refl}
 use Rattle.std.proofs.Common.{sym, ◌∙◌, arith}
 use Rattle.std.proofs.lemmas.List.{length-replicate}
-use Rattle.speedy_layout.specs.Codes.{Code, IsCode, ReadsWider, coding_codec, exact_code, exact_is_code}
+use Rattle.speedy_layout.specs.Codes.{Codebook, IsCode, ReadsWider, coding_codec, exact_code, exact_is_code}
 use Rattle.speedy_layout.specs.Laws.{Codec}
 use Rattle.speedy_layout.specs.Texts.{IsExpected, expected_own, raw_bytes, raw_bytes_codec}
 
@@ -12,7 +12,7 @@ zeros n = replicate n 0
 -- ---- padding
 
 -- any bytes are read, and zeros are written
-abbrev pub padding_code : ℕ → Code (List ℕ) (Unit {0})
+abbrev pub padding_code : ℕ → Codebook (List ℕ) (Unit {0})
 padding_code n = record { means = λ _ _. Unit {0}; chosen = λ bytes _. bytes ≡ zeros n; refusals = λ _. ⊥ }
 
 -- other bytes than zeros are read, and not written
@@ -39,7 +39,7 @@ padding_codec n = coding_codec (padding_code n) (raw_bytes_codec n) (λ _. paddi
 -- ---- zeros
 
 -- n zeros; other bytes are refused as not the constant that stands at each place, a zero
-abbrev pub zeros_code : ℕ → Code (List ℕ) (Unit {0})
+abbrev pub zeros_code : ℕ → Codebook (List ℕ) (Unit {0})
 zeros_code n = exact_code (λ bytes _. bytes ≡ zeros n) (IsExpected (0 ∷ []))
 
 pub zeros_is_code : (n : ℕ) → IsCode (zeros_code n) (raw_bytes n)

@@ -13,7 +13,7 @@ use Rattle.speedy_base.specs.DigitsLemmas.{EncodesNumber-is_one_byte}
 use Rattle.speedy_base.specs.Mode.{Mode}
 use Rattle.speedy_layout.specs.Format.{asks_nothing, Format, Parts-joined}
 use Rattle.speedy_layout.specs.Laws.{Laws, Codec, Laws-less, SameWritten}
-use Rattle.speedy_layout.specs.Codes.{Code, IsCode, coding, coding_codec, exact_code, exact_is_code}
+use Rattle.speedy_layout.specs.Codes.{Codebook, IsCode, coding, coding_codec, exact_code, exact_is_code}
 use Rattle.speedy_layout.specs.Codes.{Accepts-exact_means, Accepts-is, Accepts-means}
 use Rattle.speedy_layout.specs.Numbers.{unsigned_number, unsigned_number_laws, unsigned_written, unsigned_codec}
 use Rattle.speedy_layout.specs.Numbers.{WritesSmaller}
@@ -27,7 +27,7 @@ pub record IsFirstByte (ones low byte : ℕ) : Type 0 where
   pub byte_is : byte ≡ (256 - 2 ^ (8 - ones)) + low
 
 -- a byte stands for the number of its leading ones and its low part
-abbrev pub first_byte_code : Code ℕ (ℕ × ℕ)
+abbrev pub first_byte_code : Codebook ℕ (ℕ × ℕ)
 first_byte_code = exact_code (λ byte p. IsFirstByte p.0 p.1 byte) (λ kind. ⊥)
 
 -- the same with digits least first
@@ -45,7 +45,7 @@ pub record IsFewest (more n : ℕ) : Type 0 where
   pub no_shorter : HasNoShorter more n
 
 -- the low part stands above the digits; of the codes that mean a number, that with the fewest bytes is written
-abbrev pub varint_code : Code ((ℕ × ℕ) × ℕ) ℕ
+abbrev pub varint_code : Codebook ((ℕ × ℕ) × ℕ) ℕ
 varint_code = record {
   means = λ p n. n ≡ p.0.1 * 256 ^ p.0.0 + p.1;
   chosen = λ p n. IsFewest p.0.0 n × (p.0.1 ≡ n / 256 ^ p.0.0) × (p.1 ≡ n % 256 ^ p.0.0);

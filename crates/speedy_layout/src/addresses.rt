@@ -6,7 +6,7 @@ ghost use Rattle.std.specs.Net.Addr.{ipv4_octets, ipv6_octets};
 ghost use Rattle.speedy_layout.specs.Addresses.{ip_octets};
 ghost use Rattle.speedy_layout.specs.Codecs.{address_codec, ip_address_codec};
 
-use crate::codes::Encode;
+use crate::codes::ToCode;
 use crate::layout::Layout;
 use speedy_base::endianness::Endianness;
 use std::net::{IpAddr, Ipv4Addr, Ipv6Addr};
@@ -19,7 +19,7 @@ impl Layout for Ipv4Addr {
     ghost layout = { address_codec 4 };
 }
 
-impl Encode for Ipv4Addr {
+impl ToCode for Ipv4Addr {
     type Code = u32;
 
     #[inline(always)]
@@ -37,7 +37,7 @@ impl Layout for Ipv6Addr {
     ghost layout = { address_codec 16 };
 }
 
-impl Encode for Ipv6Addr {
+impl ToCode for Ipv6Addr {
     type Code = u128;
 
     #[inline(always)]

@@ -1,12 +1,12 @@
-//! Values that are encoded as codes (`Encode`), each as the one that is chosen for it.
+//! Values that are encoded as codes (`ToCode`), each as the one that is chosen for it.
 ghost use Rattle.speedy_layout.specs.Encoding.{Encodes};
 
 use crate::layout::Layout;
 
 /// Types of which each value is encoded as a value of another type, its code: a number, bytes or what else is read.
 ///
-/// Such a type is written by a call of `write_code`, and read by an impl of `Decode`.
-pub trait Encode: Layout {
+/// Such a type is written by a call of `write_code`, and read by an impl of `FromCode`.
+pub trait ToCode: Layout {
     /// The type of the codes.
     type Code: Layout + Drop;
 

@@ -4,7 +4,7 @@ ghost use Rattle.std.specs.Option.{option_map};
 ghost use Rattle.std.specs.Result.{result_map_both};
 ghost use Rattle.speedy_layout.specs.Codecs.{alternative_codec, flag_codec, option_codec};
 
-use crate::codes::Encode;
+use crate::codes::ToCode;
 use crate::layout::Layout;
 
 impl Layout for bool {
@@ -14,7 +14,7 @@ impl Layout for bool {
 }
 
 #[tactic(auto, using(crate::specs::Encoding::encoded))]
-impl Encode for bool {
+impl ToCode for bool {
     type Code = u8;
 
     #[inline(always)]

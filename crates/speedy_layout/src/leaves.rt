@@ -3,7 +3,7 @@ ghost use Rattle.std.specs.Prelude.{ℕ};
 ghost use Rattle.std.specs.Duration.{as_nanos};
 ghost use Rattle.speedy_layout.specs.Codecs.{byte_order_codec, character_codec, duration_codec, raw_bytes_codec};
 
-use crate::codes::Encode;
+use crate::codes::ToCode;
 use crate::layout::Layout;
 use speedy_base::endianness::Endianness;
 use std::time::Duration;
@@ -15,7 +15,7 @@ impl Layout for char {
     ghost layout = { character_codec };
 }
 
-impl Encode for char {
+impl ToCode for char {
     type Code = u32;
 
     #[inline(always)]
@@ -31,7 +31,7 @@ impl Layout for Endianness {
 }
 
 #[tactic(auto, using(crate::specs::Encoding::encoded))]
-impl Encode for Endianness {
+impl ToCode for Endianness {
     type Code = u8;
 
     #[inline(always)]
@@ -51,7 +51,7 @@ impl Layout for Duration {
     ghost layout = { duration_codec };
 }
 
-impl Encode for Duration {
+impl ToCode for Duration {
     type Code = (u64, u32);
 
     #[inline(always)]

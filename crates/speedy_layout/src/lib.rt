@@ -37,7 +37,7 @@ pub mod views;
 pub mod whole;
 
 pub use c_text::CText;
-pub use codes::Encode;
+pub use codes::ToCode;
 pub use floats::{F32, F64};
 pub use layout::Layout;
 pub use one_order::{Big, Little};

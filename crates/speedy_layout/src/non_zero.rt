@@ -7,7 +7,7 @@ ghost use Rattle.std.specs.Int.NonZero.{non_zero_u8_get, non_zero_u16_get, non_z
 ghost use Rattle.std.specs.Int.NonZero.{non_zero_i8_get, non_zero_i16_get, non_zero_i32_get, non_zero_i64_get};
 ghost use Rattle.speedy_layout.specs.Codecs.{non_zero_codec, signed_non_zero_codec};
 
-use crate::codes::Encode;
+use crate::codes::ToCode;
 use crate::layout::Layout;
 use std::num::{
     NonZeroI8, NonZeroI16, NonZeroI32, NonZeroI64, NonZeroU8, NonZeroU16, NonZeroU32, NonZeroU64,
@@ -21,7 +21,7 @@ impl Layout for NonZeroU8 {
     ghost layout = { non_zero_codec 1 };
 }
 
-impl Encode for NonZeroU8 {
+impl ToCode for NonZeroU8 {
     type Code = u8;
 
     #[inline(always)]
@@ -38,7 +38,7 @@ impl Layout for NonZeroU16 {
     ghost layout = { non_zero_codec 2 };
 }
 
-impl Encode for NonZeroU16 {
+impl ToCode for NonZeroU16 {
     type Code = u16;
 
     #[inline(always)]
@@ -55,7 +55,7 @@ impl Layout for NonZeroU32 {
     ghost layout = { non_zero_codec 4 };
 }
 
-impl Encode for NonZeroU32 {
+impl ToCode for NonZeroU32 {
     type Code = u32;
 
     #[inline(always)]
@@ -72,7 +72,7 @@ impl Layout for NonZeroU64 {
     ghost layout = { non_zero_codec 8 };
 }
 
-impl Encode for NonZeroU64 {
+impl ToCode for NonZeroU64 {
     type Code = u64;
 
     #[inline(always)]
@@ -89,7 +89,7 @@ impl Layout for NonZeroI8 {
     ghost layout = { signed_non_zero_codec w8 };
 }
 
-impl Encode for NonZeroI8 {
+impl ToCode for NonZeroI8 {
     type Code = i8;
 
     #[inline(always)]
@@ -106,7 +106,7 @@ impl Layout for NonZeroI16 {
     ghost layout = { signed_non_zero_codec w16 };
 }
 
-impl Encode for NonZeroI16 {
+impl ToCode for NonZeroI16 {
     type Code = i16;
 
     #[inline(always)]
@@ -123,7 +123,7 @@ impl Layout for NonZeroI32 {
     ghost layout = { signed_non_zero_codec w32 };
 }
 
-impl Encode for NonZeroI32 {
+impl ToCode for NonZeroI32 {
     type Code = i32;
 
     #[inline(always)]
@@ -140,7 +140,7 @@ impl Layout for NonZeroI64 {
     ghost layout = { signed_non_zero_codec w64 };
 }
 
-impl Encode for NonZeroI64 {
+impl ToCode for NonZeroI64 {
     type Code = i64;
 
     #[inline(always)]

@@ -11,7 +11,7 @@ ghost use Rattle.speedy_layout.specs.Codecs.{signed_codec, unsigned_codec, usize
 ghost use Rattle.speedy_layout.specs.FixedNumbers.{unsigned_fixed, signed_fixed};
 ghost use Rattle.speedy_layout.specs.Views.{byte_number_alike, signed_byte_alike};
 
-use crate::codes::Encode;
+use crate::codes::ToCode;
 use crate::fixed_numbers::FixedNumber;
 use crate::layout::Layout;
 use crate::same_key::SameKey;
@@ -360,7 +360,7 @@ impl Layout for usize {
 }
 
 #[tactic(auto, using(crate::specs::Encoding::encoded))]
-impl Encode for usize {
+impl ToCode for usize {
     type Code = u64;
 
     #[inline(always)]

@@ -10,7 +10,7 @@ use Rattle.std.specs.declared.io.Error.{Error as StdIoError}
 use Rattle.speedy.specs.declared.error.Error.{Error}
 use Rattle.speedy.specs.declared.error.ErrorKind.TheVariants as kinds
 use Rattle.speedy.specs.Error.{error_of, kind_of, IsIoErrorOf}
-use Rattle.speedy.specs.Collectors.{sink_state, Takes}
+use Rattle.speedy.specs.Collectors.{sink_state, SinkTakes}
 use Rattle.speedy.specs.Device.{SourceState, SourceKept, SinkState, SinkKept, Pulls, Flushes}
 use Rattle.speedy.specs.DeviceLemmas.{DeviceKept-same, DeviceKept-after, DeviceKept-told}
 use Rattle.speedy.specs.Mode.{Mode}
@@ -90,7 +90,7 @@ one_answer line answer h = record {
 -- what a collector over the sink wrote
 collected_answer : {at other : Mode} {name other_name : GName} (r : Result (Unit {0}) Error) (line answer : List ℕ)
     (s t : SinkState) → AnswersLine line answer
-    → WritesBytes itself answer r (sink_state at name s) (sink_state other other_name t) (λ b. Takes s b t)
+    → WritesBytes itself answer r (sink_state at name s) (sink_state other other_name t) (λ b. SinkTakes s b t)
     → IfErr r (λ e. IsOfFailedCall itself e s.faults t.faults) → Answering r (line ∷ []) [] s t
 collected_answer (Ok x) line answer s t h w failed =
     let put = w.answer in
@@ -130,7 +130,7 @@ collected_answer (Err e) line answer s t h w failed =
 -- the same, whatever the states of its sink were called
 pub pushed_answer : {at other : Mode} {name other_name : GName} {old new : SinkState} (r : Result (Unit {0}) Error)
     (line answer : List ℕ) (s t : SinkState) → s ≡ old → t ≡ new → AnswersLine line answer
-    → WritesBytes itself answer r (sink_state at name s) (sink_state other other_name t) (λ b. Takes s b t)
+    → WritesBytes itself answer r (sink_state at name s) (sink_state other other_name t) (λ b. SinkTakes s b t)
     → IfErr r (λ e. IsOfFailedCall itself e s.faults t.faults) → Answering r (line ∷ []) [] old new
 pushed_answer r line answer s t starts ends h w failed =
     rw (← starts, ← ends) (collected_answer r line answer s t h w failed)

@@ -13,7 +13,7 @@ use Rattle.speedy_base.specs.declared.error.Error.{Error}
 use Rattle.speedy_base.specs.Error.{error_of, passed_on}
 use Rattle.speedy_layout.specs.Format.{Format, Each}
 use Rattle.speedy_layout.specs.Laws.{Laws, Codec}
-use Rattle.speedy_layout.specs.Codes.{Code, ReadsWider, coding, Accepts-is, Accepts-demanded}
+use Rattle.speedy_layout.specs.Codes.{Codebook, ReadsWider, coding, Accepts-is, Accepts-demanded}
 use Rattle.speedy_layout.specs.Sequences.{across, asks_after, asks_hashed}
 use Rattle.speedy_layout.specs.Gathering.{gathering, items_of, hashed_items}
 use Rattle.speedy_base.specs.Mode.{Mode}
@@ -23,7 +23,7 @@ use Rattle.speedy_layout.specs.Owned.{owned_content}
 use Rattle.speedy_read.specs.Reading.{ReaderState, Kept, Undecodable, Reads}
 use Rattle.speedy_read.specs.ReadingLemmas.{Kept-same, Got-nothing, Got-as, ReadSoFar, more_so_far}
 use Rattle.speedy_read.specs.Codes.{code_refused}
-use Rattle.speedy_read.specs.Counted.{counted_code_composes}
+use Rattle.speedy_read.specs.BehindCounts.{counted_code_composes}
 use Rattle.speedy_read.specs.Collections.{Gatherer, gatherer, GotItems, NotWritten, Collects}
 use Rattle.speedy_read.proofs.ListLemmas.{item_more, refused_item, refused_items}
 
@@ -197,7 +197,7 @@ extended {says = says} items result ran of_vector gathered =
 -- ---- what was gathered is a value of a code
 
 -- what the items gather to is what the code says of what is seen of them
-pub record IsCodeOf {T F V S : Type 0} (g : Gatherer T F V) (c : Code (List V) S) (seen' : F → S) : Type 0 where
+pub record IsCodeOf {T F V S : Type 0} (g : Gatherer T F V) (c : Codebook (List V) S) (seen' : F → S) : Type 0 where
   pub meant : (items : List T) (whole : F) → g.gathers items whole → c.means (map g.seen items) (seen' whole)
   pub chosen : (items : List T) (whole : F) → g.gathers items whole → g.are_written items
       → c.chosen (map g.seen items) (seen' whole)
@@ -217,7 +217,7 @@ each_begins laws (v ∷ vs) (w ∷ ws) s t r q l h k e =
     (rest.0, let a = first.0 in let b = rest.1 in (cc))
 
 -- items that are written of no collection stand where the canonical encoding is demanded
-module _ {T F V S : Type 0} {g : Gatherer T F V} (c : Code (List V) S)
+module _ {T F V S : Type 0} {g : Gatherer T F V} (c : Codebook (List V) S)
     (first : (items : List T) (more : List V) (s : S) → c.chosen (map g.seen items ++ more) s → g.are_written items)
     {L : Format V} {n : ℕ} {old : ReaderState} {new : ReaderState} (h : NotWritten g L n old new) (value : S)
     (meant : c.means (map g.seen h.items) value) where
@@ -285,7 +285,7 @@ unfolding vector owned_content repeat
 vector_items L n vs s h = h
 
 -- so items that are read and gathered are a value of the code that is read
-pub collected_read : {T F V S : Type 0} {g : Gatherer T F V} {c : Code (List V) S} {seen' : F → S} {L : Format V}
+pub collected_read : {T F V S : Type 0} {g : Gatherer T F V} {c : Codebook (List V) S} {seen' : F → S} {L : Format V}
     {n : ℕ} {E : Type 0} {gives : Error → E → Type 0} {eof : E → Bool} {result : Result F E} {old new : ReaderState}
     {least : ℕ} → Laws old.mode.strict least L → IsCodeOf g c seen'
     → Collects g L n gives eof result old new
@@ -323,7 +323,7 @@ collected_read {V = V} {g = g} {c = c} {seen' = seen'} {L = L} {n = n} {gives = 
 
 -- the items of a thing that has no order of its own are read alike
 gathered_composes : {V S : Type 0} (hashed : Bool) (count : Format ℕ) (L : Format V) (mode : Mode)
-    (c : Code (List V) S) → Composes count (λ n. coding mode c (vector n L))
+    (c : Codebook (List V) S) → Composes count (λ n. coding mode c (vector n L))
     (coding mode c (items_of hashed count L)) (λ n s. s)
 unfolding coding hashed_items
 gathered_composes false count L mode c = counted_code_composes mode c count _ (vector_asks L) (λ n. vector_length n L)
@@ -356,7 +356,7 @@ pub collection_read : {T F V S : Type 0} {seen : T → V} {gathers : List T → 
 collection_read {T = T} {F = F} {V = V} {S = S} {seen = seen} {gathers = gathers} {written = written}
     {seen' = seen'} {n = n} {gives = gives} {eof = eof} {result = result} {old = old} {mid = mid} {new = new}
     hashed count item stands stands_for first number r =
-    let c : Code (List V) S = gathering stands written in
+    let c : Codebook (List V) S = gathering stands written in
     let is : IsCodeOf (gatherer seen gathers (λ items. written (map seen items))) c seen' = record {
       meant = stands_for;
       chosen = λ items whole h w. (stands_for items whole h, w);
@@ -367,7 +367,7 @@ collection_read {T = T} {F = F} {V = V} {S = S} {seen = seen} {gathers = gathers
     number.kept.mode (collected_read (item.laws mid.mode) is r)) (λ _. refl)
 
 -- and where the number is refused, so is the collection
-pub collection_refused : {V S : Type 0} (c : Code (List V) S) (L : Format V) {count : Format ℕ} {E : Type 0}
+pub collection_refused : {V S : Type 0} (c : Codebook (List V) S) (L : Format V) {count : Format ℕ} {E : Type 0}
     {gives : Error → E → Type 0} {eof : E → Bool} {A B : Type 0} {seen : A → ℕ} {seen' : B → S} {e : E}
     {result : Result B E} {old new : ReaderState} (hashed : Bool) → IsErrAnd result (λ x. x ≡ e)
     → Reads gives eof seen count (Err e) old new

@@ -22,9 +22,9 @@ use Rattle.speedy_layout.specs.Sequences.{asks_right, asks_nothing_more, sequenc
 use Rattle.speedy_layout.specs.Texts.{raw_bytes, raw_bytes_laws, each_byte, each_byte_is}
 use Rattle.speedy_layout.specs.Wholes.{Misfits, WholeLaws}
 use Rattle.speedy_read.specs.Buffers.{memory_state}
-use Rattle.speedy_read.specs.Counted.{counted_code_composes}
+use Rattle.speedy_read.specs.BehindCounts.{counted_code_composes}
 use Rattle.speedy_read.specs.Codes.{Covers, got_covered, unaccepted}
-use Rattle.speedy_read.specs.Frames.{filling, Unfilled, Fills, FillsUnlessEnd}
+use Rattle.speedy_read.specs.Frames.{filling, Unfilled, FillsFrame, FillsUnlessEnd}
 use Rattle.speedy_read.specs.Reading.{ReaderState, Got, IsTold, refusing_kinds, IsEnd, Undecodable, Reads}
 use Rattle.speedy_read.specs.ReadingLemmas.{IsTold-part, Reads-passed, part_refused}
 use Rattle.speedy_read.specs.Sequences.{Composes}
@@ -131,7 +131,7 @@ module _ {E V : Type 0} {gives : Error → E → Type 0} {eof : E → Bool} {F :
       → ((error : Error) (e : E) → gives error e → eof e ≡ is_eof_error error) → AreCounted bytes
       → (read result : Result A E) → FillsUnlessEnd gives eof read result
       → ReadsWhole gives eof seen F misfits read (memory_state lends targets bytes f) new
-      → Fills gives seen F misfits lends result bytes
+      → FillsFrame gives seen F misfits lends result bytes
   filled keeps_eof fit (Ok x) (Ok y) judged r = (rw judged r.answer, fit)
   filled keeps_eof fit (Ok x) (Err e) judged r = absurd judged
   filled keeps_eof fit (Err e) (Ok y) judged r = absurd judged
@@ -201,7 +201,8 @@ module _ {E A B V : Type 0} {gives : Error → E → Type 0} {eof : E → Bool} 
     {old new : ReaderState} (same : lends ≡ false → old.fixed.lends ≡ false) where
   -- the bytes of the frame were read, and then a value that fills them or none
   pub filling_read : (result : Result B E) → Reads gives eof shown (raw_bytes n) (Ok x) old new
-      → Fills gives seen F misfits lends result (shown x) → Reads gives eof seen (filling f F misfits n) result old new
+      → FillsFrame gives seen F misfits lends result (shown x)
+      → Reads gives eof seen (filling f F misfits n) result old new
   unfolding coding
   filling_read (Ok y) r fills =
       got_covered (λ s h. record {
@@ -228,14 +229,14 @@ pub frame_filled : {E A B V : Type 0} {gives : Error → E → Type 0} {eof : E 
     {seen : B → V} (F : Mode → Format V) (misfits : Mode → Misfits) → ((f : Mode) → WholeLaws f.strict (F f)) → (n : ℕ)
     {lends : Bool} {result : Result B E} {old mid new : ReaderState} {lent : Mode}
     → (lends ≡ false → old.fixed.lends ≡ false) → Reads gives eof shown (raw_bytes n) (Ok x) old mid
-    → lent ≡ mid.mode → new ≡ mid → Fills gives seen (F lent) (misfits lent) lends result (shown x)
+    → lent ≡ mid.mode → new ≡ mid → FillsFrame gives seen (F lent) (misfits lent) lends result (shown x)
     → Reads gives eof seen (filling old.mode (F old.mode) (misfits old.mode) n) result old new
 frame_filled {gives = gives} {eof = eof} {shown = shown} {x = x} {seen = seen} F misfits laws n {lends = lends}
     {result = result} {old = old} same r own is fills =
     subst (λ (s : ReaderState). Reads gives eof seen (filling old.mode (F old.mode) (misfits old.mode) n) result old s)
     (sym is)
     (filling_read old.mode (misfits old.mode) (laws old.mode) n same result r
-    (subst (λ (f : Mode). Fills gives seen (F f) (misfits f) lends result (shown x)) (own ∙ r.kept.mode) fills))
+    (subst (λ (f : Mode). FillsFrame gives seen (F f) (misfits f) lends result (shown x)) (own ∙ r.kept.mode) fills))
 
 -- ---- bytes of a vector
 

@@ -20,7 +20,7 @@ use Rattle.speedy_layout.specs.Views.{each_one_size}
 use Rattle.speedy_layout.specs.Sequences.{asks_nothing_more}
 use Rattle.speedy_read.specs.Reading.{ReaderState, Kept, Reads, ShowsNothing}
 use Rattle.speedy_read.specs.ReadingLemmas.{Kept-same}
-use Rattle.speedy_read.specs.Counted.{prefixed_text_composes, prefixed_list_composes}
+use Rattle.speedy_read.specs.BehindCounts.{prefixed_text_composes, prefixed_list_composes}
 use Rattle.speedy_read.specs.Sequences.{Composes}
 use Rattle.speedy_read.specs.Codes.{Covers, refused_covered, got_covered, codes_cover, exact_code_read}
 use Rattle.speedy_read.specs.Codes.{code_means_nothing}

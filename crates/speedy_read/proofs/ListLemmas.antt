@@ -25,7 +25,7 @@ use Rattle.speedy_read.specs.ReadingLemmas.{
 }
 use Rattle.speedy_read.specs.ReadingLemmas.{ReadSoFar, more_so_far, all_so_far, Reads-passed}
 use Rattle.speedy_read.specs.Sequences.{Composes}
-use Rattle.speedy_read.specs.Counted.{prefixed_list_composes}
+use Rattle.speedy_read.specs.BehindCounts.{prefixed_list_composes}
 use Rattle.speedy_read.proofs.OwnedLemmas.{memory_refused}
 
 -- what is seen of the items and one item more, which was added

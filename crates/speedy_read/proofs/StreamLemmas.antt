@@ -26,7 +26,7 @@ use Rattle.speedy_read.specs.ReadingLemmas.{tells_still, KeptByPeek-after, ends_
 use Rattle.speedy_read.specs.declared.stream_reader.StreamReader.{StreamReader}
 use Rattle.speedy_read.specs.StreamModel.{StreamModel, stream_model, first_capacity, most_held, is_tidy, stream_kind}
 use Rattle.speedy_read.specs.StreamModel.{ring_state, stream_state}
-use Rattle.speedy_read.specs.Streams.{FillsList, FillsRing, Fills}
+use Rattle.speedy_read.specs.Streams.{FillsList, FillsRing, FillsUpTo}
 use Rattle.speedy_read.specs.WaysOfReading.{WantsMemory, TookPrefix, RefusesStream, AnswersStreamIn}
 
 -- ---- tidiness
@@ -148,7 +148,7 @@ module _ {E : Type 0} {gives : Error → E → Type 0} {eof : E → Bool} {A : T
   -- the source ended before the ring held enough
   pub fill_ended : {enough : Bool} {e : E} → enough ≡ false → FillsRing n b (Ok enough) held keeps old new
       → IsEnd gives eof true e
-      → Fills gives eof {A = A} n (Err e) held keeps (ring_state name old held b mode)
+      → FillsUpTo gives eof {A = A} n (Err e) held keeps (ring_state name old held b mode)
       (ring_state name new keeps b mode)
   fill_ended less f ended = record {
     kept = record {
@@ -176,7 +176,7 @@ module _ {E : Type 0} {gives : Error → E → Type 0} {eof : E → Bool} {A B :
     (old new : SourceState) where
   -- a read by the ring, which was filled before
   pub filled_read : {rest : Ring} → length held.bytes < n
-      → Fills gives eof n (Ok u) held keeps (ring_state name old held b mode)
+      → FillsUpTo gives eof n (Ok u) held keeps (ring_state name old held b mode)
       (ring_state after new keeps c encoding') → seen x ≡ take n keeps.bytes → rest ≡ record keeps {
         bytes = drop n keeps.bytes;
         room = [];
@@ -215,7 +215,7 @@ module _ {E : Type 0} {gives : Error → E → Type 0} {eof : E → Bool} {A B :
     (ring : Ring) (same : held.bytes ≡ ring.bytes) where
   -- a peek of a ring that was filled
   pub filled_peeked : {x : A} {u : B}
-      → Fills gives eof n (Ok u) held keeps (ring_state name old held b mode)
+      → FillsUpTo gives eof n (Ok u) held keeps (ring_state name old held b mode)
       (ring_state after new keeps c encoding') → seen x ≡ take n keeps.bytes
       → Peeks gives eof seen (raw_bytes n) (Ok x) (ring_state name old ring b mode)
       (ring_state after new keeps c encoding')
@@ -235,7 +235,7 @@ module _ {E : Type 0} {gives : Error → E → Type 0} {eof : E → Bool} {A B :
 
   -- and of one that could not be
   pub fill_not_peeked : {e : E} {result : Result A E} → IsErrAnd result (λ x. x ≡ e)
-      → Fills gives eof {A = B} n (Err e) held keeps (ring_state name old held b mode)
+      → FillsUpTo gives eof {A = B} n (Err e) held keeps (ring_state name old held b mode)
       (ring_state after new keeps c encoding')
       → Peeks gives eof seen (raw_bytes n) result (ring_state name old ring b mode)
       (ring_state after new keeps c encoding')

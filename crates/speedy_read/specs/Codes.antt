@@ -9,7 +9,7 @@ use Rattle.speedy_base.specs.Error.{IsNamed, IsNamed-more, error_of}
 use Rattle.speedy_base.specs.Digits.{AreBytes}
 use Rattle.speedy_layout.specs.Format.{Format}
 use Rattle.speedy_layout.specs.Laws.{Laws}
-use Rattle.speedy_layout.specs.Codes.{Code, ReadsWider, coding, Accepts, IsDemand, Accepts-is, Accepts-means}
+use Rattle.speedy_layout.specs.Codes.{Codebook, ReadsWider, coding, Accepts, IsDemand, Accepts-is, Accepts-means}
 use Rattle.speedy_layout.specs.Codes.{Accepts-demanded, exact_code, length_subset, subset_code}
 use Rattle.speedy_layout.specs.Sequences.{AsksAtMost, asks_same}
 use Rattle.speedy_read.specs.Reading.{ReaderState, IsTold, refusing_kinds, Undecodable, Reads, Peeks}
@@ -87,7 +87,7 @@ module _ {U V : Type 0} {L : Format U} {N : Format V} {E : Type 0} {gives : Erro
 -- ---- codes
 
 -- each encoding of a value is one of its code
-pub codes_cover : {U V : Type 0} (mode : Mode) (c : Code U V) {L : Format U} → Covers L (coding mode c L)
+pub codes_cover : {U V : Type 0} (mode : Mode) (c : Codebook U V) {L : Format U} → Covers L (coding mode c L)
 unfolding coding
 codes_cover mode c = record {
   under = λ v s h. (h.code, h.code_is);
@@ -99,7 +99,7 @@ codes_cover mode c = record {
 
 -- bytes at whose start a code stands that is accepted as no value are refused with a kind of the type
 pub unaccepted : {E : Type 0} {gives : Error → E → Type 0} {eof : E → Bool} {U V : Type 0} (mode : Mode)
-    (c : Code U V) {L : Format U} {least : ℕ}
+    (c : Codebook U V) {L : Format U} {least : ℕ}
     → Laws mode.strict least L → {u : U} {e : E} {bytes prefix : List ℕ} (rest : List ℕ) → L.encodes u prefix
     → bytes ≡ prefix ++ rest
     → ((v : V) → Accepts mode.strict c u v → ⊥)
@@ -123,7 +123,7 @@ unaccepted {gives = gives} {U = U} mode c {L = L} laws {u = u} {e = e} {bytes = 
           absurd (laws.malformed_undecodable u prefix rest bad encoded);
     }
 
-module _ {E : Type 0} {gives : Error → E → Type 0} {eof : E → Bool} {U V : Type 0} (mode : Mode) (c : Code U V)
+module _ {E : Type 0} {gives : Error → E → Type 0} {eof : E → Bool} {U V : Type 0} (mode : Mode) (c : Codebook U V)
     {L : Format U}
     {A B : Type 0} {seen : A → U} {seen' : B → V} {old new : ReaderState} where
   -- where no code is read, no value is

@@ -5,7 +5,7 @@ use Rattle.speedy_base.specs.declared.error.ErrorKind.{ErrorKind}
 use Rattle.speedy_base.specs.declared.error.ErrorKind.TheVariants as kinds
 use Rattle.speedy_base.specs.Error.{Errors, IsNamed, IsNamed-more, error_of}
 use Rattle.speedy_base.specs.Mode.{Mode}
-use Rattle.speedy_layout.specs.Codes.{Code, IsCode, ReadsWider, IsDemand, coding, coding_codec, exact_code, Accepts}
+use Rattle.speedy_layout.specs.Codes.{Codebook, IsCode, ReadsWider, IsDemand, coding, coding_codec, exact_code, Accepts}
 use Rattle.speedy_layout.specs.Codes.{Accepts-is, Accepts-means, Accepts-demanded, subset_codec}
 use Rattle.speedy_layout.specs.Codes.{subset_is_code}
 use Rattle.speedy_layout.specs.Format.{IsOwnKind}
@@ -18,7 +18,7 @@ pub record IsCoded {U V : Type 0} (codes : Codec U) (values : Codec V) : Type 0 
   pub covers : (mode : Mode) → Covers (codes.format mode) (values.format mode)
   pub least : codes.least ≡ values.least
 
-pub coded : {U V : Type 0} (c : Code U V) (codes : Codec U) (is : (mode : Mode) → IsCode c (codes.format mode))
+pub coded : {U V : Type 0} (c : Codebook U V) (codes : Codec U) (is : (mode : Mode) → IsCode c (codes.format mode))
     → IsCoded codes (coding_codec c codes is)
 coded c codes is = record { covers = λ mode. codes_cover mode c; least = refl }
 
@@ -54,7 +54,7 @@ decoded_read {errors = errors} {values = values} {old = old} {new = new} (Err e)
       });
     }
 
-module _ {E U V B : Type 0} {errors : Errors E} {strict : Bool} (c : Code U V) (codes : Codec U)
+module _ {E U V B : Type 0} {errors : Errors E} {strict : Bool} (c : Codebook U V) (codes : Codec U)
     (is : (mode : Mode) → IsCode c (codes.format mode)) {u : U} {seen : B → V} where
   -- a code is decoded to the value that it means, where it is chosen for it under a demand
   pub decoded_as : {y : B} → c.means u (seen y) → (IsTrue strict → c.chosen u (seen y))

@@ -33,8 +33,8 @@ module _ {E : Type 0} (gives : Error → E → Type 0) where
 
   -- what was answered of the bytes of a frame, which are lent or not: a value that fills them, want of memory for it,
   -- or that none does
-  abbrev pub Fills : {A V : Type 0} → (A → V) → Format V → Misfits → Bool → Result A E → List ℕ → Type 0
-  Fills seen F misfits lends result bytes =
+  abbrev pub FillsFrame : {A V : Type 0} → (A → V) → Format V → Misfits → Bool → Result A E → List ℕ → Type 0
+  FillsFrame seen F misfits lends result bytes =
       MatchResult result
       (λ x. F.encodes (seen x) bytes × AreCounted bytes)
       (λ e. (gives (error_of kinds.OutOfMemory) e × IsTrue F.asks.memory) ⊎ Unfilled F misfits lends e bytes)

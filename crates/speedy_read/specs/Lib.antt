@@ -1,7 +1,7 @@
 pub mod Reading
 pub mod ReadingLemmas
 pub mod Sequences
-pub mod Counted
+pub mod BehindCounts
 pub mod Decoding
 pub mod Codes
 pub mod Flags

@@ -46,7 +46,7 @@ pub record FillsRing (count : ℕ) (ahead : Bool) (result : Result Bool StdIoErr
 module _ {E : Type 0} (gives : Error → E → Type 0) (eof : E → Bool) where
   -- Filling the ring of a reader until it holds n bytes. Nothing is taken. It is refused by a failed call, as
   -- what that answered, or where fewer bytes remain.
-  pub record Fills {A : Type 0} (count : ℕ) (result : Result A E) (held keeps : Ring)
+  pub record FillsUpTo {A : Type 0} (count : ℕ) (result : Result A E) (held keeps : Ring)
       (old new : ReaderState) : Type 0 where
     pub kept : KeptByPeek old new
     pub capacity : keeps.capacity ≡ held.capacity

@@ -1,7 +1,7 @@
 //! How addresses are read.
 ghost use Rattle.speedy_read.specs.Decoding.{coded};
 
-use crate::codes::Decode;
+use crate::codes::FromCode;
 use crate::many::ItemByItem;
 use crate::readable::ReadFrom;
 use crate::reader::LendingReader;
@@ -13,7 +13,7 @@ use std::convert::AsSlice;
 use std::net::{IpAddr, Ipv4Addr, Ipv6Addr};
 
 #[tactic(auto, using(crate::specs::Decoding::decoded))]
-impl Decode for Ipv4Addr {
+impl FromCode for Ipv4Addr {
     type Strategy = ItemByItem<()>;
 
     #[inline]
@@ -26,7 +26,7 @@ impl Decode for Ipv4Addr {
     ghost is_coded = { coded _ _ _ };
 }
 
-impl Decode for Ipv6Addr {
+impl FromCode for Ipv6Addr {
     type Strategy = ItemByItem<()>;
 
     #[inline]

@@ -1,18 +1,18 @@
-//! Values that are read as codes (`Decode`), each of which means a value or is refused.
+//! Values that are read as codes (`FromCode`), each of which means a value or is refused.
 ghost use Rattle.std.specs.Prelude.{◌≡◌};
 ghost use Rattle.speedy_read.specs.Decoding.{Decodes, IsCoded};
 
 use crate::readable::ReadFrom;
 use crate::reader::LendingReader;
 use speedy_base::context::Context;
-pub use speedy_layout::codes::Encode;
+pub use speedy_layout::codes::ToCode;
 use speedy_layout::layout::Layout;
 use std::convert::AsSlice;
 
-/// Types of which each code, a value of the type that [`Encode`] names, means a value or is refused.
+/// Types of which each code, a value of the type that [`ToCode`] names, means a value or is refused.
 ///
 /// It takes the place of an impl of [`ReadFrom`]: what is decoded is read where its codes are.
-pub trait Decode: Encode + Sized + Drop {
+pub trait FromCode: ToCode + Sized + Drop {
     /// How several of its values are read, as in [`ReadFrom`]: `ItemByItem<()>` for a type of one's own.
     type Strategy;
 
@@ -28,7 +28,7 @@ pub trait Decode: Encode + Sized + Drop {
     ghost is_coded: { IsCoded Self.Code.layout Self.layout };
 }
 
-impl<L: AsSlice<u8> + Drop, C: Context, T: Decode> ReadFrom<L, C> for T
+impl<L: AsSlice<u8> + Drop, C: Context, T: FromCode> ReadFrom<L, C> for T
 where
     T::Code: ReadFrom<L, C>,
 {

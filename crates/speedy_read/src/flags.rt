@@ -3,7 +3,7 @@ ghost use Rattle.std.specs.Prelude.{◌+◌};
 ghost use Rattle.speedy_read.specs.Decoding.{coded};
 
 use crate::bulk::Flags;
-use crate::codes::Decode;
+use crate::codes::FromCode;
 use crate::many::ItemByItem;
 use crate::readable::ReadFrom;
 use crate::reader::LendingReader;
@@ -11,7 +11,7 @@ use speedy_base::context::Context;
 use speedy_base::error::error_not_written_form;
 use std::convert::AsSlice;
 
-impl Decode for bool {
+impl FromCode for bool {
     type Strategy = Flags;
 
     #[inline]

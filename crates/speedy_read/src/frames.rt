@@ -1,6 +1,6 @@
 //! How frames are read: the number of a value's bytes, and then the value from just these.
 ghost use Rattle.std.specs.Prelude.{◌≡◌, true, false};
-ghost use Rattle.speedy_read.specs.Frames.{filling, Fills, FillsUnlessEnd};
+ghost use Rattle.speedy_read.specs.Frames.{filling, FillsFrame, FillsUnlessEnd};
 ghost use Rattle.speedy_read.specs.Reading.{Reads};
 
 use crate::bytes_reader::{CopyingBufferReader, FrameReader};
@@ -86,7 +86,7 @@ fn fill_lent<'a, T: ReadWhole<&'a [u8], C>, C: Context>(
 ) -> Result<T, C::Error>
     ensures mode { C.mode context.new ≡ C.mode context.old }
     ensures fills { let mode = C.mode context.old in
-        Fills C.Error.from_gives T.seen (T.whole.format mode) (T.whole.misfits mode) true result bytes.now }
+        FillsFrame C.Error.from_gives T.seen (T.whole.format mode) (T.whole.misfits mode) true result bytes.now }
 {
     let mut reader = FrameReader::new(alloc, context, bytes);
     let read = T::read_whole(&mut reader);
@@ -103,7 +103,7 @@ fn fill_copied<'a, T: ReadWhole<&'a [u8], C>, C: Context>(
 ) -> Result<T, C::Error>
     ensures mode { C.mode context.new ≡ C.mode context.old }
     ensures fills { let mode = C.mode context.old in
-        Fills C.Error.from_gives T.seen (T.whole.format mode) (T.whole.misfits mode) false result bytes.now }
+        FillsFrame C.Error.from_gives T.seen (T.whole.format mode) (T.whole.misfits mode) false result bytes.now }
 {
     let mut reader = CopyingBufferReader::new(alloc, context, bytes);
     let read = T::read_whole(&mut reader);
@@ -120,7 +120,7 @@ fn fill_owned<T: ReadWhole<NothingLent, C>, C: Context>(
 ) -> Result<T, C::Error>
     ensures mode { C.mode context.new ≡ C.mode context.old }
     ensures fills { let mode = C.mode context.old in
-        Fills C.Error.from_gives T.seen (T.whole.format mode) (T.whole.misfits mode) true result bytes.now }
+        FillsFrame C.Error.from_gives T.seen (T.whole.format mode) (T.whole.misfits mode) true result bytes.now }
 {
     let mut reader = FrameReader::new(alloc, context, bytes);
     let read = reader.read_owned_whole();

@@ -3,7 +3,7 @@ ghost use Rattle.speedy_layout.specs.Leaves.{seconds_and_nanos};
 ghost use Rattle.speedy_read.specs.Decoding.{coded};
 ghost use Rattle.speedy_read.specs.Reading.{ReadsAs};
 
-use crate::codes::Decode;
+use crate::codes::FromCode;
 use crate::many::ItemByItem;
 use crate::readable::ReadFrom;
 use crate::reader::LendingReader;
@@ -18,7 +18,7 @@ use std::time::Duration;
 use uuid::Uuid;
 
 #[tactic(auto, using(crate::specs::Decoding::decoded))]
-impl Decode for char {
+impl FromCode for char {
     type Strategy = ItemByItem<()>;
 
     #[inline]
@@ -33,7 +33,7 @@ impl Decode for char {
 }
 
 #[tactic(auto, using(crate::specs::Decoding::decoded))]
-impl Decode for Endianness {
+impl FromCode for Endianness {
     type Strategy = ItemByItem<()>;
 
     #[inline]

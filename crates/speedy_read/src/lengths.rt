@@ -2,7 +2,7 @@
 //! compared.
 ghost use Rattle.std.specs.Prelude.{◌≡◌, ℕ, ◌↔◌, IsTrue, IfOk};
 ghost use Rattle.speedy_layout.specs.Lengths.{told_codec};
-ghost use Rattle.speedy_read.specs.Counted.{counted};
+ghost use Rattle.speedy_read.specs.BehindCounts.{counted};
 ghost use Rattle.speedy_read.specs.Reading.{ReadsAs, ReadsValue};
 
 use crate::lent::read_lent;

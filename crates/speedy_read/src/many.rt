@@ -85,7 +85,7 @@ pub trait Strategy<L: AsSlice<u8> + Drop, C: Context, T: Layout + Drop> {
 /// Reads each value by itself, which serves any type.
 ///
 /// In an impl of `ReadFrom` it names the context, since a type that owns memory gets no proof of an impl whose strategy
-/// names no parameter of it; in one of `Decode`, which has no parameter, it names `()`.
+/// names no parameter of it; in one of `FromCode`, which has no parameter, it names `()`.
 pub struct ItemByItem<N> {
     _named: PhantomData<N>,
 }

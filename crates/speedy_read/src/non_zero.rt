@@ -3,7 +3,7 @@
 
 ghost use Rattle.speedy_read.specs.Decoding.{coded};
 
-use crate::codes::Decode;
+use crate::codes::FromCode;
 use crate::many::ItemByItem;
 use speedy_base::context::Context;
 use speedy_base::error::error_zero_non_zero;
@@ -11,7 +11,7 @@ use std::num::{
     NonZeroI8, NonZeroI16, NonZeroI32, NonZeroI64, NonZeroU8, NonZeroU16, NonZeroU32, NonZeroU64,
 };
 
-impl Decode for NonZeroU8 {
+impl FromCode for NonZeroU8 {
     type Strategy = ItemByItem<()>;
 
     #[inline]
@@ -25,7 +25,7 @@ impl Decode for NonZeroU8 {
     ghost is_coded = { coded _ _ _ };
 }
 
-impl Decode for NonZeroU16 {
+impl FromCode for NonZeroU16 {
     type Strategy = ItemByItem<()>;
 
     #[inline]
@@ -39,7 +39,7 @@ impl Decode for NonZeroU16 {
     ghost is_coded = { coded _ _ _ };
 }
 
-impl Decode for NonZeroU32 {
+impl FromCode for NonZeroU32 {
     type Strategy = ItemByItem<()>;
 
     #[inline]
@@ -53,7 +53,7 @@ impl Decode for NonZeroU32 {
     ghost is_coded = { coded _ _ _ };
 }
 
-impl Decode for NonZeroU64 {
+impl FromCode for NonZeroU64 {
     type Strategy = ItemByItem<()>;
 
     #[inline]
@@ -67,7 +67,7 @@ impl Decode for NonZeroU64 {
     ghost is_coded = { coded _ _ _ };
 }
 
-impl Decode for NonZeroI8 {
+impl FromCode for NonZeroI8 {
     type Strategy = ItemByItem<()>;
 
     #[inline]
@@ -81,7 +81,7 @@ impl Decode for NonZeroI8 {
     ghost is_coded = { coded _ _ _ };
 }
 
-impl Decode for NonZeroI16 {
+impl FromCode for NonZeroI16 {
     type Strategy = ItemByItem<()>;
 
     #[inline]
@@ -95,7 +95,7 @@ impl Decode for NonZeroI16 {
     ghost is_coded = { coded _ _ _ };
 }
 
-impl Decode for NonZeroI32 {
+impl FromCode for NonZeroI32 {
     type Strategy = ItemByItem<()>;
 
     #[inline]
@@ -109,7 +109,7 @@ impl Decode for NonZeroI32 {
     ghost is_coded = { coded _ _ _ };
 }
 
-impl Decode for NonZeroI64 {
+impl FromCode for NonZeroI64 {
     type Strategy = ItemByItem<()>;
 
     #[inline]

@@ -2,7 +2,7 @@
 ghost use Rattle.speedy_read.specs.Decoding.{coded};
 
 use crate::bulk::{Bytes, Numbers};
-use crate::codes::Decode;
+use crate::codes::FromCode;
 use crate::digits::read_number;
 use crate::many::ItemByItem;
 use crate::readable::ReadFrom;
@@ -156,7 +156,7 @@ impl<L: AsSlice<u8> + Drop, C: Context> ReadFrom<L, C> for i128 {
 }
 
 #[tactic(auto, using(crate::specs::Decoding::decoded))]
-impl Decode for usize {
+impl FromCode for usize {
     type Strategy = ItemByItem<()>;
 
     #[inline(always)]

@@ -9,7 +9,7 @@ ghost use Rattle.speedy_read.specs.Lending.{readers_lifetime};
 ghost use Rattle.speedy_read.specs.Reading.{IsRight, Expects, LendsUntilUsed, ReadsInto, PeeksInto, ShowsAll};
 ghost use Rattle.speedy_read.specs.contracts.stream_reader.StreamReader.{the_row as reader_row};
 ghost use Rattle.speedy_read.specs.StreamModel.{stream_model, stream_state, first_capacity};
-ghost use Rattle.speedy_read.specs.Streams.{FillsList, FillsRing, Fills};
+ghost use Rattle.speedy_read.specs.Streams.{FillsList, FillsRing, FillsUpTo};
 ghost use Rattle.speedy_read.specs.WaysOfReading.{AnswersStream};
 
 use crate::readable::ReadFrom;
@@ -198,7 +198,7 @@ impl<'s, S: Source, C: Context> StreamReader<'s, S, C> {
     // Fills the ring until it holds `count` bytes.
     fn fill(&mut self, count: usize) -> Result<(), C::Error>
         requires { count ≤ self.old.ring.capacity }
-        ensures { Fills C.Error.from_gives C.Error.eof count result self.old.ring self.new.ring
+        ensures { FillsUpTo C.Error.from_gives C.Error.eof count result self.old.ring self.new.ring
             (stream_state S.source C.mode self.old) (stream_state S.source C.mode self.new) }
     {
         match fill_ring(&mut self.ring, self.source, count, self.is_buffering) {

@@ -13,7 +13,7 @@ use Rattle.speedy_base.specs.Mode.{Mode}
 use Rattle.speedy_base.specs.FailedCalls.{OneFailed, IsErrorOf, IsOfFailedCall}
 use Rattle.speedy_layout.specs.Format.{Format}
 use Rattle.speedy_write.specs.CollectorLemmas.{sink_nothing, sink_additive}
-use Rattle.speedy_write.specs.Collectors.{sink_state, Takes}
+use Rattle.speedy_write.specs.Collectors.{sink_state, SinkTakes}
 use Rattle.speedy_write.specs.Buffering.{Buffers, PushesWaiting, buffers_additive}
 use Rattle.speedy_write.specs.Pushing.{PushesAll}
 use Rattle.speedy_write.specs.Sequences.{Kept-same, Kept-after}
@@ -90,7 +90,7 @@ module _ {E : Type 0} {gives : Error → E → Type 0} where
   }
 
   -- what is pushed behind all that waited
-  behind : {v w prefix : List ℕ} {s t u : SinkState} → PushesWaiting gives (Ok tt) v w s t → Takes t prefix u
+  behind : {v w prefix : List ℕ} {s t u : SinkState} → PushesWaiting gives (Ok tt) v w s t → SinkTakes t prefix u
       → Buffers s v prefix u w
   behind {w = w} {prefix = prefix} p taken = buffers_additive p.moved (record {
     taken = prefix;
@@ -199,7 +199,7 @@ module _ {E : Type 0} {gives : Error → E → Type 0} where
 
 -- what was taken of a beginning is one
 taken_begun : {writes : List ℕ → Type 0} {s t : SinkState} {w : List ℕ} → Begun writes (λ b. Buffers s [] b t w)
-    → Begun writes (λ b. Takes s b t)
+    → Begun writes (λ b. SinkTakes s b t)
 taken_begun {writes = writes} {w = w} h =
     let taken = h.is_appended.taken in
     record {
@@ -215,10 +215,10 @@ module _ {E : Type 0} {gives : Error → E → Type 0} {V : Type 0} {F : Mode �
   -- what was refused
   pub gathered_refused : {e : E} {result : Result (Unit {0}) E} → IsErrAnd result (λ y. y ≡ e)
       → Writes gives F v (Err e) (sink_state mode name s) (sink_state other other_name t) (λ b. Buffers s [] b t w)
-      → Writes gives F v result (sink_state mode name s) (sink_state other other_name t) (λ b. Takes s b t)
+      → Writes gives F v result (sink_state mode name s) (sink_state other other_name t) (λ b. SinkTakes s b t)
   gathered_refused {e = e} {result = result} passed h =
       subst (λ (r : Result (Unit {0}) E). Writes gives F v r (sink_state mode name s)
-      (sink_state other other_name t) (λ b. Takes s b t)) (passed_on result e passed)
+      (sink_state other other_name t) (λ b. SinkTakes s b t)) (passed_on result e passed)
       (record {
         kept = h.kept;
         answer = record {
@@ -231,7 +231,7 @@ module _ {E : Type 0} {gives : Error → E → Type 0} {V : Type 0} {F : Mode �
   pub gathered_pushed : {u : SinkState} {x : List ℕ} (result : Result (Unit {0}) E)
       → Writes gives F v (Ok tt) (sink_state mode name s) (sink_state other other_name t) (λ b. Buffers s [] b t w)
       → PushesWaiting gives result w x t u
-      → Writes gives F v result (sink_state mode name s) (sink_state other other_name u) (λ b. Takes s b u)
+      → Writes gives F v result (sink_state mode name s) (sink_state other other_name u) (λ b. SinkTakes s b u)
   gathered_pushed {u = u} (Ok _) h p =
       let put = h.answer in
       let all = buffers_additive put.is_appended p.moved in
@@ -240,7 +240,7 @@ module _ {E : Type 0} {gives : Error → E → Type 0} {V : Type 0} {F : Mode �
         answer = record {
           bytes = put.bytes;
           is_written = put.is_written;
-          is_appended = subst (λ (l : List ℕ). Takes s l u)
+          is_appended = subst (λ (l : List ℕ). SinkTakes s l u)
               (sym (sym (append-nil put.bytes)
               ∙ (all.all_is ∙ (ap (λ (l : List ℕ). all.taken ++ l) p.none_left ∙ append-nil all.taken)))) all.is_taken;
           fits = tt;

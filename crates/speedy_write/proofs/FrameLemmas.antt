@@ -21,8 +21,8 @@ abbrev pub numbered : {V : Type 0} → Format ℕ → Format V → Format (ℕ �
 numbered number F = sequence (λ p. p) number F.asks (λ _. F)
 
 -- n bytes are those of a canonical encoding
-abbrev pub Takes : {V : Type 0} → Format V → V → ℕ → Type 0
-Takes F v n = (bytes : List ℕ) × F.writes v bytes × (n ≡ length bytes)
+abbrev pub WrittenIn : {V : Type 0} → Format V → V → ℕ → Type 0
+WrittenIn F v n = (bytes : List ℕ) × F.writes v bytes × (n ≡ length bytes)
 
 -- a number of bytes that was answered is below `usize::MAX`
 pub counted_below : {E V : Type 0} {gives : Error → E → Type 0} {F : Format V} {v : V} {n : ℕ}
@@ -46,7 +46,7 @@ framed_encodes f number {F = F} laws v b h =
 module _ {E V : Type 0} {gives : Error → E → Type 0} (numbers : Numbers) (value : WholeCodec V) {v : V}
     {old : WriterState} {appended : List ℕ → Type 0} where
   -- the number of a value's bytes and then the value are written as its frame
-  pub frame_written : {n : ℕ} {new : WriterState} {result : Result (Unit {0}) E} → Takes (value.format old.mode) v n
+  pub frame_written : {n : ℕ} {new : WriterState} {result : Result (Unit {0}) E} → WrittenIn (value.format old.mode) v n
       → n < 2 ^ 64 - 1
       → Writes gives (λ f. numbered (numbers.codec.format f) (value.format f)) (n, v) result old new appended
       → Writes gives (frame_behind value numbers).format v result old new appended

@@ -4,7 +4,7 @@ use Rattle.std.proofs.Common.{sym, ◌∙◌, ap, subst, arith}
 use Rattle.std.proofs.lemmas.Bool.{eqb-false}
 use Rattle.std.proofs.lemmas.List.{append_assoc, length-append, take-append-drop, take_rest}
 use Rattle.speedy_base.specs.Device.{SinkState, Pushes}
-use Rattle.speedy_write.specs.Collectors.{Takes}
+use Rattle.speedy_write.specs.Collectors.{SinkTakes}
 use Rattle.speedy_write.specs.CollectorLemmas.{sink_additive}
 
 -- the bytes but the rest were pushed so far
@@ -13,7 +13,7 @@ pub record PushedSoFar (bytes rest : List ℕ) (old new : SinkState) : Type 0 wh
   pub waits : IsTrue new.settled → IsTrue old.settled
   pub prefix : List ℕ
   pub bytes_are : bytes ≡ prefix ++ rest
-  pub taken : Takes old prefix new
+  pub taken : SinkTakes old prefix new
 
 -- the rest of the rest, as a slice of it
 abbrev pub past : ℕ → List ℕ → List ℕ

@@ -10,7 +10,7 @@ use Rattle.speedy_base.specs.FailedCalls.{IsOfFailedCall}
 use Rattle.speedy_layout.specs.Format.{Format}
 use Rattle.speedy_layout.specs.Laws.{Laws}
 use Rattle.speedy_write.specs.Writing.{WriterKind, WriterState, Unwritten, Writes}
-use Rattle.speedy_write.specs.Collectors.{sink_state, Takes}
+use Rattle.speedy_write.specs.Collectors.{sink_state, SinkTakes}
 use Rattle.speedy_write.specs.WaysOfWriting.{RefusesUndecodable, WritesToStreamIn, WritesAndFlushesIn, WritesToFileIn}
 
 module _ {E : Type 0} {gives : Error → E → Type 0} {V : Type 0} {v : V} where
@@ -32,7 +32,7 @@ module _ {E : Type 0} {gives : Error → E → Type 0} {V : Type 0} {v : V} wher
   module _ {F : Mode → Format V} {mode : Mode} {least : ℕ}
       (laws : Laws mode.strict least (F mode)) where
     to_stream : {other : Mode} {name other_name : GName} (s t : SinkState) (result : Result (Unit {0}) E)
-        → Writes gives F v result (sink_state mode name s) (sink_state other other_name t) (λ b. Takes s b t)
+        → Writes gives F v result (sink_state mode name s) (sink_state other other_name t) (λ b. SinkTakes s b t)
         → WritesToStreamIn gives (F mode) v result s t
     to_stream s t (Ok _) w =
         let put = w.answer in
@@ -76,12 +76,12 @@ module _ {E : Type 0} {gives : Error → E → Type 0} {V : Type 0} {v : V} wher
     -- a write into a collector, whatever the states of its sink were called
     pub stream_written : {at other : Mode} {name other_name : GName} {old new : SinkState} (s t : SinkState)
         → at ≡ mode → s ≡ old → t ≡ new → (result : Result (Unit {0}) E)
-        → Writes gives F v result (sink_state at name s) (sink_state other other_name t) (λ b. Takes s b t)
+        → Writes gives F v result (sink_state at name s) (sink_state other other_name t) (λ b. SinkTakes s b t)
         → WritesToStreamIn gives (F mode) v result old new
     stream_written {other = other} {name = name} {other_name = other_name} {old = old} s t same_mode starts
         ends result w =
         let x = to_stream s t result
         (subst (λ (f : Mode). Writes gives F v result (sink_state f name s) (sink_state other other_name t)
-        (λ b. Takes s b t)) same_mode w) in
+        (λ b. SinkTakes s b t)) same_mode w) in
         subst (λ (b : SinkState). WritesToStreamIn gives (F mode) v result old b) ends
         (subst (λ (a : SinkState). WritesToStreamIn gives (F mode) v result a t) starts x)

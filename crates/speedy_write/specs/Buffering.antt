@@ -5,13 +5,13 @@ use Rattle.std.proofs.lemmas.List.{append_assoc, append-nil}
 use Rattle.speedy_base.specs.declared.error.Error.{Error}
 use Rattle.speedy_base.specs.Device.{SinkState, SinkKept}
 use Rattle.speedy_base.specs.FailedCalls.{IsOfFailedCall}
-use Rattle.speedy_write.specs.Collectors.{Takes}
+use Rattle.speedy_write.specs.Collectors.{SinkTakes}
 use Rattle.speedy_write.specs.CollectorLemmas.{sink_nothing, sink_additive}
 
 -- the sink took a beginning of what waited before and of these bytes, and the rest of them waits
 pub record Buffers (old : SinkState) (waited bytes : List ℕ) (new : SinkState) (waits : List ℕ) : Type 0 where
   pub taken : List ℕ
-  pub is_taken : Takes old taken new
+  pub is_taken : SinkTakes old taken new
   pub all_is : waited ++ bytes ≡ taken ++ waits
 
 pub buffers_nothing : (s : SinkState) (waits : List ℕ) → Buffers s waits [] s waits

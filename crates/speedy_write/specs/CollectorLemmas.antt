@@ -5,7 +5,7 @@ use Rattle.std.proofs.Math.Seq.{drop-append-add, drop-drop}
 use Rattle.std.proofs.lemmas.List.{append_assoc, append-nil, length-append, take_at, take-append-drop}
 use Rattle.speedy_base.specs.Device.{SinkState}
 use Rattle.speedy_base.specs.DeviceLemmas.{DeviceKept-same, DeviceKept-after, DeviceKept-told}
-use Rattle.speedy_write.specs.Collectors.{BufferAppends, SizeAppends, Takes}
+use Rattle.speedy_write.specs.Collectors.{BufferAppends, SizeAppends, SinkTakes}
 
 pub buffer_nothing : (p : ℕ) (A : List ℕ) → p ≤ length A → BufferAppends p A [] p A
 buffer_nothing p A h = record { end_is = omega arith; within = h; after_is = sym (take-append-drop p A) }
@@ -78,10 +78,10 @@ size_nothing n = omega arith
 pub size_additive : (a b c : ℕ) (s t : List ℕ) → SizeAppends a s b → SizeAppends b t c → SizeAppends a (s ++ t) c
 size_additive a b c s t h k = let l = length-append s t in omega arith
 
-pub sink_nothing : (a : SinkState) → Takes a [] a
+pub sink_nothing : (a : SinkState) → SinkTakes a [] a
 sink_nothing a = record { kept = DeviceKept-same; taken_is = λ _. sym (append-nil a.taken) }
 
-pub sink_additive : {a b c : SinkState} {s t : List ℕ} → Takes a s b → Takes b t c → Takes a (s ++ t) c
+pub sink_additive : {a b c : SinkState} {s t : List ℕ} → SinkTakes a s b → SinkTakes b t c → SinkTakes a (s ++ t) c
 sink_additive {a = a} {s = s} {t = t} h k = record {
   kept = DeviceKept-after h.kept k.kept;
   taken_is = λ told. k.taken_is (DeviceKept-told h.kept told)

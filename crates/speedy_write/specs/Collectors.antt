@@ -54,6 +54,6 @@ abbrev pub SizeAppends : ℕ → List ℕ → ℕ → Type 0
 SizeAppends size bytes after = after ≡ size + length bytes
 
 -- the sink took these bytes, after those that it had taken, where it tells them
-pub record Takes (old : SinkState) (bytes : List ℕ) (new : SinkState) : Type 0 where
+pub record SinkTakes (old : SinkState) (bytes : List ℕ) (new : SinkState) : Type 0 where
   pub kept : SinkKept old new
   pub taken_is : IsTrue old.tells → new.taken ≡ old.taken ++ bytes

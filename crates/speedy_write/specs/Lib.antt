@@ -12,5 +12,5 @@ pub mod Cases
 pub mod Collections
 pub mod Pushing
 pub mod Lengths
-pub mod Counted
+pub mod BehindCounts
 pub mod Wholes

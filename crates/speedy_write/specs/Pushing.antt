@@ -3,7 +3,7 @@ use Rattle.std.specs.Prelude.{◌≡◌, ℕ, List, ◌++◌, Result, OnOk, OnEr
 use Rattle.speedy_base.specs.declared.error.Error.{Error}
 use Rattle.speedy_base.specs.Device.{SinkState, SinkKept}
 use Rattle.speedy_base.specs.FailedCalls.{IsOfFailedCall}
-use Rattle.speedy_write.specs.Collectors.{Takes}
+use Rattle.speedy_write.specs.Collectors.{SinkTakes}
 
 -- all of the bytes were pushed, or a beginning of them and then a push failed
 pub record PushesAll {E : Type 0} (gives : Error → E → Type 0) (bytes : List ℕ) (result : Result (Unit {0}) E)
@@ -11,8 +11,8 @@ pub record PushesAll {E : Type 0} (gives : Error → E → Type 0) (bytes : List
   pub kept : SinkKept old new
   -- what succeeds had no failed push
   pub no_fault : OnOk result (new.faults ≡ old.faults)
-  pub all : OnOk result (Takes old bytes new)
-  pub partly : OnErr result ((prefix : List ℕ) × (rest : List ℕ) × (bytes ≡ prefix ++ rest) × Takes old prefix new)
+  pub all : OnOk result (SinkTakes old bytes new)
+  pub partly : OnErr result ((prefix : List ℕ) × (rest : List ℕ) × (bytes ≡ prefix ++ rest) × SinkTakes old prefix new)
   -- one push failed, and its error is answered
   pub fault : IfErr result (λ e. IsOfFailedCall gives e old.faults new.faults)
   -- what waited goes on waiting

@@ -10,7 +10,7 @@ use Rattle.speedy_base.specs.Device.{SinkState, SinkKept}
 use Rattle.speedy_base.specs.FailedCalls.{HasGrown, IsErrorOf, IsOfFailedCall}
 use Rattle.speedy_layout.specs.Codecs.{Codec}
 use Rattle.speedy_layout.specs.Format.{Format}
-use Rattle.speedy_write.specs.Collectors.{Takes}
+use Rattle.speedy_write.specs.Collectors.{SinkTakes}
 use Rattle.speedy_write.specs.Writing.{IsOutOfRange, Begun}
 
 -- the bytes are a canonical encoding of the value, and no encoding of it is shorter
@@ -88,16 +88,17 @@ module _ {E : Type 0} (gives : Error → E → Type 0) where
     -- what succeeds had no failed push
     pub no_fault : OnOk result (new.faults ≡ old.faults)
     -- and the sink took a shortest canonical encoding
-    pub written : OnOk result ((bytes : List ℕ) × IsShortest L v bytes × Takes old bytes new)
+    pub written : OnOk result ((bytes : List ℕ) × IsShortest L v bytes × SinkTakes old bytes new)
     -- a value that has an encoding is never refused where no push fails
     pub succeeds : (bytes : List ℕ) → L.encodes v bytes → (HasGrown old.faults new.faults → ⊥) → IsOk result
     -- a refusal is the error of the one push that failed; or none failed, and the value has no encoding
     pub refused : IfErr result
         (λ e. IsOfFailedCall gives e old.faults new.faults ⊎ ((new.faults ≡ old.faults) × RefusesUndecodable L v e))
     -- what is refused leaves a beginning of a canonical encoding in the sink, where there is one
-    pub begun : OnErr result ((bytes : List ℕ) → L.writes v bytes → Begun (L.writes v) (λ prefix. Takes old prefix new))
+    pub begun : OnErr result ((bytes : List ℕ) → L.writes v bytes
+        → Begun (L.writes v) (λ prefix. SinkTakes old prefix new))
     -- and of a value that has none some bytes, behind what the sink took before
-    pub behind : OnErr result ((bytes : List ℕ) × Takes old bytes new)
+    pub behind : OnErr result ((bytes : List ℕ) × SinkTakes old bytes new)
 
   -- what a write to a sink and a flush behind it do: the write with what waits left out of sight, and where both
   -- succeed nothing waits

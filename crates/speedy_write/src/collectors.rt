@@ -5,7 +5,7 @@ ghost use Rattle.speedy_base.specs.FailedCalls.{IsOfFailedCall};
 ghost use Rattle.speedy_write.specs.Writing.{RefusesFull, CountsBytes, Fits, WritesValues, WritesSlice};
 ghost use Rattle.speedy_write.specs.Pushing.{PushesAll};
 ghost use Rattle.speedy_write.specs.Collectors.{buffer_state, BufferAppends, size_state, SizeAppends, sink_state};
-ghost use Rattle.speedy_write.specs.Collectors.{Takes};
+ghost use Rattle.speedy_write.specs.Collectors.{SinkTakes};
 ghost use Rattle.speedy_write.specs.CollectorLemmas.{buffer_nothing, buffer_additive, vec_nothing, vec_additive};
 ghost use Rattle.speedy_write.specs.CollectorLemmas.{size_nothing, size_additive, sink_nothing, sink_additive};
 
@@ -429,7 +429,7 @@ impl<'s, S: Sink, C: Context> Writer<C> for WritingCollector<'s, S, C> {
 
     ghost state = { λ w. sink_state (C.mode w.context) w.sink.ghost_name (S.sink w.sink.now) };
 
-    ghost appends = { λ a s b. Takes (S.sink a.sink.now) s (S.sink b.sink.now) };
+    ghost appends = { λ a s b. SinkTakes (S.sink a.sink.now) s (S.sink b.sink.now) };
 
     ghost can_write = { λ w n. None };
 

@@ -10,7 +10,7 @@ use speedy_base::context::Context;
 use speedy_base::endianness::Endianness;
 use speedy_layout::fixed_numbers::{FixedNumber, MOST_DIGITS};
 use speedy_layout::view_items::FixedSize;
-use speedy_layout::{Encode, Layout};
+use speedy_layout::{Layout, ToCode};
 use std::time::Duration;
 
 /// How values of a type are put as bytes: each as `BYTES` bytes, which the order alone decides.
@@ -49,9 +49,9 @@ impl<T: FixedNumber> FixedBytes<T> for Digits {
 }
 
 /// Values that are encoded as numbers are put as the digits of these.
-pub(crate) struct Codes {}
+pub(crate) struct CodeDigits {}
 
-impl<T: Encode> FixedBytes<T> for Codes
+impl<T: ToCode> FixedBytes<T> for CodeDigits
 where
     T::Code: FixedNumber,
 {

@@ -1,5 +1,5 @@
 //! How flags (`bool`), and values that a flag chooses (`Option`, `Result`), are written.
-use crate::fixed::{Codes, write_values};
+use crate::fixed::{CodeDigits, write_values};
 use crate::writable::Writable;
 use crate::writer::Writer;
 use speedy_base::context::Context;
@@ -13,7 +13,7 @@ impl<C: Context> Writable<C> for bool {
     /// Writes the flags by chunks of their bytes.
     #[inline(always)]
     fn write_in_bulk<W: Writer<C>>(items: &[bool], writer: &mut W) -> Option<Result<(), C::Error>> {
-        Some(write_values::<C, bool, Codes, W>(items, writer))
+        Some(write_values::<C, bool, CodeDigits, W>(items, writer))
     }
 }
 

@@ -1,5 +1,5 @@
 //! How characters, byte orders, durations and UUIDs are written.
-use crate::fixed::{Codes, Durations, write_values};
+use crate::fixed::{CodeDigits, Durations, write_values};
 use crate::writable::Writable;
 use crate::writer::Writer;
 use speedy_base::context::Context;
@@ -16,7 +16,7 @@ impl<C: Context> Writable<C> for char {
     /// Writes the characters by chunks of their bytes.
     #[inline(always)]
     fn write_in_bulk<W: Writer<C>>(items: &[char], writer: &mut W) -> Option<Result<(), C::Error>> {
-        Some(write_values::<C, char, Codes, W>(items, writer))
+        Some(write_values::<C, char, CodeDigits, W>(items, writer))
     }
 }
 

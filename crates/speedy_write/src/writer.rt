@@ -14,7 +14,7 @@ use crate::fixed::{FixedBytes, write_number};
 use crate::writable::Writable;
 use speedy_base::context::Context;
 use speedy_base::endianness::Endianness;
-use speedy_layout::{Encode, Layout, VarInt64};
+use speedy_layout::{Layout, ToCode, VarInt64};
 
 /// Writers, with the calls of each.
 pub trait Writer<C: Context> {
@@ -250,10 +250,10 @@ pub trait Writer<C: Context> {
         item.write_to(self)
     }
 
-    /// Writes a value as its code. It is the body of `write_to` of a type with [`Encode`].
+    /// Writes a value as its code. It is the body of `write_to` of a type with [`ToCode`].
     #[inline]
     #[tactic(auto, using(crate::specs::Codes::encoded_written))]
-    final fn write_code<T: Encode>(&mut self, value: &T) -> Result<(), C::Error>
+    final fn write_code<T: ToCode>(&mut self, value: &T) -> Result<(), C::Error>
     where
         Self: Sized,
         T::Code: Writable<C>,

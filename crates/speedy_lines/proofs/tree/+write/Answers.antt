@@ -2,7 +2,7 @@ use Rattle.std.proofs.Common.{arith}
 use Rattle.speedy.specs.declared.error.ErrorKind.TheVariants as kinds
 use Rattle.speedy.specs.Lists.{list}
 use Rattle.speedy.specs.Numbers.{unsigned_number_laws}
-use Rattle.speedy.specs.WriteCounted.{counts_items, items_written}
+use Rattle.speedy.specs.WriteBehindCounts.{counts_items, items_written}
 use Rattle.speedy.specs.WriteSequences.{is_sequence, first_refused, second_written}
 use Rattle.speedy_lines.specs.Trees.{view, tree_step, tree_levels, tree_laws}
 use Rattle.speedy.specs.WriteLevels.{no_level_written, level_written}

@@ -1,5 +1,5 @@
 use Rattle.std.proofs.Common.{refl}
-use Rattle.speedy_read.specs.Counted.{counted_composes}
+use Rattle.speedy_read.specs.BehindCounts.{counted_composes}
 use Rattle.speedy_read.specs.Sequences.{refused_first, second_decides}
 use Rattle.speedy_read.proofs.lengths.read_counted.Goals as goal
 

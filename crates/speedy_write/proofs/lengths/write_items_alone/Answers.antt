@@ -1,5 +1,5 @@
 use Rattle.std.proofs.lemmas.List.{length-map}
-use Rattle.speedy_write.specs.Counted.{items_written}
+use Rattle.speedy_write.specs.BehindCounts.{items_written}
 use Rattle.speedy_write.proofs.lengths.write_items_alone.Goals as goal
 
 pub returns : goal.returns

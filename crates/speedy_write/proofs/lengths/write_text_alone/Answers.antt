@@ -1,4 +1,4 @@
-use Rattle.speedy_write.specs.Counted.{text_bytes_written}
+use Rattle.speedy_write.specs.BehindCounts.{text_bytes_written}
 use Rattle.speedy_write.proofs.lengths.write_text_alone.Goals as goal
 
 pub returns : goal.returns

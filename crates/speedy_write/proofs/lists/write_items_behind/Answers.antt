@@ -1,4 +1,4 @@
-use Rattle.speedy_write.specs.Counted.{counts_items, items_written}
+use Rattle.speedy_write.specs.BehindCounts.{counts_items, items_written}
 use Rattle.speedy_write.specs.Sequences.{is_sequence, first_refused, second_written}
 use Rattle.speedy_write.proofs.lists.write_items_behind.Goals as goal
 

@@ -1,4 +1,4 @@
-use Rattle.speedy_write.specs.Counted.{counts_bytes, text_bytes_written}
+use Rattle.speedy_write.specs.BehindCounts.{counts_bytes, text_bytes_written}
 use Rattle.speedy_write.specs.Sequences.{is_sequence, first_refused, second_written}
 use Rattle.speedy_write.proofs.texts.write_text_behind.Goals as goal
 

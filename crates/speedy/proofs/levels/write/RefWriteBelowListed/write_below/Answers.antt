@@ -1,6 +1,6 @@
 use Rattle.speedy_layout.specs.Lists.{list}
 use Rattle.speedy_layout.specs.Numbers.{unsigned_number_laws}
-use Rattle.speedy_write.specs.Counted.{items_written}
+use Rattle.speedy_write.specs.BehindCounts.{items_written}
 use Rattle.speedy_write.specs.Sequences.{is_sequence, first_refused, second_written}
 use Rattle.speedy.specs.Layers.{at_level, layer_of, list_layer}
 use Rattle.speedy.specs.WriteLayers.{counts_same}

@@ -4,7 +4,7 @@ use Rattle.speedy_base.specs.declared.endianness.Endianness.TheVariants.{BigEndi
 use Rattle.speedy_base.specs.Digits.{EncodesNumber}
 use Rattle.speedy_layout.specs.Addresses.{octets_of-segments_of}
 use Rattle.speedy_read.specs.Decoding.{decoded_exactly}
-use Rattle.speedy_read.proofs.addresses.Ipv6AddrDecode.decode.Goals as goal
+use Rattle.speedy_read.proofs.addresses.Ipv6AddrFromCode.decode.Goals as goal
 
 pub returns : goal.returns
 returns g c =

@@ -3,7 +3,7 @@ use Rattle.speedy_base.specs.declared.endianness.Endianness.{Endianness}
 use Rattle.speedy_base.specs.declared.endianness.Endianness.TheVariants.{LittleEndian, BigEndian}
 use Rattle.speedy_layout.specs.Leaves.{order_number}
 use Rattle.speedy_read.specs.Decoding.{refused_exactly}
-use Rattle.speedy_read.proofs.leaves.EndiannessDecode.decode.Goals as goal
+use Rattle.speedy_read.proofs.leaves.EndiannessFromCode.decode.Goals as goal
 
 neither : (n : ℕ) (order : Endianness) → n ≡ order_number order → (n ≡ 0 → ⊥) → (n ≡ 1 → ⊥) → ⊥
 neither n LittleEndian e h k = h e

@@ -2,12 +2,12 @@ use Rattle.std.specs.Prelude.{◌≡◌, IsTrue, not, nat_eq}
 use Rattle.speedy_layout.specs.Flags.{flag_code, flag_is_code, flag_reads_wider, written_flag}
 use Rattle.speedy_read.specs.Decoding.{decoded_as, not_chosen}
 use Rattle.speedy_read.specs.Flags.{number_is_flag, number_is_written_flag, not_written_flag}
-use Rattle.speedy_read.proofs.flags.BoolDecode.decode.Given.{Over}
-use Rattle.speedy_read.proofs.flags.BoolDecode.decode.Goals as goal
-use Rattle.speedy_read.proofs.flags.BoolDecode.decode.Goals.{
+use Rattle.speedy_read.proofs.flags.BoolFromCode.decode.Given.{Over}
+use Rattle.speedy_read.proofs.flags.BoolFromCode.decode.Goals as goal
+use Rattle.speedy_read.proofs.flags.BoolFromCode.decode.Goals.{
   else-not-is_written-via-then-not-is_written+else-demands_written_form,
 }
-use Rattle.speedy_read.proofs.flags.BoolDecode.decode.Goals.{else-not-is_written-via-else-not-is_written}
+use Rattle.speedy_read.proofs.flags.BoolFromCode.decode.Goals.{else-not-is_written-via-else-not-is_written}
 
 pub returns-then-demands_written_form : goal.returns-then-demands_written_form
 returns-then-demands_written_form g c =

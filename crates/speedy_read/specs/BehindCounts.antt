@@ -3,7 +3,7 @@ use Rattle.std.specs.Prelude.{◌≡◌, ℕ, List, ◌++◌, length, refl}
 use Rattle.std.proofs.Common.{◌∙◌, ap, inl, inr}
 use Rattle.std.proofs.lemmas.List.{append_assoc}
 use Rattle.speedy_base.specs.Mode.{Mode}
-use Rattle.speedy_layout.specs.Codes.{Code, coding}
+use Rattle.speedy_layout.specs.Codes.{Codebook, coding}
 use Rattle.speedy_layout.specs.Format.{Asks, Format}
 use Rattle.speedy_layout.specs.Laws.{Codec}
 use Rattle.speedy_layout.specs.Lengths.{Counting, text_length}
@@ -35,7 +35,7 @@ prefixed_text_composes mode count =
     sequence_composes counted_parts (text_asks mode) (λ n t s h. so_many n t (text_length mode n t s h))
 
 -- a list behind its number of items is a code: the number is read, and then what the list stands for
-pub counted_code_composes : {A V : Type 0} (mode : Mode) (c : Code (List A) V) (count : Format ℕ) {asks : Asks}
+pub counted_code_composes : {A V : Type 0} (mode : Mode) (c : Codebook (List A) V) (count : Format ℕ) {asks : Asks}
     (M : ℕ → Format (List A)) → ((n : ℕ) → AsksAtMost (M n).asks asks)
     → ((n : ℕ) (items : List A) (s : List ℕ) → (M n).encodes items s → length items ≡ n)
     → Composes count (λ n. coding mode c (M n)) (coding mode c (sequence counted_parts count asks M)) (λ n v. v)
