@@ -1,5 +1,5 @@
 //! Bytes that mean nothing, among others and in a key.
-use speedy::{Padding, Readable, Writable, Zeros};
+use speedy::{Padding, PaddingBytes, Readable, Writable, ZeroBytes, Zeros};
 use std::collections::BTreeSet;
 
 const GAP: usize = 2;
@@ -26,4 +26,25 @@ pub struct Board {
 pub struct Aligned<T, const N: usize> {
     pub header: T,
     pub rest: Padding<N>,
+}
+
+/// An attribute, whose size counts its first two fields too, and padding up to a multiple of four.
+#[derive(Readable, Writable)]
+pub struct Attribute {
+    pub size: u16,
+    pub kind: u16,
+    #[speedy(length = size - 4)]
+    pub content: Vec<u8>,
+    #[speedy(length = (4 - size % 4) % 4)]
+    pub padding: PaddingBytes,
+}
+
+/// A name of at most seven bytes, with zeros behind a shorter one.
+#[derive(Readable, Writable)]
+pub struct Caption {
+    pub used: u8,
+    #[speedy(length = used)]
+    pub name: String,
+    #[speedy(length = 7 - used)]
+    pub unused: ZeroBytes,
 }

@@ -1,6 +1,6 @@
 //! Messages of RTPS, by "The Real-time Publish-Subscribe Protocol, DDS Interoperability Wire Protocol 2.5" of the OMG.
 //! A flag of each submessage tells the order of its numbers.
-use speedy::{Readable, Writable};
+use speedy::{PaddingBytes, Readable, Writable};
 
 /// What a message begins with (section 9.4.4).
 #[derive(Readable, Writable)]
@@ -101,5 +101,5 @@ pub struct CdrText<'a> {
     #[speedy(length = size)]
     pub text: &'a [u8],
     #[speedy(length = (4 - size % 4) % 4)]
-    pub padding: &'a [u8],
+    pub padding: PaddingBytes,
 }

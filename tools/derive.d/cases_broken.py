@@ -311,6 +311,13 @@ BROKEN = [
     ("padding of a type", "use speedy::Padding;\n" + struct("    a: Padding<String>"), 5, "write a number"),
     ("padding of nothing", "use speedy::Padding;\n" + struct("    a: Padding"), 5,
      "`Padding` needs a number of bytes, as `Padding<3>`"),
+    ("padding whose length nothing tells", "use speedy::PaddingBytes as Gap;\n" + struct("    a: Vec<Gap>"), 5,
+     "`Vec<PaddingBytes>` has a length that other fields tell"),
+    ("padding behind a length of its own", "use speedy::ZeroBytes;\n"
+     + struct("    #[speedy(length_type = u8)]\n    a: ZeroBytes"), 6, "`length_type` is taken of texts"),
+    ("a key with padding of a told length", "use speedy::PaddingBytes;\nuse std::collections::BTreeSet;\n"
+     + struct("    a: BTreeSet<B>") + "#[derive(PartialEq, Eq, PartialOrd, Ord, Readable, Writable)]\n"
+     "struct B { n: u8, #[speedy(length = n)] p: PaddingBytes }\n", 6, "a part has a length"),
     ("a skipped small vector", "use smallvec::SmallVec;\n"
      + struct("    #[speedy(skip)]\n    a: SmallVec<[Box<u8>; 4]>"), 6, "`Box<u8>` has none"),
     ("a default in another type", struct("    a: B<Box<str>>") + DERIVES + "struct B<T>(u8, #[speedy(skip)] T);", 4,

@@ -64,6 +64,10 @@ pub struct Contact {
      + "struct C<const N: usize>(u8, Padding<N>);\n",
      ["    a: Padding<3>,", "    c: Zeros<0x10>,", "        23\n", "struct B(Zeros<GAP>, u8);",
       "((λ h. refl, λ e. refl))", "struct C<const N: usize>(u8, Padding<N>);"]),
+    ("padding of a told length", "use speedy::{PaddingBytes, ZeroBytes};\n" + DERIVES
+     + "struct A { n: u16, #[speedy(length = n)] t: String, #[speedy(length = (4 - n % 4) % 4)] p: PaddingBytes }\n"
+     + DERIVES + "struct B(u8, #[speedy(length = t0)] ZeroBytes);\n",
+     ["    p: PaddingBytes,", "<PaddingBytes as OfLength>⟧.seen", "struct B(u8, ZeroBytes);", "        1\n"]),
     ("numbers of one order", "use speedy::{Big, Little, U24};\n" + DERIVES
      + "struct A { a: Big<U24>, b: [Little<u64>; 2], c: std::collections::BTreeSet<B> }\n"
      "#[derive(PartialEq, Eq, PartialOrd, Ord, Readable, Writable)]\nstruct B(Big<i32>, U24);\n",

@@ -21,6 +21,8 @@ NUMBERS = ("u8", "u16", "u32", "u64", "u128", "i8", "i16", "i32", "i64", "i128",
 FLOATS = {"f32": "F32", "f64": "F64"}
 # Bytes that mean nothing, so many as a number says.
 BLANKS = ("Padding", "Zeros")
+# And so many as other fields tell.
+TOLD_BLANKS = ("PaddingBytes", "ZeroBytes")
 # The types of the numbers in a list that a mark ends.
 MARKING = ("u8", "u16", "u32", "u64", "VarInt64")
 # What a number is held in that lies in one byte order, with that order.
@@ -53,7 +55,7 @@ KNOWN = {
     "speedy::ListUntil": Known("ListUntil", "speedy", ((), (PART,))),
     "speedy::private::VarInt64": Known("VarInt64", "speedy::varint"),
 }
-for blank in BLANKS:
+for blank in (*BLANKS, *TOLD_BLANKS):
     KNOWN[f"speedy::{blank}"] = Known(blank, "speedy")
 for holder in ONE_ORDER:
     KNOWN[f"speedy::{holder}"] = Known(holder, "speedy", ((PART,),))

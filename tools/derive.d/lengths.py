@@ -6,6 +6,7 @@ import holders
 import syntax
 from arithmetic import BITS, TAKEN, Computed, Term, number, refused
 from expressions import mentions, path_of
+from known import TOLD_BLANKS
 from names import Fresh, camel, parameter
 from rattle import Build, Call, Foreign, Let, Listed, Own, is_listed, names_in, parts_of, tuple_of, type_text
 from refusal import Refusal
@@ -58,9 +59,9 @@ def check_type(field, kind, item, scope):
         return
     lent = kind.target if isinstance(kind, syntax.Reference) else None
     is_lent = isinstance(lent, syntax.Slice) or is_listed(lent, "str")
-    if not is_listed(kind, *TEXTS_AND_LISTS, *MAPS) and not is_lent:
+    if not is_listed(kind, *TEXTS_AND_LISTS, *MAPS, *TOLD_BLANKS) and not is_lent:
         raise Refusal(field.line, "`length` is taken of `String`, `Vec<T>`, `Box<str>`, `Box<[T]>`, `&str`, `&[u8]`, "
-                                  "`Cow<str>`, `Cow<[T]>`, maps, sets, structs and enums")
+                                  "`Cow<str>`, `Cow<[T]>`, `PaddingBytes`, `ZeroBytes`, maps, sets, structs and enums")
 
 
 def check_framed(field, kind, item, scope):
@@ -307,9 +308,9 @@ class Behind:
     def seen(self, alone):
         """What is seen of it."""
         part = self.item.part
-        if not is_listed(part.type, *MAPS):
+        if not is_listed(part.type, *MAPS, *TOLD_BLANKS):
             return [self.before.seen(alone), alone(part)]
-        # What is seen of a hashed one by itself does not tell its length.
+        # What is seen of a hashed one by itself does not tell its length, and padding has no encoding by itself.
         trait = self.scope.need("speedy::lengths", "OfLength")
         return [self.before.seen(alone), f"⟦<{type_text(part.type)} as {trait}>⟧.seen {part.seen}"]
 

@@ -192,6 +192,9 @@ class PartMaker:
             return self.prefixed(it, access, kind)
         if it.options.length is not None:
             lengths.check_type(it, kind, self.item, self.scope)
+        elif rattle.holds_listed(kind, *known.TOLD_BLANKS):
+            raise Refusal(it.line, f"`{type_text(kind)}` has a length that other fields tell: write "
+                                   "`#[speedy(length = ..)]` before it, or hold `Padding<3>` or `Zeros<3>`")
         written = access.value if is_copied(kind) else None
         return Part(kind, access.bound, access.seen, "", written, access.reference), access.bound
 

@@ -86,6 +86,11 @@ def parts_of(kind):
     return getattr(kind, "arguments", ())
 
 
+def holds_listed(kind, *names):
+    """Whether a type is one of these listed ones, or holds one."""
+    return is_listed(kind, *names) or any(holds_listed(it, *names) for it in parts_of(kind))
+
+
 def names_in(kind):
     """The names of types, parameters and lifetimes in a type."""
     found = set().union(*(names_in(part) for part in parts_of(kind)))

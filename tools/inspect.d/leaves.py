@@ -223,6 +223,18 @@ class OneOrder(Leaf):
         return [f"{self.shown}(", *self.number.pieces(node, data), ")"]
 
 
+def refuse_others(cursor, is_padding, label, at):
+    """Refuses other bytes than zeros among those from `at` on that were taken: of padding only where the canonical
+    encoding is asked for."""
+    place = next((place for place in range(at, cursor.at) if cursor.data[place]), None)
+    if place is None or (is_padding and not cursor.strict):
+        return
+    why = f"here stands {cursor.data[place]:02x}, not 00"
+    if is_padding:
+        raise cursor.fault(Kind.NOT_WRITTEN_FORM, place, label, at, why)
+    raise cursor.fault(Kind.EXPECTED_CONSTANT, place, label, at, why, constant=[0])
+
+
 class Blank(Leaf):
     """`Padding<N>` and `Zeros<N>`: bytes that mean nothing, and are written as zeros. Padding may be other bytes."""
 
@@ -234,13 +246,9 @@ class Blank(Leaf):
         return self.least if self.shown == "Padding" and not strict else None
 
     def decode(self, cursor, at, number, label):
-        if number == 0 or self.size(cursor.strict) is not None:
-            return 0
-        place = next(place for place in range(at, cursor.at) if cursor.data[place])
-        why = f"here stands {cursor.data[place]:02x}, not 00"
-        if self.shown == "Padding":
-            raise cursor.fault(Kind.NOT_WRITTEN_FORM, place, label, at, why)
-        raise cursor.fault(Kind.EXPECTED_CONSTANT, place, label, at, why, constant=[0])
+        if number != 0:
+            refuse_others(cursor, self.shown == "Padding", label, at)
+        return 0
 
     def pieces(self, node, data):
         return [self.shown]

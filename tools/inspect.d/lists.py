@@ -3,6 +3,7 @@ import texts
 from cursor import AT_END, MOST_SHOWN, Gap, Node, Run, count_of, is_shown
 from faults import Fault, Kind
 from layouts import Layout, Unordered, joined
+from leaves import refuse_others
 
 # More bytes than a `usize` counts.
 PAST_USIZE = 1 << 64
@@ -106,6 +107,31 @@ class Octets(Content):
 
     def written(self, node, data, order):
         return data[node.head:node.end]
+
+
+class Blanks(Content):
+    """`PaddingBytes` and `ZeroBytes`: bytes that mean nothing, and are written as zeros. Padding may be other bytes."""
+    unit = "byte"
+    is_bytes = True
+
+    def __init__(self, shown):
+        self.name = self.shown = shown
+
+    def fill(self, cursor, node, count, is_told):
+        self.skip(cursor, count, is_told)
+
+    def skip(self, cursor, count, is_told):
+        at = cursor.take(count, "padding")
+        refuse_others(cursor, self.shown == "PaddingBytes", "", at)
+
+    def pieces(self, node, data):
+        return [f"{self.shown}({node.value})"]
+
+    def key(self, node, data):
+        return node.value
+
+    def written(self, node, data, order):
+        return bytes(node.value)
 
 
 class Items(Content):

@@ -17,7 +17,7 @@ import visibility
 import whole
 from declared import (Choice, FramePart, Magic, Missing, NulEnded, Part, Parts, Rest, Skipped, Struct, ToldPart,
                       Until, Variant)
-from known import BLANKS, KNOWN, ONE_ORDER
+from known import BLANKS, KNOWN, ONE_ORDER, TOLD_BLANKS
 from lengths import is_framed
 from module import Made, ModuleMaker
 from refusal import Refusal
@@ -89,6 +89,9 @@ APPLIED = {
 }
 for blank in BLANKS:
     APPLIED[blank] = lambda count, blank=blank: leaves.Blank(blank, count)
+for blank in TOLD_BLANKS:
+    # Their length is always told: no number stands before them.
+    APPLIED[blank] = lambda blank=blank: lists.CountedLayout(blank, None, lists.Blanks(blank))
 for holder, byte_order in ONE_ORDER.items():
     APPLIED[holder] = lambda number, holder=holder, byte_order=byte_order: leaves.OneOrder(holder, number, byte_order)
 for family, kinds in (("sorted", ("BTreeMap", "BTreeSet")), ("hashed", ("HashMap", "HashSet")),

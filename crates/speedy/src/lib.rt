@@ -36,7 +36,7 @@ pub use floats::{F32, F64};
 pub use layout::Layout;
 pub use many::ItemByItem;
 pub use one_order::{Big, Little};
-pub use padding::{Padding, Zeros};
+pub use padding::{Padding, PaddingBytes, ZeroBytes, Zeros};
 pub use part::Part;
 pub use readable::{ReadFrom, ReadMany, Readable, ReadableOwned};
 pub use reader::{LendingReader, Reader};

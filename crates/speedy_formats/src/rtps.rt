@@ -4,9 +4,11 @@
 //! Made from `rtps.rs` by `tools/derive`: change that, and make this again.
 ghost use Rattle.std.specs.Prelude.{[], codes, ◌%◌, ◌+◌, ◌-◌, ◌/◌, ◌<◌, ◌^◌, ◌∷◌, ◌≡◌, ◌≤◌};
 
-use speedy::lengths::{Length, Other, WithLength};
+use speedy::lengths::{Length, OfLength, Other, WithLength};
 use speedy::magic::{Constant, Magic};
-use speedy::{Context, ItemByItem, Layout, LendingReader, Part, ReadFrom, Writable, Writer};
+use speedy::{
+    Context, ItemByItem, Layout, LendingReader, PaddingBytes, Part, ReadFrom, Writable, Writer,
+};
 use std::convert::AsSlice;
 use std::marker::PhantomData;
 
@@ -635,7 +637,7 @@ impl<'a, C: Context> Writable<C> for Parameter<'a> {
 pub struct CdrText<'a> {
     pub size: u32,
     pub text: &'a [u8],
-    pub padding: &'a [u8],
+    pub padding: PaddingBytes,
 }
 
 /// The length of [`CdrText::text`].
@@ -680,13 +682,16 @@ impl Length<u32> for CdrTextPaddingLength {
 type CdrTextParts<'a> = WithLength<
     CdrTextPaddingLength,
     WithLength<CdrTextTextLength, u32, &'a [u8]>,
-    &'a [u8],
+    PaddingBytes,
 >;
 
 impl<'a> Layout for CdrText<'a> {
     ghost Seen = { ⟦<CdrTextParts<'a> as Layout>⟧.Seen };
 
-    ghost seen = { λ it. ((it.size, ⟦<&'a [u8] as Layout>⟧.seen it.text), ⟦<&'a [u8] as Layout>⟧.seen it.padding) };
+    ghost seen = { λ it. (
+      (it.size, ⟦<&'a [u8] as Layout>⟧.seen it.text),
+      ⟦<PaddingBytes as OfLength>⟧.seen it.padding,
+    ) };
 
     ghost layout = { ⟦<CdrTextParts<'a> as Layout>⟧.layout };
 }

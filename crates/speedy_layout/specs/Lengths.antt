@@ -6,12 +6,13 @@ use Rattle.speedy_base.specs.Mode.{Mode}
 use Rattle.speedy_base.specs.declared.error.ErrorKind.{ErrorKind}
 use Rattle.speedy_base.specs.declared.error.ErrorKind.TheVariants as kinds
 use Rattle.speedy_layout.specs.Codecs.{Codec, borrowed_codec, vector_codec}
-use Rattle.speedy_layout.specs.Codes.{coding, length_subset_codec, Accepts-exact_means}
+use Rattle.speedy_layout.specs.Codes.{Codebook, coding, length_subset_codec, Accepts-exact_means, Accepts-means}
 use Rattle.speedy_layout.specs.Format.{Asks, asks_nothing, Format, IsOwnKind}
 use Rattle.speedy_layout.specs.Laws.{Laws, Laws-less, Laws-refusing, WritesToo}
 use Rattle.speedy_layout.specs.Lists.{vector_asks, vector_ends, vector_length}
 use Rattle.speedy_layout.specs.Owned.{borrowed_content, owned_content}
-use Rattle.speedy_layout.specs.Sequences.{AsksAtMost, sequence, sequence_laws, sequence_written}
+use Rattle.speedy_layout.specs.Padding.{padding_codec, padding_code, zeros_codec, zeros_code}
+use Rattle.speedy_layout.specs.Sequences.{AsksAtMost, asks_same, sequence, sequence_laws, sequence_written}
 use Rattle.speedy_layout.specs.Texts.{raw_bytes, text_of_length, text_of_length_laws, text_asks}
 use Rattle.speedy_layout.specs.Texts.{text_of_length_written}
 
@@ -129,6 +130,50 @@ text_counting = record {
   within = text_asks;
   is_count = text_length;
   ends = λ f n m v w s h k _. text_ends f n m v w s h k;
+}
+
+-- the code of n bytes has n
+pub bytes_length : {V : Type 0} (c : Codebook (List ℕ) V) (mode : Mode) (n : ℕ) (v : V) (s : List ℕ)
+    → (coding mode c (raw_bytes n)).encodes v s → length s ≡ n
+unfolding coding raw_bytes
+bytes_length c mode n v s h = h.code_is.1
+
+pub bytes_asks : {V : Type 0} (c : Codebook (List ℕ) V) (mode : Mode) (n : ℕ)
+    → AsksAtMost (coding mode c (raw_bytes n)).asks asks_nothing
+unfolding coding raw_bytes
+bytes_asks c mode n = asks_same
+
+-- padding of n bytes, and n zeros, are seen as n
+pub padding_length : (mode : Mode) (n v : ℕ) (s : List ℕ) → ((padding_codec n).format mode).encodes v s → v ≡ n
+unfolding coding
+padding_length mode n v s h = Accepts-means mode.strict (padding_code n) h.code v (λ c. c.0) h.stands
+
+pub zeros_length : (mode : Mode) (n v : ℕ) (s : List ℕ) → ((zeros_codec n).format mode).encodes v s → v ≡ n
+unfolding coding
+zeros_length mode n v s h = (Accepts-means mode.strict (zeros_code n) h.code v (λ c. c) h.stands).0
+
+-- padding of n bytes
+abbrev pub padding_counting : Counting ℕ
+padding_counting = record {
+  count = λ n. n;
+  of_length = padding_codec;
+  asks = λ _. asks_nothing;
+  within = λ f n. bytes_asks (padding_code n) f n;
+  is_count = padding_length;
+  ends = λ f n m v w s h k _.
+      sym (bytes_length (padding_code n) f n v s h) ∙ bytes_length (padding_code m) f m w s k;
+}
+
+-- n zeros
+abbrev pub zeros_counting : Counting ℕ
+zeros_counting = record {
+  count = λ n. n;
+  of_length = zeros_codec;
+  asks = λ _. asks_nothing;
+  within = λ f n. bytes_asks (zeros_code n) f n;
+  is_count = zeros_length;
+  ends = λ f n m v w s h k _.
+      sym (bytes_length (zeros_code n) f n v s h) ∙ bytes_length (zeros_code m) f m w s k;
 }
 
 -- those that borrow their content

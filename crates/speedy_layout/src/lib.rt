@@ -41,7 +41,7 @@ pub use codes::ToCode;
 pub use floats::{F32, F64};
 pub use layout::Layout;
 pub use one_order::{Big, Little};
-pub use padding::{Padding, Zeros};
+pub use padding::{Padding, PaddingBytes, ZeroBytes, Zeros};
 pub use same_key::SameKey;
 pub use three_bytes::U24;
 pub use until::ListUntil;

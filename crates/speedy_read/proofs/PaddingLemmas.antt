@@ -118,44 +118,45 @@ raw_of n r = let got = r.answer in (
   },
 )
 
-module _ {E : Type 0} {gives : Error → E → Type 0} {eof : E → Bool} (n : ℕ) (mode : Mode) {B : Type 0}
-    {seen : B → Unit {0}} {old new : ReaderState} where
-  pub padding_refused : {e : E} {result : Result B E} → IsErrAnd result (λ x. x ≡ e)
+module _ {E : Type 0} {gives : Error → E → Type 0} {eof : E → Bool} (n : ℕ) (mode : Mode) {old new : ReaderState} where
+  pub padding_refused : {e : E} {result : Result (Unit {0}) E} → IsErrAnd result (λ x. x ≡ e)
       → Reads gives eof (λ (b : Bool). b) (zero_test n) (Err e) old new
-      → Reads gives eof seen ((padding_codec n).format mode) result old new
+      → Reads gives eof (λ _. n) ((padding_codec n).format mode) result old new
   padding_refused passed r = refused_covered (test_covers_padding n mode) passed r
 
   -- any bytes are padding, and zeros alone under a demand for the canonical encoding
-  pub padding_read : {are : Bool} {y : B} → (IsTrue mode.strict → IsTrue are)
+  pub padding_read : {are : Bool} {y : Unit {0}} → (IsTrue mode.strict → IsTrue are)
       → Reads gives eof (λ (b : Bool). b) (zero_test n) (Ok are) old new
-      → Reads gives eof seen ((padding_codec n).format mode) (Ok y) old new
+      → Reads gives eof (λ _. n) ((padding_codec n).format mode) (Ok y) old new
   padding_read demanded r =
-      let x = raw_of n r in code_read mode (padding_code n) tt (λ strict. x.1.0 (demanded strict)) x.2
+      let x = raw_of n r in
+      code_read mode (padding_code n) refl (λ strict. (refl, x.1.0 (demanded strict))) x.2
 
   pub padding_not_written : {are : Bool} {e : E} → IsTrue mode.strict → are ≡ false
       → gives (error_of kinds.NotWrittenForm) e → Reads gives eof (λ (b : Bool). b) (zero_test n) (Ok are) old new
-      → Reads gives eof seen ((padding_codec n).format mode) (Err e) old new
+      → Reads gives eof (λ (_ : Unit {0}). n) ((padding_codec n).format mode) (Err e) old new
   padding_not_written strict others given r =
       let x = raw_of n r in
       let not : x.0 ≡ zeros n → ⊥ = λ is. let yes = x.1.1 is in absurd (cc) in
-      code_not_written mode (padding_code n) (raw_bytes_laws n) (padding_reads_wider n x.0 not) strict (λ v h. not h)
-      given x.2
+      code_not_written mode (padding_code n) (raw_bytes_laws n) (padding_reads_wider n x.0 not) strict
+      (λ v h. not h.1) given x.2
 
-  pub zeros_refused : {e : E} {result : Result B E} → IsErrAnd result (λ x. x ≡ e)
+  pub zeros_refused : {e : E} {result : Result (Unit {0}) E} → IsErrAnd result (λ x. x ≡ e)
       → Reads gives eof (λ (b : Bool). b) (zero_test n) (Err e) old new
-      → Reads gives eof seen ((zeros_codec n).format mode) result old new
+      → Reads gives eof (λ _. n) ((zeros_codec n).format mode) result old new
   zeros_refused passed r = refused_covered (test_covers_zeros n mode) passed r
 
   -- zeros are zeros, and no other bytes are
-  pub zeros_read : {are : Bool} {y : B} → IsTrue are
+  pub zeros_read : {are : Bool} {y : Unit {0}} → IsTrue are
       → Reads gives eof (λ (b : Bool). b) (zero_test n) (Ok are) old new
-      → Reads gives eof seen ((zeros_codec n).format mode) (Ok y) old new
-  zeros_read are r = let x = raw_of n r in code_read mode (zeros_code n) (x.1.0 are) (λ _. x.1.0 are) x.2
+      → Reads gives eof (λ _. n) ((zeros_codec n).format mode) (Ok y) old new
+  zeros_read are r =
+      let x = raw_of n r in code_read mode (zeros_code n) (refl, x.1.0 are) (λ _. (refl, x.1.0 are)) x.2
 
   pub zeros_differ : {are : Bool} {e : E} → are ≡ false → IsNamed gives (IsExpected (0 ∷ [])) e
       → Reads gives eof (λ (b : Bool). b) (zero_test n) (Ok are) old new
-      → Reads gives eof seen ((zeros_codec n).format mode) (Err e) old new
+      → Reads gives eof (λ (_ : Unit {0}). n) ((zeros_codec n).format mode) (Err e) old new
   zeros_differ others named r =
       let x = raw_of n r in
       code_means_nothing mode (zeros_code n) (raw_bytes_laws n) (λ v h. h)
-      (λ v is. let yes = x.1.1 is in absurd (cc)) named x.2
+      (λ v is. let yes = x.1.1 is.1 in absurd (cc)) named x.2

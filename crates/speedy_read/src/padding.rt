@@ -1,7 +1,9 @@
 //! How bytes that mean nothing are read, and compared with zeros.
+ghost use Rattle.speedy_layout.specs.Codecs.{padding_codec, zeros_codec};
 ghost use Rattle.speedy_read.specs.Padding.{zero_test};
-ghost use Rattle.speedy_read.specs.Reading.{ReadsAs};
+ghost use Rattle.speedy_read.specs.Reading.{ReadsAs, ReadsValue};
 
+use crate::lengths::ReadOfLength;
 use crate::magic::are_still_the_same;
 use crate::many::ItemByItem;
 use crate::readable::ReadFrom;
@@ -9,7 +11,7 @@ use crate::reader::LendingReader;
 use crate::room::CONSTANT_CHUNK;
 use speedy_base::context::Context;
 use speedy_base::error::{error_expected_constant, error_not_written_form};
-use speedy_layout::{Padding, Zeros};
+use speedy_layout::{Padding, PaddingBytes, ZeroBytes, Zeros};
 use std::convert::AsSlice;
 
 impl<L: AsSlice<u8> + Drop, C: Context, const N: usize> ReadFrom<L, C> for Padding<N> {
@@ -17,10 +19,7 @@ impl<L: AsSlice<u8> + Drop, C: Context, const N: usize> ReadFrom<L, C> for Paddi
 
     #[inline]
     fn read_from<R: LendingReader<L, C>>(reader: &mut R) -> Result<Padding<N>, C::Error> {
-        let is_written = read_zeros::<L, C, R>(reader, N)?;
-        if !is_written && reader.demands_written_form() {
-            return Err(error_not_written_form());
-        }
+        read_padding::<L, C, R>(reader, N)?;
         Ok(Padding {})
     }
 
@@ -35,10 +34,7 @@ impl<L: AsSlice<u8> + Drop, C: Context, const N: usize> ReadFrom<L, C> for Zeros
 
     #[inline]
     fn read_from<R: LendingReader<L, C>>(reader: &mut R) -> Result<Zeros<N>, C::Error> {
-        let are_zeros = read_zeros::<L, C, R>(reader, N)?;
-        if !are_zeros {
-            return Err(error_expected_constant(b"\0"));
-        }
+        expect_zeros::<L, C, R>(reader, N)?;
         Ok(Zeros {})
     }
 
@@ -46,6 +42,60 @@ impl<L: AsSlice<u8> + Drop, C: Context, const N: usize> ReadFrom<L, C> for Zeros
     fn minimum_bytes_needed() -> usize {
         N
     }
+}
+
+impl<L: AsSlice<u8> + Drop, C: Context> ReadOfLength<L, C> for PaddingBytes {
+    #[inline]
+    fn read_of_length<R: LendingReader<L, C>>(
+        reader: &mut R,
+        length: usize,
+    ) -> Result<PaddingBytes, C::Error> {
+        read_padding::<L, C, R>(reader, length)?;
+        Ok(PaddingBytes(length))
+    }
+}
+
+impl<L: AsSlice<u8> + Drop, C: Context> ReadOfLength<L, C> for ZeroBytes {
+    #[inline]
+    fn read_of_length<R: LendingReader<L, C>>(
+        reader: &mut R,
+        length: usize,
+    ) -> Result<ZeroBytes, C::Error> {
+        expect_zeros::<L, C, R>(reader, length)?;
+        Ok(ZeroBytes(length))
+    }
+}
+
+// Reads so many bytes of padding.
+#[inline]
+fn read_padding<L: AsSlice<u8> + Drop, C: Context, R: LendingReader<L, C>>(
+    reader: &mut R,
+    count: usize,
+) -> Result<(), C::Error>
+    ensures { ReadsValue C.Error.IsEof R.state (λ _. count) (padding_codec count) result
+        reader.old reader.new }
+{
+    let is_written = read_zeros::<L, C, R>(reader, count)?;
+    if !is_written && reader.demands_written_form() {
+        return Err(error_not_written_form());
+    }
+    Ok(())
+}
+
+// Reads so many zeros.
+#[inline]
+fn expect_zeros<L: AsSlice<u8> + Drop, C: Context, R: LendingReader<L, C>>(
+    reader: &mut R,
+    count: usize,
+) -> Result<(), C::Error>
+    ensures { ReadsValue C.Error.IsEof R.state (λ _. count) (zeros_codec count) result
+        reader.old reader.new }
+{
+    let are_zeros = read_zeros::<L, C, R>(reader, count)?;
+    if !are_zeros {
+        return Err(error_expected_constant(b"\0"));
+    }
+    Ok(())
 }
 
 // Reads so many bytes, a chunk at a time, and says whether all are zeros.

@@ -55,6 +55,7 @@ mod round_trips;
 mod three_bytes;
 #[cfg(test)]
 mod told_frames;
+mod told_padding;
 #[cfg(test)]
 mod tuples;
 #[cfg(test)]

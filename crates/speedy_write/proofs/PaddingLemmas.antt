@@ -78,30 +78,30 @@ module _ {E : Type 0} {gives : Error → E → Type 0} {old new : WriterState} {
     {result : Result (Unit {0}) E} (n : ℕ) where
   -- zeros are written as padding is
   pub padding_written : WritesZeros gives n result old new appended
-      → Writes gives (padding_codec n).format tt result old new appended
+      → Writes gives (padding_codec n).format n result old new appended
   unfolding coding raw_bytes repeat unsigned_number
   padding_written w =
       Writes-as (λ kind h. h)
       (λ b h. record {
         code = zeros n;
         code_is = zeros_alone old.mode n b h;
-        stands = refl;
+        stands = (refl, refl);
       })
-      (λ b h. (zeros n, zeros_encode old.mode n, ap length (sym h.stands ∙ h.code_is.0)))
+      (λ b h. (zeros n, zeros_encode old.mode n, ap length (sym h.stands.1 ∙ h.code_is.0)))
       (λ b h. (zeros n, zeros_encode old.mode n)) w
 
   -- and as zeros that have to stand there
   pub zeros_written : WritesZeros gives n result old new appended
-      → Writes gives (zeros_codec n).format tt result old new appended
+      → Writes gives (zeros_codec n).format n result old new appended
   unfolding coding raw_bytes repeat unsigned_number
   zeros_written w =
       Writes-as (λ kind h. h)
       (λ b h. record {
         code = zeros n;
         code_is = zeros_alone old.mode n b h;
-        stands = refl;
+        stands = (refl, refl);
       })
-      (λ b h. (zeros n, zeros_encode old.mode n, ap length (sym h.stands ∙ h.code_is.0)))
+      (λ b h. (zeros n, zeros_encode old.mode n, ap length (sym h.stands.1 ∙ h.code_is.0)))
       (λ b h. (zeros n, zeros_encode old.mode n)) w
 
 pub ruleset zeros_are_written = (padding_written, zeros_written)

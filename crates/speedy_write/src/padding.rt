@@ -5,10 +5,11 @@ ghost use Rattle.speedy_layout.specs.Codecs.{unsigned_codec};
 ghost use Rattle.speedy_layout.specs.Padding.{zeros};
 ghost use Rattle.speedy_write.specs.Writing.{WritesValues};
 
+use crate::lengths::WriteOfLength;
 use crate::writable::Writable;
 use crate::writer::Writer;
 use speedy_base::context::Context;
-use speedy_layout::{Padding, Zeros};
+use speedy_layout::{Padding, PaddingBytes, ZeroBytes, Zeros};
 
 /// How many zeros are written at once, at most.
 const CHUNK: usize = 64;
@@ -24,6 +25,30 @@ impl<C: Context, const N: usize> Writable<C> for Zeros<N> {
     #[inline]
     fn write_to<W: Writer<C>>(&self, writer: &mut W) -> Result<(), C::Error> {
         write_zeros(writer, N)
+    }
+}
+
+impl<C: Context> WriteOfLength<C> for PaddingBytes {
+    #[inline]
+    fn length(&self) -> usize {
+        self.0
+    }
+
+    #[inline]
+    fn write_of_length<W: Writer<C>>(&self, writer: &mut W) -> Result<(), C::Error> {
+        write_zeros(writer, self.0)
+    }
+}
+
+impl<C: Context> WriteOfLength<C> for ZeroBytes {
+    #[inline]
+    fn length(&self) -> usize {
+        self.0
+    }
+
+    #[inline]
+    fn write_of_length<W: Writer<C>>(&self, writer: &mut W) -> Result<(), C::Error> {
+        write_zeros(writer, self.0)
     }
 }
 

@@ -1,10 +1,10 @@
 use Rattle.speedy_read.specs.Codes.{demanded, not_demanded}
 use Rattle.speedy_read.proofs.PaddingLemmas.{padding_not_written, padding_read, padding_refused}
-use Rattle.speedy_read.proofs.padding.PaddingReadFrom.read_from.Goals.{
+use Rattle.speedy_read.proofs.padding.read_padding.Goals.{
   else-not-is_written-via-then-not-is_written+else-demands_written_form,
   else-not-is_written-via-else-not-is_written,
 }
-use Rattle.speedy_read.proofs.padding.PaddingReadFrom.read_from.Goals as goal
+use Rattle.speedy_read.proofs.padding.read_padding.Goals as goal
 
 pub returns-in_err-is_written : goal.returns-in_err-is_written
 returns-in_err-is_written g c = padding_refused _ _ c.from_residual.ensures.1 c.in_err-is_written.ensures

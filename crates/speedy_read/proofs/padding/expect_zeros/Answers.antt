@@ -1,6 +1,6 @@
 use Rattle.std.proofs.Common.{refl}
 use Rattle.speedy_read.proofs.PaddingLemmas.{zeros_differ, zeros_read, zeros_refused}
-use Rattle.speedy_read.proofs.padding.ZerosReadFrom.read_from.Goals as goal
+use Rattle.speedy_read.proofs.padding.expect_zeros.Goals as goal
 
 pub returns-in_err-are_zeros : goal.returns-in_err-are_zeros
 returns-in_err-are_zeros g c = zeros_refused _ _ c.from_residual.ensures.1 c.in_err-are_zeros.ensures
