@@ -1,4 +1,5 @@
-//! The ring (`CircularBuffer`): bytes that wait between a device and its readers.
+//! The ring (`CircularBuffer`): bytes that wait between a device and its readers, of a buffered reader 8,191 at most
+//! after each read.
 ghost use Rattle.std.specs.Prelude.{◌≡◌, ◌+◌, ◌-◌, ◌≤◌, ◌↔◌, min, [], ◌++◌, length, take, drop, None, IsOk, IfOk, OnOk};
 ghost use Rattle.std.specs.Prelude.{OnErr, IsTrue, max, slice_range, vec_len, vec_capacity};
 ghost use Rattle.std.specs.Borrow.{Array, Lends, sem, u8};

@@ -1,4 +1,4 @@
-//! Byte orders: how the digits of a number lie in bytes.
+//! Byte orders, and numbers read and turned in them. The digits and the turning of each width stand in `numbers`.
 ghost use Rattle.std.specs.Prelude.{◌≡◌, ◌↔◌, IsTrue};
 
 /// A byte order: the order in which the base 256 digits of a number are written.

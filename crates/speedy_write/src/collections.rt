@@ -1,4 +1,5 @@
-//! How the items of a map or a set are written, behind their number or without it, in the order that it gives.
+//! How the items of a map or a set are written, behind their number or without it, in the order that it gives. It gives
+//! each key once, so what is written repeats none; what is read may, and there the last value counts.
 ghost use Rattle.std.specs.Prelude.{◌≡◌, List, length};
 ghost use Rattle.std.specs.Iterator.{IsFinite, AlwaysYields};
 ghost use Rattle.speedy_layout.specs.Codecs.{vector_codec};
