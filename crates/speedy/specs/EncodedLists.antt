@@ -1,5 +1,5 @@
 -- Lists that lie where they were read: which list bytes encode, and how many bytes items have.
-use Rattle.std.specs.Prelude.{◌≡◌, ℕ, List, length, false, IsTrue, ◌⊎◌, Result, MatchResult, Option, MatchOption}
+use Rattle.std.specs.Prelude.{◌≡◌, ℕ, List, [], length, false, IsTrue, ◌⊎◌, Result, MatchResult, Option, MatchOption}
 use Rattle.std.proofs.Math.Logic.{∥∥₁_elim, ∥∥₁_prop}
 use Rattle.std.specs.Coded.{Coded, Coded-set, coded_list}
 use mathlib.Core.HLevel.{Σ_prop_path}
@@ -7,7 +7,7 @@ use Rattle.std.proofs.Common.{sym, ◌∙◌, refl}
 use Rattle.speedy_base.specs.declared.endianness.Endianness.{Endianness}
 use Rattle.speedy_base.specs.declared.error.Error.{Error}
 use Rattle.speedy_base.specs.declared.error.ErrorKind.TheVariants as kinds
-use Rattle.speedy_base.specs.Error.{error_of, is_eof_error}
+use Rattle.speedy_base.specs.Error.{error_of, Errors}
 use Rattle.speedy_base.specs.Mode.{Mode, plain_mode}
 use Rattle.speedy_layout.specs.Codecs.{Codec}
 use Rattle.speedy_layout.specs.Format.{Format, Each}
@@ -32,25 +32,20 @@ pub one_list : {V : Type 0} (item : InPlaceCodec V) (order : Endianness) (count 
 one_list item order count bytes vs ws h k =
     let same = Coded-set (coded_list item.coded) vs ws in
     ∥∥₁_elim h same (λ x. ∥∥₁_elim k same (λ y.
-    (each_decodes (item.codec.laws (plain_mode order)) vs ws bytes bytes _ _ (x.0 ∙ sym y.0) x.1 y.1 refl).0))
+    (each_decodes (item.codec.laws (plain_mode order)) vs ws bytes bytes [] [] (x.0 ∙ sym y.0) x.1 y.1 refl).0))
 
 pub list_once : {V : Type 0} (item : InPlaceCodec V) (order : Endianness) (count : ℕ) (bytes : List ℕ)
     → IsProp (IsEncodedList item.codec order count bytes)
 list_once item order count bytes = λ x y. Σ_prop_path (λ _. ∥∥₁_prop) (one_list item order count bytes x.0 y.0 x.1 y.1)
 
-abbrev pub itself : Error → Error → Type 0
-itself error e = e ≡ error
-
--- memory lacks, for values that take some
-abbrev pub LacksMemory : {V : Type 0} → Format V → Error → Type 0
-LacksMemory format e = (e ≡ error_of kinds.OutOfMemory) × IsTrue format.asks.memory
-
--- What is said of so many items at the front of bytes: how many bytes they have, or what the bytes are refused with.
-abbrev pub Measures : {V : Type 0} → Codec V → Mode → ℕ → Result ℕ Error → List ℕ → Type 0
-Measures {V = V} codec mode count result bytes =
+-- What is said of so many items at the front of bytes: how many bytes they have; or what the bytes are refused with, or
+-- that memory lacks, for items that take some.
+abbrev pub Measures : {E V : Type 0} → Errors E → Codec V → Mode → ℕ → Result ℕ E → List ℕ → Type 0
+Measures {V = V} errors codec mode count result bytes =
     let format = repeat count (codec.format mode) in
     MatchResult result (λ size. (items : List V) × Counts (format.encodes items) size bytes)
-    (λ e. LacksMemory format e ⊎ RefusesBufferIf itself is_eof_error (Unit {0}) format.names format e bytes)
+    (λ e. (errors.from_gives (error_of kinds.OutOfMemory) e × IsTrue format.asks.memory)
+    ⊎ RefusesBufferIf errors.from_gives errors.eof (Unit {0}) format.names format e bytes)
 
 -- What the write of the value says that bytes begin with: how many bytes encode it, and the write of it.
 abbrev pub WritesFirst : {E S V : Type 0} (gives : Error → E → Type 0) (state : S → WriterState)

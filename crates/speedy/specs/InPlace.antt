@@ -32,7 +32,8 @@ pub record InPlaceChoices (V : Type 0) : Type 1 where
   pub coded : Coded V
   pub no_memory : (mode : Mode) → (choices.asks mode).memory ≡ false
 
-neither : {a b : Bool} → a ≡ false → b ≡ false → (a || b) ≡ false
+-- neither of two
+pub neither : {a b : Bool} → a ≡ false → b ≡ false → (a || b) ≡ false
 neither h k = ap₂ ◌||◌ h k
 
 pub unsigned_no_memory : (width : ℕ) → TakesNoMemory (unsigned_codec width)

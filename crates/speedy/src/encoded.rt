@@ -1,5 +1,5 @@
 //! Lists that were read and lie encoded where their bytes are (`EncodedList`).
-ghost use Rattle.std.specs.Prelude.{◌≡◌, ℕ, List, length, Some, None, MatchOption};
+ghost use Rattle.std.specs.Prelude.{◌≡◌, ℕ, List, length, IsTrue, ◌↔◌};
 ghost use Rattle.std.proofs.Common.{ap};
 ghost use Rattle.speedy_base.specs.Error.{is_eof_error};
 ghost use Rattle.speedy_base.specs.Mode.{Mode, plain_mode};
@@ -27,9 +27,9 @@ use std::fmt;
 use std::fmt::{Debug, Formatter, Write};
 use std::marker::PhantomData;
 
-/// A byte order, and whether only canonical encodings are read: the context that items are measured under.
-#[derive(Clone, Copy, Debug, PartialEq, Eq)]
-pub struct InMode {
+// The context that items are measured under: what the reader's context asks of the bytes.
+#[derive(Clone, Copy)]
+struct InMode {
     order: Endianness,
     strict: bool,
 }
@@ -57,18 +57,17 @@ impl Context for InMode {
 /// A type of your own gives its function from [`measure_items`] of itself. A type that borrows names itself there with
 /// the lifetime of the bytes.
 pub trait ListItem: InPlace {
-    /// How many bytes the first `count` values have that the bytes begin with, one after another.
+    /// How many bytes the first `count` values have that the bytes begin with, one after another, under the context.
     ///
-    /// `strict` says that only canonical encodings count. The error is that of a read of these values.
-    fn measure(
+    /// The error is that of a read of these values.
+    fn measure<C: Context>(
         alloc: Global,
-        order: Endianness,
-        strict: bool,
+        context: C,
         count: usize,
         bytes: &[u8],
-    ) -> Result<usize, Error>
-        ensures { Measures Self.in_place.codec (record { order = order; strict = strict }) count
-            result bytes.now };
+    ) -> Result<usize, C::Error>
+        ensures { Measures C.Error.IsEof Self.in_place.codec (C.mode context) count result
+            bytes.now };
 }
 
 /// List items that can be written again where they lie.
@@ -91,18 +90,17 @@ pub trait WriteListItem<C: Context>: ListItem {
 /// [`ListItem::measure`] answers.
 ///
 /// Where a value has no bytes, all have none, and the others are not read.
-pub fn measure_items<'a, T: ReadFrom<&'a [u8], InMode>>(
+pub fn measure_items<'a, T: ReadFrom<&'a [u8], C>, C: Context>(
     alloc: Global,
-    order: Endianness,
-    strict: bool,
+    context: C,
     count: usize,
     bytes: &'a [u8],
-) -> Result<usize, Error>
-    ensures { Measures T.layout (record { order = order; strict = strict }) count result bytes.now }
+) -> Result<usize, C::Error>
+    ensures { Measures C.Error.IsEof T.layout (C.mode context) count result bytes.now }
 {
     bytes_in_range(bytes);
     let length = bytes.len();
-    let mut reader = BufferReader::new(alloc, InMode { order, strict }, bytes);
+    let mut reader = BufferReader::new(alloc, context, bytes);
     for _i in 0..count {
         let before = reader.len();
         if let Err(error) = T::read_from(&mut reader) {
@@ -283,11 +281,14 @@ fn read_items<'a, C: Context, T: ListItem, R: LendingReader<&'a [u8], C>>(
     };
     nothing?;
     let order = reader.endianness();
-    let strict = reader.demands_written_form();
+    let context = InMode {
+        order,
+        strict: reader.demands_written_form(),
+    };
     let Some(rest) = reader.peek_bytes_until_eof() else {
         return Err(error_unsized());
     };
-    let size = match T::measure(reader.alloc(), order, strict, count, rest) {
+    let size = match T::measure(reader.alloc(), context, count, rest) {
         Ok(size) => size,
         Err(error) => return Err(C::Error::from(error)),
     };

@@ -403,7 +403,7 @@ impl<'a, T: ListItem> Shown<EncodedList<'a, T>> for ListView<'a> {
             None => return Err(Unshown::List),
         };
         let bytes = self.items.left;
-        match T::measure(alloc, order, false, self.count, bytes) {
+        match T::measure(alloc, order, self.count, bytes) {
             Ok(size) if size == bytes.len() => {
                 Ok(EncodedList::over(alloc, bytes, self.count, order))
             }

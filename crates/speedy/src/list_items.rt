@@ -2,20 +2,18 @@
 use crate::encoded::{ListItem, WriteListItem, measure_items, write_first_item};
 use speedy_base::context::Context;
 use speedy_base::endianness::Endianness;
-use speedy_base::error::Error;
 use speedy_layout::floats::{F32, F64};
 use speedy_write::Writer;
 use std::alloc::Global;
 
 impl ListItem for u8 {
-    fn measure(
+    fn measure<C: Context>(
         alloc: Global,
-        order: Endianness,
-        strict: bool,
+        context: C,
         count: usize,
         bytes: &[u8],
-    ) -> Result<usize, Error> {
-        measure_items::<u8>(alloc, order, strict, count, bytes)
+    ) -> Result<usize, C::Error> {
+        measure_items::<u8, C>(alloc, context, count, bytes)
     }
 }
 
@@ -31,14 +29,13 @@ impl<C: Context> WriteListItem<C> for u8 {
 }
 
 impl ListItem for u16 {
-    fn measure(
+    fn measure<C: Context>(
         alloc: Global,
-        order: Endianness,
-        strict: bool,
+        context: C,
         count: usize,
         bytes: &[u8],
-    ) -> Result<usize, Error> {
-        measure_items::<u16>(alloc, order, strict, count, bytes)
+    ) -> Result<usize, C::Error> {
+        measure_items::<u16, C>(alloc, context, count, bytes)
     }
 }
 
@@ -54,14 +51,13 @@ impl<C: Context> WriteListItem<C> for u16 {
 }
 
 impl ListItem for u32 {
-    fn measure(
+    fn measure<C: Context>(
         alloc: Global,
-        order: Endianness,
-        strict: bool,
+        context: C,
         count: usize,
         bytes: &[u8],
-    ) -> Result<usize, Error> {
-        measure_items::<u32>(alloc, order, strict, count, bytes)
+    ) -> Result<usize, C::Error> {
+        measure_items::<u32, C>(alloc, context, count, bytes)
     }
 }
 
@@ -77,14 +73,13 @@ impl<C: Context> WriteListItem<C> for u32 {
 }
 
 impl ListItem for u64 {
-    fn measure(
+    fn measure<C: Context>(
         alloc: Global,
-        order: Endianness,
-        strict: bool,
+        context: C,
         count: usize,
         bytes: &[u8],
-    ) -> Result<usize, Error> {
-        measure_items::<u64>(alloc, order, strict, count, bytes)
+    ) -> Result<usize, C::Error> {
+        measure_items::<u64, C>(alloc, context, count, bytes)
     }
 }
 
@@ -100,14 +95,13 @@ impl<C: Context> WriteListItem<C> for u64 {
 }
 
 impl ListItem for i8 {
-    fn measure(
+    fn measure<C: Context>(
         alloc: Global,
-        order: Endianness,
-        strict: bool,
+        context: C,
         count: usize,
         bytes: &[u8],
-    ) -> Result<usize, Error> {
-        measure_items::<i8>(alloc, order, strict, count, bytes)
+    ) -> Result<usize, C::Error> {
+        measure_items::<i8, C>(alloc, context, count, bytes)
     }
 }
 
@@ -123,14 +117,13 @@ impl<C: Context> WriteListItem<C> for i8 {
 }
 
 impl ListItem for i16 {
-    fn measure(
+    fn measure<C: Context>(
         alloc: Global,
-        order: Endianness,
-        strict: bool,
+        context: C,
         count: usize,
         bytes: &[u8],
-    ) -> Result<usize, Error> {
-        measure_items::<i16>(alloc, order, strict, count, bytes)
+    ) -> Result<usize, C::Error> {
+        measure_items::<i16, C>(alloc, context, count, bytes)
     }
 }
 
@@ -146,14 +139,13 @@ impl<C: Context> WriteListItem<C> for i16 {
 }
 
 impl ListItem for i32 {
-    fn measure(
+    fn measure<C: Context>(
         alloc: Global,
-        order: Endianness,
-        strict: bool,
+        context: C,
         count: usize,
         bytes: &[u8],
-    ) -> Result<usize, Error> {
-        measure_items::<i32>(alloc, order, strict, count, bytes)
+    ) -> Result<usize, C::Error> {
+        measure_items::<i32, C>(alloc, context, count, bytes)
     }
 }
 
@@ -169,14 +161,13 @@ impl<C: Context> WriteListItem<C> for i32 {
 }
 
 impl ListItem for i64 {
-    fn measure(
+    fn measure<C: Context>(
         alloc: Global,
-        order: Endianness,
-        strict: bool,
+        context: C,
         count: usize,
         bytes: &[u8],
-    ) -> Result<usize, Error> {
-        measure_items::<i64>(alloc, order, strict, count, bytes)
+    ) -> Result<usize, C::Error> {
+        measure_items::<i64, C>(alloc, context, count, bytes)
     }
 }
 
@@ -192,14 +183,13 @@ impl<C: Context> WriteListItem<C> for i64 {
 }
 
 impl ListItem for F32 {
-    fn measure(
+    fn measure<C: Context>(
         alloc: Global,
-        order: Endianness,
-        strict: bool,
+        context: C,
         count: usize,
         bytes: &[u8],
-    ) -> Result<usize, Error> {
-        measure_items::<F32>(alloc, order, strict, count, bytes)
+    ) -> Result<usize, C::Error> {
+        measure_items::<F32, C>(alloc, context, count, bytes)
     }
 }
 
@@ -215,14 +205,13 @@ impl<C: Context> WriteListItem<C> for F32 {
 }
 
 impl ListItem for F64 {
-    fn measure(
+    fn measure<C: Context>(
         alloc: Global,
-        order: Endianness,
-        strict: bool,
+        context: C,
         count: usize,
         bytes: &[u8],
-    ) -> Result<usize, Error> {
-        measure_items::<F64>(alloc, order, strict, count, bytes)
+    ) -> Result<usize, C::Error> {
+        measure_items::<F64, C>(alloc, context, count, bytes)
     }
 }
 

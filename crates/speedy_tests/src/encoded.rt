@@ -2,7 +2,7 @@
 use crate::asserting::{assert_bytes, assert_refused};
 use speedy::context::{BigEndian, LittleEndian, StrictLittleEndian};
 use speedy::encoded::{EncodedList, ListItem, WriteListItem, measure_items, write_first_item};
-use speedy::error::{Error, IsEof};
+use speedy::error::IsEof;
 use speedy::exports::{ListView, View, Walk, next, read, write};
 use speedy::in_place::InPlace;
 use speedy::{
@@ -57,14 +57,13 @@ impl<'a> InPlace for Named<'a> {
 }
 
 impl<'a> ListItem for Named<'a> {
-    fn measure(
+    fn measure<C: Context>(
         alloc: Global,
-        order: Endianness,
-        strict: bool,
+        context: C,
         count: usize,
         bytes: &[u8],
-    ) -> Result<usize, Error> {
-        measure_items::<Named>(alloc, order, strict, count, bytes)
+    ) -> Result<usize, C::Error> {
+        measure_items::<Named, C>(alloc, context, count, bytes)
     }
 }
 
@@ -143,14 +142,13 @@ impl InPlace for Flag {
 }
 
 impl ListItem for Flag {
-    fn measure(
+    fn measure<C: Context>(
         alloc: Global,
-        order: Endianness,
-        strict: bool,
+        context: C,
         count: usize,
         bytes: &[u8],
-    ) -> Result<usize, Error> {
-        measure_items::<Flag>(alloc, order, strict, count, bytes)
+    ) -> Result<usize, C::Error> {
+        measure_items::<Flag, C>(alloc, context, count, bytes)
     }
 }
 
@@ -207,14 +205,13 @@ impl InPlace for Nothing {
 }
 
 impl ListItem for Nothing {
-    fn measure(
+    fn measure<C: Context>(
         alloc: Global,
-        order: Endianness,
-        strict: bool,
+        context: C,
         count: usize,
         bytes: &[u8],
-    ) -> Result<usize, Error> {
-        measure_items::<Nothing>(alloc, order, strict, count, bytes)
+    ) -> Result<usize, C::Error> {
+        measure_items::<Nothing, C>(alloc, context, count, bytes)
     }
 }
 
