@@ -79,6 +79,8 @@ pub record ChecksIn {V : Type 0} (format : Format V) (bytes : List ℕ) (answer 
   -- whatever bytes come after them
   pub never : (answer ≡ 0 → ⊥) → (answer ≡ 18 → ⊥) → (EndsTooSoon answer → ⊥)
       → (v : V) (more : List ℕ) → format.encodes v (bytes ++ more) → ⊥
+  -- where they end within a value, nothing that its type refuses stands at their start
+  pub grows : answer ≡ 8 → format.malformed bytes → ⊥
 
 -- What a check says of bytes in the byte order of a number: 100 where that is none.
 pub record Checks {V : Type 0} (codec : Codec V) (order : ℕ) (bytes : List ℕ) (answer size : ℕ) : Type 0 where
