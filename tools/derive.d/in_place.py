@@ -33,6 +33,15 @@ def group_impls(shape, self_type, tree):
         f"    ghost Seen = {{ {quoted}.Seen }};", "", f"    ghost in_place = {{ {quoted}.in_place }};"])
 
 
+def clauses(shape, word, before, behind):
+    """The clause of a function where the type has a lifetime: there a trait does not give it."""
+    if not shape.generics.lifetimes:
+        return []
+    shape.scope.ghost_paths.add(f"Rattle.speedy.specs.EncodedLists.{word}")
+    codec = f"{shape.quoted(shape.self_type, 'InPlace', MODULE)}.in_place.codec"
+    return [("", f"{word} {before}\n            {codec}\n            {behind}")]
+
+
 def list_impls(shape):
     """How items are measured, and written again."""
     item, scope, generics = shape.item, shape.scope, shape.generics
@@ -40,8 +49,10 @@ def list_impls(shape):
     bound = f"{generics.context}: {scope.need('speedy', 'Context')}"
     head = f"fn measure<{bound}>(alloc: {alloc}, context: {generics.context}, count: usize, bytes: &[u8])"
     body = f"{scope.need(LISTS, 'measure_items')}::<{item.name}, {generics.context}>(alloc, context, count, bytes)"
+    said = clauses(shape, "Measures", f"{generics.context}.Error.IsEof",
+                   f"({generics.context}.mode context) count result bytes.now")
     found = impl(generics.lifetimes, scope.need(LISTS, "ListItem"), shape.self_type, "",
-                 function(head, shape.result("usize"), body))
+                 function(head, shape.result("usize"), body, said))
     if not item.writable:
         return found
     order = scope.need("speedy", "Endianness")
@@ -50,4 +61,6 @@ def list_impls(shape):
     arguments = f"{item.name}, {generics.context}, {generics.writer}"
     body = f"{scope.need(LISTS, 'write_first_item')}::<{arguments}>(alloc, order, bytes, writer)"
     written = f"{scope.prelude('Option')}<(usize, {shape.result('()')})>"
-    return found + shape.writing(LISTS, "WriteListItem", function(head, written, body))
+    said = clauses(shape, "WritesFirst", f"{generics.context}.Error.from_gives {generics.writer}.state "
+                   f"{generics.writer}.appends", "order bytes.now result writer.old writer.new")
+    return found + shape.writing(LISTS, "WriteListItem", function(head, written, body, said))
