@@ -1,3 +1,5 @@
+pub mod EncodedLemmas
+pub mod EncodedReadLemmas
 pub mod ExportLemmas
 pub mod ExportWriteLemmas
 pub mod PrefixLemmas

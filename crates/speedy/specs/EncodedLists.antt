@@ -1,7 +1,7 @@
 -- Lists that lie where they were read: which list bytes encode, and how many bytes items have.
 use Rattle.std.specs.Prelude.{◌≡◌, ℕ, List, [], length, false, IsTrue, ◌⊎◌, Result, MatchResult, Option, MatchOption}
 use Rattle.std.proofs.Math.Logic.{∥∥₁_elim, ∥∥₁_prop}
-use Rattle.std.specs.Coded.{Coded, Coded-set, coded_list}
+use Rattle.std.specs.Coded.{Coded-set, coded_list, coded_ℕ}
 use mathlib.Core.HLevel.{Σ_prop_path}
 use Rattle.std.proofs.Common.{sym, ◌∙◌, refl}
 use Rattle.speedy_base.specs.declared.endianness.Endianness.{Endianness}
@@ -37,6 +37,11 @@ one_list item order count bytes vs ws h k =
 pub list_once : {V : Type 0} (item : InPlaceCodec V) (order : Endianness) (count : ℕ) (bytes : List ℕ)
     → IsProp (IsEncodedList item.codec order count bytes)
 list_once item order count bytes = λ x y. Σ_prop_path (λ _. ∥∥₁_prop) (one_list item order count bytes x.0 y.0 x.1 y.1)
+
+-- it has so many items
+pub counted : {V : Type 0} (codec : Codec V) (order : Endianness) (count : ℕ) (bytes : List ℕ)
+    (list : IsEncodedList codec order count bytes) → length list.0 ≡ count
+counted codec order count bytes list = ∥∥₁_elim list.1 (Coded-set coded_ℕ _ _) (λ h. h.0)
 
 -- What is said of so many items at the front of bytes: how many bytes they have; or what the bytes are refused with, or
 -- that memory lacks, for items that take some.

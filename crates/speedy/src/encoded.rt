@@ -1,12 +1,11 @@
 //! Lists that were read and lie encoded where their bytes are (`EncodedList`).
-ghost use Rattle.std.specs.Prelude.{◌≡◌, ℕ, List, length, IsTrue, ◌↔◌};
+ghost use Rattle.std.specs.Prelude.{◌≡◌, List, false, IsErrAnd, IsTrue, ◌↔◌};
 ghost use Rattle.std.proofs.Common.{ap};
-ghost use Rattle.speedy_base.specs.Error.{is_eof_error};
-ghost use Rattle.speedy_base.specs.Mode.{Mode, plain_mode};
+ghost use Rattle.speedy_base.specs.Error.{error_of, is_eof_error};
+ghost use Rattle.speedy_base.specs.Mode.{Mode};
 ghost use Rattle.speedy_layout.specs.Codecs.{unsigned_codec, borrowed_codec, list_codec, vector_codec};
-ghost use Rattle.speedy_layout.specs.Lists.{repeat};
 ghost use Rattle.speedy_read.specs.Reading.{RefusesUnsized, ReadsValue};
-ghost use Rattle.speedy_write.specs.Writing.{WritesAs};
+ghost use Rattle.speedy_write.specs.Writing.{WritesValues};
 ghost use Rattle.speedy.specs.InPlace.{encoded_list_in_place};
 ghost use Rattle.speedy.specs.EncodedLists.{IsEncodedList, list_once, Measures, WritesFirst};
 
@@ -14,9 +13,10 @@ use crate::in_place::InPlace;
 use speedy_base::bytes::bytes_in_range;
 use speedy_base::context::Context;
 use speedy_base::endianness::Endianness;
-use speedy_base::error::{Error, error_out_of_memory, error_unsized};
+use speedy_base::error::{Error, ErrorKind, error_unsized};
 use speedy_layout::Layout;
 use speedy_read::buffer::Buffer;
+use speedy_read::lent::read_lent;
 use speedy_read::many::ItemByItem;
 use speedy_read::readable::{BufferReader, ReadFrom};
 use speedy_read::reader::LendingReader;
@@ -103,9 +103,7 @@ pub fn measure_items<'a, T: ReadFrom<&'a [u8], C>, C: Context>(
     let mut reader = BufferReader::new(alloc, context, bytes);
     for _i in 0..count {
         let before = reader.len();
-        if let Err(error) = T::read_from(&mut reader) {
-            return Err(error);
-        }
+        let _item = T::read_from(&mut reader)?;
         if reader.len() == before {
             return Ok(length - before);
         }
@@ -274,28 +272,23 @@ fn read_items<'a, C: Context, T: ListItem, R: LendingReader<&'a [u8], C>>(
     ensures reads { let list = ⟦<EncodedList<'a, T> as Layout>⟧ in
         ReadsValue C.Error.IsEof R.state list.seen
         (borrowed_codec (vector_codec count T.in_place.codec)) result reader.old reader.new }
+    ensures not_lent { (R.state reader.old).fixed.lends ≡ false
+        → IsErrAnd result (λ e. C.Error.from_gives (error_of ErrorKind.Unsized) e)
+        × (R.state reader.new ≡ R.state reader.old) }
 {
     // A reader that lends nothing may show its bytes all the same.
-    let Some(nothing) = reader.read_bytes_borrowed(0) else {
-        return Err(error_unsized());
-    };
-    nothing?;
+    let _nothing = read_lent(reader, 0)?;
     let order = reader.endianness();
-    let context = InMode {
-        order,
-        strict: reader.demands_written_form(),
-    };
+    let strict = reader.demands_written_form();
     let Some(rest) = reader.peek_bytes_until_eof() else {
         return Err(error_unsized());
     };
-    let size = match T::measure(reader.alloc(), context, count, rest) {
+    let size = match T::measure(reader.alloc(), InMode { order, strict }, count, rest) {
         Ok(size) => size,
         Err(error) => return Err(C::Error::from(error)),
     };
-    let Some(lent) = reader.read_bytes_borrowed(size) else {
-        return Err(error_unsized());
-    };
-    Ok(EncodedList::over(reader.alloc(), lent?, count, order))
+    let bytes = read_lent(reader, size)?;
+    Ok(EncodedList::over(reader.alloc(), bytes, count, order))
 }
 
 impl<'a, C: Context, T: WriteListItem<C>> Writable<C> for EncodedList<'a, T> {
@@ -311,10 +304,8 @@ fn write_items<T: WriteListItem<C>, C: Context, W: Writer<C>>(
     list: &EncodedList<T>,
     writer: &mut W,
 ) -> Result<(), C::Error>
-    ensures { let format = T.in_place.codec.format in
-        WritesAs C.Error.from_gives W.state W.appends (λ items. items)
-        (λ mode. repeat (length list.now.decoded.0) (format mode)) list.now.decoded.0
-        result writer.old writer.new }
+    ensures { WritesValues C.Error.from_gives W.state W.appends (λ item. item)
+        T.in_place.codec list.now.decoded.0 result writer.old writer.new }
 {
     let mut rest = list.bytes;
     for _i in 0..list.count {
