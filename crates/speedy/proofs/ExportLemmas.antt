@@ -108,7 +108,8 @@ checks_refused {least = least} {e = e} {bytes = bytes} own answers lacks = recor
   ];
 }
 
-same_order : (a b : Endianness) → number_of_order a ≡ number_of_order b → a ≡ b
+-- an order is told by its number
+pub same_order : (a b : Endianness) → number_of_order a ≡ number_of_order b → a ≡ b
 same_order LittleEndian LittleEndian h = refl
 same_order BigEndian BigEndian h = refl
 same_order LittleEndian BigEndian h = absurd (omega (arith, h))

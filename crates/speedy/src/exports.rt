@@ -398,17 +398,17 @@ pub trait Shown<T: Layout>: View<T> {
 impl<'a, T: ListItem> Shown<EncodedList<'a, T>> for ListView<'a> {
     /// Each item is decoded once: the bytes have to be so many encodings, and nothing behind them.
     fn value(&self, alloc: Global) -> Result<EncodedList<'a, T>, Unshown> {
-        let order = match order_of(self.order) {
-            Some(order) => order,
-            None => return Err(Unshown::List),
+        let Some(order) = order_of(self.order) else {
+            return Err(Unshown::List);
         };
         let bytes = self.items.left;
-        match T::measure(alloc, order, self.count, bytes) {
-            Ok(size) if size == bytes.len() => {
-                Ok(EncodedList::over(alloc, bytes, self.count, order))
-            }
-            _ => Err(Unshown::List),
+        let Ok(size) = T::measure(alloc, order, self.count, bytes) else {
+            return Err(Unshown::List);
+        };
+        if size != bytes.len() {
+            return Err(Unshown::List);
         }
+        Ok(EncodedList::over(alloc, bytes, self.count, order))
     }
 }
 
