@@ -1,5 +1,6 @@
-/* Walks over frames by the proved parser. The first is a message, the second is broken, the third is cut short. */
-#include "speedy_protocol.h"
+/* Walks over frames by the calls of crates/protocol. The first is a message, the second is broken, the third is cut
+   short. */
+#include "protocol.h"
 
 int printf(const char *format, ...);
 
@@ -10,25 +11,24 @@ static const unsigned char received[] = {
 };
 
 int main(void) {
-    const unsigned char *bytes = received;
-    speedy_size left = sizeof received;
-    while (left > 0) {
-        struct speedy_places places;
-        switch (speedy_protocol_check(bytes, left, &places)) {
-        case SPEEDY_MESSAGE:
-            printf("tag %u: %.*s\n", places.tag, (int)places.text_length, (const char *)bytes + places.text_at);
-            break;
-        case SPEEDY_SKIP:
-            printf("a broken message of %lu bytes\n", places.size);
-            break;
-        case SPEEDY_WAIT:
-            printf("%lu bytes wait for more\n", left);
+    struct protocol_walk walk = {{received, sizeof received}};
+    while (walk.left.length > 0) {
+        struct protocol_framed_message frame;
+        struct protocol_framed_bytes broken;
+        unsigned int answer = protocol_framed_message_next(&walk, PROTOCOL_LITTLE_ENDIAN, &frame);
+        if (answer == PROTOCOL_OK) {
+            struct protocol_bytes text = frame.message.failure.text;
+            if (frame.message.tag == PROTOCOL_MESSAGE_FAILURE) {
+                printf("tag %u: %.*s\n", frame.message.tag, (int)text.length, (const char *)text.at);
+            }
+        } else if (PROTOCOL_ENDS_TOO_SOON(answer)) {
+            printf("%lu bytes wait for more\n", walk.left.length);
             return 0;
-        default:
+        } else if (protocol_framed_bytes_next(&walk, PROTOCOL_LITTLE_ENDIAN, &broken) == PROTOCOL_OK) {
+            printf("a broken message of %lu bytes\n", 2 + broken.bytes.length);
+        } else {
             return 1;
         }
-        bytes += places.size;
-        left -= places.size;
     }
     return 0;
 }

@@ -34,8 +34,12 @@ def with_main(text, library):
                       "        let mut walk = Walk { left: bytes };",
                       f"        total |= {call}_next(rt.alloc(), &mut walk, 0, &mut view);"]
             if library.is_written(it):
-                calls.append(f"        total |= {call}_write(&view, 0, &mut room, &mut size);")
+                calls.append(f"        total |= {call}_write(rt.alloc(), &view, 0, &mut room, &mut size);")
             calls.append("    }")
+    for it in library.numbers:
+        calls += ["    let mut walk = Walk { left: bytes };",
+                  f"    let mut number: {it.replace('f', 'u')} = 0;",
+                  f"    total |= {name}_{it}_next(rt.alloc(), &mut walk, 0, &mut number);"]
     return f"""{text}
 fn main(rt: HostRuntime) -> std::process::ExitCode {{
     let mut total: u32 = 0;

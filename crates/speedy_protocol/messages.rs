@@ -56,3 +56,18 @@ pub enum Message<'a> {
     #[speedy(tag = 255)]
     Bye,
 }
+
+/// A message behind the number of its bytes, for callers in other languages.
+#[derive(Debug, PartialEq, Readable, Writable)]
+pub struct FramedMessage<'a> {
+    pub size: u16,
+    #[speedy(length = size)]
+    pub message: Message<'a>,
+}
+
+/// A frame with whatever stands in it.
+#[derive(Debug, PartialEq, Readable, Writable)]
+pub struct FramedBytes {
+    #[speedy(length_type = u16)]
+    pub bytes: Vec<u8>,
+}

@@ -28,6 +28,9 @@ pub enum Message<'a> {
     /// A picture, or whatever else it took.
     #[speedy(tag = 4)]
     Blob(&'a [u8]),
+    /// What it measured since it was asked before.
+    #[speedy(tag = 5)]
+    Measurements { sensor: u16, readings: Vec<Reading> },
 }
 
 /// A line of a log: a level, and a text up to the end of the bytes.

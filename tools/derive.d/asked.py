@@ -59,7 +59,7 @@ def keys_of(roles):
 
 def arguments_of(name):
     """What a listed type asks of its arguments."""
-    if name in ("CowSlice", "BoxedSlice"):
+    if name in ("CowSlice", "BoxedSlice", "EncodedList"):
         return ((ITEM,),)
     return next((known.arguments for known in KNOWN.values() if known.name == name), ())
 

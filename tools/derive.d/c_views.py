@@ -1,5 +1,7 @@
 """Writes the views of a library in C: their structs, and the calls that read them."""
-from views import NUMBERS, maybes
+from views import NUMBERS, lists, maybes
+
+FLOATS = {"f32": "float", "f64": "double"}
 
 
 def c_type(library, kind):
@@ -9,7 +11,7 @@ def c_type(library, kind):
         return NUMBERS[kind.of], f"[{kind.count}]"
     simple = {"number": NUMBERS.get(kind.of) if kind.what == "number" else "", "flag": "unsigned char",
               "char": "unsigned int", "text": f"struct {name}_bytes", "bytes": f"struct {name}_bytes",
-              "float": {"f32": "float", "f64": "double"}.get(kind.of, "") if kind.what == "float" else ""}
+              "list": f"struct {name}_list", "float": FLOATS.get(kind.of, "") if kind.what == "float" else ""}
     own = kind.of.snake if kind.what == "own" else kind.label
     return simple.get(kind.what) or f"struct {name}_{own}", ""
 
@@ -17,8 +19,14 @@ def c_type(library, kind):
 def member(library, name, kind):
     """A member of a struct."""
     before, behind = c_type(library, kind)
-    about = {"flag": " /* 0 or 1 */", "char": " /* a character of Unicode */", "text": " /* UTF-8 */"}
+    about = {"flag": " /* 0 or 1 */", "char": " /* a character of Unicode */", "text": " /* UTF-8 */",
+             "list": f" /* by {next_of(library, kind)} */" if kind.what == "list" else ""}
     return f"    {before} {name}{behind};{about.get(kind.what, '')}"
+
+
+def next_of(library, kind):
+    """The call that takes an item of a list."""
+    return f"{library.name}_{kind.of.label}_next"
 
 
 def constants(library):
@@ -37,6 +45,7 @@ def struct_lines(library):
     found += comment(["A walk over values that stand one after another: the bytes that are left. It begins as all of "
                       "them."])
     found += [f"struct {name}_walk {{", f"    struct {name}_bytes left;", "};", ""]
+    found += list_lines(library) if lists(library.views) else []
     options = {kind.label: kind for kind in maybes(library.views)}
     done = set()
 
@@ -69,6 +78,29 @@ def struct_lines(library):
                   *(f"    struct {name}_{view.snake}_{case.snake} {case.snake};" for case in view.cases if case.fields),
                   "};", ""]
     return found
+
+
+def list_lines(library):
+    """The struct of lists."""
+    from c_header import comment, filled
+    name = library.name
+    about = "A list that lies in the bytes that were read: its items, how many they are, and their byte order. The " \
+            "call that takes an item from a copy of the walk `items`, in that order, is named where the list " \
+            "stands: `count` times it answers 0, and then nothing is left. In a list that is written `items` are " \
+            "so many encodings in the order `order`, whatever order is written."
+    return [*comment(filled(about)), f"struct {name}_list {{", f"    struct {name}_walk items;",
+            f"    {name}_size count;", f"    unsigned int order; /* {name.upper()}_LITTLE_ENDIAN or "
+            f"{name.upper()}_BIG_ENDIAN */", "};", ""]
+
+
+def number_lines(library, number):
+    """The call that takes a number of a list."""
+    from c_header import comment, filled
+    about = f"Takes a number (`{number}`) from the items of a list. Where the answer is not 0, the walk and `number` " \
+            "stay as they are."
+    kind = FLOATS.get(number) or NUMBERS[number]
+    return [*comment(filled(about)), f"unsigned int {library.name}_{number}_next(",
+            f"    struct {library.name}_walk *walk, unsigned int order, {kind} *number);", ""]
 
 
 def read_lines(library, view):

@@ -13,6 +13,8 @@ MAPS_BY_HASH = ("HashMap", "HashSet", "IndexMap", "IndexSet")
 RANGES = ("Range", "RangeInclusive")
 VIEWS = ("SliceView", "ArrayView")
 CELLS = ("Cell", "RefCell")
+# What a library has in place of a list. Nothing there compares what was read.
+ENCODED = "EncodedList"
 NON_ZERO = tuple(f"NonZero{sign}{bits}" for sign in "UI" for bits in (8, 16, 32, 64))
 OWNING = ("String", "BoxedStr", "CowStr", "Vec", "BoxedSlice", "CowSlice", "Box", "BTreeMap", "BTreeSet",
           *MAPS_BY_HASH, "ListUntil",
@@ -22,15 +24,15 @@ OWNING = ("String", "BoxedStr", "CowStr", "Vec", "BoxedSlice", "CowSlice", "Box"
 LACKING = {
     "Debug": (), "Clone": (), "Drop": (),
     "Copy": (*OWNING, "Cow", *RANGES, *CELLS),
-    "PartialEq": CELLS,
-    "Eq": (*CELLS, "f32", "f64"),
-    "PartialOrd": ("F32", "F64", *RANGES, *MAPS_BY_HASH, *VIEWS, *CELLS),
-    "Ord": ("F32", "F64", "f32", "f64", *RANGES, *MAPS_BY_HASH, *VIEWS, *CELLS),
-    "Hash": ("f32", "f64", *MAPS_BY_HASH, *VIEWS, *CELLS),
+    "PartialEq": (*CELLS, ENCODED),
+    "Eq": (*CELLS, "f32", "f64", ENCODED),
+    "PartialOrd": ("F32", "F64", *RANGES, *MAPS_BY_HASH, *VIEWS, *CELLS, ENCODED),
+    "Ord": ("F32", "F64", "f32", "f64", *RANGES, *MAPS_BY_HASH, *VIEWS, *CELLS, ENCODED),
+    "Hash": ("f32", "f64", *MAPS_BY_HASH, *VIEWS, *CELLS, ENCODED),
     # What is made with an allocator, or has no value that goes without saying. (A reference has one to `str` and to
     # slices alone.)
     "Default": (*OWNING, "CowStr", "CowSlice", "Result", "RangeInclusive", "Ipv4Addr", "Ipv6Addr", "IpAddr", *NON_ZERO,
-                "Endianness", "VarInt64", "SystemTime", "Instant", *VIEWS),
+                "Endianness", "VarInt64", "SystemTime", "Instant", *VIEWS, ENCODED),
 }
 # Types without a default that are made empty with an allocator.
 EMPTY = ("String", "Vec", "BTreeMap", "BTreeSet", "HashMap", "HashSet", "VecDeque")
@@ -88,6 +90,8 @@ class Derives:
         self.scope = scope
         # The traits that are left of each type that is made already, by its name.
         self.kept = {}
+        # The names of types that lack some for a list in a library, of which no note says so.
+        self.unsaid = {ENCODED}
 
     def keep(self, item, kinds):
         """The derives of a type that holds these; the others are left out, with a note."""
@@ -99,6 +103,9 @@ class Derives:
             lacking = next((found for found in (prevents(name, kind, own) for kind in kinds) if found), None)
             if lacking:
                 del kept[name]
+                if lacking in self.unsaid:
+                    self.unsaid.add(item.name)
+                    continue
                 self.scope.notes.append((item.line, f"`{name}` of `{item.name}` is left out: in Rattle `{lacking}` has "
                                                     "it not"))
         for name in self.without_beside(item, kept):

@@ -1,9 +1,12 @@
 """Writes what the examples of a library print of values: the fields one after another, in each language the same.
 
 A number is printed in decimal, a flag as 0 or 1, a character as its number, a float as that of its bits, texts and
-bytes in hex or as `-`, an option as `none` or `some` and its value, and a variant as its name before its fields. Behind
-a value that can be written stand `=` and the bytes that it is written as."""
+bytes in hex or as `-`, an option as `none` or `some` and its value, a list as the number of its items and these, and a
+variant as its name before its fields. Behind a value that can be written stand `=` and the bytes that it is written
+as."""
+from c_views import c_type, next_of
 from rust_views import owned
+from views import lists
 
 FORMATS = {"u8": "u", "u16": "u", "u32": "u", "u64": "lu", "i8": "d", "i16": "d", "i32": "d", "i64": "ld"}
 C_HEX = '''\
@@ -52,6 +55,23 @@ static void print_bits(const void *float_at, {name}_size size) {{
     unsigned long bits = 0;
     memcpy(&bits, float_at, size);
     printf(" %lu", bits);
+}}
+
+'''
+C_LIST = '''\
+/* Prints a list, which has to hold just as many items as it says. */
+static void print_{label}(struct {name}_list it) {{
+    printf(" %lu", it.count);
+    for ({name}_size at = 0; at < it.count; at++) {{
+        {item} item;
+        if ({next}(&it.items, it.order, &item) != {upper}_OK) {{
+            exit(1);
+        }}
+        {print}
+    }}
+    if (it.items.left.length != 0) {{
+        exit(1);
+    }}
 }}
 
 '''
@@ -170,6 +190,8 @@ def c_print(kind, place):
         return " ".join(f'printf(" %{FORMATS[kind.of]}", {place}[{at}]);' for at in range(kind.count))
     if kind.what == "own":
         return f"print_{kind.of.snake}(&{place});"
+    if kind.what == "list":
+        return f"print_{kind.label}({place});"
     return f'if ({place}.is_some) {{ printf(" some"); {c_print(kind.of, place + ".value")} }} else ' \
            '{ printf(" none"); }'
 
@@ -187,13 +209,19 @@ def c_function(library, view):
     return "\n".join([*lines, "}", "", ""])
 
 
+def c_list(library, kind):
+    """The function that prints a list."""
+    return C_LIST.format(name=library.name, upper=library.name.upper(), label=kind.label, next=next_of(library, kind),
+                         item=c_type(library, kind.of)[0], print=c_print(kind.of, "item"))
+
+
 def kinds_of(library):
     """All kinds of fields, with those within."""
     found = []
 
     def add(kind):
         found.append(kind)
-        if kind.what == "maybe":
+        if kind.what in ("maybe", "list"):
             add(kind.of)
 
     for view in library.views:
@@ -209,7 +237,12 @@ def c_dumps(library):
     found = C_HEX.format(name=name) if written or kinds & {"text", "bytes"} else ""
     found += C_BYTES.format(name=name) if kinds & {"text", "bytes"} else ""
     found += C_FLOATS.format(name=name) if "float" in kinds else ""
-    found += "".join(c_function(library, it) for it in library.views)
+    listed = {it.label: it for it in lists(library.views)}
+    for view in library.views:
+        # Each list behind its items, and before what holds it.
+        for it in lists([view]):
+            found += c_list(library, listed.pop(it.label)) if it.label in listed else ""
+        found += c_function(library, view)
     found += "".join(C_WRITE.format(name=name, upper=name.upper(), snake=it.snake) for it in written)
     arms = "\n".join(C_ARM.format(name=name, snake=it.snake, write=f"\n        write_{it.snake}(&view, order);" * (
         it in written)) for it in library.views)
@@ -231,6 +264,9 @@ def rust_say(kind, place):
         if kind.of == "u8":
             return f"hex(&{place})"
         return f'{place}.iter().map(|it| format!(" {{it}}")).collect::<String>()'
+    if kind.what == "list":
+        items = f'{place}.iter().map(|it| {rust_say(kind.of, "it")}).collect::<String>()'
+        return f'format!(" {{}}", {place}.len()) + &{items}'
     return f'match {place} {{ Some(it) => " some".to_string() + &{rust_say(kind.of, "it")}, None => " none".into() }}'
 
 
@@ -277,6 +313,8 @@ def python_say(kind, place):
     if kind.what == "float":
         form, number = ("f", "I") if kind.of == "f32" else ("d", "Q")
         return f'shown(struct.unpack("<{number}", struct.pack("<{form}", {place}))[0])'
+    if kind.what == "list":
+        return f'"".join((shown(len({place})), *({python_say(kind.of, "it")} for it in {place})))'
     if kind.what == "maybe":
         return f'(shown(None) if {place} is None else " some" + {python_say(kind.of, place)})'
     return f"shown({place})"

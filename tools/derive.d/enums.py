@@ -2,6 +2,7 @@
 import attributes
 import expressions
 import impl_search
+import in_place
 import keys
 import syntax
 import whole
@@ -126,7 +127,7 @@ class EnumShape(Shape):
             found += self.read_impls()
         if self.item.writable:
             found += self.write_impls()
-        return found
+        return found + in_place.enum_impls(self)
 
     def cases_impl(self):
         """`impl Cases`, whose clauses name the variants by the module that holds the enum."""

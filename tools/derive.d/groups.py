@@ -3,6 +3,7 @@
 Each arm of a function is proved beside what the function has of all its arms, so the time of one function grows faster
 than their number. The first group is read by `read_case`, and each other one by a function that is called where no
 group before it has the tag."""
+import in_place
 import rattle
 from trees import chained, grouped, halved
 
@@ -51,7 +52,8 @@ class Later:
         scope.beside += [f"/// {about}", f"struct {self.self_type} {{", f"    cases: {held},", "}", "",
                          *rattle.impl(shape.generics.lifetimes, scope.need(CASES, "CaseTree"), self.self_type, "",
                                       [f"    ghost Seen = {{ {quoted}.Seen }};", "",
-                                       f"    ghost choices = {{ {quoted}.choices }};"])]
+                                       f"    ghost choices = {{ {quoted}.choices }};"]),
+                         *in_place.group_impls(shape, self.self_type, tree)]
 
     def behind(self, case_of):
         """What stands behind a tag, as a case of the whole enum."""

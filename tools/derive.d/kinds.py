@@ -7,7 +7,7 @@ KINDS = (
     ("InvalidUtf8", "a text is not UTF-8"),
     ("InvalidSystemTime", "the seconds of a time do not fit into 64 bits"),
     ("ZeroNonZero", "a number that must not be zero is zero"),
-    ("OutOfRangeLength", "a length or a size does not fit"),
+    ("OutOfRangeLength", "a length or a size does not fit, or in a view bytes are not so many items of a list"),
     ("OutOfRangeUsize", "a size does not fit into 64 bits, which never comes"),
     ("UnexpectedEndOfInput", "the bytes end too soon: with more of them there may be a value"),
     ("UnexpectedEndOfOutputBuffer", "a buffer has no room, which no call answers"),

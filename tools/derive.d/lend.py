@@ -1,13 +1,20 @@
-"""Has the types of a library borrow the texts and bytes that those of the file own: they have the same encodings, and
-can be shown where they lie. A type that holds such a type takes its lifetime."""
+"""Has the types of a library borrow the texts, the bytes and the lists that those of the file own: they have the same
+encodings, and can be shown where they lie. A type that holds such a type takes its lifetime."""
 from dataclasses import replace
 
 import syntax
+from known import ENCODED_LIST, LISTED
 
-# What owns a text or bytes, and where its name comes from.
+# What owns a text, bytes or a list, and where its name comes from.
 OWNING, HOMES = ("String", "Vec", "Box", "Cow", "Option"), ("std", "alloc", "core")
 # A field with one of these words in an attribute stays as it is: its type needs a default.
 KEPT = ("skip", "default_on_eof")
+# A list with one of these has a length of its own, which no list has that is lent. A field with one of those beside
+# has bytes of its own, and stands in no item of a list that is lent.
+LENGTHS = ("length", "length_type")
+OWN_BYTES = (*LENGTHS, "constant_prefix", "varint")
+# What compares what it holds, or fills its room with defaults. A list that is lent has neither.
+COMPARING = ("BTreeMap", "BTreeSet", "HashMap", "HashSet", "IndexMap", "IndexSet", "SmallVec")
 
 
 def lend(file, kept):
@@ -15,8 +22,9 @@ def lend(file, kept):
     found, named, lent, gained = all_items(file), names_of(file), set(), set()
     if named & set(OWNING):
         return lent
+    listing = Listing(found, named)
     for path, item in found.items():
-        if path not in kept and is_simple(item) and any(lent_type(it.type, "'a", path, found) for it in fields(item)):
+        if path not in kept and is_simple(item) and any(listing.lent(it, "'a", path) for it in fields(item)):
             held = holding(path, found, named)
             if held:
                 lent.add(path)
@@ -28,7 +36,8 @@ def lend(file, kept):
         name = lifetime(item)
         for it in fields(item):
             if path in lent:
-                it.type = lent_type(it.type, name, path, found) or it.type
+                it.type = listing.lent(it, name, path) or it.type
+                listing.mark(it.type, path)
             it.type = with_lifetimes(it.type, name, path, gained)
     return lent
 
@@ -91,14 +100,107 @@ def holding(path, found, named):
     return held if all(is_simple(found[it]) and it[-1] not in named for it in held) else set()
 
 
-def lent_type(kind, name, path, found):
-    """The type that borrows of one that owns a text or bytes, also in an option, or None."""
-    if not isinstance(kind, syntax.Named) or len(kind.path) != 1 or (*path[:-1], kind.path[0]) in found:
+class Listing:
+    """What the types of a file borrow: `named` are names that stand for what else the file has."""
+
+    def __init__(self, found, named):
+        self.found, self.named = found, named
+        self.held = {path: held_by(path, found) for path in found}
+        keys = {it for path, item in found.items() for field in fields(item) for it in compared(field.type, path)}
+        self.compared = keys.union(*(self.reached(it) for it in keys if it in found))
+
+    def reached(self, path):
+        """The paths of a type and of all that it holds."""
+        seen, waiting = set(), [path]
+        while waiting:
+            last = waiting.pop()
+            if last not in seen:
+                seen.add(last)
+                waiting += self.held[last]
+        return seen
+
+    def lent(self, field, name, path):
+        """The type that borrows of a field of the type at a path, or None."""
+        takes_lists = path not in self.compared and not words(field.attributes) & set(LENGTHS)
+        return self.lent_type(field.type, name, path, takes_lists)
+
+    def lent_type(self, kind, name, path, takes_lists):
+        """The type that borrows of one that owns a text, bytes or a list, also in an option, or None."""
+        if isinstance(kind, syntax.Named) and (len(kind.path) != 1 or (*path[:-1], kind.path[0]) in self.found):
+            return None
+        if isinstance(kind, syntax.Named) and kind.path == ("Option",) and len(kind.arguments) == 1:
+            inner = self.lent_type(kind.arguments[0], name, path, takes_lists)
+            return inner and replace(kind, arguments=(inner,))
+        lent = lent_text(kind, name)
+        if lent is None and takes_lists and self.is_shown(items_of(kind), path):
+            return syntax.Named(kind.line, ENCODED_LIST, (syntax.Lifetime(kind.line, name), items_of(kind)))
+        return lent
+
+    def is_shown(self, items, path):
+        """Whether a list of such items in the type at a path may be shown: these are numbers, or of a type of the file
+        that does not hold that one."""
+        if not isinstance(items, syntax.Named) or len(items.path) != 1:
+            return False
+        other = (*path[:-1], items.path[0])
+        if other in self.found:
+            return path not in self.reached(other) and all(lies_in_place(self.found[it]) for it in self.reached(other))
+        return items.path[0] in LISTED and items.path[0] not in self.named
+
+    def mark(self, kind, path):
+        """Marks the types that a list holds which a field has now."""
+        if isinstance(kind, syntax.Named) and kind.path == ("Option",):
+            self.mark(kind.arguments[0], path)
+        if isinstance(kind, syntax.Named) and kind.path == ENCODED_LIST:
+            other = (*path[:-1], kind.arguments[-1].path[0])
+            if other in self.found:
+                self.found[other].in_list = True
+                for it in self.reached(other):
+                    self.found[it].in_place = True
+
+
+def lies_in_place(item):
+    """Whether a list may show values of a type where it lies. Arrays are read as lists are, which may take memory."""
+    return is_simple(item) and not any(words(it.attributes) & set(OWN_BYTES) or has_array(it.type)
+                                       for it in fields(item))
+
+
+def has_array(kind):
+    """Whether an array stands in a type."""
+    inner = getattr(kind, "arguments", None) or getattr(kind, "parts", ())
+    return isinstance(kind, syntax.Array) or any(map(has_array, inner))
+
+
+def held_by(path, found):
+    """The paths of the types of a file that a type names."""
+    names = set().union(*(syntax.paths_in(it.type) for it in fields(found[path])))
+    return {(*path[:-1], it[0]) for it in names if len(it) == 1} & set(found)
+
+
+def compared(kind, path):
+    """The paths of what stands in a type, in a map, a set or a `SmallVec`."""
+    if isinstance(kind, syntax.Named) and kind.path[-1] in COMPARING:
+        return {(*path[:-1], it[-1]) for it in syntax.paths_in(kind)}
+    inner = getattr(kind, "arguments", None) or getattr(kind, "parts", ())
+    inner = [*inner, *(getattr(kind, it) for it in ("item", "target") if hasattr(kind, it))]
+    return set().union(*(compared(it, path) for it in inner))
+
+
+def items_of(kind):
+    """What a list holds that is owned or lent, or None, also of bytes."""
+    target = kind.target if isinstance(kind, syntax.Reference) and not kind.mutable else None
+    if isinstance(kind, syntax.Named) and kind.path in (("Vec",), ("Box",), ("Cow",)):
+        given = [it for it in kind.arguments if not isinstance(it, syntax.Lifetime)]
+        target = given[0] if len(given) == 1 else None
+        if kind.path == ("Vec",) and target is not None:
+            return None if is_byte([target]) else target
+    return target.item if isinstance(target, syntax.Slice) and not is_byte([target.item]) else None
+
+
+def lent_text(kind, name):
+    """The type that borrows of one that owns a text or bytes, or None."""
+    if not isinstance(kind, syntax.Named):
         return None
     given = [it for it in kind.arguments if not isinstance(it, syntax.Lifetime)]
-    if kind.path == ("Option",) and len(given) == 1:
-        inner = lent_type(given[0], name, path, found)
-        return inner and replace(kind, arguments=(inner,))
     target = None
     if kind.path == ("String",) and not given:
         target = syntax.Named(kind.line, ("str",))

@@ -18,7 +18,7 @@ from python_wrapper import python_text
 from refusal import Refusal
 from rust_wrapper import rust_text
 from view_types import ViewTypes
-from views import Views
+from views import NUMBERS, Views, listed_numbers, lists
 from whole import ends_early, ends_with_input
 from words import FOLDED, KEYWORDS, PRELUDE, TACTICS
 
@@ -139,7 +139,7 @@ class Library:
         self.docs = [it.removeprefix(" ").rstrip() for it in self.made.file.docs]
         # What a program compares, to see that its header and its library were made of one file.
         self.source = zlib.crc32(source.encode())
-        self.notes = [*self.made.notes, *self.views.notes]
+        self.notes = [*self.made.notes, *self.reasons.values()]
         self.files = {f"src/{self.module}.rt": text, "src/lib.rt": self.calls(), **self.made.answers, **self.callers()}
         if self.views.by_path:
             self.files["src/views.rt"] = laid_out(ViewTypes(self).text())
@@ -147,16 +147,20 @@ class Library:
 
     def make(self, source, place):
         """Makes the module, in which those types borrow whose values are shown then."""
-        kept = set()
+        kept, self.reasons = set(), {}
         while True:
             self.made = Made(source, self.file_name, place, kept)
             self.types = exported(self.made.file, public(parse(source)))
             self.check_names()
             self.views = Views(self.types, declared(self.made.file))
+            # What a type lacks is said of what it would borrow, where it borrows nothing for that.
+            self.reasons = self.views.reasons | self.reasons
             more = self.made.lent - set(self.views.by_path)
             if not more:
-                return
+                break
             kept |= more
+        self.numbers = listed_numbers(self.views)
+        self.check_lists()
 
     def check_names(self):
         """Refuses types whose calls would have one name, and a file that has none to be called."""
@@ -170,6 +174,14 @@ class Library:
                     raise Refusal(it.line, f"the calls of `{'::'.join(it.path)}` would be named as those of "
                                            f"`{'::'.join(other.path)}`: give one of them another name")
 
+    def check_lists(self):
+        """Refuses a type whose calls or structs would be named as those of lists."""
+        taken = {*self.numbers, *["list"] * bool(lists(self.views))}
+        for it in self.types:
+            if it.snake in taken:
+                raise Refusal(it.line, f"`{'::'.join(it.path)}` is named as what callers have for lists: give it "
+                                       "another name")
+
     @property
     def calls_made(self):
         """The names of all calls."""
@@ -180,7 +192,7 @@ class Library:
                 found += [f"{self.name}_{it.snake}_read", f"{self.name}_{it.snake}_next"]
             if self.is_written(it):
                 found.append(f"{self.name}_{it.snake}_write")
-        return found
+        return found + [f"{self.name}_{it}_next" for it in self.numbers]
 
     def is_written(self, it):
         """Whether a type has a call that writes it."""
@@ -198,7 +210,7 @@ class Library:
     def calls(self):
         """The module of calls, as the kit's formatter lays it out."""
         fresh = Fresh(OF_CALLS)
-        fresh.take(*PRELUDE, *TACTICS, "u8", "u32", "usize")
+        fresh.take(*PRELUDE, *TACTICS, "u8", "u32", "usize", *NUMBERS, "F32", "F64")
         names = {it: fresh.name(it.read_as) for it in self.types}
         views = ["pub mod views;"] if self.views.by_path else []
         lines = [f"//! What callers in other languages call for the types of `{self.file_name}`.", "//!",
@@ -213,6 +225,8 @@ class Library:
                 lines += ["", *self.read_call(it, names[it])]
             if self.is_written(it):
                 lines += ["", *self.write_call(it, names[it])]
+        for it in self.numbers:
+            lines += ["", *self.number_call(it)]
         return laid_out("\n".join(lines) + "\n")
 
     def imports(self, names):
@@ -224,6 +238,7 @@ class Library:
         words += ["Reads", "Steps"] * bool(views) + ["Writes"] * is_written
         calls = ["check"] * (len(wholes) < len(self.types)) + ["check_whole"] * bool(wholes)
         calls += ["View", "Walk", "next", "read"] * bool(views) + ["write"] * is_written
+        floats = [f"F{it[1:]}" for it in self.numbers if it[0] == "f"]
         found = ["ghost use Rattle.std.specs.Prelude.{◌≡◌};",
                  f"ghost use Rattle.speedy.specs.Exports.{{{', '.join(words)}}};", ""]
         for it in self.types:
@@ -232,6 +247,7 @@ class Library:
         if views:
             found.append(f"use crate::views::{{{', '.join(f'{it.camel}View' for it in views)}}};")
         found += [f"use speedy::exports::{{{', '.join(calls)}}};"]
+        found += [f"use speedy::{it};" for it in floats]
         found += ["use speedy::Layout;"] * ("check" in calls) + ["use speedy::whole::Whole;"] * bool(wholes)
         return [*found, "use std::alloc::Global;"]
 
@@ -280,12 +296,25 @@ class Library:
         name += "<'a>" if it.has_lifetime else ""
         shown = f"{view.camel}View" + ("<'a>" if view.borrows else "")
         return [f"/// Writes the [`{it.name}`] that a view shows.", "#[unsafe(no_mangle)]",
-                f'pub extern "C" fn {self.name}_{it.snake}_write{life}(view: &{shown}, order: u32, '
+                f'pub extern "C" fn {self.name}_{it.snake}_write{life}(alloc: Global, view: &{shown}, order: u32, '
                 "buffer: &mut [u8], size: &mut usize) -> u32",
                 f"    ensures {{ let it = ⟦<{name} as Layout>⟧ in",
                 f"        let shows = ⟦<{shown} as View<{name}>>⟧.shows in",
                 "        Writes it.seen shows it.layout view.now order result size.new buffer.old buffer.new }",
-                "{", f"    write::<{name}, {shown}>(view, order, buffer, size)", "}"]
+                "{", f"    write::<{name}, {shown}>(alloc, view, order, buffer, size)", "}"]
+
+    def number_call(self, number):
+        """The call that takes a number of a list."""
+        name = f"F{number[1:]}" if number[0] == "f" else number
+        shown = f"u{number[1:]}" if number[0] == "f" else number
+        return [f"/// Takes a number from the items of a list of [`{name}`].", "#[unsafe(no_mangle)]",
+                f"pub extern \"C\" fn {self.name}_{number}_next<'a>(alloc: Global, walk: &mut Walk<'a>, order: u32, "
+                f"number: &mut {shown}) -> u32",
+                f"    ensures {{ let it = ⟦<{name} as Layout>⟧ in",
+                f"        let shows = ⟦<{shown} as View<{name}>>⟧.shows in",
+                "        Steps it.seen shows it.layout order walk.old.left.now walk.new.left.now result",
+                "        number.old number.new }",
+                "{", f"    next::<{name}, {shown}>(alloc, walk, order, number)", "}"]
 
 
 def laid_out(text):

@@ -3,7 +3,7 @@ them."""
 import textwrap
 
 from names import camel
-from views import maybes
+from views import lists, listed_numbers, maybes
 
 HEAD = '''
 
@@ -68,6 +68,46 @@ def _walk(read, data, order):
         at += size
         yield value
 '''
+LISTS = '''
+
+class _List(ctypes.Structure):
+    _fields_ = [("items", _Bytes), ("count", ctypes.c_size_t), ("order", ctypes.c_uint32)]
+'''
+VALUES = '''
+    def get(self, name, raw):
+        """The items, by the call that takes one."""
+        left, view = _Bytes(self.items.at, self.items.length), raw()
+        call = getattr(_LIBRARY, name)
+        call.restype = ctypes.c_uint32
+        call.argtypes = (ctypes.POINTER(_Bytes), ctypes.c_uint32, ctypes.POINTER(raw))
+        found = []
+        for _ in range(self.count):
+            answer = call(ctypes.byref(left), self.order, ctypes.byref(view))
+            if answer:
+                raise Refused(answer)
+            found.append(view.value_of())
+        return found
+'''
+WRITTEN_VALUES = '''
+    @staticmethod
+    def of(values, name, raw, kept):
+        """Where the items lie, which a call writes, for as long as `kept` is there."""
+        items = [_written(name, raw.of(it, kept), _LITTLE) for it in values]
+        return _List(_Bytes.of(b"".join(items), kept), len(items), _LITTLE)
+'''
+NUMBERS = '''
+    def numbers(self, kind):
+        """The items, which are numbers of a kind of ctypes."""
+        kind = kind.__ctype_be__ if self.order else kind.__ctype_le__
+        return list((kind * self.count).from_buffer_copy(self.items.get()))
+'''
+WRITTEN_NUMBERS = '''
+    @staticmethod
+    def of_numbers(values, kind, kept):
+        """Where numbers of a kind of ctypes lie, for as long as `kept` is there."""
+        items = (kind.__ctype_le__ * len(values))(*values)
+        return _List(_Bytes.of(items, kept), len(items), _LITTLE)
+'''
 WRITTEN = '''
 
 def _written(name, raw, order):
@@ -121,30 +161,38 @@ def raw(kind):
         return f"ctypes.{CTYPES[kind.of]}"
     if kind.what == "array":
         return f"ctypes.{CTYPES[kind.of]} * {kind.count}"
-    simple = {"flag": "ctypes.c_uint8", "char": "ctypes.c_uint32", "text": "_Bytes", "bytes": "_Bytes"}
+    simple = {"flag": "ctypes.c_uint8", "char": "ctypes.c_uint32", "text": "_Bytes", "bytes": "_Bytes", "list": "_List"}
     return simple.get(kind.what) or f"_Raw{kind.of.camel if kind.what == 'own' else camel(kind.label)}"
 
 
-def taken(kind, place):
+def taken(library, kind, place):
     """The expression of a value of what a struct has at a place."""
     if kind.what == "array":
         return f"bytes({place})" if kind.of == "u8" else f"tuple({place})"
+    if kind.what == "list":
+        return f"{place}.numbers({raw(kind.of)})" if kind.of.what != "own" else \
+            f'{place}.get("{library.name}_{kind.of.label}_next", {raw(kind.of)})'
     if kind.what == "own":
         return f"{place}.value_of()"
     if kind.what == "maybe":
-        return f"({taken(kind.of, place + '.value')} if {place}.is_some else None)"
+        return f"({taken(library, kind.of, place + '.value')} if {place}.is_some else None)"
     return {"flag": f"bool({place})", "char": f"chr({place})", "text": f"{place}.get().decode()",
             "bytes": f"{place}.get()"}.get(kind.what, place)
 
 
-def given(kind, place):
+def given(library, kind, place):
     """The expression of what a struct has of a value."""
     if kind.what in ("text", "bytes"):
         return f"_Bytes.of({place}{'.encode()' * (kind.what == 'text')}, kept)"
+    if kind.what == "list":
+        if kind.of.what == "own":
+            return f'_List.of({place}, "{library.name}_{kind.of.label}_write", {raw(kind.of)}, kept)'
+        items = f"[{given(library, kind.of, 'it')} for it in {place}]"
+        return f"_List.of_numbers({items}, {raw(kind.of)}, kept)"
     if kind.what == "own":
         return f"{raw(kind)}.of({place}, kept)"
     if kind.what == "maybe":
-        return f"_maybe({raw(kind)}, {place}, lambda it: {given(kind.of, 'it')})"
+        return f"_maybe({raw(kind)}, {place}, lambda it: {given(library, kind.of, 'it')})"
     if kind.what in ("number", "array"):
         return f"_{kind.what}({place}, {raw(kind)})"
     return {"flag": f"int(bool({place}))", "char": f"ord({place})"}.get(kind.what, place)
@@ -156,39 +204,42 @@ def structure(name, fields):
     return f"\n\nclass {name}(ctypes.Structure):\n    _fields_ = [\n{inner}    ]\n"
 
 
-def values_of(view):
+def values_of(library, view):
     """The function of a struct that makes a value."""
     if view.cases is None:
-        inner = "".join(f"            {it.python}={taken(it.kind, f'self.{it.in_struct}')},\n" for it in view.fields)
+        inner = "".join(f"            {it.python}={taken(library, it.kind, f'self.{it.in_struct}')},\n"
+                        for it in view.fields)
         return f"\n    def value_of(self):\n        return {view.exported.python}(\n{inner}        )\n"
     found = "\n    def value_of(self):\n"
     for case in view.cases:
-        inner = "".join(f"                {it.in_case}={taken(it.kind, f'self.{case.snake}.{it.in_struct}')},\n"
-                        for it in case.fields)
+        inner = "".join(f"                {it.in_case}="
+                        f"{taken(library, it.kind, f'self.{case.snake}.{it.in_struct}')},\n" for it in case.fields)
         inner = f"(\n{inner}            )" if inner else "()"
         found += f"        if self.tag == {case.tag}:\n            return {view.exported.python}.{case.name}{inner}\n"
     return found + '        raise ValueError("the library shows a tag that this module does not know")\n'
 
 
-def given_of(view):
+def given_of(library, view):
     """The function of a struct that shows a value."""
     found = '\n    @staticmethod\n    def of(value, kept):\n        """The view of a value, for as long as `kept` is ' \
             'there."""\n        raw = _Raw' + f"{view.camel}()\n"
     if view.cases is None:
-        found += "".join(f"        raw.{it.in_struct} = {given(it.kind, f'value.{it.python}')}\n" for it in view.fields)
+        found += "".join(f"        raw.{it.in_struct} = {given(library, it.kind, f'value.{it.python}')}\n"
+                         for it in view.fields)
         return found + "        return raw\n"
     for at, case in enumerate(view.cases):
         found += f"        {'el' if at else ''}if isinstance(value, {view.exported.python}.{case.name}):\n" \
                  f"            raw.tag = {case.tag}\n"
-        found += "".join(f"            raw.{case.snake}.{it.in_struct} = {given(it.kind, f'value.{it.in_case}')}\n"
-                         for it in case.fields)
+        found += "".join(f"            raw.{case.snake}.{it.in_struct} = "
+                         f"{given(library, it.kind, f'value.{it.in_case}')}\n" for it in case.fields)
     return found + f"        else:\n            raise TypeError(f\"{{value!r}} is no `{view.exported.python}`\")\n" \
                    "        return raw\n"
 
 
 def raw_text(library):
     """The structs of ctypes."""
-    done, found = set(), HEAD + WRITTEN * any(it.item.writable for it in library.views)
+    written = [it for it in library.views if it.item.writable]
+    done, found = set(), HEAD + lists_text(library, written) + WRITTEN * bool(written)
 
     def option(kind):
         if kind.what == "maybe" and kind.label not in done:
@@ -207,9 +258,19 @@ def raw_text(library):
                     found += structure(f"_Raw{view.camel}{case.name}", fields)
             found += structure(f"_Raw{view.camel}", [("tag", "ctypes.c_uint32"), *(
                 (case.snake, f"_Raw{view.camel}{case.name}") for case in view.cases if case.fields)])
-        found += values_of(view)
-        found += given_of(view) if view.item.writable else ""
+        found += values_of(library, view)
+        found += given_of(library, view) if view.item.writable else ""
     return found
+
+
+def lists_text(library, written):
+    """The struct of lists. `written` are the views that are written."""
+    if not lists(library.views):
+        return ""
+    has_values = any(it.of.what == "own" for it in lists(library.views))
+    writes_values, writes_numbers = any(it.of.what == "own" for it in lists(written)), bool(listed_numbers(written))
+    return LISTS + VALUES * has_values + WRITTEN_VALUES * writes_values + NUMBERS * bool(library.numbers) \
+        + WRITTEN_NUMBERS * writes_numbers
 
 
 def fields_text(library, view):

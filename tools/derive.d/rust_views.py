@@ -1,6 +1,7 @@
 """Writes the views of a library in Rust: types of values that borrow from the bytes, and the calls that read them."""
 from names import camel
-from views import maybes
+from rust_lists import list_lines, item_lines, numbers_lines
+from views import lists, maybes
 
 # What is used of C's structs.
 RAW_BYTES = '''
@@ -34,7 +35,10 @@ impl RawBytes {
 
 READ = '''
     /// Reads the value that the bytes begin with, and says of how many bytes it is.
-    pub fn read{life}(bytes: &{a}[u8], order: super::Order) -> Result<({name}{life}, usize), super::Refused> {{
+    pub fn read{life}(
+        bytes: &{a}[u8],
+        order: super::Order,
+    ) -> Result<({name}{life}, usize), super::Refused> {{
         let mut raw = std::mem::MaybeUninit::<super::Raw{camel}>::uninit();
         let mut size = 0;
         // SAFETY: so many bytes are there, they are only read, and what is written is not read before.
@@ -89,7 +93,9 @@ WRITE = '''
 
         /// The canonical encoding of the value.
         pub fn to_bytes(&self, order: super::Order) -> Result<Vec<u8>, super::Refused> {{
-            super::grown(|buffer| self.write_to(buffer, order))
+            let mut bytes = Vec::new();
+            super::append(&mut bytes, |buffer| self.write_to(buffer, order))?;
+            Ok(bytes)
         }}
     }}
 '''
@@ -105,17 +111,21 @@ unsafe fn zeros<T>() -> T {
     unsafe { std::mem::zeroed() }
 }
 
-/// What is written, in a buffer that grows as it says.
-fn grown(write: impl Fn(&mut [u8]) -> Result<usize, Refused>) -> Result<Vec<u8>, Refused> {
-    let mut buffer = vec![0; 64];
+/// Appends what is written to a buffer, which grows as the write says.
+fn append(buffer: &mut Vec<u8>, write: impl Fn(&mut [u8]) -> Result<usize, Refused>) -> Result<(), Refused> {
+    let begin = buffer.len();
+    buffer.resize(begin + 64, 0);
     loop {
-        match write(&mut buffer) {
+        match write(&mut buffer[begin..]) {
             Ok(size) => {
-                buffer.truncate(size);
-                return Ok(buffer);
+                buffer.truncate(begin + size);
+                return Ok(());
             }
-            Err(Refused { kind: Kind::OutputBufferIsTooSmall, at }) => buffer.resize(at, 0),
-            Err(refused) => return Err(refused),
+            Err(Refused { kind: Kind::OutputBufferIsTooSmall, at }) => buffer.resize(begin + at, 0),
+            Err(refused) => {
+                buffer.truncate(begin);
+                return Err(refused);
+            }
         }
     }
 }
@@ -126,7 +136,8 @@ def raw(kind):
     """The type that a struct of C has for a kind."""
     if kind.what == "array":
         return f"[{kind.of}; {kind.count}]"
-    simple = {"number": kind.of, "flag": "u8", "char": "u32", "text": "RawBytes", "bytes": "RawBytes", "float": kind.of}
+    simple = {"number": kind.of, "flag": "u8", "char": "u32", "text": "RawBytes", "bytes": "RawBytes", "float": kind.of,
+              "list": "RawList"}
     if kind.what in simple:
         return simple[kind.what]
     return f"Raw{kind.of.camel if kind.what == 'own' else camel(kind.label)}"
@@ -143,6 +154,8 @@ def owned(kind):
         return f"[{kind.of}; {kind.count}]"
     if kind.what == "maybe":
         return f"Option<{owned(kind.of)}>"
+    if kind.what == "list":
+        return f"super::List<'a, {owned(kind.of)}>"
     if kind.what == "own":
         return f"super::{kind.of.snake}::{kind.of.camel}{life(kind.of)}"
     return {"number": kind.of, "flag": "bool", "char": "char", "text": "&'a str", "bytes": "&'a [u8]",
@@ -153,6 +166,7 @@ def taken(kind, place):
     """The expression of a value of what a struct of C has at a place."""
     return {"flag": f"{place} != 0", "char": f"char::from_u32({place}).unwrap_or(char::REPLACEMENT_CHARACTER)",
             "text": f"unsafe {{ {place}.text() }}", "bytes": f"unsafe {{ {place}.get() }}",
+            "list": f"unsafe {{ {place}.list() }}",
             "own": f"unsafe {{ {kind.of.snake}_of({place}) }}" if kind.what == "own" else "",
             "maybe": f"if {place}.is_some == 0 {{ None }} else {{ Some({taken(kind.of, place + '.value')}) }}"
             if kind.what == "maybe" else ""}.get(kind.what, place)
@@ -163,7 +177,7 @@ def set_of(kind, place):
     if kind.what in ("own", "maybe"):
         return f"self::{kind.of.snake if kind.what == 'own' else kind.label}_raw({place})"
     return {"flag": f"{place} as u8", "char": f"{place} as u32", "text": f"RawBytes::of({place}.as_bytes())",
-            "bytes": f"RawBytes::of({place})"}.get(kind.what, place)
+            "bytes": f"RawBytes::of({place})", "list": f"RawList::of({place})"}.get(kind.what, place)
 
 
 def struct(name, fields):
@@ -175,6 +189,9 @@ def struct(name, fields):
 def raw_lines(library):
     """The structs of C and what makes values of them."""
     lines = RAW_BYTES.split("\n")[:-1] if any(it.borrows for it in library.views) else []
+    written = [it for it in library.views if it.item.writable]
+    if lists(library.views):
+        lines += list_lines(bool(lists(written))) + numbers_lines(library.numbers, bool(lists(written)))
     for kind in maybes(library.views):
         lines += struct(raw(kind), [("is_some", "u8"), ("value", raw(kind.of))])
     for view in library.views:
@@ -189,14 +206,15 @@ def raw_lines(library):
         lines += made_lines(view)
         if view.item.writable:
             lines += set_lines(view)
-    written = [it for it in library.views if it.item.writable]
+    for kind in lists(library.views):
+        lines += item_lines(kind.of.of, kind in lists(written)) if kind.of.what == "own" else []
     lines += [line for kind in maybes(written) for line in option_lines(kind)]
     return lines + (MAKING.split("\n")[:-1] if written else [])
 
 
 def option_lines(kind):
     """The function that makes a struct of C of an option."""
-    value = owned(kind).replace("'a ", "").replace("<'a>", "<'_>").replace("super::", "")
+    value = owned(kind).replace("&'a ", "&").replace("'a", "'_").replace("super::", "")
     return ["", "/// The view that shows an option.", f"fn {kind.label}_raw(value: {value}) -> {raw(kind)} {{",
             "    match value {", "        None => unsafe { self::zeros() },",
             f"        Some(it) => {raw(kind)} {{ is_some: 1, value: {set_of(kind.of, 'it')} }},", "    }", "}"]

@@ -1,6 +1,7 @@
 """Writes the module of Rust over a library: safe functions over its calls."""
 from kinds import TOO_SOON, answers
 from rust_views import declaration, raw_lines, read_text
+from views import lists
 
 HEAD = '''\
 //! The types of `{file}`, by the calls of `lib{name}.a`, whose proofs `rt lib` checks.
@@ -11,7 +12,7 @@ HEAD = '''\
 {docs}#![allow(dead_code)]
 
 use std::fmt;
-
+{uses}
 /// The number of the file that this was made of.
 const SOURCE: u32 = {source};
 
@@ -80,9 +81,10 @@ CHECK = '''
 pub mod {snake} {{
     /// Says whether bytes begin with an encoding of a `{path}`, and of how many bytes it is.
     pub fn check(bytes: &[u8], order: super::Order) -> Result<usize, super::Refused> {{
+        let (start, length) = (bytes.as_ptr(), bytes.len());
         let mut size = 0;
         // SAFETY: so many bytes are there, they are only read, and nothing keeps a pointer.
-        let answer = unsafe {{ super::{name}_{snake}_check(bytes.as_ptr(), bytes.len(), order as u32, &mut size) }};
+        let answer = unsafe {{ super::{name}_{snake}_check(start, length, order as u32, &mut size) }};
         if answer == 0 {{ Ok(size) }} else {{ Err(super::Refused::of(answer, size)) }}
     }}
 {reading}}}
@@ -119,6 +121,7 @@ def rust_text(library):
         if it.path in library.views.by_path:
             calls.append(declaration(library, library.views.by_path[it.path]))
     found = HEAD.format(
+        uses="use std::marker::PhantomData;\n" if lists(library.views) else "",
         file=library.file_name, name=name, source=library.source, calls="\n".join(calls),
         docs="".join(f"//! {it}".rstrip() + "\n" for it in ["", *library.docs]) if library.docs else "",
         kinds="\n".join(f"    /// {about}\n    {word}," for word, _, about in answers()),

@@ -3,8 +3,8 @@ import expressions
 import rattle
 import syntax
 from derives import Derives
-from known import BLANKS, BOUNDS, FLOATS, KNOWN, MARKING, NONE_OF_OURS, NUMBERS, ONE_ORDER, PRELUDE, PRELUDE_BOUNDS
-from known import PRELUDE_MODULES, PRIMITIVES
+from known import BLANKS, BOUNDS, ENCODED_LIST, FLOATS, KNOWN, MARKING, NONE_OF_OURS, NUMBERS, ONE_ORDER, PRELUDE
+from known import PRELUDE_BOUNDS, PRELUDE_MODULES, PRIMITIVES
 from names import Fresh, field_name
 from rattle import Foreign, Listed, Own, Variable, type_text
 from refusal import Refusal
@@ -320,6 +320,8 @@ class Converter:
         if len(full) == 1:
             return self.plain(kind, full[0])
         name = "::".join(full)
+        if path == ENCODED_LIST and [isinstance(it, syntax.Lifetime) for it in kind.arguments] == [True, False]:
+            return self.encoded_list(kind)
         if name in KNOWN:
             return self.known(kind, KNOWN[name])
         if self.is_skipped and name == "std::marker::PhantomData":
@@ -472,6 +474,11 @@ class Converter:
                                      f"`{type_text(number)}` is none of these")
         mark = self.constant(kind.line, arguments[2])
         return Listed(kind.line, "ListUntil", (number, value, mark), self.scope.need("speedy", "ListUntil"))
+
+    def encoded_list(self, kind):
+        """`EncodedList<'a, T>`, which stands in libraries."""
+        lifetime, items = self.lifetime(kind.arguments[0], kind.line), self.convert(kind.arguments[1])
+        return Listed(kind.line, "EncodedList", (lifetime, items), self.scope.need("speedy::encoded", "EncodedList"))
 
     def cow(self, kind):
         """`Cow<'a, str>`, `Cow<'a, [T]>` or `Cow<'a, T>`."""

@@ -10,7 +10,7 @@ LEAST = {"bool": 1, "char": 4, "usize": 8, "F32": 4, "F64": 8, "U24": 3, "U7": 1
 LEAST |= {f"{sign}{bits}": bits // 8 for bits in (8, 16, 32, 64, 128) for sign in "ui"}
 LEAST |= {f"NonZero{sign}{bits}": bits // 8 for bits in (8, 16, 32, 64) for sign in "UI"}
 LEAST |= dict.fromkeys(("String", "Vec", "BoxedStr", "BoxedSlice", "CowStr", "CowSlice", "SmallVec", "BTreeMap",
-                        "BTreeSet", "HashMap", "HashSet", "IndexMap", "IndexSet"), 4)
+                        "BTreeSet", "HashMap", "HashSet", "IndexMap", "IndexSet", "EncodedList"), 4)
 # Which argument of a type has its least size.
 WITHIN = {"Box": 0, "Cow": -1, "Magic": 0, "Other": 0, "Prefixed": 0, "WithLength": 1, "WithFrame": 1,
           "Big": 0, "Little": 0, "ListUntil": 0}

@@ -1,6 +1,7 @@
 """The impls of a struct: it has the layout of the tuple of its parts, is read as that and written as it."""
 import holders
 import impl_search
+import in_place
 import keys
 import whole
 from answers import answers_of_struct
@@ -47,7 +48,7 @@ class StructShape(Shape):
                                                                     + " " + str(body.value)))
         if self.item.name in self.scope.holding:
             found += holders.impls(self, self.scope.holding[self.item.name])
-        return found
+        return found + in_place.impls(self, self.parts_type)
 
     def is_few_numbers(self):
         """Whether the parts are numbers, flags and characters alone, and few."""

@@ -232,6 +232,9 @@ class Declared:
     refusal: object = None
     # How many levels its values have at most, where they hold values of the type itself.
     depth: int = 0
+    # Whether a list holds it that lies where it was read, and whether such a list, or what that holds, does.
+    in_list: bool = False
+    in_place: bool = False
 
 
 @dataclass

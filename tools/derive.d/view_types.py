@@ -1,4 +1,6 @@
 """Writes the views of a library in Rattle: their structs, and how each is made of a value."""
+import re
+
 from names import camel, quoted
 from views import maybes
 
@@ -13,6 +15,8 @@ HEAD = '''\
 
 def name_of(kind):
     """The name of a view's struct, without its lifetime."""
+    if kind.what == "list":
+        return "ListView"
     return f"{kind.of.camel}View" if kind.what == "own" else f"{camel(kind.label)}View"
 
 
@@ -25,6 +29,11 @@ def shown_type(kind):
     return simple.get(kind.what) or name_of(kind) + life(kind)
 
 
+def is_made(kind):
+    """Whether a value is shown by a view of its own."""
+    return kind.what in ("own", "maybe", "list")
+
+
 def life(it):
     """The lifetime of what borrows."""
     return "<'a>" if it.borrows else ""
@@ -34,6 +43,8 @@ def source_type(kind):
     """The type of a value that is shown so."""
     if kind.what == "maybe":
         return f"Option<{source_type(kind.of)}>"
+    if kind.what == "list":
+        return f"EncodedList<'a, {source_type(kind.of)}>"
     if kind.what == "own":
         return kind.of.camel + life_of_item(kind.of)
     if kind.what == "array":
@@ -53,12 +64,14 @@ def empty(kind):
         return "&[]"
     if kind.what == "array":
         return f"[0; {kind.count}]"
-    return f"{name_of(kind)}::empty()" if kind.what in ("own", "maybe") else "0"
+    if kind.what == "list":
+        return "ListView { items: Walk { left: &[] }, count: 0, order: 0 }"
+    return f"{name_of(kind)}::empty()" if is_made(kind) else "0"
 
 
 def value(kind, place, reference):
     """The expression of what is shown of a value: by its place, and by a reference to it."""
-    if kind.what in ("own", "maybe"):
+    if is_made(kind):
         return f"View::of({reference})"
     return {"text": f"{place}.as_bytes()", "flag": f"flag_number({place})", "char": f"character_number({place})",
             "float": f"{place}.bits()"}.get(kind.what, place)
@@ -66,17 +79,23 @@ def value(kind, place, reference):
 
 def made(kind, place):
     """The expression of the value that a view shows at a place, which returns where it shows none."""
-    if kind.what in ("own", "maybe"):
-        return f"{place}.value()?"
+    if is_made(kind):
+        return f"{place}.value(alloc)?"
     call = {"text": "text_shown", "flag": "flag_shown", "char": "character_shown"}.get(kind.what)
     if call:
         return f"{call}({place})?"
     return f"{source_type(kind)}::from_bits({place})" if kind.what == "float" else place
 
 
+def value_head(made, body):
+    """The head of the function that makes a value by this body."""
+    alloc = "alloc" if "(alloc)" in "".join(body) else "_alloc"
+    return f"fn value(&self, {alloc}: Global) -> Result<{made}, Unshown>"
+
+
 def fact(kind, view, seen):
     """What a clause says of a view and of the value that it shows."""
-    if kind.what in ("own", "maybe"):
+    if is_made(kind):
         return f"⟦<{shown_type(kind)} as View<{source_type(kind)}>>⟧.shows {seen} {view}"
     if kind.what == "text":
         return f"ShowsText {seen}.now {view}.now"
@@ -154,6 +173,7 @@ class ViewTypes:
     def imports(self, text):
         """The imports."""
         names = [it for it in ("f32_bits", "f64_bits") if it in text]
+        has_lists = "EncodedList<" in text
         prelude = ["◌≡◌"] + ["Some", "None"] * ("| None ↦" in text)
         found = [f"ghost use Rattle.std.specs.Prelude.{{{', '.join(prelude)}}};"]
         words = [it for it in ("ShowsCharacter", "ShowsFlag", "ShowsText") if it in text]
@@ -166,12 +186,15 @@ class ViewTypes:
             path = "::".join(("crate", self.library.module, *view.exported.path))
             same = view.exported.path[-1] == view.camel
             found.append(f"use {path}{'' if same else f' as {view.camel}'};")
-        calls = ["View"] + ["Shown", "Unshown"] * ("Shown<" in text)
+        calls = ["View"] + ["Shown", "Unshown"] * ("Shown<" in text) + ["ListView"] * has_lists
+        calls += ["Walk"] * ("Walk {" in text)
         calls += [it for it in ("character_number", "character_shown", "flag_number", "flag_shown", "text_shown")
                   if f"{it}(" in text]
         found.append(f"use speedy::exports::{{{', '.join(calls)}}};")
-        floats = [it for it in ("F32", "F64") if f"Option<{it}>" in text or f"{it}::" in text]
-        return found + [f"use speedy::{it};" for it in floats] + [""]
+        found += ["use speedy::encoded::EncodedList;"] * has_lists
+        floats = [it for it in ("F32", "F64") if re.search(rf"\b{it}\b", text)]
+        found += [f"use speedy::{it};" for it in floats]
+        return found + ["use std::alloc::Global;"] * ("alloc: Global" in text) + [""]
 
     def maybe(self, kind):
         """The view of an option."""
@@ -196,9 +219,10 @@ class ViewTypes:
 
     def maybe_made(self, kind, name, borrowed, of):
         """How an option is made again of its view."""
+        it = made(kind.of, "self.value")
         return [f"impl{borrowed} Shown<{of}> for {name}{borrowed} {{",
-                f"    fn value(&self) -> Result<{of}, Unshown> {{ match self.is_some {{", "        0 => Ok(None),",
-                f"        1 => {{ let it = {made(kind.of, 'self.value')}; Ok(Some(it)) }}",
+                f"    {value_head(of, it)} {{ match self.is_some {{", "        0 => Ok(None),",
+                f"        1 => {{ let it = {it}; Ok(Some(it)) }}",
                 "        _ => Err(Unshown::Tag),", "    } }", "}", ""]
 
     def struct_view(self, view):
@@ -232,7 +256,7 @@ class ViewTypes:
         else:
             built = "(" + ", ".join(f"t{at}" for at in range(len(view.fields))) + ")"
         return [f"impl{generic} Shown<{item}> for {name}{borrowed} {{",
-                f"    fn value(&self) -> Result<{item}, Unshown> {{", *lets, f"Ok({view.camel}{built})",
+                f"    {value_head(item, lets)} {{", *lets, f"Ok({view.camel}{built})",
                 "    }", "}", ""]
 
     def case_view(self, view):
@@ -272,7 +296,7 @@ class ViewTypes:
                     for it, name in zip(case.fields, bound)]
             arms.append(f"{case.tag} => {{ {' '.join(lets)} Ok({view.camel}::{case.name}{pattern(case, bound)}) }}")
         return [f"impl{generic} Shown<{item}> for {name}{borrowed} {{",
-                f"    fn value(&self) -> Result<{item}, Unshown> {{", "match self.tag {", *arms,
+                f"    {value_head(item, arms)} {{", "match self.tag {", *arms,
                 "_ => Err(Unshown::Tag),", "}", "    }", "}", ""]
 
     def case_fact(self, view, case):

@@ -1,10 +1,12 @@
 """What callers in other languages are shown of values: for each type a struct with the layout of C, and how it is made.
 
-A type has a view where it is made of numbers, flags, characters, floats, arrays of numbers, `&'a str`, `&'a [u8]`, and
-of options and of types of the file that are so."""
+A type has a view where it is made of numbers, flags, characters, floats, arrays of numbers, `&'a str`, `&'a [u8]`,
+lists of numbers and of types of the file that are so, and of options and of types of the file that are so."""
 from dataclasses import dataclass
 
 import syntax
+from known import ENCODED_LIST
+from lend import LENGTHS, items_of, words
 from names import Fresh, field_name
 from refusal import Refusal
 from words import KEYWORDS, NOWHERE, PRELUDE
@@ -26,6 +28,8 @@ WORDS = frozenset("""
     move mut nonlocal None pass pub raise ref self super trait True False type unsafe use where with yield dyn
     NULL EOF errno stdin stdout stderr unix linux
     """.split()) | KEYWORDS | NOWHERE
+# No name of a type, beside those of Rust's prelude: what is made has it.
+TAKEN = ("Iterator", "View", "Shown", "Unshown", "Walk", "Bytes", "ListView", "EncodedList", "Global", "F32", "F64")
 # The functions of a class in Python.
 OF_PYTHON = ("check", "read", "walk", "to_bytes")
 
@@ -44,6 +48,8 @@ class Kind:
             return self.of if self.what == "number" else self.of.snake
         if self.what == "array":
             return f"{self.count}_{self.of}"
+        if self.what == "list":
+            return f"list_of_{self.of.label}"
         return {"text": "text", "bytes": "bytes", "flag": "flag", "char": "char", "float": self.of}.get(
             self.what) or f"maybe_{self.of.label}"
 
@@ -52,7 +58,7 @@ class Kind:
         """Whether it has places in the bytes."""
         if self.what == "own":
             return self.of.borrows
-        return self.what in ("text", "bytes") or self.what == "maybe" and self.of.borrows
+        return self.what in ("text", "bytes", "list") or self.what == "maybe" and self.of.borrows
 
 
 @dataclass
@@ -123,16 +129,16 @@ class Unshown(Exception):
 
 class Views:
     """The views of a file's types: `by_path` has them in an order in which each stands behind those that it holds, and
-    `notes` says of the others why they have none."""
+    `reasons` says of the others, by their paths, why they have none, with the line."""
 
     def __init__(self, types, items):
         self.items, self.types = items, {it.path: it for it in types}
-        self.by_path, self.notes, self.open = {}, [], set()
+        self.by_path, self.reasons, self.open = {}, {}, set()
         for it in types:
             try:
                 self.view(it.path, it.line)
             except Unshown as why:
-                self.notes.append((why.line, f"`{it.name}` has no call that reads it: {why.reason}"))
+                self.reasons[it.path] = (why.line, f"`{it.name}` has no call that reads it: {why.reason}")
 
     def __iter__(self):
         return iter(self.by_path.values())
@@ -146,7 +152,7 @@ class Views:
         if self.types[path].is_whole:
             raise Unshown(line, f"`{path[-1]}` ends where the bytes do")
         item = self.items[path]
-        if item.name in PRELUDE or item.name in ("Iterator", "View", "Shown", "Unshown", "Walk", "F32", "F64"):
+        if item.name in PRELUDE or item.name in TAKEN:
             raise Unshown(item.line, f"Rust has another `{item.name}`")
         self.open.add(path)
         try:
@@ -189,8 +195,16 @@ class Views:
             if not taken.is_free(name):
                 raise Refusal(it.line, f"`{name}` is the name of another field, but for the case of its letters")
             taken.take(name)
-            found.append(Shown(name, field_name(it.name) if it.name else str(at), self.kind(it.type, path)))
+            found.append(Shown(name, field_name(it.name) if it.name else str(at), self.kind_of_field(it, path)))
         return found
+
+    def kind_of_field(self, field, path):
+        """How a field is shown."""
+        is_list = items_of(field.type) is not None or getattr(field.type, "path", ()) == ("Option",) and any(
+            items_of(it) is not None for it in field.type.arguments)
+        if is_list and words(field.attributes) & set(LENGTHS):
+            raise Unshown(field.line, "a list whose length is told elsewhere, or is of another width, is not shown")
+        return self.kind(field.type, path)
 
     def kind(self, kind, path):
         """How a type of the source is shown."""
@@ -201,13 +215,21 @@ class Views:
             if isinstance(kind.target, syntax.Slice) and self.number(kind.target.item) == "u8":
                 return Kind("bytes")
         if isinstance(kind, syntax.Array) and self.number(kind.item) and isinstance(kind.length, syntax.Literal):
+            if kind.length.token.value == 0:
+                raise Unshown(line, "C has no array of none")
             return Kind("array", self.number(kind.item), kind.length.token.value)
+        if isinstance(kind, syntax.Named) and kind.path == ENCODED_LIST:
+            return Kind("list", self.kind(kind.arguments[-1], path))
         if isinstance(kind, syntax.Named) and len(kind.path) == 1:
             found = self.named(kind, kind.path[0], path)
             if found:
                 return found
+        if items_of(kind) is not None:
+            raise Unshown(line, "a list in a view holds numbers up to 64 bits, floats, or values of a `pub` type of "
+                                "the file that has a view, no array, and no field with bytes of its own; and it "
+                                "stands in no key and no `SmallVec`")
         raise Unshown(line, "a view has numbers up to 64 bits, flags, characters, floats, arrays of so many numbers, "
-                            "`&'a str`, `&'a [u8]`, options, and `pub` types of the file of these")
+                            "`&'a str`, `&'a [u8]`, lists, options, and `pub` types of the file of these")
 
     def number(self, kind):
         """The number that a type of the source is, or None."""
@@ -243,16 +265,32 @@ def checked(name, line):
     return name
 
 
-def maybes(views):
-    """The kinds of options that views hold, each behind those that it holds."""
+def kinds_within(views, what):
+    """The kinds of fields of views that are so, also in others, each behind those that it holds."""
     found = {}
 
     def add(kind):
-        if kind.what == "maybe":
+        if kind.what in ("maybe", "list"):
             add(kind.of)
+        if kind.what == what:
             found.setdefault(kind.label, kind)
 
     for view in views:
         for kind in view.kinds:
             add(kind)
     return list(found.values())
+
+
+def maybes(views):
+    """The kinds of options that views hold, each behind those that it holds."""
+    return kinds_within(views, "maybe")
+
+
+def lists(views):
+    """The kinds of lists that views hold."""
+    return kinds_within(views, "list")
+
+
+def listed_numbers(views):
+    """The names of the numbers that lists hold."""
+    return [it.of.of for it in lists(views) if it.of.what in ("number", "float")]

@@ -11,7 +11,7 @@ use Rattle.speedy_base.specs.Error.{error_of, is_eof_error, kind_of}
 use Rattle.speedy_base.specs.ErrorKind.{is_eof_kind}
 use Rattle.speedy_base.specs.Mode.{plain_mode}
 use Rattle.speedy_layout.specs.Codecs.{Codec}
-use Rattle.speedy_layout.specs.Format.{Format}
+use Rattle.speedy_layout.specs.Format.{Format, IsOwnKind}
 use Rattle.speedy_layout.specs.Wholes.{Misfits, WholeCodec}
 use Rattle.speedy_read.specs.WaysOfReading.{AnswersBufferIf}
 use Rattle.speedy_read.specs.Wholes.{RefusesWhole}
@@ -48,17 +48,40 @@ end_number kinds.UnexpectedEndOfOutputBuffer h = inr (inl refl)
 end_number (kinds.IoError e) h = inr (inr (inr refl))
 end_number _ h = let none = h in cc
 
+-- the kinds that a type names have other numbers than an end of the bytes
+own_number : (k : ErrorKind) → IsOwnKind k → number_of_kind k ≡ 8 → ⊥
+own_number kinds.InvalidChar _ is = omega (arith, is)
+own_number kinds.InvalidEnumVariant _ is = omega (arith, is)
+own_number kinds.InvalidUtf8 _ is = omega (arith, is)
+own_number kinds.InvalidSystemTime _ is = omega (arith, is)
+own_number kinds.ZeroNonZero _ is = omega (arith, is)
+own_number kinds.OutOfRangeLength _ is = omega (arith, is)
+own_number kinds.OutOfRangeUsize _ is = omega (arith, is)
+own_number kinds.UnexpectedEndOfInput own is = own
+own_number kinds.UnexpectedEndOfOutputBuffer own is = own
+own_number (kinds.InputBufferIsTooSmall actual expected) own is = own
+own_number (kinds.OutputBufferIsTooSmall actual expected) own is = own
+own_number (kinds.LengthIsNotTheSameAsLengthAttribute field) _ is = omega (arith, is)
+own_number (kinds.ExpectedConstant constant) _ is = omega (arith, is)
+own_number kinds.Unsized _ is = omega (arith, is)
+own_number kinds.EndiannessMismatch _ is = omega (arith, is)
+own_number kinds.NotWrittenForm _ is = omega (arith, is)
+own_number (kinds.IoError e) own is = own
+own_number kinds.OutOfMemory own is = own
+own_number (kinds.Custom text) _ is = omega (arith, is)
+
 abbrev itself : Error → Error → Type 0
 itself error e = e ≡ error
 
 -- what a check says where a read of the bytes is refused
 pub checks_refused : {A V : Type 0} {seen : A → V} {least : ℕ} {F : Format V} {names : ErrorKind → Type 0} {e : Error}
     {bytes : List ℕ} {count : ℕ}
+    → ((k : ErrorKind) → F.names k → IsOwnKind k)
     → (let refused : Result A Error = Err e in
     AnswersBufferIf itself is_eof_error (Unit {0}) names seen least F refused count bytes)
     → ((e ≡ error_of kinds.OutOfMemory) × IsTrue F.asks.memory) ⊎ BeginsWithNone F bytes
     → ChecksIn F bytes (number_of_kind (kind_of e)) count
-checks_refused {least = least} {e = e} {bytes = bytes} answers lacks = record {
+checks_refused {least = least} {e = e} {bytes = bytes} own answers lacks = record {
   encoded = λ zero. absurd (omega (arith, (kind_bounds (kind_of e)).0, zero));
   refused = λ _. elim lacks [
     | inl want ↦ inl (ap (λ (x : Error). number_of_kind (kind_of x)) want.0, want.1)
@@ -71,9 +94,22 @@ checks_refused {least = least} {e = e} {bytes = bytes} answers lacks = record {
       | inr refused ↦ more (end_number (kind_of e) ((refused.because tt).too_short v rest h))
     ]
   ];
+  grows = λ ends bad. elim (cases_lt (length bytes) least) [
+    | inl few ↦
+      let short = ap (λ (x : Error). number_of_kind (kind_of x)) (answers.too_small few).0 in omega (arith, ends, short)
+    | inr many ↦ elim (answers.refused (omega (arith, many))) [
+      | inl want ↦
+        let lack = ap (λ (x : Error). number_of_kind (kind_of x)) want.0 in omega (arith, ends, lack)
+      | inr refused ↦
+        let named = (refused.because tt).malformed bad in
+        own_number named.0 (own named.0 named.1)
+        (sym (ap (λ (x : Error). number_of_kind (kind_of x)) named.2) ∙ ends)
+    ]
+  ];
 }
 
-same_order : (a b : Endianness) → number_of_order a ≡ number_of_order b → a ≡ b
+-- an order is told by its number
+pub same_order : (a b : Endianness) → number_of_order a ≡ number_of_order b → a ≡ b
 same_order LittleEndian LittleEndian h = refl
 same_order BigEndian BigEndian h = refl
 same_order LittleEndian BigEndian h = absurd (omega (arith, h))

@@ -9,15 +9,16 @@ use Rattle.speedy_base.specs.declared.endianness.Endianness.TheVariants.{LittleE
 use Rattle.speedy_base.specs.Mode.{plain_mode}
 use Rattle.speedy_layout.specs.Codecs.{Codec}
 use Rattle.speedy.specs.declared.exports.Unshown.{Unshown}
-use Rattle.speedy.specs.declared.exports.Unshown.TheVariants.{Character, Tag, Text}
+use Rattle.speedy.specs.declared.exports.Unshown.TheVariants as unshown
 use Rattle.speedy.specs.Exports.{number_of_order, number_of_unshown, Checks, ChecksIn, Reads, TakesWhole, Writes}
 use Rattle.speedy.specs.Exports.{WritesAgain}
 
 -- what shows nothing has the number of an error
 some_number : (why : Unshown) → 0 < number_of_unshown why
-some_number Character = omega arith
-some_number Tag = omega arith
-some_number Text = omega arith
+some_number unshown.Character = omega arith
+some_number unshown.Tag = omega arith
+some_number unshown.Text = omega arith
+some_number unshown.List = omega arith
 
 -- a number that is no more than one is that of an order
 order_of_number : (number : ℕ) → (1 < number → ⊥) → (it : Endianness) × (number ≡ number_of_order it)

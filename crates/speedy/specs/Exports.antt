@@ -14,7 +14,7 @@ use Rattle.speedy_layout.specs.Format.{Format}
 use Rattle.speedy_layout.specs.Wholes.{WholeCodec}
 use Rattle.speedy_write.specs.WaysOfWriting.{IsShortest}
 use Rattle.speedy.specs.declared.exports.Unshown.{Unshown}
-use Rattle.speedy.specs.declared.exports.Unshown.TheVariants.{Character, Tag, Text}
+use Rattle.speedy.specs.declared.exports.Unshown.TheVariants as unshown
 use Rattle.speedy.specs.Prefixes.{BeginsWith, BeginsWithNone}
 
 -- the number of a kind of error; 0 is none
@@ -51,9 +51,10 @@ flag_as_number false = 0
 
 -- the number of the kind that says of bytes what is wrong with a view
 abbrev pub number_of_unshown : Unshown → ℕ
-number_of_unshown Character = 1
-number_of_unshown Tag = 2
-number_of_unshown Text = 3
+number_of_unshown unshown.Character = 1
+number_of_unshown unshown.Tag = 2
+number_of_unshown unshown.Text = 3
+number_of_unshown unshown.List = 6
 
 -- what a view has of a text, of which this is the UTF-8; of a character; and of a flag
 abbrev pub ShowsText : List ℕ → List ℕ → Type 0
@@ -78,6 +79,8 @@ pub record ChecksIn {V : Type 0} (format : Format V) (bytes : List ℕ) (answer 
   -- whatever bytes come after them
   pub never : (answer ≡ 0 → ⊥) → (answer ≡ 18 → ⊥) → (EndsTooSoon answer → ⊥)
       → (v : V) (more : List ℕ) → format.encodes v (bytes ++ more) → ⊥
+  -- where they end within a value, nothing that its type refuses stands at their start
+  pub grows : answer ≡ 8 → format.malformed bytes → ⊥
 
 -- What a check says of bytes in the byte order of a number: 100 where that is none.
 pub record Checks {V : Type 0} (codec : Codec V) (order : ℕ) (bytes : List ℕ) (answer size : ℕ) : Type 0 where

@@ -105,6 +105,8 @@ pub use Rattle.speedy_write.specs.Wholes as WriteWholes
 pub use Rattle.speedy_write.specs.Writing
 pub use Rattle.speedy_write.proofs.ListLemmas as WriteItems
 pub mod Prefixes
+pub mod InPlace
+pub mod EncodedLists
 pub mod Exports
 pub mod Levels
 pub mod ReadLevels

@@ -3,15 +3,19 @@
 ghost use Rattle.std.specs.Prelude.{◌≡◌, ◌<◌, ◌↔◌, ℕ, List, ◌++◌, take, Some, None, IfErr, MatchResult};
 ghost use Rattle.std.specs.Str.{IsUtf8};
 ghost use Rattle.speedy_base.specs.Error.{kind_of};
+ghost use Rattle.speedy_layout.specs.Floats.{f32_bits, f64_bits};
 ghost use Rattle.speedy.specs.Exports.{number_of_kind, number_of_order, flag_as_number, number_of_unshown};
 ghost use Rattle.speedy.specs.Exports.{Checks, ChecksWhole, Reads, Steps, Writes};
 ghost use Rattle.speedy.specs.Exports.{TakesWhole, WritesAgain};
 ghost use Rattle.speedy.specs.Exports.{MakesShown, ShowsText, ShowsCharacter, ShowsFlag};
 
+use crate::encoded::{EncodedList, ListItem};
+use crate::in_place::InPlace;
 use crate::laws::refused_is_none;
 use speedy_base::endianness::Endianness;
 use speedy_base::error::{Error, ErrorKind, get_error_kind};
 use speedy_layout::Layout;
+use speedy_layout::floats::{F32, F64};
 use speedy_read::buffer::Buffer;
 use speedy_read::readable::ReadFrom;
 use speedy_read::utf8::bytes_to_str;
@@ -58,6 +62,17 @@ pub fn order_of(number: u32) -> Option<Endianness>
         0 => Some(Endianness::LittleEndian),
         1 => Some(Endianness::BigEndian),
         _ => None,
+    }
+}
+
+/// The number of a byte order.
+#[inline]
+pub fn order_number(order: Endianness) -> u32
+    ensures { result ≡ number_of_order order }
+{
+    match order {
+        Endianness::LittleEndian => 0,
+        Endianness::BigEndian => 1,
     }
 }
 
@@ -129,6 +144,99 @@ pub trait View<T>: Sized {
         ensures { shows value.now result };
 }
 
+// A number shows itself, so that a walk gives the numbers of a list.
+impl View<u8> for u8 {
+    ghost shows = { λ value view. view ≡ value };
+
+    #[inline]
+    fn of(value: &u8) -> u8 {
+        *value
+    }
+}
+
+impl View<u16> for u16 {
+    ghost shows = { λ value view. view ≡ value };
+
+    #[inline]
+    fn of(value: &u16) -> u16 {
+        *value
+    }
+}
+
+impl View<u32> for u32 {
+    ghost shows = { λ value view. view ≡ value };
+
+    #[inline]
+    fn of(value: &u32) -> u32 {
+        *value
+    }
+}
+
+impl View<u64> for u64 {
+    ghost shows = { λ value view. view ≡ value };
+
+    #[inline]
+    fn of(value: &u64) -> u64 {
+        *value
+    }
+}
+
+impl View<i8> for i8 {
+    ghost shows = { λ value view. view ≡ value };
+
+    #[inline]
+    fn of(value: &i8) -> i8 {
+        *value
+    }
+}
+
+impl View<i16> for i16 {
+    ghost shows = { λ value view. view ≡ value };
+
+    #[inline]
+    fn of(value: &i16) -> i16 {
+        *value
+    }
+}
+
+impl View<i32> for i32 {
+    ghost shows = { λ value view. view ≡ value };
+
+    #[inline]
+    fn of(value: &i32) -> i32 {
+        *value
+    }
+}
+
+impl View<i64> for i64 {
+    ghost shows = { λ value view. view ≡ value };
+
+    #[inline]
+    fn of(value: &i64) -> i64 {
+        *value
+    }
+}
+
+// The bits of a float.
+impl View<F32> for u32 {
+    ghost shows = { λ value view. view ≡ f32_bits value };
+
+    #[inline]
+    fn of(value: &F32) -> u32 {
+        value.bits()
+    }
+}
+
+// The bits of a float.
+impl View<F64> for u64 {
+    ghost shows = { λ value view. view ≡ f64_bits value };
+
+    #[inline]
+    fn of(value: &F64) -> u64 {
+        value.bits()
+    }
+}
+
 /// Reads a value that the bytes begin with, in the byte order of a number, and shows it.
 ///
 /// The answer and `size` are those of a [`check`]. Where it is not 0, the view stays as it is.
@@ -187,6 +295,28 @@ pub fn next<'a, T: ReadFrom<&'a [u8], Endianness>, V: View<T> + Drop>(
     answer
 }
 
+/// What is shown of a list of values, which lies where it was read: its items are a [`Walk`], in a byte order.
+#[repr(C)]
+#[derive(Clone, Copy)]
+pub struct ListView<'a> {
+    pub items: Walk<'a>,
+    pub count: usize,
+    pub order: u32,
+}
+
+impl<'a, T: InPlace> View<EncodedList<'a, T>> for ListView<'a> {
+    ghost shows = { λ list view. (view.items.left.now ≡ list.bytes.now) × (view.count ≡ list.count)
+        × (view.order ≡ number_of_order list.order) };
+
+    fn of(list: &EncodedList<'a, T>) -> ListView<'a> {
+        ListView {
+            items: Walk { left: list.bytes() },
+            count: list.len(),
+            order: order_number(list.order()),
+        }
+    }
+}
+
 /// Why a view shows no value.
 #[derive(Debug, Clone, Copy, PartialEq)]
 pub enum Unshown {
@@ -196,6 +326,8 @@ pub enum Unshown {
     Tag,
     /// Bytes that should be a text are not UTF-8.
     Text,
+    /// Bytes that should be so many items of a list are not, or their byte order is none.
+    List,
 }
 
 /// The number of the kind that says the same of bytes.
@@ -206,6 +338,7 @@ fn unshown_number(why: Unshown) -> u32
         Unshown::Character => 1,
         Unshown::Tag => 2,
         Unshown::Text => 3,
+        Unshown::List => 6,
     }
 }
 
@@ -256,9 +389,27 @@ pub fn text_shown(bytes: &[u8]) -> Result<&str, Unshown>
 
 /// Views of which the value is made again that they show, to be written.
 pub trait Shown<T: Layout>: View<T> {
-    /// The value that the view shows, or why it shows none. Texts and bytes lie where the view has them.
-    fn value(&self) -> Result<T, Unshown>
+    /// The value that the view shows, or why it shows none. Texts, bytes and lists lie where the view has them. Memory
+    /// is asked for by no value that takes none.
+    fn value(&self, alloc: Global) -> Result<T, Unshown>
         ensures { MakesShown T.seen Self.shows self.now result };
+}
+
+impl<'a, T: ListItem> Shown<EncodedList<'a, T>> for ListView<'a> {
+    /// Each item is decoded once: the bytes have to be so many encodings, and nothing behind them.
+    fn value(&self, alloc: Global) -> Result<EncodedList<'a, T>, Unshown> {
+        let Some(order) = order_of(self.order) else {
+            return Err(Unshown::List);
+        };
+        let bytes = self.items.left;
+        let Ok(size) = T::measure(alloc, order, self.count, bytes) else {
+            return Err(Unshown::List);
+        };
+        if size != bytes.len() {
+            return Err(Unshown::List);
+        }
+        Ok(EncodedList::over(alloc, bytes, self.count, order))
+    }
 }
 
 /// Writes the value that a view shows to the beginning of a buffer, in the byte order of a number.
@@ -268,6 +419,7 @@ pub trait Shown<T: Layout>: View<T> {
 /// shows no value, or why the value has no encoding, or [`UNKNOWN_ORDER`], and `size` is 0. Where the answer is not 0,
 /// the buffer stays as it is.
 pub fn write<T: Writable<Endianness> + Drop, V: Shown<T>>(
+    alloc: Global,
     view: &V,
     order: u32,
     buffer: &mut [u8],
@@ -280,7 +432,7 @@ pub fn write<T: Writable<Endianness> + Drop, V: Shown<T>>(
         Some(order) => order,
         None => return UNKNOWN_ORDER,
     };
-    let value = match view.value() {
+    let value = match view.value(alloc) {
         Ok(value) => value,
         Err(why) => return unshown_number(why),
     };

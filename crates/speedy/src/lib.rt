@@ -7,12 +7,15 @@
 #![tactic(auto)]
 
 pub mod cases;
+pub mod encoded;
 pub mod exports;
 pub mod ext;
+pub mod in_place;
 pub mod laws;
 pub mod layout;
 pub mod lengths;
 pub mod levels;
+pub mod list_items;
 pub mod prefixed;
 pub mod private;
 pub mod readable_impl;

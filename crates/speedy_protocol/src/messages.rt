@@ -1,12 +1,13 @@
 //! What a small protocol says: a header, of one version or the other, and then messages.
 //!
 //! Made from `messages.rs` by `tools/derive`: change that, and make this again.
-ghost use Rattle.std.specs.Prelude.{[], ◌∷◌, ◌≡◌};
+ghost use Rattle.std.specs.Prelude.{[], codes, ◌∷◌, ◌≡◌};
 ghost use Rattle.std.proofs.Common.{inl, inr};
 
 use speedy::cases::{
     Case, CaseTree, Cases, Either, ReadCases, UnitCase, WriteCases, read_tagged, write_tagged,
 };
+use speedy::lengths::{Length, WithFrame};
 use speedy::magic::{Constant, Magic};
 use speedy::prefixed::Prefixed;
 use speedy::private::error_invalid_enum_variant;
@@ -316,5 +317,114 @@ impl<'a, C: Context> WriteCases<C> for Message<'a> {
 impl<'a, C: Context> Writable<C> for Message<'a> {
     fn write_to<W: Writer<C>>(&self, writer: &mut W) -> Result<(), C::Error> {
         write_tagged::<u8, Self, C, W>(self, writer)
+    }
+}
+
+/// A message behind the number of its bytes, for callers in other languages.
+#[derive(Debug, PartialEq, Drop)]
+pub struct FramedMessage<'a> {
+    pub size: u16,
+    pub message: Message<'a>,
+}
+
+/// The length of [`FramedMessage::message`].
+struct FramedMessageMessageLength {}
+
+impl Length<u16> for FramedMessageMessageLength {
+    ghost is_told = { λ _. Unit {0} };
+
+    ghost told = { λ n. n };
+
+    ghost field = { codes "message" };
+
+    fn length(size: u16) -> Option<usize> {
+        Some(size as usize)
+    }
+
+    fn field() -> &'static str {
+        "message"
+    }
+}
+
+/// What [`FramedMessage`] is read and written as.
+type FramedMessageParts<'a> = WithFrame<FramedMessageMessageLength, u16, Message<'a>>;
+
+impl<'a> Layout for FramedMessage<'a> {
+    ghost Seen = { ⟦<FramedMessageParts<'a> as Layout>⟧.Seen };
+
+    ghost seen = { λ it. (it.size, ⟦<Message<'a> as Layout>⟧.seen it.message) };
+
+    ghost layout = { ⟦<FramedMessageParts<'a> as Layout>⟧.layout };
+}
+
+impl<'a, C: Context> ReadFrom<&'a [u8], C> for FramedMessage<'a> {
+    type Strategy = ItemByItem<C>;
+
+    fn read_from<R: LendingReader<&'a [u8], C>>(
+        reader: &mut R,
+    ) -> Result<FramedMessage<'a>, C::Error> {
+        match reader.read_value::<FramedMessageParts<'a>>() {
+            Ok(message) => Ok(FramedMessage {
+                size: message.before,
+                message: message.value,
+            }),
+            Err(error) => Err(error),
+        }
+    }
+
+    fn minimum_bytes_needed() -> usize
+        ensures { result ≡ ⟦<FramedMessageParts<'a> as Layout>⟧.layout.least }
+    {
+        2
+    }
+}
+
+impl<'a, C: Context> Writable<C> for FramedMessage<'a> {
+    fn write_to<W: Writer<C>>(&self, writer: &mut W) -> Result<(), C::Error> {
+        let message: WithFrame<FramedMessageMessageLength, _, _> = WithFrame {
+            before: self.size,
+            value: Part(&self.message),
+            length: PhantomData,
+        };
+        writer.write_value(&message)
+    }
+}
+
+/// A frame with whatever stands in it.
+#[derive(Debug, PartialEq, Drop)]
+pub struct FramedBytes {
+    pub bytes: Vec<u8>,
+}
+
+impl Layout for FramedBytes {
+    ghost Seen = { ⟦<Prefixed<u16, Vec<u8>> as Layout>⟧.Seen };
+
+    ghost seen = { λ it. ⟦<Vec<u8> as Layout>⟧.seen it.bytes };
+
+    ghost layout = { ⟦<Prefixed<u16, Vec<u8>> as Layout>⟧.layout };
+}
+
+impl<L: AsSlice<u8> + Drop, C: Context> ReadFrom<L, C> for FramedBytes {
+    type Strategy = ItemByItem<C>;
+
+    fn read_from<R: LendingReader<L, C>>(reader: &mut R) -> Result<FramedBytes, C::Error> {
+        match reader.read_value::<Prefixed<u16, Vec<u8>>>() {
+            Ok(bytes) => Ok(FramedBytes { bytes: bytes.value }),
+            Err(error) => Err(error),
+        }
+    }
+
+    fn minimum_bytes_needed() -> usize {
+        2
+    }
+}
+
+impl<C: Context> Writable<C> for FramedBytes {
+    fn write_to<W: Writer<C>>(&self, writer: &mut W) -> Result<(), C::Error> {
+        let bytes: Prefixed<u16, _> = Prefixed {
+            value: Part(&self.bytes),
+            number: PhantomData,
+        };
+        writer.write_value(&bytes)
     }
 }

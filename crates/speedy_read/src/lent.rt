@@ -23,9 +23,9 @@ impl AsSlice<u8> for NothingLent {
     }
 }
 
-// The next `length` bytes, which the reader lends. One that lends nothing answers `Unsized` and is left as it was.
+/// The next `length` bytes, which the reader lends. One that lends nothing answers `Unsized` and is left as it was.
 #[inline]
-pub(crate) fn read_lent<'a, C: Context, R: LendingReader<&'a [u8], C>>(
+pub fn read_lent<'a, C: Context, R: LendingReader<&'a [u8], C>>(
     reader: &mut R,
     length: usize,
 ) -> Result<&'a [u8], C::Error>

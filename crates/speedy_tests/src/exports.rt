@@ -6,6 +6,7 @@ use speedy::exports::{
     Shown, UNKNOWN_ORDER, Unshown, View, Walk, character_number, character_shown, check,
     check_whole, flag_number, flag_shown, next, read, text_shown, write,
 };
+use std::alloc::Global;
 
 /// A flag, a character and a text.
 type Parts<'a> = (bool, char, &'a str);
@@ -33,7 +34,7 @@ impl<'a> View<Parts<'a>> for PartsView<'a> {
 }
 
 impl<'a> Shown<Parts<'a>> for PartsView<'a> {
-    fn value(&self) -> Result<Parts<'a>, Unshown> {
+    fn value(&self, _alloc: Global) -> Result<Parts<'a>, Unshown> {
         let t0 = flag_shown(self.flag)?;
         let t1 = character_shown(self.character)?;
         let t2 = text_shown(self.text)?;
@@ -77,28 +78,32 @@ fn bytes_are_checked_and_read(rt: HostRuntime) {
 
 #[test]
 fn a_view_is_written(rt: HostRuntime) {
+    let alloc = rt.alloc();
     let mut size = 0;
     let mut buffer = [9; 12];
-    assert!(&rt; write::<Parts, PartsView>(&VIEW, 0, &mut buffer, &mut size) == 0);
+    assert!(&rt; write::<Parts, PartsView>(alloc, &VIEW, 0, &mut buffer, &mut size) == 0);
     assert!(&rt; size == 11 && buffer[..11] == BYTES[..] && buffer[11] == 9);
-    assert!(&rt; write::<Parts, PartsView>(&VIEW, 0, &mut buffer[..10], &mut size) == 11);
+    assert!(&rt; write::<Parts, PartsView>(alloc, &VIEW, 0, &mut buffer[..10], &mut size) == 11);
     assert!(&rt; size == 11);
-    assert!(&rt; write::<Parts, PartsView>(&VIEW, 2, &mut buffer, &mut size) == UNKNOWN_ORDER);
+    assert!(&rt;
+        write::<Parts, PartsView>(alloc, &VIEW, 2, &mut buffer, &mut size) == UNKNOWN_ORDER
+    );
     assert!(&rt; size == 0);
 }
 
 #[test]
 fn what_shows_nothing_is_refused(rt: HostRuntime) {
+    let alloc = rt.alloc();
     let mut size = 0;
     let mut buffer = [9; 12];
     let mut view = VIEW;
     view.flag = 2;
-    assert!(&rt; write::<Parts, PartsView>(&view, 0, &mut buffer, &mut size) == 2);
+    assert!(&rt; write::<Parts, PartsView>(alloc, &view, 0, &mut buffer, &mut size) == 2);
     view = VIEW;
     view.character = 0xd800;
-    assert!(&rt; write::<Parts, PartsView>(&view, 0, &mut buffer, &mut size) == 1);
+    assert!(&rt; write::<Parts, PartsView>(alloc, &view, 0, &mut buffer, &mut size) == 1);
     view = VIEW;
     view.text = b"\xff";
-    assert!(&rt; write::<Parts, PartsView>(&view, 0, &mut buffer, &mut size) == 3);
+    assert!(&rt; write::<Parts, PartsView>(alloc, &view, 0, &mut buffer, &mut size) == 3);
     assert!(&rt; size == 0 && buffer == [9; 12]);
 }

@@ -12,6 +12,8 @@ mod collections;
 #[cfg(test)]
 mod cows;
 #[cfg(test)]
+mod encoded;
+#[cfg(test)]
 mod endianness;
 #[cfg(test)]
 mod errors;

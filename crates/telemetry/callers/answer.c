@@ -39,6 +39,21 @@ static void print_reading(const struct telemetry_reading *it) {
     printf(" %u", it->is_exact);
 }
 
+/* Prints a list, which has to hold just as many items as it says. */
+static void print_list_of_reading(struct telemetry_list it) {
+    printf(" %lu", it.count);
+    for (telemetry_size at = 0; at < it.count; at++) {
+        struct telemetry_reading item;
+        if (telemetry_reading_next(&it.items, it.order, &item) != TELEMETRY_OK) {
+            exit(1);
+        }
+        print_reading(&item);
+    }
+    if (it.items.left.length != 0) {
+        exit(1);
+    }
+}
+
 static void print_message(const struct telemetry_message *it) {
     if (it->tag == 1) {
         printf(" Ping");
@@ -57,6 +72,11 @@ static void print_message(const struct telemetry_message *it) {
     if (it->tag == 4) {
         printf(" Blob");
         print_bytes(it->blob.t0);
+    }
+    if (it->tag == 5) {
+        printf(" Measurements");
+        printf(" %u", it->measurements.sensor);
+        print_list_of_reading(it->measurements.readings);
     }
 }
 

@@ -64,6 +64,12 @@ def say_message(it):
             " Blob",
             shown(it.t0),
         ))
+    if isinstance(it, telemetry.Message.Measurements):
+        return "".join((
+            " Measurements",
+            shown(it.sensor),
+            "".join((shown(len(it.readings)), *(say_reading(it) for it in it.readings))),
+        ))
     raise ValueError(it)
 
 SHOWN = {

@@ -91,6 +91,12 @@ fn say_message(it: &telemetry::message::Message<'_>) -> String {
             hex(t0),
         ]
         .concat(),
+        telemetry::message::Message::Measurements { sensor, readings } => [
+            " Measurements".to_string(),
+            format!(" {}", sensor),
+            format!(" {}", readings.len()) + &readings.iter().map(|it| say_reading(&it)).collect::<String>(),
+        ]
+        .concat(),
     }
 }
 

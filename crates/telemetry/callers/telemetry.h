@@ -10,7 +10,7 @@
 #define TELEMETRY_VERSION 1
 
 /* The number of the file that this was made of: `telemetry_source()` is that of the library. */
-#define TELEMETRY_SOURCE 741008652u
+#define TELEMETRY_SOURCE 2946043619u
 
 #ifdef __cplusplus
 extern "C" {
@@ -34,7 +34,7 @@ enum telemetry_answer {
     TELEMETRY_INVALID_SYSTEM_TIME = 4,
     /* a number that must not be zero is zero */
     TELEMETRY_ZERO_NON_ZERO = 5,
-    /* a length or a size does not fit */
+    /* a length or a size does not fit, or in a view bytes are not so many items of a list */
     TELEMETRY_OUT_OF_RANGE_LENGTH = 6,
     /* a size does not fit into 64 bits, which never comes */
     TELEMETRY_OUT_OF_RANGE_USIZE = 7,
@@ -79,7 +79,7 @@ enum telemetry_order {
 
 /* What each call relies on, and no proof sees:
    - `bytes` is not null, even where `length` is 0, and so many bytes can be read there.
-   - `size`, `view` and `walk` are not null, point to no two overlapping places, and can be written.
+   - `size`, `view`, `walk` and `number` are not null, point to no two overlapping places, and can be written.
    - What stands in `view` before a read is not read. What it shows after it lies in the bytes of that call.
    - A view that is written was set by a read, or began as zeros. Where a `length` in it is not 0, so many bytes
      can be read at the pointer beside it. The structs of other variants than that of the tag do not matter.
@@ -104,6 +104,16 @@ struct telemetry_walk {
     struct telemetry_bytes left;
 };
 
+/* A list that lies in the bytes that were read: its items, how many they are, and their byte order. The call
+   that takes an item from a copy of the walk `items`, in that order, is named where the list stands: `count`
+   times it answers 0, and then nothing is left. In a list that is written `items` are so many encodings in the
+   order `order`, whatever order is written. */
+struct telemetry_list {
+    struct telemetry_walk items;
+    telemetry_size count;
+    unsigned int order; /* TELEMETRY_LITTLE_ENDIAN or TELEMETRY_BIG_ENDIAN */
+};
+
 /* What a `Reading` shows. */
 struct telemetry_reading {
     unsigned int second;
@@ -121,7 +131,8 @@ enum telemetry_message_tag {
     TELEMETRY_MESSAGE_PING = 1,
     TELEMETRY_MESSAGE_HELLO = 2,
     TELEMETRY_MESSAGE_MEASURED = 3,
-    TELEMETRY_MESSAGE_BLOB = 4
+    TELEMETRY_MESSAGE_BLOB = 4,
+    TELEMETRY_MESSAGE_MEASUREMENTS = 5
 };
 
 struct telemetry_message_hello {
@@ -139,12 +150,18 @@ struct telemetry_message_blob {
     struct telemetry_bytes t0;
 };
 
+struct telemetry_message_measurements {
+    unsigned short sensor;
+    struct telemetry_list readings; /* by telemetry_reading_next */
+};
+
 /* What a `Message` shows: the tag, and the struct of its variant. The others show nothing. */
 struct telemetry_message {
     unsigned int tag;
     struct telemetry_message_hello hello;
     struct telemetry_message_measured measured;
     struct telemetry_message_blob blob;
+    struct telemetry_message_measurements measurements;
 };
 
 /* `Reading`: What a sensor measured.

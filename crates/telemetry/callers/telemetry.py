@@ -12,7 +12,7 @@ import enum
 import os
 import pathlib
 
-SOURCE = 741008652
+SOURCE = 2946043619
 
 
 class Order(enum.IntEnum):
@@ -38,7 +38,7 @@ class Kind(enum.IntEnum):
     INVALID_SYSTEM_TIME = 4
     # a number that must not be zero is zero
     ZERO_NON_ZERO = 5
-    # a length or a size does not fit
+    # a length or a size does not fit, or in a view bytes are not so many items of a list
     OUT_OF_RANGE_LENGTH = 6
     # a size does not fit into 64 bits, which never comes
     OUT_OF_RANGE_USIZE = 7
@@ -184,6 +184,30 @@ def _walk(read, data, order):
         yield value
 
 
+class _List(ctypes.Structure):
+    _fields_ = [("items", _Bytes), ("count", ctypes.c_size_t), ("order", ctypes.c_uint32)]
+
+    def get(self, name, raw):
+        """The items, by the call that takes one."""
+        left, view = _Bytes(self.items.at, self.items.length), raw()
+        call = getattr(_LIBRARY, name)
+        call.restype = ctypes.c_uint32
+        call.argtypes = (ctypes.POINTER(_Bytes), ctypes.c_uint32, ctypes.POINTER(raw))
+        found = []
+        for _ in range(self.count):
+            answer = call(ctypes.byref(left), self.order, ctypes.byref(view))
+            if answer:
+                raise Refused(answer)
+            found.append(view.value_of())
+        return found
+
+    @staticmethod
+    def of(values, name, raw, kept):
+        """Where the items lie, which a call writes, for as long as `kept` is there."""
+        items = [_written(name, raw.of(it, kept), _LITTLE) for it in values]
+        return _List(_Bytes.of(b"".join(items), kept), len(items), _LITTLE)
+
+
 def _written(name, raw, order):
     """The bytes that a call writes of a view."""
     size, room = ctypes.c_size_t(), 64
@@ -253,12 +277,20 @@ class _RawMessageBlob(ctypes.Structure):
     ]
 
 
+class _RawMessageMeasurements(ctypes.Structure):
+    _fields_ = [
+        ("sensor", ctypes.c_uint16),
+        ("readings", _List),
+    ]
+
+
 class _RawMessage(ctypes.Structure):
     _fields_ = [
         ("tag", ctypes.c_uint32),
         ("hello", _RawMessageHello),
         ("measured", _RawMessageMeasured),
         ("blob", _RawMessageBlob),
+        ("measurements", _RawMessageMeasurements),
     ]
 
     def value_of(self):
@@ -278,6 +310,11 @@ class _RawMessage(ctypes.Structure):
         if self.tag == 4:
             return Message.Blob(
                 t0=self.blob.t0.get(),
+            )
+        if self.tag == 5:
+            return Message.Measurements(
+                sensor=self.measurements.sensor,
+                readings=self.measurements.readings.get("telemetry_reading_next", _RawReading),
             )
         raise ValueError("the library shows a tag that this module does not know")
 
@@ -299,6 +336,10 @@ class _RawMessage(ctypes.Structure):
         elif isinstance(value, Message.Blob):
             raw.tag = 4
             raw.blob.t0 = _Bytes.of(value.t0, kept)
+        elif isinstance(value, Message.Measurements):
+            raw.tag = 5
+            raw.measurements.sensor = _number(value.sensor, ctypes.c_uint16)
+            raw.measurements.readings = _List.of(value.readings, "telemetry_reading_write", _RawReading, kept)
         else:
             raise TypeError(f"{value!r} is no `Message`")
         return raw
@@ -372,6 +413,16 @@ class Message:
     @dataclasses.dataclass(frozen=True)
     class Blob:
         t0: object
+
+        def to_bytes(self, order=_LITTLE):
+            """The canonical encoding of the value. Where it has none, `Refused` is raised."""
+            kept = []
+            return _written("telemetry_message_write", _RawMessage.of(self, kept), order)
+
+    @dataclasses.dataclass(frozen=True)
+    class Measurements:
+        sensor: object
+        readings: object
 
         def to_bytes(self, order=_LITTLE):
             """The canonical encoding of the value. Where it has none, `Refused` is raised."""

@@ -8,9 +8,10 @@
 #![allow(dead_code)]
 
 use std::fmt;
+use std::marker::PhantomData;
 
 /// The number of the file that this was made of.
-const SOURCE: u32 = 741008652;
+const SOURCE: u32 = 2946043619;
 
 /// A byte order.
 #[derive(Debug, Clone, Copy, PartialEq, Eq)]
@@ -33,7 +34,7 @@ pub enum Kind {
     InvalidSystemTime,
     /// a number that must not be zero is zero
     ZeroNonZero,
-    /// a length or a size does not fit
+    /// a length or a size does not fit, or in a view bytes are not so many items of a list
     OutOfRangeLength,
     /// a size does not fit into 64 bits, which never comes
     OutOfRangeUsize,
@@ -186,6 +187,128 @@ impl RawBytes {
     }
 }
 
+/// A list as the library shows it.
+#[derive(Clone, Copy)]
+#[repr(C)]
+struct RawList {
+    items: RawBytes,
+    count: usize,
+    order: u32,
+}
+
+impl RawList {
+    /// The list. It lies in the bytes that were read, for as long as these are borrowed.
+    unsafe fn list<'a, T>(self) -> List<'a, T> {
+        let order = if self.order == 0 { Order::LittleEndian } else { Order::BigEndian };
+        // SAFETY: as `get`.
+        List { bytes: unsafe { self.items.get() }, count: self.count, order, items: PhantomData }
+    }
+
+    /// Where a list lies.
+    fn of<T>(list: List<'_, T>) -> RawList {
+        RawList { items: RawBytes::of(list.bytes), count: list.count, order: list.order as u32 }
+    }
+}
+
+/// A list that lies in bytes: the encodings of its items, one after another. Each item is decoded when it is asked for.
+#[derive(Clone, Copy)]
+pub struct List<'a, T> {
+    bytes: &'a [u8],
+    count: usize,
+    order: Order,
+    items: PhantomData<T>,
+}
+
+impl<'a, T: Item<'a>> List<'a, T> {
+    /// How many items there are.
+    pub fn len(&self) -> usize {
+        self.count
+    }
+
+    /// Whether there is none.
+    pub fn is_empty(&self) -> bool {
+        self.count == 0
+    }
+
+    /// The items.
+    pub fn iter(&self) -> Items<'a, T> {
+        Items { left: *self }
+    }
+}
+
+impl<T> Default for List<'_, T> {
+    fn default() -> Self {
+        List { bytes: &[], count: 0, order: Order::LittleEndian, items: PhantomData }
+    }
+}
+
+impl<'a, T: Item<'a> + fmt::Debug> fmt::Debug for List<'a, T> {
+    fn fmt(&self, f: &mut fmt::Formatter<'_>) -> fmt::Result {
+        f.debug_list().entries(self.iter()).finish()
+    }
+}
+
+impl<'a, T: Item<'a> + PartialEq> PartialEq for List<'a, T> {
+    fn eq(&self, other: &Self) -> bool {
+        self.count == other.count && self.iter().eq(other.iter())
+    }
+}
+
+impl<'a, T: Item<'a>> IntoIterator for List<'a, T> {
+    type Item = T;
+    type IntoIter = Items<'a, T>;
+
+    fn into_iter(self) -> Items<'a, T> {
+        Items { left: self }
+    }
+}
+
+/// The items of a list, from the first on.
+#[derive(Clone)]
+pub struct Items<'a, T> {
+    left: List<'a, T>,
+}
+
+impl<'a, T: Item<'a>> Iterator for Items<'a, T> {
+    type Item = T;
+
+    fn next(&mut self) -> Option<T> {
+        let left = &mut self.left;
+        left.count = left.count.checked_sub(1)?;
+        // A list is one that was read, or whose items were written, so these are there.
+        Some(T::take(&mut left.bytes, left.order).expect("an item of a list"))
+    }
+
+    fn size_hint(&self) -> (usize, Option<usize>) {
+        (self.left.count, Some(self.left.count))
+    }
+}
+
+impl<'a, T: Item<'a>> ExactSizeIterator for Items<'a, T> {}
+
+/// What lists hold.
+pub trait Item<'a>: Copy {
+    /// Takes an item from the front of bytes.
+    fn take(bytes: &mut &'a [u8], order: Order) -> Result<Self, Refused>;
+}
+
+impl<'a, T: Item<'a> + Put> List<'a, T> {
+    /// A list of these items, whose encodings take the place of what stands in the buffer.
+    pub fn of(items: &[T], buffer: &'a mut Vec<u8>) -> Result<Self, Refused> {
+        buffer.clear();
+        for item in items {
+            item.put(buffer)?;
+        }
+        Ok(List { bytes: buffer, count: items.len(), order: Order::LittleEndian, items: PhantomData })
+    }
+}
+
+/// What lists that are written hold.
+pub trait Put {
+    /// Appends an item to a buffer, in little endian.
+    fn put(&self, buffer: &mut Vec<u8>) -> Result<(), Refused>;
+}
+
 #[derive(Clone, Copy)]
 #[repr(C)]
 struct RawMaybeText {
@@ -242,11 +365,19 @@ struct RawMessageBlob {
 
 #[derive(Clone, Copy)]
 #[repr(C)]
+struct RawMessageMeasurements {
+    sensor: u16,
+    readings: RawList,
+}
+
+#[derive(Clone, Copy)]
+#[repr(C)]
 struct RawMessage {
     tag: u32,
     hello: RawMessageHello,
     measured: RawMessageMeasured,
     blob: RawMessageBlob,
+    measurements: RawMessageMeasurements,
 }
 
 /// The value that a view shows.
@@ -262,8 +393,12 @@ unsafe fn message_of<'a>(raw: RawMessage) -> message::Message<'a> {
             sensor: raw.measured.sensor,
             reading: unsafe { reading_of(raw.measured.reading) },
         },
-        _ => message::Message::Blob {
+        4 => message::Message::Blob {
             t0: unsafe { raw.blob.t0.get() },
+        },
+        _ => message::Message::Measurements {
+            sensor: raw.measurements.sensor,
+            readings: unsafe { raw.measurements.readings.list() },
         },
     }
 }
@@ -299,6 +434,29 @@ fn message_raw(value: message::Message<'_>) -> RawMessage {
             },
             ..unsafe { self::zeros() }
         },
+        message::Message::Measurements { sensor, readings } => RawMessage {
+            tag: 5,
+            measurements: RawMessageMeasurements {
+                sensor: sensor,
+                readings: RawList::of(readings),
+            },
+            ..unsafe { self::zeros() }
+        },
+    }
+}
+
+impl Item<'_> for reading::Reading {
+    fn take(bytes: &mut &[u8], order: Order) -> Result<Self, Refused> {
+        let all = *bytes;
+        let (value, size) = reading::read(all, order)?;
+        *bytes = &all[size..];
+        Ok(value)
+    }
+}
+
+impl Put for reading::Reading {
+    fn put(&self, buffer: &mut Vec<u8>) -> Result<(), Refused> {
+        append(buffer, |room| self.write_to(room, Order::LittleEndian))
     }
 }
 
@@ -320,17 +478,21 @@ unsafe fn zeros<T>() -> T {
     unsafe { std::mem::zeroed() }
 }
 
-/// What is written, in a buffer that grows as it says.
-fn grown(write: impl Fn(&mut [u8]) -> Result<usize, Refused>) -> Result<Vec<u8>, Refused> {
-    let mut buffer = vec![0; 64];
+/// Appends what is written to a buffer, which grows as the write says.
+fn append(buffer: &mut Vec<u8>, write: impl Fn(&mut [u8]) -> Result<usize, Refused>) -> Result<(), Refused> {
+    let begin = buffer.len();
+    buffer.resize(begin + 64, 0);
     loop {
-        match write(&mut buffer) {
+        match write(&mut buffer[begin..]) {
             Ok(size) => {
-                buffer.truncate(size);
-                return Ok(buffer);
+                buffer.truncate(begin + size);
+                return Ok(());
             }
-            Err(Refused { kind: Kind::OutputBufferIsTooSmall, at }) => buffer.resize(at, 0),
-            Err(refused) => return Err(refused),
+            Err(Refused { kind: Kind::OutputBufferIsTooSmall, at }) => buffer.resize(begin + at, 0),
+            Err(refused) => {
+                buffer.truncate(begin);
+                return Err(refused);
+            }
         }
     }
 }
@@ -339,9 +501,10 @@ fn grown(write: impl Fn(&mut [u8]) -> Result<usize, Refused>) -> Result<Vec<u8>,
 pub mod reading {
     /// Says whether bytes begin with an encoding of a `Reading`, and of how many bytes it is.
     pub fn check(bytes: &[u8], order: super::Order) -> Result<usize, super::Refused> {
+        let (start, length) = (bytes.as_ptr(), bytes.len());
         let mut size = 0;
         // SAFETY: so many bytes are there, they are only read, and nothing keeps a pointer.
-        let answer = unsafe { super::telemetry_reading_check(bytes.as_ptr(), bytes.len(), order as u32, &mut size) };
+        let answer = unsafe { super::telemetry_reading_check(start, length, order as u32, &mut size) };
         if answer == 0 { Ok(size) } else { Err(super::Refused::of(answer, size)) }
     }
 
@@ -354,7 +517,10 @@ pub mod reading {
     }
 
     /// Reads the value that the bytes begin with, and says of how many bytes it is.
-    pub fn read(bytes: &[u8], order: super::Order) -> Result<(Reading, usize), super::Refused> {
+    pub fn read(
+        bytes: &[u8],
+        order: super::Order,
+    ) -> Result<(Reading, usize), super::Refused> {
         let mut raw = std::mem::MaybeUninit::<super::RawReading>::uninit();
         let mut size = 0;
         // SAFETY: so many bytes are there, they are only read, and what is written is not read before.
@@ -407,7 +573,9 @@ pub mod reading {
 
         /// The canonical encoding of the value.
         pub fn to_bytes(&self, order: super::Order) -> Result<Vec<u8>, super::Refused> {
-            super::grown(|buffer| self.write_to(buffer, order))
+            let mut bytes = Vec::new();
+            super::append(&mut bytes, |buffer| self.write_to(buffer, order))?;
+            Ok(bytes)
         }
     }
 }
@@ -416,9 +584,10 @@ pub mod reading {
 pub mod message {
     /// Says whether bytes begin with an encoding of a `Message`, and of how many bytes it is.
     pub fn check(bytes: &[u8], order: super::Order) -> Result<usize, super::Refused> {
+        let (start, length) = (bytes.as_ptr(), bytes.len());
         let mut size = 0;
         // SAFETY: so many bytes are there, they are only read, and nothing keeps a pointer.
-        let answer = unsafe { super::telemetry_message_check(bytes.as_ptr(), bytes.len(), order as u32, &mut size) };
+        let answer = unsafe { super::telemetry_message_check(start, length, order as u32, &mut size) };
         if answer == 0 { Ok(size) } else { Err(super::Refused::of(answer, size)) }
     }
 
@@ -429,10 +598,14 @@ pub mod message {
         Hello { name: &'a str, version: [u8; 3], mail: Option<&'a str> },
         Measured { sensor: u16, reading: super::reading::Reading },
         Blob { t0: &'a [u8] },
+        Measurements { sensor: u16, readings: super::List<'a, super::reading::Reading> },
     }
 
     /// Reads the value that the bytes begin with, and says of how many bytes it is.
-    pub fn read<'a>(bytes: &'a [u8], order: super::Order) -> Result<(Message<'a>, usize), super::Refused> {
+    pub fn read<'a>(
+        bytes: &'a [u8],
+        order: super::Order,
+    ) -> Result<(Message<'a>, usize), super::Refused> {
         let mut raw = std::mem::MaybeUninit::<super::RawMessage>::uninit();
         let mut size = 0;
         // SAFETY: so many bytes are there, they are only read, and what is written is not read before.
@@ -485,7 +658,9 @@ pub mod message {
 
         /// The canonical encoding of the value.
         pub fn to_bytes(&self, order: super::Order) -> Result<Vec<u8>, super::Refused> {
-            super::grown(|buffer| self.write_to(buffer, order))
+            let mut bytes = Vec::new();
+            super::append(&mut bytes, |buffer| self.write_to(buffer, order))?;
+            Ok(bytes)
         }
     }
 }

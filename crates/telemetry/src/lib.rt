@@ -19,9 +19,9 @@ pub mod views;
 /// Tells the file that this library was made of: a header of the same file has this number.
 #[unsafe(no_mangle)]
 pub extern "C" fn telemetry_source() -> u32
-    ensures { result ≡ 741008652 }
+    ensures { result ≡ 2946043619 }
 {
-    741008652
+    2946043619
 }
 
 /// Says whether bytes begin with an encoding of [`Reading`].
@@ -72,6 +72,7 @@ pub extern "C" fn telemetry_reading_next<'a>(
 /// Writes the [`Reading`] that a view shows.
 #[unsafe(no_mangle)]
 pub extern "C" fn telemetry_reading_write(
+    alloc: Global,
     view: &ReadingView,
     order: u32,
     buffer: &mut [u8],
@@ -81,7 +82,7 @@ pub extern "C" fn telemetry_reading_write(
         let shows = ⟦<ReadingView as View<Reading>>⟧.shows in
         Writes it.seen shows it.layout view.now order result size.new buffer.old buffer.new }
 {
-    write::<Reading, ReadingView>(view, order, buffer, size)
+    write::<Reading, ReadingView>(alloc, view, order, buffer, size)
 }
 
 /// Says whether bytes begin with an encoding of [`Message`].
@@ -132,6 +133,7 @@ pub extern "C" fn telemetry_message_next<'a>(
 /// Writes the [`Message`] that a view shows.
 #[unsafe(no_mangle)]
 pub extern "C" fn telemetry_message_write<'a>(
+    alloc: Global,
     view: &MessageView<'a>,
     order: u32,
     buffer: &mut [u8],
@@ -141,7 +143,7 @@ pub extern "C" fn telemetry_message_write<'a>(
         let shows = ⟦<MessageView<'a> as View<Message<'a>>>⟧.shows in
         Writes it.seen shows it.layout view.now order result size.new buffer.old buffer.new }
 {
-    write::<Message<'a>, MessageView<'a>>(view, order, buffer, size)
+    write::<Message<'a>, MessageView<'a>>(alloc, view, order, buffer, size)
 }
 
 /// Says whether bytes, all of them, are an encoding of [`Line`].

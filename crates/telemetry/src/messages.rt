@@ -1,17 +1,22 @@
 //! What sensors send: who they are, and what they measured.
 //!
-//! Made from `messages.rs` by `tools/derive`: change that, and make this again.
+//! Made from `messages.rs` by `tools/derive --library`: change that, and make this again.
 ghost use Rattle.std.specs.Prelude.{◌≡◌};
 ghost use Rattle.std.proofs.Common.{inl, inr};
 
 use speedy::cases::{
     Case, CaseTree, Cases, Either, ReadCases, UnitCase, WriteCases, read_tagged, write_tagged,
 };
+use speedy::encoded::{EncodedList, ListItem, WriteListItem, measure_items, write_first_item};
+use speedy::in_place::InPlace;
 use speedy::lengths::OfLength;
 use speedy::prefixed::Prefixed;
 use speedy::private::error_invalid_enum_variant;
 use speedy::whole::{EndsWithInput, Followed, MemoryReader, ReadToEnd, Rest, Whole, WriteToEnd};
-use speedy::{Context, ItemByItem, Layout, LendingReader, Part, ReadFrom, Writable, Writer};
+use speedy::{
+    Context, Endianness, ItemByItem, Layout, LendingReader, Part, ReadFrom, Writable, Writer,
+};
+use std::alloc::Global;
 use std::convert::AsSlice;
 
 /// What a sensor measured.
@@ -60,8 +65,36 @@ impl<C: Context> Writable<C> for Reading {
     }
 }
 
+impl InPlace for Reading {
+    ghost Seen = { ⟦<ReadingParts as InPlace>⟧.Seen };
+
+    ghost in_place = { ⟦<ReadingParts as InPlace>⟧.in_place };
+}
+
+impl ListItem for Reading {
+    fn measure<C: Context>(
+        alloc: Global,
+        context: C,
+        count: usize,
+        bytes: &[u8],
+    ) -> Result<usize, C::Error> {
+        measure_items::<Reading, C>(alloc, context, count, bytes)
+    }
+}
+
+impl<C: Context> WriteListItem<C> for Reading {
+    fn write_first<W: Writer<C>>(
+        alloc: Global,
+        order: Endianness,
+        bytes: &[u8],
+        writer: &mut W,
+    ) -> Option<(usize, Result<(), C::Error>)> {
+        write_first_item::<Reading, C, W>(alloc, order, bytes, writer)
+    }
+}
+
 /// A message.
-#[derive(Debug, PartialEq, Drop)]
+#[derive(Debug, Drop)]
 pub enum Message<'a> {
     Ping,
     /// Who the sensor is, and whom to tell where it fails.
@@ -76,12 +109,20 @@ pub enum Message<'a> {
     },
     /// A picture, or whatever else it took.
     Blob(&'a [u8]),
+    /// What it measured since it was asked before.
+    Measurements {
+        sensor: u16,
+        readings: EncodedList<'a, Reading>,
+    },
 }
 
 /// The cases of [`Message`], each with its tag.
 type MessageCases<'a> = Either<
     Either<UnitCase<1>, Case<2, (&'a str, [u8; 3], Option<&'a str>)>>,
-    Either<Case<3, (u16, Reading)>, Case<4, &'a [u8]>>,
+    Either<
+        Case<3, (u16, Reading)>,
+        Either<Case<4, &'a [u8]>, Case<5, (u16, EncodedList<'a, Reading>)>>,
+    >,
 >;
 
 impl<'a> Cases for Message<'a> {
@@ -93,7 +134,8 @@ impl<'a> Cases for Message<'a> {
       | Message.Ping ↦ inl (inl tt)
       | Message.Hello t0 t1 t2 ↦ inl (inr (⟦<(&'a str, [u8; 3], Option<&'a str>) as Layout>⟧.seen (t0, t1, t2)))
       | Message.Measured t0 t1 ↦ inr (inl (⟦<(u16, Reading) as Layout>⟧.seen (t0, t1)))
-      | Message.Blob t0 ↦ inr (inr (⟦<&'a [u8] as Layout>⟧.seen t0))
+      | Message.Blob t0 ↦ inr (inr (inl (⟦<&'a [u8] as Layout>⟧.seen t0)))
+      | Message.Measurements t0 t1 ↦ inr (inr (inr (⟦<(u16, EncodedList<'a, Reading>) as Layout>⟧.seen (t0, t1))))
     ] };
 
     ghost choices = { ⟦<MessageCases<'a> as CaseTree>⟧.choices };
@@ -133,6 +175,10 @@ impl<'a, C: Context> ReadCases<&'a [u8], C> for Message<'a> {
                 Ok(t0) => Ok(Message::Blob(t0)),
                 Err(error) => Err(error),
             },
+            5 => match reader.read_value() {
+                Ok((sensor, readings)) => Ok(Message::Measurements { sensor, readings }),
+                Err(error) => Err(error),
+            },
             _ => Err(error_invalid_enum_variant()),
         }
     }
@@ -159,6 +205,7 @@ impl<'a, C: Context> WriteCases<C> for Message<'a> {
             Message::Hello { .. } => 2,
             Message::Measured { .. } => 3,
             Message::Blob(..) => 4,
+            Message::Measurements { .. } => 5,
         }
     }
 
@@ -172,6 +219,10 @@ impl<'a, C: Context> WriteCases<C> for Message<'a> {
             } => writer.write_value(&(Part(name), Part(version), Part(mail))),
             Message::Measured { sensor, reading } => writer.write_value(&(*sensor, Part(reading))),
             Message::Blob(t0) => writer.write_value(t0),
+            Message::Measurements { sensor, readings } => writer.write_value(&(
+                *sensor,
+                Part(readings),
+            )),
         }
     }
 }

@@ -5,7 +5,9 @@ ghost use Rattle.std.specs.Prelude.{◌≡◌, Some, None};
 ghost use Rattle.speedy.specs.Exports.{ShowsFlag, ShowsText};
 
 use crate::messages::{Message, Reading};
-use speedy::exports::{Shown, Unshown, View, flag_number, flag_shown, text_shown};
+use speedy::encoded::EncodedList;
+use speedy::exports::{ListView, Shown, Unshown, View, Walk, flag_number, flag_shown, text_shown};
+use std::alloc::Global;
 
 /// An option: whether there is a value (0 or 1), and which.
 #[repr(C)]
@@ -46,7 +48,7 @@ impl<'a> View<Option<&'a str>> for MaybeTextView<'a> {
 }
 
 impl<'a> Shown<Option<&'a str>> for MaybeTextView<'a> {
-    fn value(&self) -> Result<Option<&'a str>, Unshown> {
+    fn value(&self, _alloc: Global) -> Result<Option<&'a str>, Unshown> {
         match self.is_some {
             0 => Ok(None),
             1 => {
@@ -92,7 +94,7 @@ impl View<Reading> for ReadingView {
 }
 
 impl Shown<Reading> for ReadingView {
-    fn value(&self) -> Result<Reading, Unshown> {
+    fn value(&self, _alloc: Global) -> Result<Reading, Unshown> {
         let t0 = self.second;
         let t1 = self.value;
         let t2 = flag_shown(self.is_exact)?;
@@ -156,6 +158,28 @@ impl<'a> MessageBlobView<'a> {
     }
 }
 
+/// What a `Measurements` of [`Message`] shows.
+#[repr(C)]
+#[derive(Clone, Copy)]
+pub struct MessageMeasurementsView<'a> {
+    pub sensor: u16,
+    pub readings: ListView<'a>,
+}
+
+impl<'a> MessageMeasurementsView<'a> {
+    // Zeros.
+    fn empty() -> MessageMeasurementsView<'a> {
+        MessageMeasurementsView {
+            sensor: 0,
+            readings: ListView {
+                items: Walk { left: &[] },
+                count: 0,
+                order: 0,
+            },
+        }
+    }
+}
+
 /// What a [`Message`] shows: the tag of its variant, and the fields of that.
 #[repr(C)]
 #[derive(Clone, Copy)]
@@ -164,6 +188,7 @@ pub struct MessageView<'a> {
     pub hello: MessageHelloView<'a>,
     pub measured: MessageMeasuredView,
     pub blob: MessageBlobView<'a>,
+    pub measurements: MessageMeasurementsView<'a>,
 }
 
 impl<'a> MessageView<'a> {
@@ -174,6 +199,7 @@ impl<'a> MessageView<'a> {
             hello: MessageHelloView::empty(),
             measured: MessageMeasuredView::empty(),
             blob: MessageBlobView::empty(),
+            measurements: MessageMeasurementsView::empty(),
         }
     }
 }
@@ -192,6 +218,9 @@ impl<'a> View<Message<'a>> for MessageView<'a> {
           × (⟦<ReadingView as View<Reading>>⟧.shows t1 view.measured.reading)
       | Message.Blob t0 ↦
           (view.tag ≡ 4) × (view.blob.t0.now ≡ t0.now)
+      | Message.Measurements t0 t1 ↦
+          (view.tag ≡ 5) × (view.measurements.sensor ≡ t0)
+          × (⟦<ListView<'a> as View<EncodedList<'a, Reading>>>⟧.shows t1 view.measurements.readings)
     ] };
 
     fn of(value: &Message<'a>) -> MessageView<'a> {
@@ -225,19 +254,29 @@ impl<'a> View<Message<'a>> for MessageView<'a> {
                 view.tag = 4;
                 view.blob = MessageBlobView { t0: *t0 };
             }
+            Message::Measurements {
+                sensor: t0,
+                readings: t1,
+            } => {
+                view.tag = 5;
+                view.measurements = MessageMeasurementsView {
+                    sensor: *t0,
+                    readings: View::of(t1),
+                };
+            }
         }
         view
     }
 }
 
 impl<'a> Shown<Message<'a>> for MessageView<'a> {
-    fn value(&self) -> Result<Message<'a>, Unshown> {
+    fn value(&self, alloc: Global) -> Result<Message<'a>, Unshown> {
         match self.tag {
             1 => Ok(Message::Ping),
             2 => {
                 let t0 = text_shown(self.hello.name)?;
                 let t1 = self.hello.version;
-                let t2 = self.hello.mail.value()?;
+                let t2 = self.hello.mail.value(alloc)?;
                 Ok(Message::Hello {
                     name: t0,
                     version: t1,
@@ -246,7 +285,7 @@ impl<'a> Shown<Message<'a>> for MessageView<'a> {
             }
             3 => {
                 let t0 = self.measured.sensor;
-                let t1 = self.measured.reading.value()?;
+                let t1 = self.measured.reading.value(alloc)?;
                 Ok(Message::Measured {
                     sensor: t0,
                     reading: t1,
@@ -255,6 +294,14 @@ impl<'a> Shown<Message<'a>> for MessageView<'a> {
             4 => {
                 let t0 = self.blob.t0;
                 Ok(Message::Blob(t0))
+            }
+            5 => {
+                let t0 = self.measurements.sensor;
+                let t1 = self.measurements.readings.value(alloc)?;
+                Ok(Message::Measurements {
+                    sensor: t0,
+                    readings: t1,
+                })
             }
             _ => Err(Unshown::Tag),
         }

@@ -38,3 +38,15 @@ returns-in-Err-read_value-2 g c =
     let read = read_of c.in-Err-read_value-2.is c.read_value-in-4.ensures in
     read_arm cases g.C.Error.From.from_gives g.C.Error.IsEof.eof g.R.LendingReader.state _ _ _
     c.in-4.is (read.kept, read.answer)
+
+pub returns-in-Ok-read_value-3 : goal.returns-in-Ok-read_value-3
+returns-in-Ok-read_value-3 g c =
+    let read = read_of c.in-Ok-read_value-3.is c.read_value-in-5.ensures in
+    read_arm cases g.C.Error.From.from_gives g.C.Error.IsEof.eof g.R.LendingReader.state _ _ _
+    c.in-5.is (read.kept, read.answer)
+
+pub returns-in-Err-read_value-3 : goal.returns-in-Err-read_value-3
+returns-in-Err-read_value-3 g c =
+    let read = read_of c.in-Err-read_value-3.is c.read_value-in-5.ensures in
+    read_arm cases g.C.Error.From.from_gives g.C.Error.IsEof.eof g.R.LendingReader.state _ _ _
+    c.in-5.is (read.kept, read.answer)

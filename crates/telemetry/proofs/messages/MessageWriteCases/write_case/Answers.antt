@@ -16,3 +16,8 @@ pub returns-in-Blob : goal.returns-in-Blob
 returns-in-Blob g c =
     write_arm cases g.C.Error.From.from_gives g.W.Writer.state g.W.Writer.appends _ _ _
     c.in-Blob.is c.write_value-in-Blob.ensures
+
+pub returns-in-Measurements : goal.returns-in-Measurements
+returns-in-Measurements g c =
+    write_arm cases g.C.Error.From.from_gives g.W.Writer.state g.W.Writer.appends _ _ _
+    c.in-Measurements.is c.write_value-in-Measurements.ensures

@@ -1,0 +1,241 @@
+//! Answers lines `TYPE ORDER BYTES`, as run-examples says, by protocol.rs. Made by `tools/derive --library`.
+use std::io::{self, BufRead};
+
+mod protocol;
+
+use protocol::{Kind, Order, Refused};
+
+/// What a check of a type answers.
+fn check(kind: &str, bytes: &[u8], order: Order) -> Result<usize, Refused> {
+    match kind {
+        "start" => protocol::start::check(bytes, order),
+        "header" => protocol::header::check(bytes, order),
+        "header2" => protocol::header2::check(bytes, order),
+        "reading" => protocol::reading::check(bytes, order),
+        "message" => protocol::message::check(bytes, order),
+        "framed_message" => protocol::framed_message::check(bytes, order),
+        "framed_bytes" => protocol::framed_bytes::check(bytes, order),
+        _ => panic!("there is no type {kind}"),
+    }
+}
+
+/// Reads what was checked, and prints it. It has to be of the same size.
+#[allow(unused_variables)]
+fn show(kind: &str, bytes: &[u8], order: Order, size: usize) -> String {
+    match kind {
+        "start" => {
+            let (value, read) = protocol::start::read(bytes, order).expect("a value");
+            let walked = protocol::start::walk(bytes, order).next();
+            assert!(read == size);
+            let again = if size == 0 { value } else { walked.expect("one").expect("the same") };
+            say_start(&again) + &say_start(&value)
+                + &written(value.to_bytes(order), |buffer| value.write_to(buffer, order))
+        }
+        "header" => {
+            let (value, read) = protocol::header::read(bytes, order).expect("a value");
+            let walked = protocol::header::walk(bytes, order).next();
+            assert!(read == size);
+            let again = if size == 0 { value } else { walked.expect("one").expect("the same") };
+            say_header(&again) + &say_header(&value)
+                + &written(value.to_bytes(order), |buffer| value.write_to(buffer, order))
+        }
+        "header2" => {
+            let (value, read) = protocol::header2::read(bytes, order).expect("a value");
+            let walked = protocol::header2::walk(bytes, order).next();
+            assert!(read == size);
+            let again = if size == 0 { value } else { walked.expect("one").expect("the same") };
+            say_header2(&again) + &say_header2(&value)
+                + &written(value.to_bytes(order), |buffer| value.write_to(buffer, order))
+        }
+        "reading" => {
+            let (value, read) = protocol::reading::read(bytes, order).expect("a value");
+            let walked = protocol::reading::walk(bytes, order).next();
+            assert!(read == size);
+            let again = if size == 0 { value } else { walked.expect("one").expect("the same") };
+            say_reading(&again) + &say_reading(&value)
+                + &written(value.to_bytes(order), |buffer| value.write_to(buffer, order))
+        }
+        "message" => {
+            let (value, read) = protocol::message::read(bytes, order).expect("a value");
+            let walked = protocol::message::walk(bytes, order).next();
+            assert!(read == size);
+            let again = if size == 0 { value } else { walked.expect("one").expect("the same") };
+            say_message(&again) + &say_message(&value)
+                + &written(value.to_bytes(order), |buffer| value.write_to(buffer, order))
+        }
+        "framed_message" => {
+            let (value, read) = protocol::framed_message::read(bytes, order).expect("a value");
+            let walked = protocol::framed_message::walk(bytes, order).next();
+            assert!(read == size);
+            let again = if size == 0 { value } else { walked.expect("one").expect("the same") };
+            say_framed_message(&again) + &say_framed_message(&value)
+                + &written(value.to_bytes(order), |buffer| value.write_to(buffer, order))
+        }
+        "framed_bytes" => {
+            let (value, read) = protocol::framed_bytes::read(bytes, order).expect("a value");
+            let walked = protocol::framed_bytes::walk(bytes, order).next();
+            assert!(read == size);
+            let again = if size == 0 { value } else { walked.expect("one").expect("the same") };
+            say_framed_bytes(&again) + &say_framed_bytes(&value)
+                + &written(value.to_bytes(order), |buffer| value.write_to(buffer, order))
+        }
+        _ => String::new(),
+    }
+}
+
+/// Bytes in hex, or `-`.
+fn hex(bytes: &[u8]) -> String {
+    let digits: String = bytes.iter().map(|it| format!("{it:02x}")).collect();
+    if digits.is_empty() { " -".to_string() } else { format!(" {digits}") }
+}
+
+/// What is written of a value. A buffer of one byte less is too short.
+fn written(
+    bytes: Result<Vec<u8>, Refused>,
+    write: impl Fn(&mut [u8]) -> Result<usize, Refused>,
+) -> String {
+    let bytes = bytes.expect("bytes");
+    if let Some(less) = bytes.len().checked_sub(1) {
+        let short = write(&mut vec![0; less]).expect_err("too short");
+        assert!(short.kind == Kind::OutputBufferIsTooSmall && short.at == bytes.len());
+    }
+    format!(" ={}", hex(&bytes))
+}
+
+fn say_start(it: &protocol::start::Start<'_>) -> String {
+    [
+        hex(it.header),
+    ]
+    .concat()
+}
+
+fn say_header(it: &protocol::header::Header) -> String {
+    [
+        format!(" {}", it.version),
+        format!(" {}", it.flags),
+    ]
+    .concat()
+}
+
+fn say_header2(it: &protocol::header2::Header2) -> String {
+    [
+        format!(" {}", it.version),
+        format!(" {}", it.flags),
+        format!(" {}", it.session),
+    ]
+    .concat()
+}
+
+fn say_reading(it: &protocol::reading::Reading) -> String {
+    [
+        format!(" {}", it.second),
+        format!(" {}", it.value),
+    ]
+    .concat()
+}
+
+fn say_message(it: &protocol::message::Message<'_>) -> String {
+    match *it {
+        protocol::message::Message::Ping => [
+            " Ping".to_string(),
+        ]
+        .concat(),
+        protocol::message::Message::Hello { name, mail } => [
+            " Hello".to_string(),
+            hex(name.as_bytes()),
+            match mail { Some(it) => " some".to_string() + &hex(it.as_bytes()), None => " none".into() },
+        ]
+        .concat(),
+        protocol::message::Message::Readings { sensor, list } => [
+            " Readings".to_string(),
+            format!(" {}", sensor),
+            format!(" {}", list.len()) + &list.iter().map(|it| say_reading(&it)).collect::<String>(),
+        ]
+        .concat(),
+        protocol::message::Message::Blob { t0 } => [
+            " Blob".to_string(),
+            hex(t0),
+        ]
+        .concat(),
+        protocol::message::Message::Failure { code, text } => [
+            " Failure".to_string(),
+            format!(" {}", code),
+            hex(text.as_bytes()),
+        ]
+        .concat(),
+        protocol::message::Message::Bye => [
+            " Bye".to_string(),
+        ]
+        .concat(),
+    }
+}
+
+fn say_framed_message(it: &protocol::framed_message::FramedMessage<'_>) -> String {
+    [
+        format!(" {}", it.size),
+        say_message(&it.message),
+    ]
+    .concat()
+}
+
+fn say_framed_bytes(it: &protocol::framed_bytes::FramedBytes<'_>) -> String {
+    [
+        hex(it.bytes),
+    ]
+    .concat()
+}
+
+/// The number of a kind.
+fn number(kind: Kind) -> u32 {
+    match kind {
+        Kind::InvalidChar => 1,
+        Kind::InvalidEnumVariant => 2,
+        Kind::InvalidUtf8 => 3,
+        Kind::InvalidSystemTime => 4,
+        Kind::ZeroNonZero => 5,
+        Kind::OutOfRangeLength => 6,
+        Kind::OutOfRangeUsize => 7,
+        Kind::UnexpectedEndOfInput => 8,
+        Kind::UnexpectedEndOfOutputBuffer => 9,
+        Kind::InputBufferIsTooSmall => 10,
+        Kind::OutputBufferIsTooSmall => 11,
+        Kind::LengthIsNotTheSameAsLengthAttribute => 12,
+        Kind::ExpectedConstant => 13,
+        Kind::Unsized => 14,
+        Kind::EndiannessMismatch => 15,
+        Kind::NotWrittenForm => 16,
+        Kind::IoError => 17,
+        Kind::OutOfMemory => 18,
+        Kind::Custom => 19,
+        Kind::UnknownOrder => 100,
+        Kind::Other(number) => number,
+    }
+}
+
+/// The bytes of a line.
+fn bytes_of(hex: &str) -> Vec<u8> {
+    let digits = if hex == "-" { "" } else { hex };
+    (0..digits.len() / 2).map(|at| u8::from_str_radix(&digits[2 * at..2 * at + 2], 16).expect("hex")).collect()
+}
+
+fn main() {
+    assert!(protocol::fits());
+    for line in io::stdin().lock().lines() {
+        let line = line.expect("a line");
+        let words: Vec<&str> = line.split(' ').collect();
+        let order = match words[1] {
+            "0" => Order::LittleEndian,
+            "1" => Order::BigEndian,
+            _ => {
+                // The module takes no other order.
+                println!("100 0");
+                continue;
+            }
+        };
+        let bytes = bytes_of(words[2]);
+        match check(words[0], &bytes, order) {
+            Ok(size) => println!("0 {size}{}", show(words[0], &bytes, order, size)),
+            Err(refused) => println!("{} {}", number(refused.kind), refused.at),
+        }
+    }
+}
