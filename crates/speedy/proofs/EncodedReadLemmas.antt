@@ -1,7 +1,7 @@
 -- Reads of lists that lie where they were read.
 use Rattle.std.specs.Prelude.{◌≡◌, ℕ, ◌≤◌, List, [], ◌∷◌, ◌++◌, length, take, drop, Bool, true, false, IsTrue}
 use Rattle.std.specs.Prelude.{◌⊎◌, Result, Ok, Err, IsErrAnd, refl}
-use Rattle.std.proofs.Common.{sym, ◌∙◌, ap, ap₂, subst, inl, inr, arith, true≢false}
+use Rattle.std.proofs.Common.{sym, ◌∙◌, ap, subst, inl, inr, arith, true≢false}
 use Rattle.std.proofs.lemmas.List.{take-append-drop, length-append, length-take-le}
 use Rattle.speedy_base.specs.declared.endianness.Endianness.{Endianness}
 use Rattle.speedy_base.specs.declared.error.Error.{Error}
@@ -11,7 +11,7 @@ use Rattle.speedy_base.specs.Error.{error_of, is_eof_error, IsNamed-more}
 use Rattle.speedy_base.specs.ErrorKind.{EndsInput}
 use Rattle.speedy_base.specs.Mode.{Mode, plain_mode, strict_mode}
 use Rattle.speedy_layout.specs.Codecs.{Codec}
-use Rattle.speedy_layout.specs.Format.{Format, Each}
+use Rattle.speedy_layout.specs.Format.{Format}
 use Rattle.speedy_layout.specs.Lists.{each_as, repeat, vector}
 use Rattle.speedy_layout.specs.Numbers.{same_prefixes}
 use Rattle.speedy_layout.specs.Owned.{owned_content, borrowed_content}
