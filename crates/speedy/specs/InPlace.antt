@@ -20,7 +20,8 @@ use Rattle.speedy_layout.specs.Tuples.{unit}
 abbrev pub TakesNoMemory : {V : Type 0} → Codec V → Type 0
 TakesNoMemory codec = (mode : Mode) → (codec.format mode).asks.memory ≡ false
 
--- A layout whose values take no memory, and are seen as data: what is seen of one has a code, which tells it from others.
+-- A layout whose values take no memory, and are seen as data: what is seen of one has a code, which tells it from any
+-- other.
 pub record InPlaceCodec (V : Type 0) : Type 1 where
   pub codec : Codec V
   pub coded : Coded V

@@ -259,6 +259,11 @@ fn a_list_lies_where_its_bytes_do(rt: HostRuntime) {
     assert!(&rt; list.len() == 2 && !list.is_empty());
     assert!(&rt; list.order() == Endianness::LittleEndian);
     assert_bytes(&rt, list.bytes(), &NAMES[4..]);
+    let mut items = list.reader();
+    let first: Named = items.read_value().expect(&rt, "an item");
+    let second: Named = items.read_value().expect(&rt, "an item");
+    assert!(&rt; first.id == 1 && first.name == "a" && second.id == 2 && second.name == "bc");
+    assert!(&rt; items.is_empty());
     // Numbers too, and a list of none.
     let two = &[0, 0, 0, 2, 0, 1, 0, 2, 9];
     let numbers = <EncodedList<u16> as Readable<BigEndian>>::read_from_buffer_with_ctx(
