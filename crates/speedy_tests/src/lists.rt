@@ -1,14 +1,16 @@
 //! Lists and arrays. `SmallVec` is tested by lines of `stdin` in `speedy_vectors`.
 use crate::asserting::{
-    assert_bytes, assert_encoding, assert_ok, assert_ok_items, assert_refused, make_text, make_vec,
-    row,
+    assert_bytes, assert_encoding, assert_ok, assert_ok_items, assert_refused, assert_same,
+    make_text, make_vec, row,
 };
 use speedy::device::VecSink;
 use speedy::endianness::Endianness;
 use speedy::readable::{BufferReader, CopyingBufferReader, StreamReader};
 use speedy::reader::LendingReader;
+use speedy::varint::VarInt64;
 use speedy::writable::Writable;
 use std::alloc::Global;
+use std::net::{IpAddr, Ipv4Addr};
 use std::process::Abort;
 
 #[test]
@@ -21,6 +23,22 @@ fn arrays_of_texts_lie_text_after_text(rt: HostRuntime) {
     let mut reader = BufferReader::new(alloc, order, &bytes);
     let read: [String; 2] = reader.read_value().expect(&rt, "two texts");
     assert!(rt; read == texts);
+}
+
+#[test]
+fn lists_are_counted_past_a_block(rt: HostRuntime) {
+    let alloc = rt.alloc();
+    let mut order = Endianness::LittleEndian;
+    let texts = vec![in alloc; "a text"; 5_000].expect(&rt, "a list");
+    let size = texts.bytes_needed(&mut order).expect(&rt, "a size");
+    assert_same(&rt, size, 4 + 5_000 * (4 + 6));
+    let address = IpAddr::V4(Ipv4Addr::new(10, 0, 0, 1));
+    let addresses = vec![in alloc; address; 5_000].expect(&rt, "a list");
+    let size = addresses.bytes_needed(&mut order).expect(&rt, "a size");
+    assert_same(&rt, size, 4 + 5_000 * 5);
+    let numbers = vec![in alloc; VarInt64::from(300_u64); 5_000].expect(&rt, "a list");
+    let size = numbers.bytes_needed(&mut order).expect(&rt, "a size");
+    assert_same(&rt, size, 4 + 5_000 * 2);
 }
 
 /// Two characters, of which the first is none and the second lacks two bytes.

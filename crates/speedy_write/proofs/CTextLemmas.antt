@@ -7,7 +7,7 @@ use Rattle.speedy_base.specs.declared.error.Error.{Error}
 use Rattle.speedy_base.specs.Error.{error_of}
 use Rattle.speedy_layout.specs.CText.{HasNoNul, nul_ended, nul_ended_codec, nul_ended_laws, nul_ended_text_codec}
 use Rattle.speedy_layout.specs.Codes.{coding, Accepts-exact_means}
-use Rattle.speedy_layout.specs.Format.{Format, Parts, Parts-joined, asks_nothing}
+use Rattle.speedy_layout.specs.Format.{Format, Parts-joined, asks_nothing}
 use Rattle.speedy_layout.specs.Sequences.{sequence}
 use Rattle.speedy_layout.specs.Texts.{raw_bytes, raw_bytes_laws}
 use Rattle.speedy_layout.specs.Owned.{owned_content}

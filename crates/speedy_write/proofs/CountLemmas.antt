@@ -1,7 +1,7 @@
 -- What `bytes_needed` answers follows from what a write into a collector does that only counts.
 -- Items may be counted one by one.
 use Rattle.std.specs.Prelude.{◌≡◌, ℕ, ◌+◌, ◌-◌, ◌^◌, ◌<◌, List, [], ◌∷◌, ◌++◌, length, map, take, Result, Ok}
-use Rattle.std.specs.Prelude.{refl}
+use Rattle.std.specs.Prelude.{Option, Some, None, MatchOption, refl}
 use Rattle.std.specs.Borrow.{GName}
 use Rattle.std.proofs.Common.{sym, ◌∙◌, ap, subst, arith}
 use Rattle.std.proofs.Math.ListN.{get_or}
@@ -11,10 +11,10 @@ use Rattle.speedy_base.specs.Mode.{Mode}
 use Rattle.speedy_layout.specs.Format.{Format, Each}
 use Rattle.speedy_layout.specs.Laws.{Laws}
 use Rattle.speedy_layout.specs.Wholes.{WholeLaws, whole_laws}
-use Rattle.speedy_layout.specs.Lists.{each_more, repeat, repeat_laws}
-use Rattle.speedy_write.specs.Writing.{WriterState, Writes, WritesEach, WritesBytes}
+use Rattle.speedy_layout.specs.Lists.{each_append, each_more, repeat, repeat_laws}
+use Rattle.speedy_write.specs.Writing.{WriterState, Writes, WritesEach, WritesBytes, CountsBytes}
 use Rattle.speedy_write.specs.Sequences.{form_written, whole_form_written, one_whole_length}
-use Rattle.speedy_write.specs.Counting.{counting_state, CountAppends, CountsEach}
+use Rattle.speedy_write.specs.Counting.{counting_state, CountAppends, CountsEach, Takes}
 use Rattle.speedy_write.specs.WaysOfWriting.{NeedsIn}
 use Rattle.speedy_write.proofs.ListLemmas.{first_items}
 
@@ -53,13 +53,23 @@ counted laws = whole_counted (whole_laws laws)
 -- one more item is counted
 pub one_more_counted : {A V : Type 0} {x : A} {sum size : ℕ} (writes : V → List ℕ → Type 0) (seen : A → V)
     (items : List A) (i : ℕ) → i < length items → x ≡ get_or items i x → CountsEach writes (map seen (take i items)) sum
-    → ((bytes : List ℕ) × writes (seen x) bytes × (size ≡ length bytes))
-    → CountsEach writes (map seen (take (i + 1) items)) (sum + size)
+    → Takes writes (seen x) size → CountsEach writes (map seen (take (i + 1) items)) (sum + size)
 one_more_counted {x = x} writes seen items i within is h k = (
   h.0 ++ k.0,
   subst (λ vs. Each writes vs (h.0 ++ k.0))
       (sym (ap (map seen) (first_items items i within is) ∙ map-append seen (take i items) (x ∷ [])))
       (each_more writes (map seen (take i items)) (seen x) h.0 k.0 h.1 k.1),
+  let l = length-append h.0 k.0 in omega (arith, l, h.2, k.2),
+)
+
+-- and some more are
+pub more_counted : {A V : Type 0} {sum size : ℕ} (writes : V → List ℕ → Type 0) (seen : A → V) (done some : List A)
+    → CountsEach writes (map seen done) sum → CountsEach writes (map seen some) size
+    → CountsEach writes (map seen (done ++ some)) (sum + size)
+more_counted writes seen done some h k = (
+  h.0 ++ k.0,
+  subst (λ vs. Each writes vs (h.0 ++ k.0)) (sym (map-append seen done some))
+      (each_append writes (map seen done) (map seen some) h.0 k.0 h.1 k.1),
   let l = length-append h.0 k.0 in omega (arith, l, h.2, k.2),
 )
 
@@ -76,21 +86,34 @@ items_counted {F = F} {size = size} {old = old} seen items laws same h told =
     let k = subst (λ (e : Mode). CountsEach (F e).writes (map seen items) size) same h in
     form_written (λ e. repeat_laws (laws e) (length items)) (length-map items seen, k.1) (told k.0 k.2)
 
+-- what a writer answers that may count them
+pub items_counted_if : {E A V W : Type 0} (gives : Error → E → Type 0) (state : W → WriterState)
+    (appends : W → List ℕ → W → Type 0) (F : Mode → Format V) {least size : ℕ} (old new : W) (seen : A → V)
+    (items : List A)
+    → ((mode : Mode) → Laws mode.strict least (F mode))
+    → CountsEach (F (state old).mode).writes (map seen items) size
+    → (counted : Option (Result (Unit {0}) E)) → CountsBytes gives state appends size counted old new
+    → MatchOption counted (new ≡ old)
+    (λ written. WritesEach gives F seen items written (state old) (state new) (λ b. appends old b new))
+items_counted_if gives state appends F old new seen items laws h None told = told
+items_counted_if gives state appends F old new seen items laws h (Some written) told =
+    items_counted seen items laws refl h told
+
 -- and of one value
 pub whole_item_counted : {E V : Type 0} {gives : Error → E → Type 0} {F : Mode → Format V} {size : ℕ}
     {result : Result (Unit {0}) E} {old new : WriterState} {appended : List ℕ → Type 0} {mode : Mode} {v : V}
     → ((mode : Mode) → WholeLaws mode.strict (F mode)) → mode ≡ old.mode
-    → ((bytes : List ℕ) × (F mode).writes v bytes × (size ≡ length bytes))
+    → Takes (F mode).writes v size
     → ((bytes : List ℕ) → length bytes ≡ size → WritesBytes gives bytes result old new appended)
     → Writes gives F v result old new appended
 whole_item_counted {F = F} {size = size} {v = v} laws same h told =
-    let k = subst (λ (e : Mode). (bytes : List ℕ) × (F e).writes v bytes × (size ≡ length bytes)) same h in
+    let k = subst (λ (e : Mode). Takes (F e).writes v size) same h in
     whole_form_written laws k.1 (told k.0 (sym k.2))
 
 pub item_counted : {E V : Type 0} {gives : Error → E → Type 0} {F : Mode → Format V} {least size : ℕ}
     {result : Result (Unit {0}) E} {old new : WriterState} {appended : List ℕ → Type 0} {mode : Mode} {v : V}
     → ((mode : Mode) → Laws mode.strict least (F mode)) → mode ≡ old.mode
-    → ((bytes : List ℕ) × (F mode).writes v bytes × (size ≡ length bytes))
+    → Takes (F mode).writes v size
     → ((bytes : List ℕ) → length bytes ≡ size → WritesBytes gives bytes result old new appended)
     → Writes gives F v result old new appended
 item_counted laws = whole_item_counted (λ mode. whole_laws (laws mode))

@@ -13,7 +13,9 @@ pub mod NumberLemmas
 pub mod OptionLemmas
 pub mod OwnedLemmas
 pub mod PushLemmas
+pub mod ShortLemmas
 pub mod StreamLemmas
+pub mod TextLemmas
 pub mod CaseLemmas
 pub mod WholeLemmas
 pub mod GrowingLemmas

@@ -1,19 +1,16 @@
 -- How entries are written up to a mark.
-use Rattle.std.specs.Prelude.{◌≡◌, ◌≢◌, ◌++◌, ℕ, List, length, Result, Ok, Err, IsErrAnd, refl}
+use Rattle.std.specs.Prelude.{◌≡◌, ◌++◌, ℕ, List, length, Result, Ok, Err, IsErrAnd, refl}
 use Rattle.std.proofs.Common.{inl, inr}
-use Rattle.speedy_base.specs.declared.error.ErrorKind.TheVariants as kinds
 use Rattle.speedy_base.specs.declared.error.Error.{Error}
-use Rattle.speedy_base.specs.Error.{error_of}
 use Rattle.speedy_base.specs.Mode.{Mode}
 use Rattle.speedy_layout.specs.Codecs.{Codec}
 use Rattle.speedy_layout.specs.Codes.{coding, Accepts-exact_means}
-use Rattle.speedy_layout.specs.Format.{Format, Parts-joined}
+use Rattle.speedy_layout.specs.Format.{Format}
 use Rattle.speedy_layout.specs.Lists.{repeat, repeat_laws}
 use Rattle.speedy_layout.specs.Prefixed.{Numbers}
 use Rattle.speedy_layout.specs.Sequences.{sequence}
 use Rattle.speedy_layout.specs.Until.{until, until_codec, until_joined, until_parts, entry_codec}
-use Rattle.speedy_write.proofs.NumberLemmas.{undecodable_refused}
-use Rattle.speedy_write.specs.Sequences.{Writes-as, one_length, first_refused, is_sequence, second_written}
+use Rattle.speedy_write.specs.Sequences.{Writes-as, first_refused, is_sequence, second_written}
 use Rattle.speedy_write.specs.Writing.{WriterState, Writes}
 
 module _ {V : Type 0} (numbers : Numbers) (mark : ℕ) (item : Codec V) where

@@ -1,11 +1,14 @@
 //! Items that are written one after another, or counted together.
-ghost use Rattle.std.specs.Prelude.{◌≡◌, map, IfSome};
-ghost use Rattle.speedy_write.specs.Counting.{CountsEach};
+ghost use Rattle.std.specs.Prelude.{◌≡◌, ◌≤◌, ◌*◌, length, map, IfSome, MatchOption};
+ghost use Rattle.speedy_base.specs.Mode.{Mode};
+ghost use Rattle.speedy_write.specs.Counting.{CountsEach, Takes};
 ghost use Rattle.speedy_write.specs.Writing.{WritesValue, WritesValues};
 
+use crate::filling::Whole;
 use crate::writable::Writable;
 use crate::writer::Writer;
 use speedy_base::context::Context;
+use speedy_layout::Layout;
 
 // Writes the items, one after the other. A writer that counts is told of all at once.
 pub(crate) fn write_items<C: Context, T: Writable<C>, W: Writer<C>>(
@@ -22,7 +25,28 @@ pub(crate) fn write_items<C: Context, T: Writable<C>, W: Writer<C>>(
             }
         }
     }
-    T::write_many(items, writer)
+    write_each(items, writer)
+}
+
+// Writes the items, one after the other: whole those that the writer has room for, by their parts the others.
+#[inline]
+fn write_each<C: Context, T: Writable<C>, W: Writer<C>>(
+    items: &[T],
+    writer: &mut W,
+) -> Result<(), C::Error>
+    ensures { WritesValues C.Error.from_gives W.state W.appends T.seen T.layout items.now
+        result writer.old writer.new }
+{
+    let mut rest = items;
+    while !rest.is_empty() {
+        let (_, more) = rest.split_at(writer.put_each::<T, Whole>(rest));
+        let Some((item, others)) = more.split_first() else {
+            return Ok(());
+        };
+        item.write_to(writer)?;
+        rest = others;
+    }
+    Ok(())
 }
 
 // Writes an item of a collection by its parts. A writer that only counts gets its size in one call.
@@ -71,8 +95,10 @@ fn write_by_parts<C: Context, T: Writable<C>, W: Writer<C>>(
     item.write_to(writer)
 }
 
-// The most items that are counted together. With `MOST_BYTES` of each the sum cannot wrap.
-const MOST_ITEMS: usize = 4_294_967_295;
+// The most items that are counted together. With as many bytes of each as are counted the sum cannot wrap.
+//
+// It is the greatest length in four bytes, so a compiler compares the length of a list with both at once.
+pub(crate) const MOST_ITEMS: usize = 4_294_967_295;
 
 // The most bytes of an item that is counted with others. A processor compares with it in one instruction.
 const MOST_BYTES: usize = 2_147_483_647;
@@ -96,4 +122,65 @@ fn count_each<C: Context, T: Writable<C>>(items: &[T], context: &mut C) -> Optio
         }
     }
     Some(sum)
+}
+
+// Values that take few bytes each, and can all be written.
+pub(crate) trait Short: Layout {
+    // How many bytes the value takes.
+    fn size(&self) -> usize
+        ensures few { result ≤ 31 }
+        ensures takes { (mode : Mode) →
+            Takes (Self.layout.format mode).writes (Self.seen self.now) result };
+}
+
+// Tells a writer that counts how many bytes the values take together. On another writer it does nothing.
+#[inline]
+pub(crate) fn count_short<C: Context, T: Short, W: Writer<C>>(
+    values: &[T],
+    writer: &mut W,
+) -> Option<Result<(), C::Error>>
+    ensures { MatchOption result (writer.new ≡ writer.old) (λ written.
+        WritesValues C.Error.from_gives W.state W.appends T.seen T.layout values.now
+        written writer.old writer.new) }
+{
+    if !W::COUNTS {
+        return None;
+    }
+    writer.count_bytes(size_of_short(values)?)
+}
+
+// So many short values are counted in sixteen bits, of which a processor adds eight at a time.
+const BLOCK: usize = 2_048;
+
+// How many bytes the values take, where there are not too many of them.
+fn size_of_short<T: Short>(values: &[T]) -> Option<usize>
+    ensures { (mode : Mode) → let format = T.layout.format mode in
+        IfSome result (λ size. CountsEach format.writes (map T.seen values.now) size) }
+{
+    if values.len() > MOST_ITEMS {
+        return None;
+    }
+    let mut sum = 0;
+    let mut rest = values;
+    while !rest.is_empty() {
+        let (some, more) = rest.split_at(rest.len().min(BLOCK));
+        sum += size_of_block(some) as usize;
+        rest = more;
+    }
+    Some(sum)
+}
+
+// How many bytes the values of a block take.
+#[inline]
+fn size_of_block<T: Short>(values: &[T]) -> u16
+    requires { length values.now ≤ 2048 }
+    ensures few { result ≤ length values.now * 31 }
+    ensures counts { (mode : Mode) → let format = T.layout.format mode in
+        CountsEach format.writes (map T.seen values.now) result }
+{
+    let mut sum = 0;
+    for value in values {
+        sum += value.size() as u16;
+    }
+    sum
 }

@@ -1,5 +1,5 @@
 //! Values of a type whose encodings all have the same number of bytes: many of them go to the writer by chunks.
-ghost use Rattle.std.specs.Prelude.{◌≡◌, ◌<◌, ◌≤◌, ◌+◌, ◌*◌, ℕ, length, map};
+ghost use Rattle.std.specs.Prelude.{◌≡◌, ◌<◌, ◌≤◌, ◌+◌, ◌*◌, ℕ, length, map, MatchOption};
 ghost use Rattle.speedy_base.specs.Mode.{Mode};
 ghost use Rattle.speedy_layout.specs.Format.{Each};
 ghost use Rattle.speedy_write.specs.FixedBytes.{PutsAt};
@@ -177,22 +177,27 @@ fn put_by_chunks<T: Layout, P: FixedBytes<T>>(values: &[T], order: Endianness, o
     }
 }
 
-// Writes the values, one after the other. It takes no memory.
+// Writes the values, one after the other. It takes no memory. On a writer that counts it does nothing: each takes as
+// many bytes, so to count them one by one is to multiply.
 #[inline]
 pub(crate) fn write_values<C: Context, T: Layout, P: FixedBytes<T>, W: Writer<C>>(
     values: &[T],
     writer: &mut W,
-) -> Result<(), C::Error>
-    ensures { WritesValues C.Error.from_gives W.state W.appends T.seen T.layout values.now
-        result writer.old writer.new }
+) -> Option<Result<(), C::Error>>
+    ensures { MatchOption result (writer.new ≡ writer.old) (λ written.
+        WritesValues C.Error.from_gives W.state W.appends T.seen T.layout values.now
+        written writer.old writer.new) }
 {
+    if W::COUNTS {
+        return None;
+    }
     if writer.put_fixed::<T, P>(values) {
-        return Ok(());
+        return Some(Ok(()));
     }
     // Its answer is passed on by its parts: so this one copies no error where the values were put.
     match write_by_chunks::<C, T, P, W>(values, writer) {
-        Ok(()) => Ok(()),
-        Err(error) => Err(error),
+        Ok(()) => Some(Ok(())),
+        Err(error) => Some(Err(error)),
     }
 }
 

@@ -13,7 +13,7 @@ impl<C: Context> Writable<C> for bool {
     /// Writes the flags by chunks of their bytes.
     #[inline(always)]
     fn write_in_bulk<W: Writer<C>>(items: &[bool], writer: &mut W) -> Option<Result<(), C::Error>> {
-        Some(write_values::<C, bool, CodeDigits, W>(items, writer))
+        write_values::<C, bool, CodeDigits, W>(items, writer)
     }
 }
 

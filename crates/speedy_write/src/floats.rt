@@ -14,7 +14,7 @@ impl<C: Context> Writable<C> for F32 {
     /// Writes the floats by chunks of their bits.
     #[inline(always)]
     fn write_in_bulk<W: Writer<C>>(items: &[F32], writer: &mut W) -> Option<Result<(), C::Error>> {
-        Some(write_values::<C, F32, Digits, W>(items, writer))
+        write_values::<C, F32, Digits, W>(items, writer)
     }
 }
 
@@ -27,6 +27,6 @@ impl<C: Context> Writable<C> for F64 {
     /// Writes the floats by chunks of their bits.
     #[inline(always)]
     fn write_in_bulk<W: Writer<C>>(items: &[F64], writer: &mut W) -> Option<Result<(), C::Error>> {
-        Some(write_values::<C, F64, Digits, W>(items, writer))
+        write_values::<C, F64, Digits, W>(items, writer)
     }
 }

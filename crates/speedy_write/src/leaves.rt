@@ -16,7 +16,7 @@ impl<C: Context> Writable<C> for char {
     /// Writes the characters by chunks of their bytes.
     #[inline(always)]
     fn write_in_bulk<W: Writer<C>>(items: &[char], writer: &mut W) -> Option<Result<(), C::Error>> {
-        Some(write_values::<C, char, CodeDigits, W>(items, writer))
+        write_values::<C, char, CodeDigits, W>(items, writer)
     }
 }
 
@@ -39,7 +39,7 @@ impl<C: Context> Writable<C> for Duration {
         items: &[Duration],
         writer: &mut W,
     ) -> Option<Result<(), C::Error>> {
-        Some(write_values::<C, Duration, Durations, W>(items, writer))
+        write_values::<C, Duration, Durations, W>(items, writer)
     }
 }
 

@@ -4,7 +4,6 @@ ghost use Rattle.speedy_layout.specs.Codecs.{vector_codec};
 ghost use Rattle.speedy_layout.specs.Texts.{text_of_length};
 ghost use Rattle.speedy_write.specs.Writing.{WritesAs, WritesValue};
 
-use crate::each::write_items;
 use crate::writable::Writable;
 use crate::writer::Writer;
 use speedy_base::context::Context;
@@ -146,7 +145,7 @@ fn write_items_alone<C: Context, T: Writable<C>, W: Writer<C>>(
         WritesValue C.Error.from_gives W.state W.appends (map T.seen) codec items.now
         result writer.old writer.new }
 {
-    write_items(items, writer)
+    T::write_many(items, writer)
 }
 
 /// How parts are written that hold numbers.

@@ -4,7 +4,6 @@ ghost use Rattle.speedy_layout.specs.Codecs.{list_codec};
 ghost use Rattle.speedy_layout.specs.Prefixed.{list_behind, prefixed_codec};
 ghost use Rattle.speedy_write.specs.Writing.{WritesValue};
 
-use crate::each::write_items;
 use crate::prefixed::{WritePrefix, WriteTold};
 use crate::writable::Writable;
 use crate::writer::Writer;
@@ -45,7 +44,7 @@ impl<C: Context, T: Writable<C>, const N: usize> Writable<C> for SmallVec<T, N> 
 impl<C: Context, T: Writable<C>, const N: usize> Writable<C> for [T; N] {
     #[inline]
     fn write_to<W: Writer<C>>(&self, writer: &mut W) -> Result<(), C::Error> {
-        write_items(self.as_slice(), writer)
+        T::write_many(self.as_slice(), writer)
     }
 
     /// Writes the items of all the arrays together, where that is faster than one by one.
@@ -129,5 +128,5 @@ pub(crate) fn write_items_behind<N: WritePrefix, C: Context, T: Writable<C>, W: 
         (prefixed_codec (list_behind T.layout N.numbers)) items.now result writer.old writer.new }
 {
     N::write_number(items.len(), writer)?;
-    write_items(items, writer)
+    T::write_many(items, writer)
 }

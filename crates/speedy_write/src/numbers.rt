@@ -29,7 +29,7 @@ impl<C: Context> Writable<C> for u16 {
 
     #[inline(always)]
     fn write_in_bulk<W: Writer<C>>(items: &[u16], writer: &mut W) -> Option<Result<(), C::Error>> {
-        Some(write_values::<C, u16, Digits, W>(items, writer))
+        write_values::<C, u16, Digits, W>(items, writer)
     }
 }
 
@@ -41,7 +41,7 @@ impl<C: Context> Writable<C> for U24 {
 
     #[inline(always)]
     fn write_in_bulk<W: Writer<C>>(items: &[U24], writer: &mut W) -> Option<Result<(), C::Error>> {
-        Some(write_values::<C, U24, Digits, W>(items, writer))
+        write_values::<C, U24, Digits, W>(items, writer)
     }
 }
 
@@ -53,7 +53,7 @@ impl<C: Context> Writable<C> for u32 {
 
     #[inline(always)]
     fn write_in_bulk<W: Writer<C>>(items: &[u32], writer: &mut W) -> Option<Result<(), C::Error>> {
-        Some(write_values::<C, u32, Digits, W>(items, writer))
+        write_values::<C, u32, Digits, W>(items, writer)
     }
 }
 
@@ -65,7 +65,7 @@ impl<C: Context> Writable<C> for u64 {
 
     #[inline(always)]
     fn write_in_bulk<W: Writer<C>>(items: &[u64], writer: &mut W) -> Option<Result<(), C::Error>> {
-        Some(write_values::<C, u64, Digits, W>(items, writer))
+        write_values::<C, u64, Digits, W>(items, writer)
     }
 }
 
@@ -77,7 +77,7 @@ impl<C: Context> Writable<C> for u128 {
 
     #[inline(always)]
     fn write_in_bulk<W: Writer<C>>(items: &[u128], writer: &mut W) -> Option<Result<(), C::Error>> {
-        Some(write_values::<C, u128, Digits, W>(items, writer))
+        write_values::<C, u128, Digits, W>(items, writer)
     }
 }
 
@@ -89,7 +89,7 @@ impl<C: Context> Writable<C> for i8 {
 
     #[inline(always)]
     fn write_in_bulk<W: Writer<C>>(items: &[i8], writer: &mut W) -> Option<Result<(), C::Error>> {
-        Some(write_values::<C, i8, Digits, W>(items, writer))
+        write_values::<C, i8, Digits, W>(items, writer)
     }
 }
 
@@ -101,7 +101,7 @@ impl<C: Context> Writable<C> for i16 {
 
     #[inline(always)]
     fn write_in_bulk<W: Writer<C>>(items: &[i16], writer: &mut W) -> Option<Result<(), C::Error>> {
-        Some(write_values::<C, i16, Digits, W>(items, writer))
+        write_values::<C, i16, Digits, W>(items, writer)
     }
 }
 
@@ -113,7 +113,7 @@ impl<C: Context> Writable<C> for i32 {
 
     #[inline(always)]
     fn write_in_bulk<W: Writer<C>>(items: &[i32], writer: &mut W) -> Option<Result<(), C::Error>> {
-        Some(write_values::<C, i32, Digits, W>(items, writer))
+        write_values::<C, i32, Digits, W>(items, writer)
     }
 }
 
@@ -125,7 +125,7 @@ impl<C: Context> Writable<C> for i64 {
 
     #[inline(always)]
     fn write_in_bulk<W: Writer<C>>(items: &[i64], writer: &mut W) -> Option<Result<(), C::Error>> {
-        Some(write_values::<C, i64, Digits, W>(items, writer))
+        write_values::<C, i64, Digits, W>(items, writer)
     }
 }
 
@@ -137,7 +137,7 @@ impl<C: Context> Writable<C> for i128 {
 
     #[inline(always)]
     fn write_in_bulk<W: Writer<C>>(items: &[i128], writer: &mut W) -> Option<Result<(), C::Error>> {
-        Some(write_values::<C, i128, Digits, W>(items, writer))
+        write_values::<C, i128, Digits, W>(items, writer)
     }
 }
 

@@ -17,7 +17,7 @@ impl<C: Context, T: FixedNumber> Writable<C> for Big<T> {
         items: &[Big<T>],
         writer: &mut W,
     ) -> Option<Result<(), C::Error>> {
-        Some(write_values::<C, Big<T>, Digits, W>(items, writer))
+        write_values::<C, Big<T>, Digits, W>(items, writer)
     }
 }
 
@@ -32,6 +32,6 @@ impl<C: Context, T: FixedNumber> Writable<C> for Little<T> {
         items: &[Little<T>],
         writer: &mut W,
     ) -> Option<Result<(), C::Error>> {
-        Some(write_values::<C, Little<T>, Digits, W>(items, writer))
+        write_values::<C, Little<T>, Digits, W>(items, writer)
     }
 }

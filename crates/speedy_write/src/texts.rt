@@ -1,13 +1,17 @@
 //! How texts are written.
-ghost use Rattle.std.specs.Prelude.{◌<◌};
+ghost use Rattle.std.specs.Prelude.{◌≡◌, ◌<◌, ◌+◌, ◌^◌, map, IfSome, MatchOption};
+ghost use Rattle.speedy_base.specs.Mode.{Mode};
 ghost use Rattle.speedy_layout.specs.Codecs.{text_codec};
 ghost use Rattle.speedy_layout.specs.Prefixed.{prefixed_codec, text_behind};
-ghost use Rattle.speedy_write.specs.Writing.{WritesValue};
+ghost use Rattle.speedy_write.specs.Counting.{CountsEach, Takes};
+ghost use Rattle.speedy_write.specs.Writing.{WritesValue, WritesValues};
 
+use crate::each::MOST_ITEMS;
 use crate::prefixed::{WritePrefix, WriteTold};
 use crate::writable::Writable;
 use crate::writer::Writer;
 use speedy_base::context::Context;
+use speedy_layout::Layout;
 use std::boxed::BoxedStr;
 
 impl<C: Context> Writable<C> for String {
@@ -16,6 +20,15 @@ impl<C: Context> Writable<C> for String {
         let text = self.as_str();
         write_text(text, writer)
     }
+
+    /// Counts the texts together, by their lengths. It writes none.
+    #[inline(always)]
+    fn write_in_bulk<W: Writer<C>>(
+        items: &[String],
+        writer: &mut W,
+    ) -> Option<Result<(), C::Error>> {
+        count_texts(items, writer)
+    }
 }
 
 impl<'a, C: Context> Writable<C> for &'a str {
@@ -23,12 +36,30 @@ impl<'a, C: Context> Writable<C> for &'a str {
     fn write_to<W: Writer<C>>(&self, writer: &mut W) -> Result<(), C::Error> {
         write_text(*self, writer)
     }
+
+    /// Counts the texts together, by their lengths. It writes none.
+    #[inline(always)]
+    fn write_in_bulk<W: Writer<C>>(
+        items: &[&'a str],
+        writer: &mut W,
+    ) -> Option<Result<(), C::Error>> {
+        count_texts(items, writer)
+    }
 }
 
 impl<C: Context> Writable<C> for BoxedStr {
     #[inline]
     fn write_to<W: Writer<C>>(&self, writer: &mut W) -> Result<(), C::Error> {
         write_text(self.as_str(), writer)
+    }
+
+    /// Counts the texts together, by their lengths. It writes none.
+    #[inline(always)]
+    fn write_in_bulk<W: Writer<C>>(
+        items: &[BoxedStr],
+        writer: &mut W,
+    ) -> Option<Result<(), C::Error>> {
+        count_texts(items, writer)
     }
 }
 
@@ -79,3 +110,88 @@ pub(crate) fn write_text_behind<N: WritePrefix, C: Context, W: Writer<C>>(
     N::write_number(bytes.len(), writer)?;
     writer.write_bytes(bytes)
 }
+
+// Texts, whose length alone says how many bytes they take.
+pub(crate) trait Text: Layout {
+    // How many bytes the text has. So many and four more are written, where that number is below 2^32.
+    fn length(&self) -> usize
+        ensures { (mode : Mode) → result < 2 ^ 32 →
+            Takes (Self.layout.format mode).writes (Self.seen self.now) (result + 4) };
+}
+
+impl Text for String {
+    #[inline(always)]
+    fn length(&self) -> usize {
+        let text = self.as_str();
+        length_of(text)
+    }
+}
+
+impl<'a> Text for &'a str {
+    #[inline(always)]
+    fn length(&self) -> usize {
+        length_of(*self)
+    }
+}
+
+impl Text for BoxedStr {
+    #[inline(always)]
+    fn length(&self) -> usize {
+        length_of(self.as_str())
+    }
+}
+
+// How many bytes a text has.
+#[inline(always)]
+fn length_of(text: &str) -> usize
+    ensures { (mode : Mode) → result < 2 ^ 32 →
+        Takes (text_codec.format mode).writes text.now (result + 4) }
+{
+    text.len()
+}
+
+// Tells a writer that counts how many bytes the texts take together.
+#[inline]
+fn count_texts<C: Context, T: Text, W: Writer<C>>(
+    texts: &[T],
+    writer: &mut W,
+) -> Option<Result<(), C::Error>>
+    ensures { MatchOption result (writer.new ≡ writer.old) (λ written.
+        WritesValues C.Error.from_gives W.state W.appends T.seen T.layout texts.now
+        written writer.old writer.new) }
+{
+    if !W::COUNTS {
+        return None;
+    }
+    writer.count_bytes(size_of_texts(texts)?)
+}
+
+// How many bytes the texts take, where there are not too many of them, and none is too long.
+//
+// Their lengths are joined by `|`, and compared together: so a compiler adds several at a time.
+#[inline]
+fn size_of_texts<T: Text>(texts: &[T]) -> Option<usize>
+    ensures { (mode : Mode) → let format = T.layout.format mode in
+        IfSome result (λ size. CountsEach format.writes (map T.seen texts.now) size) }
+{
+    if texts.len() > MOST_ITEMS {
+        return None;
+    }
+    let mut sum = 0usize;
+    let mut joined = 0;
+    for text in texts {
+        let length = text.length();
+        joined |= length;
+        sum = sum.wrapping_add(length);
+    }
+    if joined > LONGEST {
+        return None;
+    }
+    let Some(size) = sum.checked_add(4 * texts.len()) else {
+        return None;
+    };
+    Some(size)
+}
+
+// The length of the longest text that can be written.
+const LONGEST: usize = 4_294_967_295;

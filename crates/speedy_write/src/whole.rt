@@ -11,7 +11,6 @@ ghost use Rattle.speedy_write.specs.Writing.{Writes, WritesAs};
 
 use crate::collectors::VecCollector;
 use crate::counting::CountingCollector;
-use crate::each::write_items;
 use crate::lengths::WriteOfLength;
 use crate::part::Part;
 use crate::writable::Writable;
@@ -288,7 +287,7 @@ fn write_items_to_end<C: Context, T: Writable<C>, W: Writer<C>>(
     if take_no_byte(items, writer) {
         return Err(error_out_of_range_length());
     }
-    write_items(items, writer)
+    T::write_many(items, writer)
 }
 
 // Whether the first item is written in no byte.

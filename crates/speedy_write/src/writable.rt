@@ -10,7 +10,8 @@ use crate::buffering::BufferingCollector;
 use crate::collectors::{VecCollector, push_all};
 pub use crate::collectors::{BufferCollector, SizeCalculatorCollector, WritingCollector};
 use crate::counting::CountingCollector;
-use crate::filling::{Whole, fill_prefix};
+use crate::each::write_items;
+use crate::filling::fill_prefix;
 use crate::writer::Writer;
 use speedy_base::context::{Context, PlainContext};
 use speedy_base::device::{Counted, Sink};
@@ -46,16 +47,7 @@ pub trait Writable<C: Context>: Layout {
         if let Some(written) = Self::write_in_bulk(items, writer) {
             return written;
         }
-        let mut rest = items;
-        while !rest.is_empty() {
-            let (_, more) = rest.split_at(writer.put_each::<Self, Whole>(rest));
-            let Some((item, others)) = more.split_first() else {
-                return Ok(());
-            };
-            item.write_to(writer)?;
-            rest = others;
-        }
-        Ok(())
+        write_items(items, writer)
     }
 
     /// Writes the values together, where that is faster than one by one. This body says `None`, and does nothing.

@@ -8,7 +8,7 @@ ghost use Rattle.speedy_write.specs.Collections.{TakesSome, WritesItems};
 ghost use Rattle.speedy_write.specs.Writing.{WriterState, WritesValue, WritesValues, WritesSlice, WritesNumber};
 ghost use Rattle.speedy_write.specs.Writing.{WritesSigned, WritesAtOnce, RefusesFull, CountsBytes, IsRight};
 
-use crate::each::{write_item, write_items};
+use crate::each::write_item;
 use crate::filling::{FillsFront, Whole};
 use crate::fixed::{FixedBytes, write_number};
 use crate::writable::Writable;
@@ -271,7 +271,7 @@ pub trait Writer<C: Context> {
         ensures { WritesValues C.Error.from_gives state appends T.seen T.layout slice.now
             result self.old self.new }
     {
-        write_items(slice, self)
+        T::write_many(slice, self)
     }
 
     /// Writes the items of a collection, one after the other and with no count.

@@ -30,4 +30,4 @@ returns g c =
           (suffix w _ _ _ h.context_mut.ensures.value h.count_each.ensures.mode h.writer-is).0
       | else-COUNTS h ↦ subst (StaysAs g.W.Writer.state g.W.Writer.appends w) (sym h.writer-is) stays_same
     ] in
-    Writes-from same.state_is (λ b. same.joins b _) c.write_many.ensures
+    Writes-from same.state_is (λ b. same.joins b _) c.write_each.ensures

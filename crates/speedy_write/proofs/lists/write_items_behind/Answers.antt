@@ -10,4 +10,4 @@ returns-in_err-write_number g c =
 pub returns : goal.returns
 returns g c =
     second_written is_sequence (counts_items g.T.Layout.seen c.args.items.now) g.N.Prefix.numbers.codec.laws
-    (g.met.W.Writer.additive _ _ _) c.in_ok-write_number.ensures (items_written _ _ _ c.write_items.ensures)
+    (g.met.W.Writer.additive _ _ _) c.in_ok-write_number.ensures (items_written _ _ _ c.write_many.ensures)

@@ -1,4 +1,3 @@
-use Rattle.std.proofs.Common.{sym}
 use Rattle.speedy_write.specs.Sequences.{Writes-from}
 use Rattle.speedy_write.proofs.WholeLemmas.{items_written, items_refused}
 use Rattle.speedy_write.proofs.whole.write_items_to_end.Goals as goal
@@ -14,4 +13,4 @@ returns g c =
     let tested = c.take_no_byte.ensures in
     Writes-from tested.state (λ b. tested.joins b _)
     (items_written g.T.Layout.seen g.T.Layout.layout _ (rw tested.state (tested.some c.if-take_no_byte.false))
-    c.write_items.ensures)
+    c.write_many.ensures)

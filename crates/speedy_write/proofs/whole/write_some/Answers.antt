@@ -1,4 +1,3 @@
-use Rattle.std.proofs.Common.{sym}
 use Rattle.speedy_write.specs.Sequences.{Writes-from}
 use Rattle.speedy_write.proofs.GrowingLemmas.{some_written, none_refused}
 use Rattle.speedy_write.proofs.whole.write_some.Goals as goal

@@ -4,4 +4,4 @@ use Rattle.speedy_write.proofs.lists.ArrayWritable.write_to.Goals as goal
 
 pub returns : goal.returns
 unfolding vector
-returns g c = owned_written (rw c.type_inv.self at (rw c.as_slice.ensures at c.write_items.ensures))
+returns g c = owned_written (rw c.type_inv.self at (rw c.as_slice.ensures at c.write_many.ensures))

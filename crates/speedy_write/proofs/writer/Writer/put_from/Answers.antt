@@ -1,4 +1,4 @@
-use Rattle.std.proofs.Common.{[], refl}
+use Rattle.std.proofs.Common.{[]}
 use Rattle.speedy_write.proofs.CollectionLemmas.{next_alone}
 use Rattle.speedy_write.proofs.ListLemmas.{no_items_written}
 use Rattle.speedy_write.proofs.writer.Writer.put_from.Goals as goal
