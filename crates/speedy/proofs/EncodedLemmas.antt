@@ -1,6 +1,6 @@
 -- Items that are measured where they lie, and lists of them.
-use Rattle.std.specs.Prelude.{◌≡◌, ℕ, zero, suc, ◌+◌, ◌-◌, ◌^◌, ◌<◌, ◌≤◌, List, [], ◌∷◌, ◌++◌, length, drop, Bool, true, false}
-use Rattle.std.specs.Prelude.{IsTrue, ◌⊎◌, Result, Ok, Err, MatchResult, IsErrAnd, refl}
+use Rattle.std.specs.Prelude.{◌≡◌, ℕ, zero, suc, ◌+◌, ◌-◌, ◌^◌, ◌<◌, List, [], ◌∷◌, ◌++◌, length, drop, Bool, true}
+use Rattle.std.specs.Prelude.{IsTrue, ◌⊎◌, Result, Err, MatchResult, IsErrAnd, refl}
 use Rattle.std.proofs.Common.{sym, ◌∙◌, ap, subst, inl, inr, arith, true≢false}
 use Rattle.std.proofs.Math.ListN.{get_or}
 use Rattle.std.proofs.Math.Logic.{∥∥₁_elim, ∥∥₁_map}
@@ -8,7 +8,6 @@ use Rattle.std.proofs.Math.Seq.{drop-cons}
 use Rattle.std.proofs.lemmas.List.{append_assoc, append-nil, length-append, length-drop, drop_at, map-id}
 use Rattle.std.specs.Coded.{Coded-set}
 use Rattle.speedy_base.specs.declared.error.Error.{Error}
-use Rattle.speedy_base.specs.declared.error.ErrorKind.{ErrorKind}
 use Rattle.speedy_base.specs.declared.error.ErrorKind.TheVariants as kinds
 use Rattle.speedy_base.specs.Digits.{AreBytes}
 use Rattle.speedy_base.specs.DigitsLemmas.{AreBytes-append_parts}
@@ -135,7 +134,8 @@ module _ {V : Type 0} {strict : Bool} {least : ℕ} {F : Format V} (laws : Laws 
   unfolding repeat
   measure_refused {bytes = bytes} {rest = rest} are fit so_far result passed read =
       let is = so_far.got.taken refl in
-      subst (λ (r : Result ℕ E). MatchResult r (λ size. (items : List V) × Counts ((repeat n F).encodes items) size bytes)
+      subst (λ (r : Result ℕ E). MatchResult r
+      (λ size. (items : List V) × Counts ((repeat n F).encodes items) size bytes)
       (λ x. (gives (error_of kinds.OutOfMemory) x × IsTrue (repeat n F).asks.memory)
       ⊎ RefusesBufferIf gives eof (Unit {0}) (repeat n F).names (repeat n F) x bytes)) (passed_on result e passed)
       (elim read.answer [
@@ -162,7 +162,8 @@ module _ {V : Type 0} {strict : Bool} {least : ℕ} {F : Format V} (laws : Laws 
 
 module _ {V : Type 0} (item : InPlaceCodec V) (mode : Mode) (vs : List V) (i : ℕ) (within : i < length vs)
     {bytes : List ℕ} (left : ∥ Each (item.codec.format mode).encodes (drop i vs) bytes ∥₁) where
-  first_begins : (us : List V) → 0 < length us → Each (item.codec.format mode).encodes us bytes → BeginsWithNone (item.codec.format mode) bytes → ⊥
+  first_begins : (us : List V) → 0 < length us → Each (item.codec.format mode).encodes us bytes
+      → BeginsWithNone (item.codec.format mode) bytes → ⊥
   first_begins [] some h none = omega (arith, some)
   first_begins (v ∷ us) some h none = none v h.suffix (h.prefix, h.first_is, h.whole_is)
 
@@ -182,14 +183,16 @@ module _ {V : Type 0} (item : InPlaceCodec V) (mode : Mode) (vs : List V) (i : �
       let step : suc i ≡ i + 1 = omega arith in
       let all : ∥ Each (item.codec.format mode).encodes (v ∷ more) bytes ∥₁ =
       subst (λ us. ∥ Each (item.codec.format mode).encodes us bytes ∥₁) (drop-cons vs i w within) left in
-      let same : (h : Each (item.codec.format mode).encodes (v ∷ more) bytes) → (w ≡ v) × (found.prefix ≡ h.prefix) × (found.rest ≡ h.suffix) =
+      let same : (h : Each (item.codec.format mode).encodes (v ∷ more) bytes)
+      → (w ≡ v) × (found.prefix ≡ h.prefix) × (found.rest ≡ h.suffix) =
       λ h. (item.codec.laws mode).decodes w v found.prefix h.prefix found.rest h.suffix found.prefix_is h.first_is
       (sym found.whole_is ∙ h.whole_is) in
       let rest : drop size bytes ≡ found.rest =
       ap (drop size) found.whole_is ∙ drop_at found.prefix found.rest size (sym found.count_is) in (
         ∥∥₁_elim all (Coded-set item.coded w v) (λ h. (same h).0),
         subst (λ k. ∥ Each (item.codec.format mode).encodes (drop k vs) (drop size bytes) ∥₁) step
-            (∥∥₁_map all (λ h. subst (Each (item.codec.format mode).encodes more) (sym (rest ∙ (same h).2)) h.second_is)),
+            (∥∥₁_map all
+            (λ h. subst (Each (item.codec.format mode).encodes more) (sym (rest ∙ (same h).2)) h.second_is)),
       )
 
 -- items that are written, one after another, as so many are written as a vector

@@ -1,7 +1,7 @@
 -- Reads of lists that lie where they were read.
 use Rattle.std.specs.Prelude.{◌≡◌, ℕ, ◌≤◌, List, [], ◌∷◌, ◌++◌, length, take, drop, Bool, true, false, IsTrue}
 use Rattle.std.specs.Prelude.{◌⊎◌, Result, Ok, Err, IsErrAnd, refl}
-use Rattle.std.proofs.Common.{sym, ◌∙◌, ap, ap₂, subst, inl, inr, arith, true≢false}
+use Rattle.std.proofs.Common.{sym, ◌∙◌, ap, subst, inl, inr, arith, true≢false}
 use Rattle.std.proofs.lemmas.List.{take-append-drop, length-append, length-take-le}
 use Rattle.speedy_base.specs.declared.endianness.Endianness.{Endianness}
 use Rattle.speedy_base.specs.declared.error.Error.{Error}
@@ -11,7 +11,7 @@ use Rattle.speedy_base.specs.Error.{error_of, is_eof_error, IsNamed-more}
 use Rattle.speedy_base.specs.ErrorKind.{EndsInput}
 use Rattle.speedy_base.specs.Mode.{Mode, plain_mode, strict_mode}
 use Rattle.speedy_layout.specs.Codecs.{Codec}
-use Rattle.speedy_layout.specs.Format.{Format, Each}
+use Rattle.speedy_layout.specs.Format.{Format}
 use Rattle.speedy_layout.specs.Lists.{each_as, repeat, vector}
 use Rattle.speedy_layout.specs.Numbers.{same_prefixes}
 use Rattle.speedy_layout.specs.Owned.{owned_content, borrowed_content}
@@ -90,7 +90,8 @@ module _ {E : Type 0} {gives : Error → E → Type 0} {eof : E → Bool} {V : T
         no_fault = x.no_fault;
         kind = elim x.kind [
           | inl ended ↦ inl ended
-          | inr named ↦ inr (IsNamed-more gives {names = refusing_kinds (borrowed_content (raw_bytes size)) old.fixed.lends}
+          | inr named ↦ inr (IsNamed-more gives
+              {names = refusing_kinds (borrowed_content (raw_bytes size)) old.fixed.lends}
               {more = refusing_kinds (borrowed_content (vector n F)) old.fixed.lends} e
               (λ kind h. elim h [ inl y ↦ absurd y | inr y ↦ inr y ]) named)
         ];
@@ -102,7 +103,8 @@ module _ {E : Type 0} {gives : Error → E → Type 0} {eof : E → Bool} {V : T
   })
 
   -- items that were measured, and not found
-  pub unmeasured : {B : Type 0} {seen' : B → List V} {error : Error} {e : E} {rest : List ℕ} → KeepsEof gives eof → gives error e
+  pub unmeasured : {B : Type 0} {seen' : B → List V} {error : Error} {e : E} {rest : List ℕ}
+      → KeepsEof gives eof → gives error e
       → F.asks.memory ≡ false → new ≡ old → rest ≡ old.remaining
       → ((error ≡ error_of kinds.OutOfMemory) × IsTrue (repeat n F).asks.memory)
       ⊎ RefusesBufferIf (λ x y. y ≡ x) is_eof_error (Unit {0}) (repeat n F).names (repeat n F) error rest
@@ -146,7 +148,8 @@ module _ {E : Type 0} {gives : Error → E → Type 0} {eof : E → Bool} {V : T
         (sym (r.answer.taken tells) ∙ found.whole_is)).0
 
     -- and so the items are read
-    pub items_taken : {B : Type 0} {seen' : B → List V} {y : B} → seen' y ≡ vs → Reads gives eof seen' (borrowed_content (vector n F)) (Ok y) old new
+    pub items_taken : {B : Type 0} {seen' : B → List V} {y : B} → seen' y ≡ vs
+        → Reads gives eof seen' (borrowed_content (vector n F)) (Ok y) old new
     unfolding borrowed_content raw_bytes vector owned_content
     items_taken {y = y} seen = record {
       kept = r.kept;
@@ -175,6 +178,7 @@ pub restated : {E : Type 0} {gives : Error → E → Type 0} {eof : E → Bool} 
     (n : ℕ) {B : Type 0} {seen' : B → List V} {result : Result B E} {mode other : Mode} {old mid new : ReaderState}
     → mode ≡ other → mid ≡ old → Reads gives eof seen' (borrowed_content (vector n (format mode))) result mid new
     → Reads gives eof seen' (borrowed_content (vector n (format other))) result old new
-restated {gives = gives} {eof = eof} format n {seen' = seen'} {result = result} {mode = mode} {old = old} {new = new} same is r =
+restated {gives = gives} {eof = eof} format n {seen' = seen'} {result = result} {mode = mode} {old = old} {new = new}
+    same is r =
     subst (λ m. Reads gives eof seen' (borrowed_content (vector n (format m))) result old new) same
     (subst (λ s. Reads gives eof seen' (borrowed_content (vector n (format mode))) result s new) is r)

@@ -1,5 +1,5 @@
 -- What the number of an error says of bytes that were checked.
-use Rattle.std.specs.Prelude.{◌≡◌, ℕ, ◌<◌, ◌≤◌, ◌↔◌, List, ◌++◌, length, IsTrue, ◌⊎◌, Result, Err}
+use Rattle.std.specs.Prelude.{◌≡◌, ℕ, ◌<◌, ◌≤◌, ◌↔◌, List, length, IsTrue, ◌⊎◌, Result, Err}
 use Rattle.std.proofs.Common.{◌∙◌, ap, sym, refl, subst, arith, inl, inr}
 use Rattle.std.proofs.lemmas.Bool.{cases_lt}
 use Rattle.speedy_base.specs.declared.endianness.Endianness.{Endianness}

@@ -1,5 +1,5 @@
 -- Lists that views show, or do not.
-use Rattle.std.specs.Prelude.{◌≡◌, ℕ, List, [], ◌∷◌, ◌++◌, length, Bool, IsTrue, ◌⊎◌, refl}
+use Rattle.std.specs.Prelude.{◌≡◌, ℕ, List, [], ◌∷◌, ◌++◌, length, Bool, IsTrue, ◌⊎◌}
 use Rattle.std.proofs.Common.{sym, ◌∙◌, ap, subst, inl, inr, arith, true≢false}
 use Rattle.std.proofs.Math.Logic.{∥∥₁_elim}
 use Rattle.std.proofs.lemmas.List.{append-nil, length-append}
@@ -34,7 +34,8 @@ module _ {V : Type 0} (item : InPlaceCodec V) {order other : Endianness} {count 
   -- there is none where the bytes are refused
   pub none_refused : {gives : Error → Error → Type 0} {error : Error} {eof : Error → Bool}
       → IsEncodedList item.codec other number more
-      → (gives (error_of kinds.OutOfMemory) error × IsTrue (repeat count (item.codec.format (plain_mode order))).asks.memory)
+      → (gives (error_of kinds.OutOfMemory) error
+      × IsTrue (repeat count (item.codec.format (plain_mode order))).asks.memory)
       ⊎ RefusesBufferIf gives eof (Unit {0}) (repeat count (item.codec.format (plain_mode order))).names
       (repeat count (item.codec.format (plain_mode order))) error bytes
       → ⊥
@@ -68,5 +69,6 @@ pub all_encode : {V : Type 0} (item : InPlaceCodec V) (order : Endianness) {coun
     → size ≡ length bytes → EncodesItems item.codec order count vs bytes
 unfolding repeat
 all_encode item order {count = count} {bytes = bytes} vs found all =
-    let whole = found.whole_is ∙ all_of found.prefix found.rest (sym found.count_is ∙ (all ∙ ap length found.whole_is)) in
+    let whole = found.whole_is
+    ∙ all_of found.prefix found.rest (sym found.count_is ∙ (all ∙ ap length found.whole_is)) in
     subst (λ b. EncodesItems item.codec order count vs b) (sym whole) found.prefix_is

@@ -1,5 +1,5 @@
 -- Lists that lie where they were read: which list bytes encode, and how many bytes items have.
-use Rattle.std.specs.Prelude.{◌≡◌, ℕ, List, [], length, false, IsTrue, ◌⊎◌, Result, MatchResult, Option, MatchOption}
+use Rattle.std.specs.Prelude.{◌≡◌, ℕ, List, [], length, IsTrue, ◌⊎◌, Result, MatchResult, Option, MatchOption}
 use Rattle.std.proofs.Math.Logic.{∥∥₁_elim, ∥∥₁_prop}
 use Rattle.std.specs.Coded.{Coded-set, coded_list, coded_ℕ}
 use mathlib.Core.HLevel.{Σ_prop_path}
@@ -10,7 +10,7 @@ use Rattle.speedy_base.specs.declared.error.ErrorKind.TheVariants as kinds
 use Rattle.speedy_base.specs.Error.{error_of, Errors}
 use Rattle.speedy_base.specs.Mode.{Mode, plain_mode}
 use Rattle.speedy_layout.specs.Codecs.{Codec}
-use Rattle.speedy_layout.specs.Format.{Format, Each}
+use Rattle.speedy_layout.specs.Format.{Each}
 use Rattle.speedy_layout.specs.Lists.{each_decodes, repeat}
 use Rattle.speedy_read.specs.WaysOfReading.{Counts, RefusesBufferIf}
 use Rattle.speedy_write.specs.Writing.{WriterState, WritesAs}

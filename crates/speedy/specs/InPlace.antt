@@ -1,6 +1,6 @@
 -- Layouts of values that a list may show where it lies: reading one asks for no memory, and what is seen of it is data.
-use Rattle.std.specs.Prelude.{◌≡◌, ℕ, ℤ, List, Bool, true, false, ◌||◌, ◌⊎◌, Option, refl}
-use Rattle.std.proofs.Common.{ap, ap₂, ◌∙◌}
+use Rattle.std.specs.Prelude.{◌≡◌, ℕ, ℤ, List, Bool, false, ◌||◌, ◌⊎◌, Option, refl}
+use Rattle.std.proofs.Common.{ap, ap₂}
 use Rattle.std.specs.Coded.{Coded, coded_ℕ, coded_ℤ, coded_bool, coded_list, coded_option, coded×, coded⊎}
 use Rattle.std.specs.Int.{Width}
 use base.Stored.{coded_unit}
@@ -9,7 +9,7 @@ use Rattle.speedy_layout.specs.Choices.{Choices, unit_case, one_case, either_cas
 use Rattle.speedy_layout.specs.Codecs.{Codec, unsigned_codec, signed_codec, flag_codec, character_codec, borrowed_codec}
 use Rattle.speedy_layout.specs.Codecs.{unit_codec, pair_codec, option_codec, list_codec}
 use Rattle.speedy_layout.specs.Codes.{coding}
-use Rattle.speedy_layout.specs.Format.{Asks, Format}
+use Rattle.speedy_layout.specs.Format.{Asks}
 use Rattle.speedy_layout.specs.Numbers.{unsigned_number, signed_number}
 use Rattle.speedy_layout.specs.Owned.{borrowed_content}
 use Rattle.speedy_layout.specs.Prefixed.{Numbers, prefixed_codec}
@@ -20,7 +20,8 @@ use Rattle.speedy_layout.specs.Tuples.{unit}
 abbrev pub TakesNoMemory : {V : Type 0} → Codec V → Type 0
 TakesNoMemory codec = (mode : Mode) → (codec.format mode).asks.memory ≡ false
 
--- A layout whose values take no memory, and are seen as data: what is seen of one has a code, which tells it from others.
+-- A layout whose values take no memory, and are seen as data: what is seen of one has a code, which tells it from any
+-- other.
 pub record InPlaceCodec (V : Type 0) : Type 1 where
   pub codec : Codec V
   pub coded : Coded V

@@ -1,9 +1,10 @@
 //! Lists that were read and lie encoded where their bytes are (`EncodedList`).
-ghost use Rattle.std.specs.Prelude.{◌≡◌, List, false, IsErrAnd, IsTrue, ◌↔◌};
+ghost use Rattle.std.specs.Prelude.{◌≡◌, List, length, false, IsErrAnd, IsTrue, ◌↔◌};
 ghost use Rattle.std.proofs.Common.{ap};
 ghost use Rattle.speedy_base.specs.Error.{error_of, is_eof_error};
-ghost use Rattle.speedy_base.specs.Mode.{Mode};
+ghost use Rattle.speedy_base.specs.Mode.{Mode, plain_mode};
 ghost use Rattle.speedy_layout.specs.Codecs.{unsigned_codec, borrowed_codec, list_codec, vector_codec};
+ghost use Rattle.speedy_read.specs.Buffers.{bytes_state};
 ghost use Rattle.speedy_read.specs.Reading.{RefusesUnsized, ReadsValue};
 ghost use Rattle.speedy_write.specs.Writing.{WritesValues};
 ghost use Rattle.speedy.specs.InPlace.{encoded_list_in_place};
@@ -145,7 +146,8 @@ pub struct EncodedList<'a, T: InPlace> {
     count: usize,
     order: Endianness,
     item: PhantomData<T>,
-    pub ghost decoded: { IsEncodedList T.in_place.codec order count bytes.now } by { list_once T.in_place order count bytes.now },
+    pub ghost decoded: { IsEncodedList T.in_place.codec order count
+        bytes.now } by { list_once T.in_place order count bytes.now },
 }
 
 impl<'a, T: InPlace> EncodedList<'a, T> {
@@ -175,6 +177,7 @@ impl<'a, T: InPlace> EncodedList<'a, T> {
     #[inline]
     pub fn len(&self) -> usize
         ensures count { result ≡ self.now.count }
+        ensures items { result ≡ length self.now.decoded.0 }
     {
         self.count
     }
@@ -201,6 +204,15 @@ impl<'a, T: InPlace> EncodedList<'a, T> {
         ensures { result ≡ self.now.order }
     {
         self.order
+    }
+
+    /// A reader of the items: `len()` reads of a `T` take all of its bytes.
+    #[inline]
+    pub fn reader(&self) -> BufferReader<'a, Endianness>
+        ensures { ⟦<BufferReader<'a, Endianness> as LendingReader<&'a [u8], Endianness>>⟧.state result
+            ≡ bytes_state self.now.bytes.now (plain_mode self.now.order) }
+    {
+        BufferReader::new(self.alloc, self.order, self.bytes)
     }
 }
 

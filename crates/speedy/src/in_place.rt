@@ -12,8 +12,7 @@ use speedy_layout::floats::{F32, F64};
 
 /// Types whose values a list may show where it lies: reading one asks for no memory, and what is seen of one is data.
 ///
-/// It has no function to run. A type of your own quotes that of a tuple of its parts, as its `Layout` does, and says the
-/// same.
+/// It has no function to run. A type of your own quotes that of a tuple of its parts, as its `Layout` does.
 pub trait InPlace {
     /// What is seen of a value, as the type's `Layout` says.
     ghost Seen: { Type 0 };

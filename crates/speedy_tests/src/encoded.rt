@@ -1,8 +1,12 @@
 //! Lists that lie where they were read: how they are read, written again in either order, shown and walked.
-use crate::asserting::{assert_bytes, assert_refused};
+ghost use Rattle.std.specs.Prelude.{◌≡◌};
+ghost use Rattle.speedy.specs.EncodedLists.{Measures, WritesFirst};
+ghost use Rattle.speedy.specs.Exports.{ShowsText};
+
+use crate::asserting::{assert_bytes, assert_kind, assert_refused};
 use speedy::context::{BigEndian, LittleEndian, StrictLittleEndian};
 use speedy::encoded::{EncodedList, ListItem, WriteListItem, measure_items, write_first_item};
-use speedy::error::IsEof;
+use speedy::error::Error;
 use speedy::exports::{ListView, View, Walk, next, read, write};
 use speedy::in_place::InPlace;
 use speedy::{
@@ -39,7 +43,9 @@ impl<'a, C: Context> ReadFrom<&'a [u8], C> for Named<'a> {
         }
     }
 
-    fn minimum_bytes_needed() -> usize {
+    fn minimum_bytes_needed() -> usize
+        ensures { result ≡ ⟦<NamedParts<'a> as Layout>⟧.layout.least }
+    {
         6
     }
 }
@@ -62,7 +68,10 @@ impl<'a> ListItem for Named<'a> {
         context: C,
         count: usize,
         bytes: &[u8],
-    ) -> Result<usize, C::Error> {
+    ) -> Result<usize, C::Error>
+        ensures { Measures C.Error.IsEof ⟦<Named<'a> as InPlace>⟧.in_place.codec
+            (C.mode context) count result bytes.now }
+    {
         measure_items::<Named, C>(alloc, context, count, bytes)
     }
 }
@@ -73,7 +82,10 @@ impl<'a, C: Context> WriteListItem<C> for Named<'a> {
         order: Endianness,
         bytes: &[u8],
         writer: &mut W,
-    ) -> Option<(usize, Result<(), C::Error>)> {
+    ) -> Option<(usize, Result<(), C::Error>)>
+        ensures { WritesFirst C.Error.from_gives W.state W.appends
+            ⟦<Named<'a> as InPlace>⟧.in_place.codec order bytes.now result writer.old writer.new }
+    {
         write_first_item::<Named, C, W>(alloc, order, bytes, writer)
     }
 }
@@ -87,9 +99,6 @@ struct NamedView<'a> {
 }
 
 impl<'a> View<Named<'a>> for NamedView<'a> {
-    ghost use Rattle.std.specs.Prelude.{◌≡◌};
-    ghost use Rattle.speedy.specs.Exports.{ShowsText};
-
     ghost shows = { λ value view. (view.id ≡ value.id) × (ShowsText value.name.now view.name.now) };
 
     fn of(value: &Named<'a>) -> NamedView<'a> {
@@ -250,6 +259,11 @@ fn a_list_lies_where_its_bytes_do(rt: HostRuntime) {
     assert!(&rt; list.len() == 2 && !list.is_empty());
     assert!(&rt; list.order() == Endianness::LittleEndian);
     assert_bytes(&rt, list.bytes(), &NAMES[4..]);
+    let mut items = list.reader();
+    let first: Named = items.read_value().expect(&rt, "an item");
+    let second: Named = items.read_value().expect(&rt, "an item");
+    assert!(&rt; first.id == 1 && first.name == "a" && second.id == 2 && second.name == "bc");
+    assert!(&rt; items.is_empty());
     // Numbers too, and a list of none.
     let two = &[0, 0, 0, 2, 0, 1, 0, 2, 9];
     let numbers = <EncodedList<u16> as Readable<BigEndian>>::read_from_buffer_with_ctx(
@@ -271,22 +285,39 @@ fn a_list_of_items_without_bytes_is_read_at_once(rt: HostRuntime) {
     assert!(&rt; list.len() == 0xffff_ffff && list.bytes().is_empty());
 }
 
+/// The error of bytes that begin with no list.
+fn refusal(rt: &impl Abort, alloc: Global, bytes: &[u8]) -> Error {
+    match <Names as Readable<LittleEndian>>::read_from_buffer(alloc, bytes) {
+        Ok(_) => panic!(rt; "it is read"),
+        Err(error) => error,
+    }
+}
+
+/// The error where nothing is lent.
+fn refusal_of_a_copy(rt: &impl Abort, alloc: Global, bytes: &[u8]) -> Error {
+    match <Names as Readable<LittleEndian>>::read_from_buffer_copying_data(alloc, bytes) {
+        Ok(_) => panic!(rt; "it is read"),
+        Err(error) => error,
+    }
+}
+
 #[test]
 fn what_is_no_list_is_refused(rt: HostRuntime) {
     let alloc = rt.alloc();
     // Cut before an item, and within one.
     for end in [4, 11, 18] {
-        let cut = <Names as Readable<LittleEndian>>::read_from_buffer(alloc, &NAMES[..end]);
-        assert!(&rt; matches!(&cut, Err(error) if error.is_eof()));
+        let error = refusal(&rt, alloc, &NAMES[..end]);
+        assert_kind(&rt, alloc, &error, "UnexpectedEndOfInput");
     }
     let mut other = NAMES;
     other[17] = 0xff;
-    let outcome = <Names as Readable<LittleEndian>>::read_from_buffer(alloc, &other);
-    assert_refused(&rt, alloc, outcome, "InvalidUtf8");
-    let outcome = <Names as Readable<LittleEndian>>::read_from_buffer_copying_data(alloc, &NAMES);
-    assert_refused(&rt, alloc, outcome, "Unsized");
-    let outcome = <Names as Readable<LittleEndian>>::read_from_buffer_copying_data(alloc, &[0; 4]);
-    assert_refused(&rt, alloc, outcome, "Unsized");
+    let error = refusal(&rt, alloc, &other);
+    assert_kind(&rt, alloc, &error, "InvalidUtf8");
+    // Where nothing is lent, also of a list that is empty.
+    for bytes in [&NAMES[..], &[0; 4]] {
+        let error = refusal_of_a_copy(&rt, alloc, bytes);
+        assert_kind(&rt, alloc, &error, "Unsized");
+    }
 }
 
 #[test]
@@ -349,9 +380,10 @@ fn a_list_is_shown_and_walked(rt: HostRuntime) {
     assert!(&rt; write::<Names, ListView>(alloc, &view, 0, &mut buffer, &mut size) == 0);
     assert!(&rt; size == 19 && buffer[..19] == NAMES[..] && buffer[19] == 9);
     let mut item = NamedView { id: 0, name: &[] };
-    assert!(&rt; next::<Named, NamedView>(alloc, &mut view.items, view.order, &mut item) == 0);
+    let order = view.order;
+    assert!(&rt; next::<Named, NamedView>(alloc, &mut view.items, order, &mut item) == 0);
     assert!(&rt; item.id == 1 && item.name == b"a".as_slice());
-    assert!(&rt; next::<Named, NamedView>(alloc, &mut view.items, view.order, &mut item) == 0);
+    assert!(&rt; next::<Named, NamedView>(alloc, &mut view.items, order, &mut item) == 0);
     assert!(&rt; item.id == 2 && item.name == b"bc".as_slice());
     assert!(&rt; view.items.left.is_empty());
     let mut numbers = Walk {

@@ -26,7 +26,8 @@ returns-in_err-_item g c =
     let fewer : length before.0 < c.args.count = omega (arith, before.1, c.loop-i-test.true) in
     let fit : length c.args.bytes.now < 2 ^ 64 - 1 = search rules in
     measure_refused (g.T.Layout.layout.laws _) c.args.count before.0 fewer c.bytes_in_range.ensures fit before.2
-    c.from_residual.result c.from_residual.ensures.1 (read_in g.T.Layout.layout.format before.2.kept.mode c.in_err-_item.ensures)
+    c.from_residual.result c.from_residual.ensures.1
+    (read_in g.T.Layout.layout.format before.2.kept.mode c.in_err-_item.ensures)
 
 pub returns-then-len-before : goal.returns-then-len-before
 returns-then-len-before g c =

@@ -1,4 +1,4 @@
-use Rattle.std.proofs.Common.{◌≡◌, ◌≤◌, length, refl, sym, ◌∙◌, ap, ap₂, subst, arith}
+use Rattle.std.proofs.Common.{refl, ◌∙◌, ap, ap₂, arith}
 use Rattle.speedy_base.specs.Mode.{Mode}
 use Rattle.speedy_layout.specs.Lists.{repeat}
 use Rattle.speedy_read.specs.Reading.{ReaderState}
@@ -39,7 +39,8 @@ over-requires g c =
     let items = c.in-Ok.ensures.0 in
     let found : Counts ((repeat c.args.count (codec.format mode)).encodes items) c.in-Ok.size
     (g.R.LendingReader.state c.read_lent.new.reader).remaining = rw c.in-Some.ensures.1 at c.in-Ok.ensures.1 in
-    let lent = lent_items (codec.format mode) c.args.count items c.in-Some.ensures.0 found c.in_ok-bytes.ensures.reads in
+    let lent = lent_items (codec.format mode) c.args.count items c.in-Some.ensures.0 found
+    c.in_ok-bytes.ensures.reads in
     (items, ∣ rw lent (plain_items codec mode.order mode.strict c.args.count items found.prefix found.prefix_is) ∣₁)
 
 pub returns-clause-reads : goal.returns-clause-reads

@@ -1,7 +1,6 @@
-use Rattle.std.proofs.Common.{length, drop, ◌<◌, ◌≡◌, sym, subst, arith, take_all}
+use Rattle.std.proofs.Common.{length, ◌<◌, arith, take_all}
 use Rattle.std.proofs.Math.Logic.{∥∥₁_map}
 use Rattle.speedy_base.specs.Mode.{plain_mode}
-use Rattle.speedy_layout.specs.Format.{Each}
 use Rattle.speedy_write.proofs.ListLemmas.{no_items_written, one_more_written, items_refused}
 use Rattle.speedy.specs.EncodedLists.{counted}
 use Rattle.speedy.proofs.EncodedLemmas.{next_begins, next_of_list}

@@ -1,4 +1,4 @@
-use Rattle.std.proofs.Common.{List, refl}
+use Rattle.std.proofs.Common.{refl}
 use Rattle.speedy_layout.specs.Numbers.{unsigned_number_laws}
 use Rattle.speedy_read.specs.Sequences.{refused_first, second_decides}
 use Rattle.speedy_read.proofs.LentLemmas.{borrowed_list_composes}

@@ -24,7 +24,8 @@ over-requires g c =
 pub returns : goal.returns
 returns g c =
     let made = c.over.result in
-    let number = (c.order_of.ensures.known c.in-Some.order).0 c.in-Some.is ∙ ap number_of_order (sym c.over.ensures.order)
+    let number = (c.order_of.ensures.known c.in-Some.order).0 c.in-Some.is
+    ∙ ap number_of_order (sym c.over.ensures.order)
     in (
       (sym c.over.ensures.bytes, sym c.over.ensures.count, number),
       λ other shown. same_list g.T.InPlace.in_place (same_order other.order made.order (sym shown.2 ∙ number))
