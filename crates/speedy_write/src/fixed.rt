@@ -88,7 +88,7 @@ impl FixedBytes<Duration> for Durations {
     }
 }
 
-// Puts the bytes of a number.
+// Puts the bytes of a number. It says of `encode`, whose contract is an equation, that they encode it.
 #[inline(always)]
 pub(crate) fn put_number<T: FixedNumber>(number: T, order: Endianness, output: &mut [u8])
     requires { length output.old ≡ T.Digits.LENGTH }

@@ -127,7 +127,10 @@ impl<'a, C: Context, T: Writable<C>> WriteOfLength<C> for CowSlice<'a, T> {
 
 // The bytes of the text, and no length.
 #[inline]
-fn write_text_alone<C: Context, W: Writer<C>>(text: &str, writer: &mut W) -> Result<(), C::Error>
+pub(crate) fn write_text_alone<C: Context, W: Writer<C>>(
+    text: &str,
+    writer: &mut W,
+) -> Result<(), C::Error>
     ensures { WritesAs C.Error.from_gives W.state W.appends (λ v. v)
         (λ f. text_of_length f (length text.now)) text.now result writer.old writer.new }
 {
@@ -135,7 +138,7 @@ fn write_text_alone<C: Context, W: Writer<C>>(text: &str, writer: &mut W) -> Res
     writer.write_bytes(bytes)
 }
 
-// The items, and no length.
+// The items, and no length. It says once for all lists that these are a vector of their number.
 #[inline]
 fn write_items_alone<C: Context, T: Writable<C>, W: Writer<C>>(
     items: &[T],

@@ -106,7 +106,7 @@ impl<C: Context, T: Writable<C>, const N: usize> WriteTold<C> for SmallVec<T, N>
     }
 }
 
-// The number of items in four bytes, and then the items.
+// The number of items in four bytes, and then the items. It says once for all lists that `list_codec` is this.
 #[inline]
 pub(crate) fn write_counted<C: Context, T: Writable<C>, W: Writer<C>>(
     items: &[T],

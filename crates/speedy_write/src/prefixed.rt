@@ -13,7 +13,7 @@ use speedy_base::error::error_out_of_range_length;
 use speedy_layout::prefixed::{Prefix, Prefixed, Told, U7};
 use speedy_layout::varint::VarInt64;
 
-/// How the numbers of a type are written.
+/// How the numbers of a type are written: by the function of that type below, which the original has too.
 pub trait WritePrefix: Prefix {
     /// Writes a number. One that is too great is the error `OutOfRangeLength`.
     fn write_number<C: Context, W: Writer<C>>(number: usize, writer: &mut W) -> Result<(), C::Error>

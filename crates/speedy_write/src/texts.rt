@@ -7,6 +7,7 @@ ghost use Rattle.speedy_write.specs.Counting.{CountsEach, Takes};
 ghost use Rattle.speedy_write.specs.Writing.{WritesValue, WritesValues};
 
 use crate::each::MOST_ITEMS;
+use crate::lengths::write_text_alone;
 use crate::prefixed::{WritePrefix, WriteTold};
 use crate::writable::Writable;
 use crate::writer::Writer;
@@ -85,7 +86,7 @@ impl<C: Context> WriteTold<C> for BoxedStr {
     }
 }
 
-// The number of bytes in four bytes, and then the bytes.
+// The number of bytes in four bytes, and then the bytes. It says once for all texts that `text_codec` is this.
 #[inline]
 pub(crate) fn write_text<C: Context, W: Writer<C>>(
     text: &str,
@@ -106,9 +107,8 @@ pub(crate) fn write_text_behind<N: WritePrefix, C: Context, W: Writer<C>>(
     ensures { WritesValue C.Error.from_gives W.state W.appends (λ v. v)
         (prefixed_codec (text_behind N.numbers)) text.now result writer.old writer.new }
 {
-    let bytes = text.as_bytes();
-    N::write_number(bytes.len(), writer)?;
-    writer.write_bytes(bytes)
+    N::write_number(text.len(), writer)?;
+    write_text_alone(text, writer)
 }
 
 // Texts, whose length alone says how many bytes they take.
