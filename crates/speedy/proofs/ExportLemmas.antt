@@ -96,10 +96,12 @@ checks_refused {least = least} {e = e} {bytes = bytes} own answers lacks = recor
   ];
   grows = λ ends bad. elim (cases_lt (length bytes) least) [
     | inl few ↦
-        let short = ap (λ (x : Error). number_of_kind (kind_of x)) (answers.too_small few).0 in omega (arith, ends, short)
+        let short = ap (λ (x : Error). number_of_kind (kind_of x)) (answers.too_small few).0 in
+        omega (arith, ends, short)
     | inr many ↦ elim (answers.refused (omega (arith, many))) [
       | inl want ↦
-          let lack = ap (λ (x : Error). number_of_kind (kind_of x)) want.0 in omega (arith, ends, lack)
+          let lack = ap (λ (x : Error). number_of_kind (kind_of x)) want.0 in
+          omega (arith, ends, lack)
       | inr refused ↦
           let named = (refused.because tt).malformed bad in
           own_number named.0 (own named.0 named.1)
