@@ -43,7 +43,8 @@ unfolding same_items
 empty_items encodes zero v h = refl
 empty_items encodes (suc n) v h = Parts-joined [] [] h (empty_items encodes n v h)
 
-no_bytes : (b : List ℕ) → length b ≡ 0 → b ≡ []
+-- where their number is 0, there are none
+pub no_bytes : (b : List ℕ) → length b ≡ 0 → b ≡ []
 no_bytes [] h = refl
 no_bytes (x ∷ b) h = absurd (omega (arith, h))
 

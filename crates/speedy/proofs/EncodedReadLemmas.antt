@@ -1,5 +1,5 @@
 -- Reads of lists that lie where they were read.
-use Rattle.std.specs.Prelude.{◌≡◌, ℕ, ◌≤◌, List, [], ◌∷◌, ◌++◌, length, take, drop, Bool, true, false, IsTrue}
+use Rattle.std.specs.Prelude.{◌≡◌, ℕ, ◌≤◌, List, ◌++◌, length, take, drop, Bool, true, false, IsTrue}
 use Rattle.std.specs.Prelude.{◌⊎◌, Result, Ok, Err, IsErrAnd, refl}
 use Rattle.std.proofs.Common.{sym, ◌∙◌, ap, subst, inl, inr, arith, true≢false}
 use Rattle.std.proofs.lemmas.List.{take-append-drop, length-append, length-take-le}
@@ -21,6 +21,7 @@ use Rattle.speedy_read.specs.ReadingLemmas.{Kept-same, KeepsEof, Got-as, IsTold-
 use Rattle.speedy_read.specs.WaysOfReading.{Counts, RefusesBufferIf}
 use Rattle.speedy.specs.InPlace.{InPlaceCodec}
 use Rattle.speedy.specs.EncodedLists.{EncodesItems, IsEncodedList, one_list}
+use Rattle.speedy.proofs.EncodedLemmas.{no_bytes}
 
 -- ---- one list of items
 
@@ -161,11 +162,7 @@ module _ {E : Type 0} {gives : Error → E → Type 0} {eof : E → Bool} {V : T
 pub none_lent : {E : Type 0} {gives : Error → E → Type 0} {eof : E → Bool} {A : Type 0} {shows : A → List ℕ} {x : A}
     {old new : ReaderState} → Reads gives eof shows (borrowed_content (raw_bytes 0)) (Ok x) old new → new ≡ old
 unfolding borrowed_content raw_bytes
-none_lent r = r.answer.untouched (nothing r.answer.prefix r.answer.prefix_is.1)
-  where
-    nothing : (b : List ℕ) → length b ≡ 0 → b ≡ []
-    nothing [] h = refl
-    nothing (x ∷ b) h = absurd (omega (arith, h))
+none_lent r = r.answer.untouched (no_bytes r.answer.prefix r.answer.prefix_is.1)
 
 -- so many bytes are there
 pub counted_within : {encoded : List ℕ → Type 0} {size : ℕ} {bytes : List ℕ} → Counts encoded size bytes

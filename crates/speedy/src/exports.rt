@@ -217,6 +217,43 @@ impl View<i64> for i64 {
     }
 }
 
+impl View<bool> for u8 {
+    ghost shows = { ShowsFlag };
+
+    #[inline]
+    fn of(value: &bool) -> u8 {
+        flag_number(*value)
+    }
+}
+
+impl View<char> for u32 {
+    ghost shows = { ShowsCharacter };
+
+    #[inline]
+    fn of(value: &char) -> u32 {
+        character_number(*value)
+    }
+}
+
+// The UTF-8 of a text.
+impl<'a> View<&'a str> for &'a [u8] {
+    ghost shows = { λ value view. ShowsText value.now view.now };
+
+    #[inline]
+    fn of(value: &&'a str) -> &'a [u8] {
+        value.as_bytes()
+    }
+}
+
+impl<'a> View<&'a [u8]> for &'a [u8] {
+    ghost shows = { λ value view. view.now ≡ value.now };
+
+    #[inline]
+    fn of(value: &&'a [u8]) -> &'a [u8] {
+        *value
+    }
+}
+
 // The bits of a float.
 impl View<F32> for u32 {
     ghost shows = { λ value view. view ≡ f32_bits value };

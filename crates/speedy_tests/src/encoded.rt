@@ -7,10 +7,11 @@ use crate::asserting::{assert_bytes, assert_kind, assert_refused};
 use speedy::context::{BigEndian, LittleEndian, StrictLittleEndian};
 use speedy::encoded::{EncodedList, ListItem, WriteListItem, measure_items, write_first_item};
 use speedy::error::Error;
-use speedy::exports::{ListView, View, Walk, next, read, write};
+use speedy::exports::{ListView, View, Walk, check, next, read, write};
 use speedy::in_place::InPlace;
 use speedy::{
-    Context, Endianness, ItemByItem, Layout, LendingReader, ReadFrom, Readable, Writable, Writer,
+    Context, Endianness, F32, ItemByItem, Layout, LendingReader, ReadFrom, Readable, Writable,
+    Writer,
 };
 use std::alloc::Global;
 use std::convert::AsSlice;
@@ -368,11 +369,7 @@ fn a_list_is_written_in_either_order(rt: HostRuntime) {
 #[test]
 fn a_list_is_shown_and_walked(rt: HostRuntime) {
     let alloc = rt.alloc();
-    let mut view = ListView {
-        items: Walk { left: &[] },
-        count: 0,
-        order: 0,
-    };
+    let mut view = empty_list();
     let mut size = 0;
     assert!(&rt; read::<Names, ListView>(alloc, &NAMES_BIG, 1, &mut view, &mut size) == 0);
     assert!(&rt; size == 19 && view.count == 2 && view.order == 1);
@@ -392,6 +389,63 @@ fn a_list_is_shown_and_walked(rt: HostRuntime) {
     let mut number = 0;
     assert!(&rt; next::<u16, u16>(alloc, &mut numbers, 0, &mut number) == 0 && number == 1);
     assert!(&rt; next::<u16, u16>(alloc, &mut numbers, 1, &mut number) == 0 && number == 512);
+}
+
+/// Two texts, in little endian.
+const TEXTS: [u8; 15] = [2, 0, 0, 0, 1, 0, 0, 0, 97, 2, 0, 0, 0, 98, 99];
+
+/// A list of one list of two numbers, in little endian.
+const NESTED: [u8; 12] = [1, 0, 0, 0, 2, 0, 0, 0, 7, 0, 8, 0];
+
+fn empty_list() -> ListView<'static> {
+    ListView {
+        items: Walk { left: &[] },
+        count: 0,
+        order: 0,
+    }
+}
+
+#[test]
+fn texts_and_lists_are_items_too(rt: HostRuntime) {
+    let alloc = rt.alloc();
+    let mut view = empty_list();
+    let mut size = 0;
+    let mut buffer = [9; 15];
+    assert!(&rt; read::<EncodedList<&str>, ListView>(alloc, &TEXTS, 0, &mut view, &mut size) == 0);
+    assert!(&rt;
+        write::<EncodedList<&str>, ListView>(alloc, &view, 0, &mut buffer, &mut size) == 0
+    );
+    assert!(&rt; size == 15 && buffer == TEXTS);
+    let mut text: &[u8] = &[];
+    assert!(&rt; next::<&str, &[u8]>(alloc, &mut view.items, 0, &mut text) == 0);
+    assert_bytes(&rt, text, b"a");
+    assert!(&rt; next::<&[u8], &[u8]>(alloc, &mut view.items, 0, &mut text) == 0);
+    assert_bytes(&rt, text, b"bc");
+    let mut lists = Walk { left: &NESTED[4..] };
+    assert!(&rt; check::<EncodedList<EncodedList<u16>>>(alloc, &NESTED, 0, &mut size) == 0);
+    assert!(&rt; size == 12);
+    assert!(&rt; next::<EncodedList<u16>, ListView>(alloc, &mut lists, 0, &mut view) == 0);
+    assert!(&rt; view.count == 2 && lists.left.is_empty());
+    assert_bytes(&rt, view.items.left, &NESTED[8..]);
+}
+
+#[test]
+fn flags_and_characters_are_items_too(rt: HostRuntime) {
+    let alloc = rt.alloc();
+    let mut flags = Walk { left: &[1, 0] };
+    let mut flag = 0;
+    assert!(&rt; next::<bool, u8>(alloc, &mut flags, 0, &mut flag) == 0 && flag == 1);
+    let mut characters = Walk {
+        left: &[65, 0, 0, 0],
+    };
+    let mut character = 0;
+    assert!(&rt; next::<char, u32>(alloc, &mut characters, 0, &mut character) == 0);
+    assert!(&rt; character == 65);
+    let mut floats = Walk {
+        left: &[0, 0, 128, 63],
+    };
+    assert!(&rt; next::<F32, u32>(alloc, &mut floats, 0, &mut character) == 0);
+    assert!(&rt; character == 0x3f80_0000);
 }
 
 #[test]
