@@ -3,6 +3,7 @@ use crate::asserting::{assert_bytes, assert_ok, assert_refused, assert_same};
 use speedy::context::LittleEndian;
 use speedy::endianness::Endianness;
 use speedy::error::Error;
+use speedy::lent::read_lent;
 use speedy::private::cow_bytes_to_cow_str;
 use speedy::readable::{BufferReader, CopyingBufferReader, Readable, ReadableOwned};
 use speedy::reader::{LendingReader, Reader};
@@ -42,6 +43,28 @@ fn an_array_is_not_borrowed_where_nothing_is_lent(rt: HostRuntime) {
     let outcome: Result<&[u8; 4], Error> = reader.read_value();
     assert_refused(&rt, alloc, outcome, "Unsized");
     assert_same(&rt, reader.finish(), 4);
+}
+
+#[test]
+fn bytes_are_lent_or_refused(rt: HostRuntime) {
+    let alloc = rt.alloc();
+    let mut reader = BufferReader::new(alloc, LittleEndian {}, &HI);
+    assert_bytes(
+        &rt,
+        read_lent(&mut reader, 5).expect(&rt, "bytes"),
+        &HI[..5],
+    );
+    assert_refused(
+        &rt,
+        alloc,
+        read_lent(&mut reader, 2),
+        "UnexpectedEndOfInput",
+    );
+    assert_same(&rt, reader.len(), 1);
+    let mut context = LittleEndian {};
+    let mut copying = CopyingBufferReader::new(alloc, &mut context, &HI);
+    assert_refused(&rt, alloc, read_lent(&mut copying, 0), "Unsized");
+    assert_same(&rt, copying.finish(), 6);
 }
 
 /// Asserts that it borrows the bytes or not.
