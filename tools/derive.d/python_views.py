@@ -74,7 +74,7 @@ class _List(ctypes.Structure):
     _fields_ = [("items", _Bytes), ("count", ctypes.c_size_t), ("order", ctypes.c_uint32)]
 '''
 VALUES = '''
-    def get(self, name, raw, of):
+    def get(self, name, raw, of=lambda it: it.value_of()):
         """The items, by the call that takes one, and a function of what that shows."""
         left, view = _Bytes(self.items.at, self.items.length), raw()
         call = getattr(_LIBRARY, name)
@@ -179,8 +179,8 @@ def taken(library, kind, place):
     if kind.what == "array":
         return f"bytes({place})" if kind.of == "u8" else f"tuple({place})"
     if kind.what == "list" and kind.of.what in WALKED:
-        of = f"lambda it: {taken(library, kind.of, 'it')}"
-        return f'{place}.get("{library.name}_{kind.of.label}_next", {raw(kind.of)}, {of})'
+        of = f", lambda it: {taken(library, kind.of, 'it')}" if kind.of.what != "own" else ""
+        return f'{place}.get("{library.name}_{kind.of.label}_next", {raw(kind.of)}{of})'
     if kind.what == "list":
         numbers, item = f"{place}.numbers({raw(kind.of)})", taken(library, kind.of, "it")
         return numbers if item == "it" else f"[{item} for it in {numbers}]"

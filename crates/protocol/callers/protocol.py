@@ -176,7 +176,7 @@ def _walk(read, data, order):
 class _List(ctypes.Structure):
     _fields_ = [("items", _Bytes), ("count", ctypes.c_size_t), ("order", ctypes.c_uint32)]
 
-    def get(self, name, raw, of):
+    def get(self, name, raw, of=lambda it: it.value_of()):
         """The items, by the call that takes one, and a function of what that shows."""
         left, view = _Bytes(self.items.at, self.items.length), raw()
         call = getattr(_LIBRARY, name)
@@ -352,7 +352,7 @@ class _RawMessage(ctypes.Structure):
         if self.tag == 3:
             return Message.Readings(
                 sensor=self.readings.sensor,
-                list=self.readings.list.get("protocol_reading_next", _RawReading, lambda it: it.value_of()),
+                list=self.readings.list.get("protocol_reading_next", _RawReading),
             )
         if self.tag == 4:
             return Message.Blob(

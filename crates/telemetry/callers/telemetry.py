@@ -187,7 +187,7 @@ def _walk(read, data, order):
 class _List(ctypes.Structure):
     _fields_ = [("items", _Bytes), ("count", ctypes.c_size_t), ("order", ctypes.c_uint32)]
 
-    def get(self, name, raw, of):
+    def get(self, name, raw, of=lambda it: it.value_of()):
         """The items, by the call that takes one, and a function of what that shows."""
         left, view = _Bytes(self.items.at, self.items.length), raw()
         call = getattr(_LIBRARY, name)
@@ -314,7 +314,7 @@ class _RawMessage(ctypes.Structure):
         if self.tag == 5:
             return Message.Measurements(
                 sensor=self.measurements.sensor,
-                readings=self.measurements.readings.get("telemetry_reading_next", _RawReading, lambda it: it.value_of()),
+                readings=self.measurements.readings.get("telemetry_reading_next", _RawReading),
             )
         raise ValueError("the library shows a tag that this module does not know")
 
