@@ -15,6 +15,7 @@ TOP = Path(__file__).resolve().parent.parent
 sys.path[:0] = [str(TOP / "tools" / "derive.d")]
 
 from library import Library  # noqa: E402
+from view_types import empty, shown_type  # noqa: E402
 
 
 def with_main(text, library):
@@ -36,10 +37,10 @@ def with_main(text, library):
             if library.is_written(it):
                 calls.append(f"        total |= {call}_write(rt.alloc(), &view, 0, &mut room, &mut size);")
             calls.append("    }")
-    for it in library.numbers:
-        calls += ["    let mut walk = Walk { left: bytes };",
-                  f"    let mut number: {it.replace('f', 'u')} = 0;",
-                  f"    total |= {name}_{it}_next(rt.alloc(), &mut walk, 0, &mut number);"]
+    for it in library.listed:
+        shown = shown_type(it).replace("'a ", "")
+        calls += ["    let mut walk = Walk { left: bytes };", f"    let mut item: {shown} = {empty(it)};",
+                  f"    total |= {name}_{it.label}_next(rt.alloc(), &mut walk, 0, &mut item);"]
     return f"""{text}
 fn main(rt: HostRuntime) -> std::process::ExitCode {{
     let mut total: u32 = 0;

@@ -1,7 +1,7 @@
 """Writes the header of a library: its calls for callers in C and C++."""
 import textwrap
 
-from c_views import number_lines, read_lines, struct_lines
+from c_views import item_lines, read_lines, struct_lines
 from kinds import TOO_SOON, answers, snake_upper
 
 WIDTH = 116
@@ -52,7 +52,7 @@ def owed_lines():
     return comment([
         "What each call relies on, and no proof sees:",
         "- `bytes` is not null, even where `length` is 0, and so many bytes can be read there.",
-        "- `size`, `view`, `walk` and `number` are not null, point to no two overlapping places, and can be written.",
+        "- `size`, `view`, `walk` and `item` are not null, point to no two overlapping places, and can be written.",
         "- What stands in `view` before a read is not read. What it shows after it lies in the bytes of that call.",
         "- A view that is written was set by a read, or began as zeros. Where a `length` in it is not 0, so many bytes",
         "  can be read at the pointer beside it. The structs of other variants than that of the tag do not matter.",
@@ -99,7 +99,7 @@ def header_text(library):
         lines += call_lines(library, it)
         if it.path in library.views.by_path:
             lines += read_lines(library, library.views.by_path[it.path])
-    for it in library.numbers:
-        lines += number_lines(library, it)
+    for it in library.listed:
+        lines += item_lines(library, it)
     lines += ["#ifdef __cplusplus", "}", "#endif", "", "#endif"]
     return "\n".join(lines) + "\n"

@@ -93,14 +93,15 @@ def list_lines(library):
             f"{name.upper()}_BIG_ENDIAN */", "};", ""]
 
 
-def number_lines(library, number):
-    """The call that takes a number of a list."""
+def item_lines(library, kind):
+    """The call that takes an item of a list, which is of no type of the file."""
     from c_header import comment, filled
-    about = f"Takes a number (`{number}`) from the items of a list. Where the answer is not 0, the walk and `number` " \
-            "stay as they are."
-    kind = FLOATS.get(number) or NUMBERS[number]
-    return [*comment(filled(about)), f"unsigned int {library.name}_{number}_next(",
-            f"    struct {library.name}_walk *walk, unsigned int order, {kind} *number);", ""]
+    named = {"number": kind.of, "float": kind.of, "flag": "flag, 0 or 1", "char": "character", "text": "text, in UTF-8",
+             "bytes": "item that is bytes"}[kind.what]
+    about = f"Takes {'an' if kind.what == 'bytes' else 'a'} {named} from the items of a list. Where the answer is " \
+            "not 0, the walk and `item` stay as they are."
+    return [*comment(filled(about)), f"unsigned int {library.name}_{kind.label}_next(",
+            f"    struct {library.name}_walk *walk, unsigned int order, {c_type(library, kind)[0]} *item);", ""]
 
 
 def read_lines(library, view):

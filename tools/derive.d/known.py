@@ -19,10 +19,10 @@ PRIMITIVES = ("u8", "u16", "u32", "u64", "u128", "usize", "i8", "i16", "i32", "i
 NUMBERS = ("u8", "u16", "u32", "u64", "u128", "i8", "i16", "i32", "i64", "i128", "F32", "F64", "U24")
 # What floats become, which holds their bits.
 FLOATS = {"f32": "F32", "f64": "F64"}
-# What a library has in place of a list: one that lies where it was read, which no source names. The numbers that such
-# lists hold.
+# What a library has in place of a list: one that lies where it was read, which no source names. What such lists hold
+# beside types of the file, texts and bytes.
 ENCODED_LIST = ("speedy", "encoded", "EncodedList")
-LISTED = ("u16", "u32", "u64", "i8", "i16", "i32", "i64", "f32", "f64")
+LISTED = ("u16", "u32", "u64", "i8", "i16", "i32", "i64", "f32", "f64", "bool", "char")
 # Bytes that mean nothing, so many as a number says.
 BLANKS = ("Padding", "Zeros")
 # And so many as other fields tell.

@@ -132,13 +132,20 @@ class Listing:
             inner = self.lent_type(kind.arguments[0], name, path, takes_lists)
             return inner and replace(kind, arguments=(inner,))
         lent = lent_text(kind, name)
-        if lent is None and takes_lists and self.is_shown(items_of(kind), path):
-            return syntax.Named(kind.line, ENCODED_LIST, (syntax.Lifetime(kind.line, name), items_of(kind)))
-        return lent
+        items = self.listed(items_of(kind), name, path) if lent is None and takes_lists else None
+        return syntax.Named(kind.line, ENCODED_LIST, (syntax.Lifetime(kind.line, name), items)) if items else lent
+
+    def listed(self, items, name, path):
+        """The type of the items of a list in the type at a path, as one that is lent holds them, or None."""
+        if isinstance(items, syntax.Reference):
+            return items if not items.mutable and is_unsized(items.target) else None
+        is_own = isinstance(items, syntax.Named) and (*path[:-1], items.path[0]) in self.found
+        lent = None if is_own else lent_text(items, name)
+        return lent or (items if self.is_shown(items, path) else None)
 
     def is_shown(self, items, path):
-        """Whether a list of such items in the type at a path may be shown: these are numbers, or of a type of the file
-        that does not hold that one."""
+        """Whether a list of such items in the type at a path may be shown: these are numbers, flags or characters, or
+        of a type of the file that does not hold that one."""
         if not isinstance(items, syntax.Named) or len(items.path) != 1:
             return False
         other = (*path[:-1], items.path[0])
@@ -151,7 +158,8 @@ class Listing:
         if isinstance(kind, syntax.Named) and kind.path == ("Option",):
             self.mark(kind.arguments[0], path)
         if isinstance(kind, syntax.Named) and kind.path == ENCODED_LIST:
-            other = (*path[:-1], kind.arguments[-1].path[0])
+            items = kind.arguments[-1]
+            other = (*path[:-1], items.path[0]) if isinstance(items, syntax.Named) else None
             if other in self.found:
                 self.found[other].in_list = True
                 for it in self.reached(other):

@@ -17,8 +17,8 @@ from parse import parse
 from python_wrapper import python_text
 from refusal import Refusal
 from rust_wrapper import rust_text
-from view_types import ViewTypes
-from views import NUMBERS, Views, listed_numbers, lists
+from view_types import ViewTypes, shown_type, source_type
+from views import NUMBERS, Views, listed_kinds, lists
 from whole import ends_early, ends_with_input
 from words import FOLDED, KEYWORDS, PRELUDE, TACTICS
 
@@ -159,7 +159,8 @@ class Library:
             if not more:
                 break
             kept |= more
-        self.numbers = listed_numbers(self.views)
+        # What lists hold beside types of the file.
+        self.listed = listed_kinds(self.views)
         self.check_lists()
 
     def check_names(self):
@@ -176,7 +177,7 @@ class Library:
 
     def check_lists(self):
         """Refuses a type whose calls or structs would be named as those of lists."""
-        taken = {*self.numbers, *["list"] * bool(lists(self.views))}
+        taken = {*(it.label for it in self.listed), *["list"] * bool(lists(self.views))}
         for it in self.types:
             if it.snake in taken:
                 raise Refusal(it.line, f"`{'::'.join(it.path)}` is named as what callers have for lists: give it "
@@ -192,7 +193,7 @@ class Library:
                 found += [f"{self.name}_{it.snake}_read", f"{self.name}_{it.snake}_next"]
             if self.is_written(it):
                 found.append(f"{self.name}_{it.snake}_write")
-        return found + [f"{self.name}_{it}_next" for it in self.numbers]
+        return found + [f"{self.name}_{it.label}_next" for it in self.listed]
 
     def is_written(self, it):
         """Whether a type has a call that writes it."""
@@ -225,8 +226,8 @@ class Library:
                 lines += ["", *self.read_call(it, names[it])]
             if self.is_written(it):
                 lines += ["", *self.write_call(it, names[it])]
-        for it in self.numbers:
-            lines += ["", *self.number_call(it)]
+        for it in self.listed:
+            lines += ["", *self.item_call(it)]
         return laid_out("\n".join(lines) + "\n")
 
     def imports(self, names):
@@ -238,7 +239,7 @@ class Library:
         words += ["Reads", "Steps"] * bool(views) + ["Writes"] * is_written
         calls = ["check"] * (len(wholes) < len(self.types)) + ["check_whole"] * bool(wholes)
         calls += ["View", "Walk", "next", "read"] * bool(views) + ["write"] * is_written
-        floats = [f"F{it[1:]}" for it in self.numbers if it[0] == "f"]
+        floats = [source_type(it) for it in self.listed if it.what == "float"]
         found = ["ghost use Rattle.std.specs.Prelude.{◌≡◌};",
                  f"ghost use Rattle.speedy.specs.Exports.{{{', '.join(words)}}};", ""]
         for it in self.types:
@@ -303,18 +304,17 @@ class Library:
                 "        Writes it.seen shows it.layout view.now order result size.new buffer.old buffer.new }",
                 "{", f"    write::<{name}, {shown}>(alloc, view, order, buffer, size)", "}"]
 
-    def number_call(self, number):
-        """The call that takes a number of a list."""
-        name = f"F{number[1:]}" if number[0] == "f" else number
-        shown = f"u{number[1:]}" if number[0] == "f" else number
-        return [f"/// Takes a number from the items of a list of [`{name}`].", "#[unsafe(no_mangle)]",
-                f"pub extern \"C\" fn {self.name}_{number}_next<'a>(alloc: Global, walk: &mut Walk<'a>, order: u32, "
-                f"number: &mut {shown}) -> u32",
+    def item_call(self, kind):
+        """The call that takes an item of a list, which is of no type of the file."""
+        name, shown = source_type(kind), shown_type(kind)
+        return [f"/// Takes an item of a list of `{name}`.", "#[unsafe(no_mangle)]",
+                f"pub extern \"C\" fn {self.name}_{kind.label}_next<'a>(alloc: Global, walk: &mut Walk<'a>, "
+                f"order: u32, item: &mut {shown}) -> u32",
                 f"    ensures {{ let it = ⟦<{name} as Layout>⟧ in",
                 f"        let shows = ⟦<{shown} as View<{name}>>⟧.shows in",
                 "        Steps it.seen shows it.layout order walk.old.left.now walk.new.left.now result",
-                "        number.old number.new }",
-                "{", f"    next::<{name}, {shown}>(alloc, walk, order, number)", "}"]
+                "        item.old item.new }",
+                "{", f"    next::<{name}, {shown}>(alloc, walk, order, item)", "}"]
 
 
 def laid_out(text):

@@ -3,7 +3,7 @@ them."""
 import textwrap
 
 from names import camel
-from views import lists, listed_numbers, maybes
+from views import lists, maybes
 
 HEAD = '''
 
@@ -74,8 +74,8 @@ class _List(ctypes.Structure):
     _fields_ = [("items", _Bytes), ("count", ctypes.c_size_t), ("order", ctypes.c_uint32)]
 '''
 VALUES = '''
-    def get(self, name, raw):
-        """The items, by the call that takes one."""
+    def get(self, name, raw, of=lambda it: it.value_of()):
+        """The items, by the call that takes one, and a function of what that shows."""
         left, view = _Bytes(self.items.at, self.items.length), raw()
         call = getattr(_LIBRARY, name)
         call.restype = ctypes.c_uint32
@@ -85,7 +85,7 @@ VALUES = '''
             answer = call(ctypes.byref(left), self.order, ctypes.byref(view))
             if answer:
                 raise Refused(answer)
-            found.append(view.value_of())
+            found.append(of(view))
         return found
 '''
 WRITTEN_VALUES = '''
@@ -107,6 +107,13 @@ WRITTEN_NUMBERS = '''
         """Where numbers of a kind of ctypes lie, for as long as `kept` is there."""
         items = (kind.__ctype_le__ * len(values))(*values)
         return _List(_Bytes.of(items, kept), len(items), _LITTLE)
+'''
+WRITTEN_BYTES = '''
+    @staticmethod
+    def of_bytes(values, kept):
+        """Where texts or bytes lie, each behind its length, for as long as `kept` is there."""
+        items = [len(it).to_bytes(4, "little") + it for it in values]
+        return _List(_Bytes.of(b"".join(items), kept), len(items), _LITTLE)
 '''
 WRITTEN = '''
 
@@ -151,6 +158,8 @@ WRITE = '''
         return _written("{library}_{snake}_write", _Raw{raw}.of(self, kept), order)
 '''
 
+# The kinds of items that a call takes from a list. Others are numbers there.
+WALKED = ("own", "text", "bytes")
 CTYPES = {"u8": "c_uint8", "u16": "c_uint16", "u32": "c_uint32", "u64": "c_uint64", "i8": "c_int8", "i16": "c_int16",
           "i32": "c_int32", "i64": "c_int64", "f32": "c_float", "f64": "c_double"}
 
@@ -169,9 +178,12 @@ def taken(library, kind, place):
     """The expression of a value of what a struct has at a place."""
     if kind.what == "array":
         return f"bytes({place})" if kind.of == "u8" else f"tuple({place})"
+    if kind.what == "list" and kind.of.what in WALKED:
+        of = f", lambda it: {taken(library, kind.of, 'it')}" if kind.of.what != "own" else ""
+        return f'{place}.get("{library.name}_{kind.of.label}_next", {raw(kind.of)}{of})'
     if kind.what == "list":
-        return f"{place}.numbers({raw(kind.of)})" if kind.of.what != "own" else \
-            f'{place}.get("{library.name}_{kind.of.label}_next", {raw(kind.of)})'
+        numbers, item = f"{place}.numbers({raw(kind.of)})", taken(library, kind.of, "it")
+        return numbers if item == "it" else f"[{item} for it in {numbers}]"
     if kind.what == "own":
         return f"{place}.value_of()"
     if kind.what == "maybe":
@@ -187,6 +199,9 @@ def given(library, kind, place):
     if kind.what == "list":
         if kind.of.what == "own":
             return f'_List.of({place}, "{library.name}_{kind.of.label}_write", {raw(kind.of)}, kept)'
+        if kind.of.what in WALKED:
+            item = "it.encode()" if kind.of.what == "text" else "bytes(memoryview(it))"
+            return f"_List.of_bytes([{item} for it in {place}], kept)"
         items = f"[{given(library, kind.of, 'it')} for it in {place}]"
         return f"_List.of_numbers({items}, {raw(kind.of)}, kept)"
     if kind.what == "own":
@@ -267,10 +282,11 @@ def lists_text(library, written):
     """The struct of lists. `written` are the views that are written."""
     if not lists(library.views):
         return ""
-    has_values = any(it.of.what == "own" for it in lists(library.views))
-    writes_values, writes_numbers = any(it.of.what == "own" for it in lists(written)), bool(listed_numbers(written))
-    return LISTS + VALUES * has_values + WRITTEN_VALUES * writes_values + NUMBERS * bool(library.numbers) \
-        + WRITTEN_NUMBERS * writes_numbers
+    of, of_written = ({it.of.what for it in lists(some)} for some in (library.views, written))
+    walked = set(WALKED)
+    return LISTS + VALUES * bool(of & walked) + WRITTEN_VALUES * ("own" in of_written) \
+        + WRITTEN_BYTES * bool(of_written & walked - {"own"}) + NUMBERS * bool(of - walked) \
+        + WRITTEN_NUMBERS * bool(of_written - walked)
 
 
 def fields_text(library, view):

@@ -156,6 +156,70 @@ PUT_NUMBERS = '''
         }
 '''
 
+# How the items are taken that are made of numbers, and how they are written. Each stands on the one before.
+MADE = {"bytes": '''
+impl<'a> Item<'a> for &'a [u8] {
+    fn take(bytes: &mut &'a [u8], order: Order) -> Result<Self, Refused> {
+        let length = u32::take(bytes, order)? as usize;
+        let Some((item, left)) = bytes.split_at_checked(length) else {
+            return Err(Refused { kind: Kind::UnexpectedEndOfInput, at: 0 });
+        };
+        *bytes = left;
+        Ok(item)
+    }
+}
+''', "text": '''
+impl<'a> Item<'a> for &'a str {
+    fn take(bytes: &mut &'a [u8], order: Order) -> Result<Self, Refused> {
+        std::str::from_utf8(<&[u8]>::take(bytes, order)?).map_err(|_| Refused { kind: Kind::InvalidUtf8, at: 0 })
+    }
+}
+''', "flag": '''
+impl Item<'_> for bool {
+    fn take(bytes: &mut &[u8], order: Order) -> Result<Self, Refused> {
+        Ok(u8::take(bytes, order)? != 0)
+    }
+}
+''', "char": '''
+impl Item<'_> for char {
+    fn take(bytes: &mut &[u8], order: Order) -> Result<Self, Refused> {
+        char::from_u32(u32::take(bytes, order)?).ok_or(Refused { kind: Kind::InvalidChar, at: 0 })
+    }
+}
+'''}
+PUT_MADE = {"bytes": '''
+impl Put for &[u8] {
+    fn put(&self, buffer: &mut Vec<u8>) -> Result<(), Refused> {
+        let Ok(length) = u32::try_from(self.len()) else {
+            return Err(Refused { kind: Kind::OutOfRangeLength, at: 0 });
+        };
+        length.put(buffer)?;
+        buffer.extend_from_slice(self);
+        Ok(())
+    }
+}
+''', "text": '''
+impl Put for &str {
+    fn put(&self, buffer: &mut Vec<u8>) -> Result<(), Refused> {
+        self.as_bytes().put(buffer)
+    }
+}
+''', "flag": '''
+impl Put for bool {
+    fn put(&self, buffer: &mut Vec<u8>) -> Result<(), Refused> {
+        u8::from(*self).put(buffer)
+    }
+}
+''', "char": '''
+impl Put for char {
+    fn put(&self, buffer: &mut Vec<u8>) -> Result<(), Refused> {
+        u32::from(*self).put(buffer)
+    }
+}
+'''}
+# What each of them is made of.
+MADE_OF = {"bytes": "u32", "text": "u32", "flag": "u8", "char": "u32"}
+
 ITEM = '''
 impl{life} Item<{a}> for {path}{life} {{
     fn take(bytes: &mut &{of}[u8], order: Order) -> Result<Self, Refused> {{
@@ -181,11 +245,17 @@ def list_lines(is_written):
     return (LISTS + MAKING_LISTS * is_written).split("\n")[:-1]
 
 
-def numbers_lines(numbers, is_written):
-    """How numbers are taken."""
-    if not numbers:
+def listed_lines(kinds, is_written):
+    """How items are taken that are of no type of the file."""
+    if not kinds:
         return []
-    return NUMBERS.format(numbers=" ".join(numbers), put=PUT_NUMBERS * is_written).split("\n")[:-1]
+    made = {it.what for it in kinds} & set(MADE)
+    made |= {"bytes"} if "text" in made else set()
+    numbers = {it.of for it in kinds if it.what in ("number", "float")} | {MADE_OF[it] for it in made}
+    found = NUMBERS.format(numbers=" ".join(sorted(numbers)), put=PUT_NUMBERS * is_written)
+    for it in MADE:
+        found += (MADE[it] + PUT_MADE[it] * is_written) * (it in made)
+    return found.split("\n")[:-1]
 
 
 def item_lines(view, is_written):

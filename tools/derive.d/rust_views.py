@@ -1,6 +1,6 @@
 """Writes the views of a library in Rust: types of values that borrow from the bytes, and the calls that read them."""
 from names import camel
-from rust_lists import list_lines, item_lines, numbers_lines
+from rust_lists import item_lines, list_lines, listed_lines
 from views import lists, maybes
 
 # What is used of C's structs.
@@ -191,7 +191,7 @@ def raw_lines(library):
     lines = RAW_BYTES.split("\n")[:-1] if any(it.borrows for it in library.views) else []
     written = [it for it in library.views if it.item.writable]
     if lists(library.views):
-        lines += list_lines(bool(lists(written))) + numbers_lines(library.numbers, bool(lists(written)))
+        lines += list_lines(bool(lists(written))) + listed_lines(library.listed, bool(lists(written)))
     for kind in maybes(library.views):
         lines += struct(raw(kind), [("is_some", "u8"), ("value", raw(kind.of))])
     for view in library.views:

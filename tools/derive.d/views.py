@@ -1,7 +1,8 @@
 """What callers in other languages are shown of values: for each type a struct with the layout of C, and how it is made.
 
 A type has a view where it is made of numbers, flags, characters, floats, arrays of numbers, `&'a str`, `&'a [u8]`,
-lists of numbers and of types of the file that are so, and of options and of types of the file that are so."""
+lists of all these but arrays and of types of the file that are so, and of options and of types of the file that are
+so."""
 from dataclasses import dataclass
 
 import syntax
@@ -225,9 +226,9 @@ class Views:
             if found:
                 return found
         if items_of(kind) is not None:
-            raise Unshown(line, "a list in a view holds numbers up to 64 bits, floats, or values of a `pub` type of "
-                                "the file that has a view, no array, and no field with bytes of its own; and it "
-                                "stands in no key and no `SmallVec`")
+            raise Unshown(line, "a list in a view holds numbers up to 64 bits, floats, flags, characters, texts, "
+                                "bytes, or values of a `pub` type of the file that has a view, no array, and no field "
+                                "with bytes of its own; and it stands in no key and no `SmallVec`")
         raise Unshown(line, "a view has numbers up to 64 bits, flags, characters, floats, arrays of so many numbers, "
                             "`&'a str`, `&'a [u8]`, lists, options, and `pub` types of the file of these")
 
@@ -291,6 +292,6 @@ def lists(views):
     return kinds_within(views, "list")
 
 
-def listed_numbers(views):
-    """The names of the numbers that lists hold."""
-    return [it.of.of for it in lists(views) if it.of.what in ("number", "float")]
+def listed_kinds(views):
+    """The kinds of what lists hold but types of the file: each has a call of its own."""
+    return [it.of for it in lists(views) if it.of.what != "own"]

@@ -79,7 +79,7 @@ enum protocol_order {
 
 /* What each call relies on, and no proof sees:
    - `bytes` is not null, even where `length` is 0, and so many bytes can be read there.
-   - `size`, `view`, `walk` and `number` are not null, point to no two overlapping places, and can be written.
+   - `size`, `view`, `walk` and `item` are not null, point to no two overlapping places, and can be written.
    - What stands in `view` before a read is not read. What it shows after it lies in the bytes of that call.
    - A view that is written was set by a read, or began as zeros. Where a `length` in it is not 0, so many bytes
      can be read at the pointer beside it. The structs of other variants than that of the tag do not matter.

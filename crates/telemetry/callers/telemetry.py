@@ -187,8 +187,8 @@ def _walk(read, data, order):
 class _List(ctypes.Structure):
     _fields_ = [("items", _Bytes), ("count", ctypes.c_size_t), ("order", ctypes.c_uint32)]
 
-    def get(self, name, raw):
-        """The items, by the call that takes one."""
+    def get(self, name, raw, of=lambda it: it.value_of()):
+        """The items, by the call that takes one, and a function of what that shows."""
         left, view = _Bytes(self.items.at, self.items.length), raw()
         call = getattr(_LIBRARY, name)
         call.restype = ctypes.c_uint32
@@ -198,7 +198,7 @@ class _List(ctypes.Structure):
             answer = call(ctypes.byref(left), self.order, ctypes.byref(view))
             if answer:
                 raise Refused(answer)
-            found.append(view.value_of())
+            found.append(of(view))
         return found
 
     @staticmethod
