@@ -9,12 +9,12 @@ use Rattle.speedy_base.specs.MemoryDevices.{no_faults}
 use Rattle.speedy_base.specs.FailedCalls.{HasGrown}
 use Rattle.speedy_base.specs.Mode.{Mode}
 use Rattle.speedy_layout.specs.Format.{Format}
-use Rattle.speedy_layout.specs.Laws.{Laws}
+use Rattle.speedy_layout.specs.Wholes.{WholeLaws}
 use Rattle.speedy_write.specs.Writing.{WriterState, Writes}
 use Rattle.speedy_write.specs.Collectors.{buffer_state, BufferAppends}
 use Rattle.speedy_write.specs.WaysOfWriting.{IsShortest, Stands}
 use Rattle.speedy_write.specs.CollectorLemmas.{put_in_front}
-use Rattle.speedy_write.specs.Sequences.{one_length}
+use Rattle.speedy_write.specs.Sequences.{one_whole_length}
 
 -- no call failed where none is counted
 none_grown : (faults : Faults) → faults ≡ no_faults → HasGrown no_faults faults → ⊥
@@ -61,8 +61,8 @@ module _ {E : Type 0} {gives : Error → E → Type 0} {V : Type 0} {F : Mode �
     fill_succeeds bytes (Err e) writes fit none w = absurd (never_refused bytes writes fit none (restated w))
 
     -- and what it puts stands at the front
-    pub fill_stands : {least : ℕ} {new : List ℕ} (result : Result (Unit {0}) E)
-        → ((mode : Mode) → Laws mode.strict least (F mode)) → IsOk result → new ≡ B
+    pub fill_stands : {new : List ℕ} (result : Result (Unit {0}) E)
+        → ((mode : Mode) → WholeLaws mode.strict (F mode)) → IsOk result → new ≡ B
         → Writes gives F v result (buffer_state at targets (length A - p)) after (λ b. BufferAppends p A b q B)
         → Stands (F mode) v old new
     fill_stands (Ok u) laws ok same w =
@@ -78,11 +78,11 @@ module _ {E : Type 0} {gives : Error → E → Type 0} {V : Type 0} {F : Mode �
     fill_stands (Err e) laws ok same w = absurd (cc)
 
 -- a buffer that is as long as what is written holds just that
-pub filled_whole : {V : Type 0} {strict : Bool} {least : ℕ} {L : Format V} → Laws strict least L
+pub filled_whole : {V : Type 0} {strict : Bool} {L : Format V} → WholeLaws strict L
     → (v : V) (bytes : List ℕ)
     → L.writes v bytes → {old new : List ℕ} → length bytes ≡ length old → Stands L v old new → IsShortest L v new
 filled_whole {L = L} laws v bytes written {old = old} sized s =
-    let size = one_length laws v s.bytes bytes s.is_shortest.is_written written in
+    let size = one_whole_length laws v s.bytes bytes s.is_shortest.is_written written in
     let none = drop_all (length s.bytes) old (omega (arith, size, sized)) in
     let whole = s.new_is ∙ (ap (λ rest. s.bytes ++ rest) none ∙ append-nil s.bytes) in
     subst (IsShortest L v) (sym whole) s.is_shortest

@@ -1,23 +1,24 @@
 //! How values are written that have all of the bytes, and how a text or a list is that is the rest of them.
-ghost use Rattle.std.specs.Prelude.{◌≡◌, ℕ, List, [], length, map, IsTrue, false};
+ghost use Rattle.std.specs.Prelude.{◌≡◌, ◌≤◌, ℕ, List, [], length, map, IsTrue, IsOk, MatchResult, false};
+ghost use Rattle.speedy_base.specs.Error.{error_of};
 ghost use Rattle.speedy_base.specs.Mode.{Mode, plain_mode};
 ghost use Rattle.speedy_layout.specs.Growing.{some_bytes};
 ghost use Rattle.speedy_layout.specs.Lengths.{list_counting};
 ghost use Rattle.speedy_layout.specs.Rests.{rest_codec};
 ghost use Rattle.speedy_layout.specs.Tuples.{pair};
-ghost use Rattle.speedy_write.specs.WaysOfWriting.{NeedsIn, WritesToVecIn};
+ghost use Rattle.speedy_write.specs.WaysOfWriting.{IsShortest, NeedsIn, Stands, WritesToVecIn};
 ghost use Rattle.speedy_write.specs.Wholes.{TakesNone, TakesBytes};
 ghost use Rattle.speedy_write.specs.Writing.{Writes, WritesAs};
 
-use crate::collectors::VecCollector;
+use crate::collectors::{BufferCollector, VecCollector};
 use crate::counting::CountingCollector;
 use crate::lengths::WriteOfLength;
 use crate::part::Part;
-use crate::writable::Writable;
+use crate::writable::{MOST_ZEROED, Writable};
 use crate::writer::Writer;
 use speedy_base::context::{Context, PlainContext};
 use speedy_base::endianness::Endianness;
-use speedy_base::error::{error_out_of_memory, error_out_of_range_length};
+use speedy_base::error::{ErrorKind, error_out_of_memory, error_out_of_range_length};
 use speedy_layout::lengths::OfLength;
 use speedy_layout::whole::{
     EndsItself, EndsWithInput, Followed, Rest, UnlessEnd, Whole, WholePart,
@@ -102,17 +103,69 @@ pub trait WriteWhole<C: Context>: Whole {
             (Self.seen self.now) (λ vec. vec.items) result }
     {
         let mut context = context;
-        let room = self.whole_bytes_needed(&mut context)?;
-        let Ok(mut bytes) = Vec::with_capacity(alloc, room) else {
-            return Err(error_out_of_memory());
-        };
-        let mut collector = VecCollector::new(&mut context, &mut bytes, room);
-        let outcome = self.write_whole(&mut collector);
-        collector.finish();
-        match outcome {
+        let needed = self.whole_bytes_needed(&mut context)?;
+        fill_vec(self, alloc, &mut context, needed)
+    }
+}
+
+// Writes a value to the front of a buffer in which it fits. It always succeeds: the result is that of the write.
+fn fill<C: Context, T: WriteWhole<C>>(
+    value: &T,
+    context: &mut C,
+    buffer: &mut [u8],
+) -> Result<(), C::Error>
+    requires { let format = T.whole.format (C.mode context.old) in
+        ((bytes : List ℕ) × format.writes (T.seen value.now) bytes
+        × (length bytes ≤ length buffer.old)) }
+    ensures mode { C.mode context.new ≡ C.mode context.old }
+    ensures succeeds { IsOk result }
+    ensures stands { let format = T.whole.format (C.mode context.old) in
+        Stands format (T.seen value.now) buffer.old buffer.new }
+{
+    let mut collector: BufferCollector<C, (WholeRoom, T)> = BufferCollector::for_use(
+        context, buffer,
+    );
+    let outcome = value.write_whole(&mut collector);
+    collector.finish();
+    outcome
+}
+
+// The use of a buffer as the room of a vector that a value has all of.
+struct WholeRoom {}
+
+// Writes a value to a vector that is requested once, with room for the bytes that the value takes, as `write_to_vec`
+// does.
+fn fill_vec<C: Context, T: WriteWhole<C>>(
+    value: &T,
+    alloc: Global,
+    context: &mut C,
+    room: usize,
+) -> Result<Vec<u8>, C::Error>
+    requires { let format = T.whole.format (C.mode context.old) in
+        ((bytes : List ℕ) × format.writes (T.seen value.now) bytes × (length bytes ≡ room)) }
+    ensures mode { C.mode context.new ≡ C.mode context.old }
+    ensures fills { let format = T.whole.format (C.mode context.old) in
+        MatchResult result (λ vec. IsShortest format (T.seen value.now) vec.items)
+        (C.Error.from_gives (error_of ErrorKind.OutOfMemory)) }
+{
+    let Ok(mut bytes) = Vec::with_capacity(alloc, room) else {
+        return Err(error_out_of_memory());
+    };
+    if room <= MOST_ZEROED {
+        if bytes.resize(room, 0).is_err() {
+            unreachable!();
+        }
+        return match fill(value, context, bytes.as_mut_slice()) {
             Ok(()) => Ok(bytes),
             Err(_) => unreachable!(),
-        }
+        };
+    }
+    let mut collector = VecCollector::new(context, &mut bytes, room);
+    let outcome = value.write_whole(&mut collector);
+    collector.finish();
+    match outcome {
+        Ok(()) => Ok(bytes),
+        Err(_) => unreachable!(),
     }
 }
 

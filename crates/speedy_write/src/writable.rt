@@ -341,7 +341,7 @@ fn fill<C: Context, T: Writable<C>, U>(
 struct VecRoom {}
 
 // The most bytes of a vector that is filled as buffers are, over zeros: these are still in the processor's cache.
-const MOST_ZEROED: usize = 8_192;
+pub(crate) const MOST_ZEROED: usize = 8_192;
 
 // Writes a value to a vector that is requested once, with room for the bytes that the value takes.
 fn fill_vec<C: Context, T: Writable<C>>(

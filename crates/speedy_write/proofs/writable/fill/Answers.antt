@@ -1,4 +1,5 @@
 use Rattle.std.proofs.Common.{[], ◌∷◌, refl, ap, arith}
+use Rattle.speedy_layout.specs.Wholes.{whole_laws}
 use Rattle.speedy_write.specs.CollectorModels.{buffer_model}
 use Rattle.speedy_write.proofs.FillLemmas.{fill_succeeds, fill_stands}
 use Rattle.speedy_write.proofs.writable.fill.Goals as goal
@@ -18,5 +19,6 @@ returns-clause-stands g c =
     let same_name = made.same_buffer in
     let finished = c.finish.ensures.buffer in
     fill_stands {targets = model.context_name ∷ model.buffer_name ∷ []} (ap g.C.Context.mode made.context)
-    made.buffer made.position c.write_to-outcome.result g.T.Layout.layout.laws (returns-clause-succeeds g c)
+    made.buffer made.position c.write_to-outcome.result (λ mode. whole_laws (g.T.Layout.layout.laws mode))
+    (returns-clause-succeeds g c)
     (grind arith) c.write_to-outcome.ensures

@@ -1,5 +1,6 @@
 use Rattle.std.proofs.Common.{◌≡◌, length, sym, subst, ◌∙◌, arith}
 use Rattle.std.proofs.lemmas.List.{take-append-le, take_all}
+use Rattle.speedy_layout.specs.Wholes.{whole_laws}
 use Rattle.speedy_write.specs.WaysOfWriting.{IsShortest}
 use Rattle.speedy_write.proofs.FillLemmas.{filled_whole}
 use Rattle.speedy_write.proofs.writable.fill_vec.Goals as goal
@@ -13,4 +14,5 @@ returns-then-room-le-MOST_ZEROED-clause-fills g c =
     subst (IsShortest F v)
     (sym (take-append-le c.resize.new.self.len buffer _ (omega (arith, sized))
     ∙ take_all c.resize.new.self.len buffer (omega (arith, sized))))
-    (filled_whole (g.T.Layout.layout.laws _) v c.requires.0 c.requires.1 (grind arith) c.fill.ensures.stands)
+    (filled_whole (whole_laws (g.T.Layout.layout.laws _)) v c.requires.0 c.requires.1 (grind arith)
+    c.fill.ensures.stands)
