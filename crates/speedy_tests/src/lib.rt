@@ -57,6 +57,7 @@ mod round_trips;
 mod three_bytes;
 #[cfg(test)]
 mod told_frames;
+#[cfg(test)]
 mod told_padding;
 #[cfg(test)]
 mod tuples;
