@@ -12,7 +12,7 @@ use speedy::device::Source;
 use speedy::endianness::Endianness;
 use speedy::error::{Error, IsEof};
 use speedy::private::read_constant;
-use speedy::readable::{Readable, StreamReader};
+use speedy::readable::{ReadMany, Readable, StreamReader};
 use speedy::reader::LendingReader;
 use speedy::writable::Writable;
 use std::alloc::Global;
@@ -258,7 +258,7 @@ fn no_bytes_are_read_without_a_pull(rt: HostRuntime) {
 }
 
 /// Asserts that a value that has no bytes is read by both stream forms without a pull.
-fn assert_not_pulled<'a, T: Readable<'a, LittleEndian> + PartialEq + Debug>(
+fn assert_not_pulled<'a, T: ReadMany<&'a [u8], LittleEndian> + PartialEq + Debug>(
     rt: &impl Abort,
     alloc: Global,
     value: &T,
@@ -281,7 +281,7 @@ fn values_without_bytes_are_streamed_without_a_pull(rt: HostRuntime) {
 }
 
 /// Asserts that the value is read from these bytes of an unbuffered source by one pull.
-fn assert_pulled_once<'a, T: Readable<'a, LittleEndian> + PartialEq + Debug>(
+fn assert_pulled_once<'a, T: ReadMany<&'a [u8], LittleEndian> + PartialEq + Debug>(
     rt: &impl Abort,
     alloc: Global,
     bytes: &[u8],

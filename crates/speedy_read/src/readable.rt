@@ -52,130 +52,241 @@ pub trait Readable<'a, C: Context>: ReadMany<&'a [u8], C> {
     /// Decodes a value from a prefix of the buffer, in little endian.
     ///
     /// A buffer that is shorter than the type's least size is the error `InputBufferIsTooSmall`.
-    final fn read_from_buffer(alloc: Global, buffer: &'a [u8]) -> Result<Self, C::Error>
+    fn read_from_buffer(alloc: Global, buffer: &'a [u8]) -> Result<Self, C::Error>
     where
         C: PlainContext,
         ensures { (count : ℕ) × AnswersBuffer C.Error.IsEof Self.seen Self.layout
-            (plain_mode Endianness.LittleEndian) result count buffer.now }
-    {
-        Self::read_from_buffer_with_ctx(alloc, C::plain(), buffer)
-    }
+            (plain_mode Endianness.LittleEndian) result count buffer.now };
 
     /// Decodes a value from a prefix of the buffer, in little endian, and says how many bytes that prefix has.
     ///
     /// A buffer that is shorter than the type's least size is the error `InputBufferIsTooSmall`, with the count 0.
     /// Beside another error the count is how many bytes were taken before it, at most all, and tells of no value.
-    final fn read_with_length_from_buffer(
+    fn read_with_length_from_buffer(
         alloc: Global,
         buffer: &'a [u8],
     ) -> (Result<Self, C::Error>, usize)
     where
         C: PlainContext,
         ensures { AnswersBuffer C.Error.IsEof Self.seen Self.layout
-            (plain_mode Endianness.LittleEndian) result.0 result.1 buffer.now }
-    {
-        Self::read_with_length_from_buffer_with_ctx(alloc, C::plain(), buffer)
-    }
+            (plain_mode Endianness.LittleEndian) result.0 result.1 buffer.now };
 
     /// Decodes a value from a prefix of the buffer, under the context.
     ///
     /// A buffer that is shorter than the type's least size is the error `InputBufferIsTooSmall`.
-    final fn read_from_buffer_with_ctx(
+    fn read_from_buffer_with_ctx(
         alloc: Global,
         context: C,
         buffer: &'a [u8],
     ) -> Result<Self, C::Error>
         ensures { (count : ℕ) × AnswersBuffer C.Error.IsEof Self.seen Self.layout
-            (C.mode context) result count buffer.now }
-    {
-        Self::read_with_length_from_buffer_with_ctx(alloc, context, buffer).0
-    }
+            (C.mode context) result count buffer.now };
 
     /// Decodes a value from a prefix of the buffer, under the context, and says how many bytes that prefix has.
     ///
     /// A buffer that is shorter than the type's least size is the error `InputBufferIsTooSmall`, with the count 0.
     /// Beside another error the count is how many bytes were taken before it, at most all, and tells of no value.
-    final fn read_with_length_from_buffer_with_ctx(
+    fn read_with_length_from_buffer_with_ctx(
         alloc: Global,
         context: C,
         buffer: &'a [u8],
     ) -> (Result<Self, C::Error>, usize)
         ensures { AnswersBuffer C.Error.IsEof Self.seen Self.layout (C.mode context)
-            result.0 result.1 buffer.now }
-    {
-        buffer.read_with_length(alloc, context)
-    }
+            result.0 result.1 buffer.now };
 
     /// As [`read_from_buffer`](Self::read_from_buffer), but nothing of the buffer is borrowed: a value that has to
     /// borrow is the error `Unsized`.
-    final fn read_from_buffer_copying_data(alloc: Global, buffer: &[u8]) -> Result<Self, C::Error>
+    fn read_from_buffer_copying_data(alloc: Global, buffer: &[u8]) -> Result<Self, C::Error>
     where
         C: PlainContext,
         ensures { (count : ℕ) × AnswersCopied C.Error.IsEof Self.seen Self.layout
-            (plain_mode Endianness.LittleEndian) result count buffer.now }
-    {
-        Self::read_from_buffer_copying_data_with_ctx(alloc, C::plain(), buffer)
-    }
+            (plain_mode Endianness.LittleEndian) result count buffer.now };
 
     /// As [`read_with_length_from_buffer`](Self::read_with_length_from_buffer), but nothing of the buffer is
     /// borrowed: a value that has to borrow is the error `Unsized`.
     ///
     /// Beside an error the count says what it says there, and is at most the number of bytes of the buffer.
-    final fn read_with_length_from_buffer_copying_data(
+    fn read_with_length_from_buffer_copying_data(
         alloc: Global,
         buffer: &[u8],
     ) -> (Result<Self, C::Error>, usize)
     where
         C: PlainContext,
         ensures { AnswersCopied C.Error.IsEof Self.seen Self.layout
-            (plain_mode Endianness.LittleEndian) result.0 result.1 buffer.now }
-    {
-        Self::read_with_length_from_buffer_copying_data_with_ctx(alloc, C::plain(), buffer)
-    }
+            (plain_mode Endianness.LittleEndian) result.0 result.1 buffer.now };
 
     /// As [`read_from_buffer_with_ctx`](Self::read_from_buffer_with_ctx), but nothing of the buffer is
     /// borrowed: a value that has to borrow is the error `Unsized`.
-    final fn read_from_buffer_copying_data_with_ctx(
+    fn read_from_buffer_copying_data_with_ctx(
         alloc: Global,
         context: C,
         buffer: &[u8],
     ) -> Result<Self, C::Error>
         ensures { (count : ℕ) × AnswersCopied C.Error.IsEof Self.seen Self.layout
-            (C.mode context) result count buffer.now }
-    {
-        Self::read_with_length_from_buffer_copying_data_with_ctx(alloc, context, buffer).0
-    }
+            (C.mode context) result count buffer.now };
 
     /// As [`read_with_length_from_buffer_with_ctx`](Self::read_with_length_from_buffer_with_ctx), but nothing
     /// of the buffer is borrowed: a value that has to borrow is the error `Unsized`.
     ///
     /// Beside an error the count says what it says there, and is at most the number of bytes of the buffer.
-    final fn read_with_length_from_buffer_copying_data_with_ctx(
+    fn read_with_length_from_buffer_copying_data_with_ctx(
         alloc: Global,
         context: C,
         buffer: &[u8],
     ) -> (Result<Self, C::Error>, usize)
         ensures { AnswersCopied C.Error.IsEof Self.seen Self.layout (C.mode context)
-            result.0 result.1 buffer.now }
-    {
-        let mut context = context;
-        Self::read_with_length_from_buffer_copying_data_with_ctx_mut(alloc, &mut context, buffer)
-    }
+            result.0 result.1 buffer.now };
 
     /// Decodes a value from a prefix of the buffer, under the context, and says how many bytes that prefix has. Nothing
     /// is borrowed: a value that has to borrow is the error `Unsized`.
     ///
     /// A buffer that is shorter than the type's least size is the error `InputBufferIsTooSmall`, with the count 0.
     /// Beside another error the count is how many bytes were taken before it, at most all, and tells of no value.
-    final fn read_with_length_from_buffer_copying_data_with_ctx_mut(
+    fn read_with_length_from_buffer_copying_data_with_ctx_mut(
         alloc: Global,
         context: &mut C,
         buffer: &[u8],
     ) -> (Result<Self, C::Error>, usize)
         ensures mode { C.mode context.new ≡ C.mode context.old }
         ensures answers { AnswersCopied C.Error.IsEof Self.seen Self.layout (C.mode context.old)
-            result.0 result.1 buffer.now }
+            result.0 result.1 buffer.now };
+
+    /// Decodes a value from the next bytes of the source, in little endian, and takes just these.
+    ///
+    /// Nothing is borrowed: a value that has to borrow is the error `Unsized`. An end of the source is an `IoError` of
+    /// kind `UnexpectedEof`.
+    fn read_from_stream_unbuffered<S: Source>(
+        alloc: Global,
+        source: &mut S,
+    ) -> Result<Self, C::Error>
+    where
+        C: PlainContext,
+        ensures { AnswersStream C.Error.IsEof S.source Self.seen Self.layout
+            (plain_mode Endianness.LittleEndian) false result source.old source.new };
+
+    /// As [`read_from_stream_unbuffered`](Self::read_from_stream_unbuffered), under the context.
+    fn read_from_stream_unbuffered_with_ctx<S: Source>(
+        alloc: Global,
+        context: C,
+        source: &mut S,
+    ) -> Result<Self, C::Error>
+        ensures { AnswersStream C.Error.IsEof S.source Self.seen Self.layout
+            (C.mode context) false result source.old source.new };
+
+    /// Decodes a value from the next bytes of the source, in little endian. It takes at most 8,191 bytes more, which
+    /// are lost: it is for sources of one value.
+    ///
+    /// Nothing is borrowed: a value that has to borrow is the error `Unsized`. An end of the source is
+    /// `UnexpectedEndOfInput` or, in a read of 8,192 bytes and more, an `IoError` of kind `UnexpectedEof`.
+    fn read_from_stream_buffered<S: Source>(alloc: Global, source: &mut S) -> Result<Self, C::Error>
+    where
+        C: PlainContext,
+        ensures { AnswersStream C.Error.IsEof S.source Self.seen Self.layout
+            (plain_mode Endianness.LittleEndian) true result source.old source.new };
+
+    /// As [`read_from_stream_buffered`](Self::read_from_stream_buffered), under the context.
+    fn read_from_stream_buffered_with_ctx<S: Source>(
+        alloc: Global,
+        context: C,
+        source: &mut S,
+    ) -> Result<Self, C::Error>
+        ensures { AnswersStream C.Error.IsEof S.source Self.seen Self.layout
+            (C.mode context) true result source.old source.new };
+
+    /// Decodes a value from the first bytes of the file, in little endian.
+    ///
+    /// A file that cannot be opened is an `IoError`, and one that is too short an end of input, as of a stream.
+    fn read_from_file<R: Files, P: AsPath>(rt: &R, alloc: Global, path: P) -> Result<Self, C::Error>
+    where
+        C: PlainContext,
+        ensures { AnswersFile C.Error.IsEof Self.seen Self.layout
+            (plain_mode Endianness.LittleEndian) result };
+
+    /// As [`read_from_file`](Self::read_from_file), under the context.
+    fn read_from_file_with_ctx<R: Files, P: AsPath>(
+        rt: &R,
+        alloc: Global,
+        context: C,
+        path: P,
+    ) -> Result<Self, C::Error>
+        ensures { AnswersFile C.Error.IsEof Self.seen Self.layout (C.mode context) result };
+}
+
+// The bodies stand here and not in the trait: a call of a body of the trait names the trait at the type too, with all
+// that the type is read by once more, and takes twice as long to prove.
+impl<'a, C: Context, T: ReadMany<&'a [u8], C>> Readable<'a, C> for T {
+    fn read_from_buffer(alloc: Global, buffer: &'a [u8]) -> Result<Self, C::Error>
+    where
+        C: PlainContext,
     {
+        Self::read_from_buffer_with_ctx(alloc, C::plain(), buffer)
+    }
+
+    fn read_with_length_from_buffer(
+        alloc: Global,
+        buffer: &'a [u8],
+    ) -> (Result<Self, C::Error>, usize)
+    where
+        C: PlainContext,
+    {
+        Self::read_with_length_from_buffer_with_ctx(alloc, C::plain(), buffer)
+    }
+
+    fn read_from_buffer_with_ctx(
+        alloc: Global,
+        context: C,
+        buffer: &'a [u8],
+    ) -> Result<Self, C::Error> {
+        Self::read_with_length_from_buffer_with_ctx(alloc, context, buffer).0
+    }
+
+    fn read_with_length_from_buffer_with_ctx(
+        alloc: Global,
+        context: C,
+        buffer: &'a [u8],
+    ) -> (Result<Self, C::Error>, usize) {
+        buffer.read_with_length(alloc, context)
+    }
+
+    fn read_from_buffer_copying_data(alloc: Global, buffer: &[u8]) -> Result<Self, C::Error>
+    where
+        C: PlainContext,
+    {
+        Self::read_from_buffer_copying_data_with_ctx(alloc, C::plain(), buffer)
+    }
+
+    fn read_with_length_from_buffer_copying_data(
+        alloc: Global,
+        buffer: &[u8],
+    ) -> (Result<Self, C::Error>, usize)
+    where
+        C: PlainContext,
+    {
+        Self::read_with_length_from_buffer_copying_data_with_ctx(alloc, C::plain(), buffer)
+    }
+
+    fn read_from_buffer_copying_data_with_ctx(
+        alloc: Global,
+        context: C,
+        buffer: &[u8],
+    ) -> Result<Self, C::Error> {
+        Self::read_with_length_from_buffer_copying_data_with_ctx(alloc, context, buffer).0
+    }
+
+    fn read_with_length_from_buffer_copying_data_with_ctx(
+        alloc: Global,
+        context: C,
+        buffer: &[u8],
+    ) -> (Result<Self, C::Error>, usize) {
+        let mut context = context;
+        Self::read_with_length_from_buffer_copying_data_with_ctx_mut(alloc, &mut context, buffer)
+    }
+
+    fn read_with_length_from_buffer_copying_data_with_ctx_mut(
+        alloc: Global,
+        context: &mut C,
+        buffer: &[u8],
+    ) -> (Result<Self, C::Error>, usize) {
         let least = Self::minimum_bytes_needed();
         let length = buffer.len();
         if length < least {
@@ -187,88 +298,52 @@ pub trait Readable<'a, C: Context>: ReadMany<&'a [u8], C> {
         (result, length - left)
     }
 
-    /// Decodes a value from the next bytes of the source, in little endian, and takes just these.
-    ///
-    /// Nothing is borrowed: a value that has to borrow is the error `Unsized`. An end of the source is an `IoError` of
-    /// kind `UnexpectedEof`.
-    final fn read_from_stream_unbuffered<S: Source>(
+    fn read_from_stream_unbuffered<S: Source>(
         alloc: Global,
         source: &mut S,
     ) -> Result<Self, C::Error>
     where
         C: PlainContext,
-        ensures { AnswersStream C.Error.IsEof S.source Self.seen Self.layout
-            (plain_mode Endianness.LittleEndian) false result source.old source.new }
     {
         Self::read_from_stream_unbuffered_with_ctx(alloc, C::plain(), source)
     }
 
-    /// As [`read_from_stream_unbuffered`](Self::read_from_stream_unbuffered), under the context.
-    final fn read_from_stream_unbuffered_with_ctx<S: Source>(
+    fn read_from_stream_unbuffered_with_ctx<S: Source>(
         alloc: Global,
         context: C,
         source: &mut S,
-    ) -> Result<Self, C::Error>
-        ensures { AnswersStream C.Error.IsEof S.source Self.seen Self.layout
-            (C.mode context) false result source.old source.new }
-    {
+    ) -> Result<Self, C::Error> {
         read_stream(alloc, context, source, false)
     }
 
-    /// Decodes a value from the next bytes of the source, in little endian. It takes at most 8,191 bytes more, which
-    /// are lost: it is for sources of one value.
-    ///
-    /// Nothing is borrowed: a value that has to borrow is the error `Unsized`. An end of the source is
-    /// `UnexpectedEndOfInput` or, in a read of 8,192 bytes and more, an `IoError` of kind `UnexpectedEof`.
-    final fn read_from_stream_buffered<S: Source>(
-        alloc: Global,
-        source: &mut S,
-    ) -> Result<Self, C::Error>
+    fn read_from_stream_buffered<S: Source>(alloc: Global, source: &mut S) -> Result<Self, C::Error>
     where
         C: PlainContext,
-        ensures { AnswersStream C.Error.IsEof S.source Self.seen Self.layout
-            (plain_mode Endianness.LittleEndian) true result source.old source.new }
     {
         Self::read_from_stream_buffered_with_ctx(alloc, C::plain(), source)
     }
 
-    /// As [`read_from_stream_buffered`](Self::read_from_stream_buffered), under the context.
-    final fn read_from_stream_buffered_with_ctx<S: Source>(
+    fn read_from_stream_buffered_with_ctx<S: Source>(
         alloc: Global,
         context: C,
         source: &mut S,
-    ) -> Result<Self, C::Error>
-        ensures { AnswersStream C.Error.IsEof S.source Self.seen Self.layout
-            (C.mode context) true result source.old source.new }
-    {
+    ) -> Result<Self, C::Error> {
         read_stream(alloc, context, source, true)
     }
 
-    /// Decodes a value from the first bytes of the file, in little endian.
-    ///
-    /// A file that cannot be opened is an `IoError`, and one that is too short an end of input, as of a stream.
-    final fn read_from_file<R: Files, P: AsPath>(
-        rt: &R,
-        alloc: Global,
-        path: P,
-    ) -> Result<Self, C::Error>
+    fn read_from_file<R: Files, P: AsPath>(rt: &R, alloc: Global, path: P) -> Result<Self, C::Error>
     where
         C: PlainContext,
-        ensures { AnswersFile C.Error.IsEof Self.seen Self.layout
-            (plain_mode Endianness.LittleEndian) result }
     {
         Self::read_from_file_with_ctx(rt, alloc, C::plain(), path)
     }
 
-    /// As [`read_from_file`](Self::read_from_file), under the context.
-    final fn read_from_file_with_ctx<R: Files, P: AsPath>(
+    fn read_from_file_with_ctx<R: Files, P: AsPath>(
         rt: &R,
         alloc: Global,
         context: C,
         path: P,
-    ) -> Result<Self, C::Error>
-        ensures { AnswersFile C.Error.IsEof Self.seen Self.layout (C.mode context) result }
-    {
+    ) -> Result<Self, C::Error> {
         match File::open(rt, path) {
             Ok(file) => {
                 let mut source = Counted::new(file);
@@ -279,8 +354,6 @@ pub trait Readable<'a, C: Context>: ReadMany<&'a [u8], C> {
     }
 }
 
-impl<'a, C: Context, T: ReadMany<&'a [u8], C>> Readable<'a, C> for T {}
-
 /// Types that borrow nothing, so they can be read where nothing is lent and are never the error `Unsized`: what Rust
 /// says by `for<'a> Readable<'a, C>`.
 ///
@@ -289,37 +362,49 @@ pub trait ReadableOwned<C: Context>: ReadMany<NothingLent, C> {
     /// Decodes a value from a prefix of the buffer, in little endian.
     ///
     /// A buffer that is shorter than the type's least size is the error `InputBufferIsTooSmall`.
-    final fn read_owned(alloc: Global, buffer: &[u8]) -> Result<Self, C::Error>
+    fn read_owned(alloc: Global, buffer: &[u8]) -> Result<Self, C::Error>
     where
         C: PlainContext,
         ensures { (count : ℕ) × AnswersBuffer C.Error.IsEof Self.seen Self.layout
-            (plain_mode Endianness.LittleEndian) result count buffer.now }
-    {
-        Self::read_owned_with_ctx(alloc, C::plain(), buffer)
-    }
+            (plain_mode Endianness.LittleEndian) result count buffer.now };
 
     /// Decodes a value from a prefix of the buffer, under the context.
     ///
     /// A buffer that is shorter than the type's least size is the error `InputBufferIsTooSmall`.
-    final fn read_owned_with_ctx(alloc: Global, context: C, buffer: &[u8]) -> Result<Self, C::Error>
+    fn read_owned_with_ctx(alloc: Global, context: C, buffer: &[u8]) -> Result<Self, C::Error>
         ensures { (count : ℕ) × AnswersBuffer C.Error.IsEof Self.seen Self.layout
-            (C.mode context) result count buffer.now }
-    {
-        Self::read_owned_with_length_with_ctx(alloc, context, buffer).0
-    }
+            (C.mode context) result count buffer.now };
 
     /// Decodes a value from a prefix of the buffer, under the context, and says how many bytes that prefix has.
     ///
     /// A buffer that is shorter than the type's least size is the error `InputBufferIsTooSmall`, with the count 0.
     /// Beside another error the count is how many bytes were taken before it, at most all, and tells of no value.
-    final fn read_owned_with_length_with_ctx(
+    fn read_owned_with_length_with_ctx(
         alloc: Global,
         context: C,
         buffer: &[u8],
     ) -> (Result<Self, C::Error>, usize)
         ensures { AnswersBuffer C.Error.IsEof Self.seen Self.layout (C.mode context)
-            result.0 result.1 buffer.now }
+            result.0 result.1 buffer.now };
+}
+
+impl<C: Context, T: ReadMany<NothingLent, C>> ReadableOwned<C> for T {
+    fn read_owned(alloc: Global, buffer: &[u8]) -> Result<Self, C::Error>
+    where
+        C: PlainContext,
     {
+        Self::read_owned_with_ctx(alloc, C::plain(), buffer)
+    }
+
+    fn read_owned_with_ctx(alloc: Global, context: C, buffer: &[u8]) -> Result<Self, C::Error> {
+        Self::read_owned_with_length_with_ctx(alloc, context, buffer).0
+    }
+
+    fn read_owned_with_length_with_ctx(
+        alloc: Global,
+        context: C,
+        buffer: &[u8],
+    ) -> (Result<Self, C::Error>, usize) {
         let least = Self::minimum_bytes_needed();
         let length = buffer.len();
         if length < least {
@@ -330,5 +415,3 @@ pub trait ReadableOwned<C: Context>: ReadMany<NothingLent, C> {
         (result, length - reader.len())
     }
 }
-
-impl<C: Context, T: ReadMany<NothingLent, C>> ReadableOwned<C> for T {}

@@ -80,32 +80,41 @@ pub trait ReadableWhole<'a, C: Context>: ReadWhole<&'a [u8], C> {
     /// Decodes the value that all bytes of the buffer encode, in little endian.
     ///
     /// Bytes that are left behind a value are the error `OutOfRangeLength`.
-    final fn read_whole_from_buffer(alloc: Global, buffer: &'a [u8]) -> Result<Self, C::Error>
+    fn read_whole_from_buffer(alloc: Global, buffer: &'a [u8]) -> Result<Self, C::Error>
     where
         C: PlainContext,
         ensures { AnswersWhole C.Error.IsEof Self.seen Self.whole
-            (plain_mode Endianness.LittleEndian) result buffer.now }
-    {
-        Self::read_whole_from_buffer_with_ctx(alloc, C::plain(), buffer)
-    }
+            (plain_mode Endianness.LittleEndian) result buffer.now };
 
     /// Decodes the value that all bytes of the buffer encode, under the context.
     ///
     /// Bytes that are left behind a value are the error `OutOfRangeLength`.
-    final fn read_whole_from_buffer_with_ctx(
+    fn read_whole_from_buffer_with_ctx(
         alloc: Global,
         context: C,
         buffer: &'a [u8],
     ) -> Result<Self, C::Error>
-        ensures { AnswersWhole C.Error.IsEof Self.seen Self.whole (C.mode context) result buffer.now }
+        ensures { AnswersWhole C.Error.IsEof Self.seen Self.whole (C.mode context) result buffer.now };
+}
+
+impl<'a, C: Context, T: ReadWhole<&'a [u8], C>> ReadableWhole<'a, C> for T {
+    fn read_whole_from_buffer(alloc: Global, buffer: &'a [u8]) -> Result<Self, C::Error>
+    where
+        C: PlainContext,
     {
+        Self::read_whole_from_buffer_with_ctx(alloc, C::plain(), buffer)
+    }
+
+    fn read_whole_from_buffer_with_ctx(
+        alloc: Global,
+        context: C,
+        buffer: &'a [u8],
+    ) -> Result<Self, C::Error> {
         bytes_in_range(buffer);
         let mut reader = BufferReader::new(alloc, context, buffer);
         Self::read_whole(&mut reader)
     }
 }
-
-impl<'a, C: Context, T: ReadWhole<&'a [u8], C>> ReadableWhole<'a, C> for T {}
 
 // Parts with a layout, and then a value that has what is left.
 impl<L: AsSlice<u8> + Drop, C: Context, A: ReadFrom<L, C>, W: ReadWhole<L, C>> ReadToEnd<L, C>

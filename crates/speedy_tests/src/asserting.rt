@@ -2,15 +2,15 @@
 //!
 //! A test ends where one of these does not hold. They answer nothing, so a test has no other way out than its end,
 //! which is what makes it quick to prove. `assert_encoding` calls each form of `Readable` over a buffer. Other tests
-//! decode by `read_value` of a reader: the proof of a call of a form names all forms at the type, and takes 5 seconds
-//! for a number and 25 for a cow.
+//! decode by `read_value` of a reader, whose proof names less of the type. For that the helpers ask for `ReadMany`, which
+//! `Readable` rests on.
 use speedy::collections::FromItems;
 use speedy::context::{BigEndian, Context, LittleEndian};
 use speedy::endianness::Endianness;
 use speedy::error::{Error, IsEof};
 use speedy::layout::Layout;
 use speedy::private::get_error_kind;
-use speedy::readable::Readable;
+use speedy::readable::{ReadMany, Readable};
 use speedy::writable::Writable;
 use std::alloc::Global;
 use std::fmt::Debug;
@@ -184,7 +184,7 @@ fn assert_value<T: PartialEq>(rt: &impl Abort, read: &T, value: &T, bytes: &[u8]
 }
 
 /// Asserts that under the context all but the last of the bytes are what is read as the value.
-fn assert_read<'a, C: Context + Copy, T: Readable<'a, C> + PartialEq>(
+fn assert_read<'a, C: Context + Copy, T: ReadMany<&'a [u8], C> + PartialEq>(
     rt: &impl Abort,
     alloc: Global,
     context: C,
@@ -203,7 +203,7 @@ where
 }
 
 /// Asserts the same of the forms that copy.
-fn assert_copied<'a, C: Context + Copy, T: Readable<'a, C> + PartialEq>(
+fn assert_copied<'a, C: Context + Copy, T: ReadMany<&'a [u8], C> + PartialEq>(
     rt: &impl Abort,
     alloc: Global,
     context: C,
@@ -238,7 +238,7 @@ pub(crate) fn assert_encoding<'a, T>(
     rows: &[(T, &'a [u8], &'a [u8])],
 )
 where
-    T: Readable<'a, Endianness> + Writable<Endianness> + PartialEq,
+    T: ReadMany<&'a [u8], Endianness> + Writable<Endianness> + PartialEq,
 {
     assert_same(rt, T::minimum_bytes_needed(), least);
     for (value, little, big) in rows {
@@ -256,7 +256,7 @@ fn assert_encoding_in<'a, T>(
     followed: &'a [u8],
 )
 where
-    T: Readable<'a, Endianness> + Writable<Endianness> + PartialEq,
+    T: ReadMany<&'a [u8], Endianness> + Writable<Endianness> + PartialEq,
 {
     assert_written(rt, alloc, order, value, followed);
     assert_read(rt, alloc, order, value, followed);

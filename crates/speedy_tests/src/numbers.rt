@@ -3,7 +3,7 @@
 //! Numbers of other widths are lines of `stdin` in `speedy_vectors`.
 use crate::asserting::{assert_encoding, assert_ok_items, assert_same, row};
 use speedy::context::{LittleEndian, PlainContext};
-use speedy::readable::Readable;
+use speedy::readable::{ReadMany, Readable};
 use speedy::writable::Writable;
 use std::alloc::Global;
 use std::fmt::Debug;
@@ -19,7 +19,7 @@ fn numbers_lie_in_the_order_of_their_context(rt: HostRuntime) {
 }
 
 /// Asserts that each form without a context reads the value, of `count` bytes at the front.
-fn assert_read_without_context<'a, C: PlainContext, T: Readable<'a, C> + Debug + PartialEq>(
+fn assert_read_without_context<'a, C: PlainContext, T: ReadMany<&'a [u8], C> + Debug + PartialEq>(
     rt: &impl Abort,
     alloc: Global,
     value: &T,
