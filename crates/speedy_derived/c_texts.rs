@@ -12,7 +12,7 @@ pub struct Label {
 }
 
 /// A symbol, which points into the bytes that it is read from.
-#[derive(Clone, PartialEq, Readable, Writable)]
+#[derive(Readable, Writable)]
 pub struct Symbol<'a> {
     pub name: CText<&'a str>,
     pub alias: Option<CText<Cow<'a, str>>>,

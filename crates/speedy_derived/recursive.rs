@@ -11,7 +11,7 @@ pub struct Node {
 }
 
 /// A step, what may follow it, a mark, and other steps by their names.
-#[derive(Debug, PartialEq, Readable, Writable)]
+#[derive(Readable, Writable)]
 #[speedy(depth = 10)]
 pub struct Step(
     pub u16,

@@ -19,14 +19,14 @@ pub struct Setting {
 }
 
 /// Parameters that point into the bytes that they are read from.
-#[derive(Clone, Debug, PartialEq, Readable, Writable)]
+#[derive(Readable, Writable)]
 pub struct Parameters<'a> {
     pub all: ListUntil<u16, Parameter<'a>, 1>,
     pub size: u16,
 }
 
 /// A parameter.
-#[derive(Clone, Debug, PartialEq, Readable, Writable)]
+#[derive(Readable, Writable)]
 pub struct Parameter<'a> {
     #[speedy(length_type = u16)]
     pub value: &'a [u8],

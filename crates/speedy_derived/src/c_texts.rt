@@ -60,7 +60,7 @@ impl<C: Context> Writable<C> for Label {
 }
 
 /// A symbol, which points into the bytes that it is read from.
-#[derive(Clone, PartialEq, Drop)]
+#[derive(Drop)]
 pub struct Symbol<'a> {
     pub name: CText<&'a str>,
     pub alias: Option<CText<CowStr<'a>>>,

@@ -151,7 +151,7 @@ impl<C: Context> Writable<C> for Node {
 }
 
 /// A step, what may follow it, a mark, and other steps by their names.
-#[derive(Debug, PartialEq, Drop)]
+#[derive(Drop)]
 pub struct Step(
     pub u16,
     pub Option<Box<Step>>,

@@ -95,7 +95,7 @@ impl<C: Context> Writable<C> for Setting {
 }
 
 /// Parameters that point into the bytes that they are read from.
-#[derive(Clone, Debug, PartialEq, Drop)]
+#[derive(Drop)]
 pub struct Parameters<'a> {
     pub all: ListUntil<u16, Parameter<'a>, 1>,
     pub size: u16,
@@ -138,7 +138,7 @@ impl<'a, C: Context> Writable<C> for Parameters<'a> {
 }
 
 /// A parameter.
-#[derive(Clone, Debug, PartialEq, Drop)]
+#[derive(Drop)]
 pub struct Parameter<'a> {
     pub value: &'a [u8],
 }
