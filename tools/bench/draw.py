@@ -27,7 +27,10 @@ PANELS = [
     ("bytes_needed", "bytes_needed"),
 ]
 # What only the overview has: the figures of `bench documents`.
-PEERS = [(f"documents beside {name}", f"documents / {name}") for name in ("bincode", "MessagePack")]
+PEERS = [
+    (f"documents beside {name}", f"documents / {name}")
+    for name in ("bincode", "MessagePack", "prost", "rkyv, decoded")
+]
 ORDERS = [("le", "little byte order", "#2b6cb0"), ("be", "big byte order", "#dd8a1e")]
 INK, SOFT, GRID, PAPER = "#1f2328", "#57606a", "#d8dee4", "#ffffff"
 
