@@ -1,9 +1,10 @@
 #!/usr/bin/env python3
 """Compiles the calls of a library that `tools/derive --library` made, of code that nothing proves meanwhile.
-usage: tools/unproved_library.py CRATE SOURCE OBJECT
+usage: tools/unproved_library.py [--inlined] CRATE SOURCE OBJECT
   CRATE:  the folder of the library's crate
   SOURCE: the Rust file that it was made of
   OBJECT: where the object is left, for `build-library` in the folder `callers` of the crate
+With --inlined, as of tools/unproved.py, it is as fast as a proved one, and takes longer to compile.
 """
 import shutil
 import subprocess
@@ -55,6 +56,8 @@ fn main(rt: HostRuntime) -> std::process::ExitCode {{
 
 def main(words):
     """Compiles a library."""
+    is_inlined = words[:1] == ["--inlined"]
+    words = words[is_inlined:]
     if len(words) != 3:
         print(__doc__, file=sys.stderr)
         return 2
@@ -67,7 +70,8 @@ def main(words):
         root.write_text(with_main(root.read_text(encoding="utf-8"), library), encoding="utf-8")
         # The object's functions are named by its own name.
         inner = Path(work, f"{crate.name}.o")
-        command = [TOP / "tools" / "unproved.py", root, inner, "2", "speedy"]
+        how = ["--inlined", root, inner, "3"] if is_inlined else [root, inner, "2"]
+        command = [TOP / "tools" / "unproved.py", *how, "speedy"]
         done = subprocess.run(command, check=False).returncode
         if done == 0:
             shutil.copy(inner, made)

@@ -34,7 +34,7 @@ pub fn cow_bytes_to_cow_str<'a, E: From<Error>>(bytes: CowSlice<'a, u8>) -> Resu
 }
 
 /// The text whose UTF-8 the bytes are, where they lie, or the error `InvalidUtf8`.
-#[inline]
+#[inline(always)]
 pub fn bytes_to_str<E: From<Error>>(bytes: &[u8]) -> Result<&str, E>
     ensures { MatchResult result (λ text. (text.now ≡ bytes.now) × IsUtf8 bytes.now)
         (λ e. E.from_gives (error_of ErrorKind.InvalidUtf8) e × ¬ IsUtf8 bytes.now) }
@@ -56,6 +56,14 @@ fn is_utf8(bytes: &[u8]) -> bool
     if bytes.len() < LONG_TEXT {
         str::from_utf8(bytes).is_ok()
     } else {
-        simdutf8::is_utf8(bytes)
+        is_long_utf8(bytes)
     }
+}
+
+// It stays out of line: what it needs of registers and of the stack, a short text would pay for too.
+#[inline(never)]
+fn is_long_utf8(bytes: &[u8]) -> bool
+    ensures { IsTrue result ↔ IsUtf8 bytes.now }
+{
+    simdutf8::is_utf8(bytes)
 }
