@@ -15,6 +15,8 @@ VIEWS = ("SliceView", "ArrayView")
 CELLS = ("Cell", "RefCell")
 # What a library has in place of a list. Nothing there compares what was read.
 ENCODED = "EncodedList"
+# And in place of bytes by value, which go without a default there.
+BYTES = "InPlaceBytes"
 NON_ZERO = tuple(f"NonZero{sign}{bits}" for sign in "UI" for bits in (8, 16, 32, 64))
 OWNING = ("String", "BoxedStr", "CowStr", "Vec", "BoxedSlice", "CowSlice", "Box", "BTreeMap", "BTreeSet",
           *MAPS_BY_HASH, "ListUntil",
@@ -32,7 +34,7 @@ LACKING = {
     # What is made with an allocator, or has no value that goes without saying. (A reference has one to `str` and to
     # slices alone.)
     "Default": (*OWNING, "CowStr", "CowSlice", "Result", "RangeInclusive", "Ipv4Addr", "Ipv6Addr", "IpAddr", *NON_ZERO,
-                "Endianness", "VarInt64", "SystemTime", "Instant", *VIEWS, ENCODED),
+                "Endianness", "VarInt64", "SystemTime", "Instant", *VIEWS, ENCODED, BYTES),
 }
 # Types without a default that are made empty with an allocator.
 EMPTY = ("String", "Vec", "BTreeMap", "BTreeSet", "HashMap", "HashSet", "VecDeque")
@@ -91,7 +93,7 @@ class Derives:
         # The traits that are left of each type that is made already, by its name.
         self.kept = {}
         # The names of types that lack some for a list in a library, of which no note says so.
-        self.unsaid = {ENCODED}
+        self.unsaid = {ENCODED, BYTES}
 
     def keep(self, item, kinds):
         """The derives of a type that holds these; the others are left out, with a note."""

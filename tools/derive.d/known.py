@@ -22,6 +22,8 @@ FLOATS = {"f32": "F32", "f64": "F64"}
 # What a library has in place of a list: one that lies where it was read, which no source names. What such lists hold
 # beside types of the file, texts and bytes.
 ENCODED_LIST = ("speedy", "encoded", "EncodedList")
+# And in place of an array of bytes, in what such a list holds.
+IN_PLACE_BYTES = ("speedy", "in_place_bytes", "InPlaceBytes")
 LISTED = ("u16", "u32", "u64", "i8", "i16", "i32", "i64", "f32", "f64", "bool", "char")
 # Bytes that mean nothing, so many as a number says.
 BLANKS = ("Padding", "Zeros")

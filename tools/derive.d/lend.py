@@ -3,16 +3,16 @@ encodings, and can be shown where they lie. A type that holds such a type takes 
 from dataclasses import replace
 
 import syntax
-from known import ENCODED_LIST, LISTED
+from known import ENCODED_LIST, IN_PLACE_BYTES, LISTED
 
 # What owns a text, bytes or a list, and where its name comes from.
 OWNING, HOMES = ("String", "Vec", "Box", "Cow", "Option"), ("std", "alloc", "core")
 # A field with one of these words in an attribute stays as it is: its type needs a default.
 KEPT = ("skip", "default_on_eof")
-# A list with one of these has a length of its own, which no list has that is lent. A field with one of those beside
-# has bytes of its own, and stands in no item of a list that is lent.
-LENGTHS = ("length", "length_type")
-OWN_BYTES = (*LENGTHS, "constant_prefix", "varint")
+# A list with this word in its `length` is the rest of the bytes, which no list is that is lent.
+REST = ".."
+# A field with one of these has bytes of its own, and stands in no item of a list that is lent.
+OWN_BYTES = ("length", "length_type", "constant_prefix", "varint")
 # What compares what it holds, or fills its room with defaults. A list that is lent has neither.
 COMPARING = ("BTreeMap", "BTreeSet", "HashMap", "HashSet", "IndexMap", "IndexSet", "SmallVec")
 
@@ -39,6 +39,8 @@ def lend(file, kept):
                 it.type = listing.lent(it, name, path) or it.type
                 listing.mark(it.type, path)
             it.type = with_lifetimes(it.type, name, path, gained)
+    for it in [it for item in found.values() if item.in_place for it in fields(item)]:
+        it.type = in_place(it.type)
     return lent
 
 
@@ -121,7 +123,7 @@ class Listing:
 
     def lent(self, field, name, path):
         """The type that borrows of a field of the type at a path, or None."""
-        takes_lists = path not in self.compared and not words(field.attributes) & set(LENGTHS)
+        takes_lists = path not in self.compared and REST not in words(field.attributes)
         return self.lent_type(field.type, name, path, takes_lists)
 
     def lent_type(self, kind, name, path, takes_lists):
@@ -150,8 +152,16 @@ class Listing:
             return False
         other = (*path[:-1], items.path[0])
         if other in self.found:
-            return path not in self.reached(other) and all(lies_in_place(self.found[it]) for it in self.reached(other))
+            return path not in self.reached(other) and all(self.lies_in_place(it) for it in self.reached(other))
         return items.path[0] in LISTED and items.path[0] not in self.named
+
+    def lies_in_place(self, path):
+        """Whether a list may show values of a type where it lies. Arrays are read as lists are, which may take memory:
+        bytes alone are held without, where nothing compares them."""
+        item = self.found[path]
+        return is_simple(item) and not any(
+            words(it.attributes) & set(OWN_BYTES) or has_array(it.type if path in self.compared else in_place(it.type))
+            for it in fields(item))
 
     def mark(self, kind, path):
         """Marks the types that a list holds which a field has now."""
@@ -166,10 +176,12 @@ class Listing:
                     self.found[it].in_place = True
 
 
-def lies_in_place(item):
-    """Whether a list may show values of a type where it lies. Arrays are read as lists are, which may take memory."""
-    return is_simple(item) and not any(words(it.attributes) & set(OWN_BYTES) or has_array(it.type)
-                                       for it in fields(item))
+def in_place(kind):
+    """A type with bytes by value as a list holds them that lies where it was read, also in an option."""
+    if isinstance(kind, syntax.Named) and kind.path == ("Option",):
+        return replace(kind, arguments=tuple(map(in_place, kind.arguments)))
+    is_bytes = isinstance(kind, syntax.Array) and is_byte([kind.item]) and isinstance(kind.length, syntax.Literal)
+    return syntax.Named(kind.line, IN_PLACE_BYTES, (kind.length,)) if is_bytes and kind.length.token.value else kind
 
 
 def has_array(kind):

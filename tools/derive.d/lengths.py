@@ -59,7 +59,7 @@ def check_type(field, kind, item, scope):
         return
     lent = kind.target if isinstance(kind, syntax.Reference) else None
     is_lent = isinstance(lent, syntax.Slice) or is_listed(lent, "str")
-    if not is_listed(kind, *TEXTS_AND_LISTS, *MAPS, *TOLD_BLANKS) and not is_lent:
+    if not is_listed(kind, *TEXTS_AND_LISTS, *MAPS, *TOLD_BLANKS, "EncodedList") and not is_lent:
         raise Refusal(field.line, "`length` is taken of `String`, `Vec<T>`, `Box<str>`, `Box<[T]>`, `&str`, `&[u8]`, "
                                   "`Cow<str>`, `Cow<[T]>`, `PaddingBytes`, `ZeroBytes`, maps, sets, structs and enums")
 

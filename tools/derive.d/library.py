@@ -35,6 +35,7 @@ NO_LIBRARY = frozenset("""
     mutable namespace new noexcept not not_eq nullptr operator or or_eq private protected public requires template this
     throw typeid typename using wchar_t xor xor_eq default case
     assert def del elif except exec finally from global import is lambda nonlocal none pass raise try with
+    len list tuple bytes object ord chr print isinstance hasattr getattr sys ctypes struct enum
     """.split())
 
 

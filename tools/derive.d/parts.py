@@ -19,7 +19,7 @@ NUMBERS = {"u7": ("U7", 1 << 7, 1), "u8": ("u8", 1 << 8, 1), "u16": ("u16", 1 <<
            "u64": ("u64", 1 << 64, 8), "u64_varint": ("VarInt64", 1 << 64, 1)}
 # What may stand behind a length of another width.
 COUNTED = ("String", "Vec", "BoxedStr", "BoxedSlice", "CowStr", "CowSlice", "SmallVec", "BTreeMap", "HashMap",
-           "IndexMap", "BTreeSet", "HashSet", "IndexSet")
+           "IndexMap", "BTreeSet", "HashSet", "IndexSet", "EncodedList")
 # So many parts stand in one tuple. More are split into tuples of so many, since else the search for proofs meets its
 # step limit.
 MOST_PARTS = 6

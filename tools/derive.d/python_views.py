@@ -228,7 +228,7 @@ def values_of(library, view):
     found = "\n    def value_of(self):\n"
     for case in view.cases:
         inner = "".join(f"                {it.in_case}="
-                        f"{taken(library, it.kind, f'self.{case.snake}.{it.in_struct}')},\n" for it in case.fields)
+                        f"{taken(library, it.kind, f'self.{case.in_struct}.{it.in_struct}')},\n" for it in case.fields)
         inner = f"(\n{inner}            )" if inner else "()"
         found += f"        if self.tag == {case.tag}:\n            return {view.exported.python}.{case.name}{inner}\n"
     return found + '        raise ValueError("the library shows a tag that this module does not know")\n'
@@ -245,7 +245,7 @@ def given_of(library, view):
     for at, case in enumerate(view.cases):
         found += f"        {'el' if at else ''}if isinstance(value, {view.exported.python}.{case.name}):\n" \
                  f"            raw.tag = {case.tag}\n"
-        found += "".join(f"            raw.{case.snake}.{it.in_struct} = "
+        found += "".join(f"            raw.{case.in_struct}.{it.in_struct} = "
                          f"{given(library, it.kind, f'value.{it.in_case}')}\n" for it in case.fields)
     return found + f"        else:\n            raise TypeError(f\"{{value!r}} is no `{view.exported.python}`\")\n" \
                    "        return raw\n"
@@ -272,7 +272,7 @@ def raw_text(library):
                     fields = [(it.in_struct, raw(it.kind)) for it in case.fields]
                     found += structure(f"_Raw{view.camel}{case.name}", fields)
             found += structure(f"_Raw{view.camel}", [("tag", "ctypes.c_uint32"), *(
-                (case.snake, f"_Raw{view.camel}{case.name}") for case in view.cases if case.fields)])
+                (case.in_struct, f"_Raw{view.camel}{case.name}") for case in view.cases if case.fields)])
         found += values_of(library, view)
         found += given_of(library, view) if view.item.writable else ""
     return found

@@ -3,7 +3,8 @@ import expressions
 import rattle
 import syntax
 from derives import Derives
-from known import BLANKS, BOUNDS, ENCODED_LIST, FLOATS, KNOWN, MARKING, NONE_OF_OURS, NUMBERS, ONE_ORDER, PRELUDE
+from known import BLANKS, BOUNDS, ENCODED_LIST, FLOATS, IN_PLACE_BYTES, KNOWN, MARKING, NONE_OF_OURS, NUMBERS, \
+    ONE_ORDER, PRELUDE
 from known import PRELUDE_BOUNDS, PRELUDE_MODULES, PRIMITIVES
 from names import Fresh, field_name
 from rattle import Foreign, Listed, Own, Variable, type_text
@@ -322,6 +323,9 @@ class Converter:
         name = "::".join(full)
         if path == ENCODED_LIST and [isinstance(it, syntax.Lifetime) for it in kind.arguments] == [True, False]:
             return self.encoded_list(kind)
+        if path == IN_PLACE_BYTES and len(kind.arguments) == 1:
+            count = self.constant(kind.line, kind.arguments[0])
+            return Listed(kind.line, path[-1], (count,), self.scope.need("::".join(path[:-1]), path[-1]))
         if name in KNOWN:
             return self.known(kind, KNOWN[name])
         if self.is_skipped and name == "std::marker::PhantomData":

@@ -56,7 +56,7 @@ def times(size, count):
 
 def size_of_listed(kind, scope):
     """That of a listed type: of what is made of another, as of that."""
-    if kind.name in BLANKS:
+    if kind.name in (*BLANKS, "InPlaceBytes"):
         return times(1, kind.arguments[0])
     if kind.name in WITHIN:
         return size_of(kind.arguments[WITHIN[kind.name]], scope)

@@ -2,7 +2,7 @@
 import re
 
 from names import camel, quoted
-from views import maybes
+from views import kinds_within, maybes
 
 # So wide may a line of a clause be, behind what stands before it.
 WIDTH = 108
@@ -48,7 +48,7 @@ def source_type(kind):
     if kind.what == "own":
         return kind.of.camel + life_of_item(kind.of)
     if kind.what == "array":
-        return f"[{kind.of}; {kind.count}]"
+        return f"InPlaceBytes<{kind.count}>" if kind.is_in_place else f"[{kind.of}; {kind.count}]"
     return {"number": kind.of, "flag": "bool", "char": "char", "text": "&'a str", "bytes": "&'a [u8]",
             "float": "F32" if kind.of == "f32" else "F64"}[kind.what]
 
@@ -84,6 +84,8 @@ def made(kind, place):
     call = {"text": "text_shown", "flag": "flag_shown", "char": "character_shown"}.get(kind.what)
     if call:
         return f"{call}({place})?"
+    if kind.is_in_place:
+        return f"InPlaceBytes({place})"
     return f"{source_type(kind)}::from_bits({place})" if kind.what == "float" else place
 
 
@@ -105,7 +107,12 @@ def fact(kind, view, seen):
         return f"{'ShowsFlag' if kind.what == 'flag' else 'ShowsCharacter'} {seen} {view}"
     if kind.what == "float":
         return f"{view} ≡ {kind.of}_bits {seen}"
-    return f"{view} ≡ {seen}"
+    return f"{view} ≡ {seen}{'.0' * kind.is_in_place}"
+
+
+def items(kind, place):
+    """The statement that names the items of an array at a place, or of one behind a reference."""
+    return f"{place.removeprefix('*')}.0" if kind.is_in_place else place
 
 
 def all_of(facts, indent):
@@ -164,7 +171,10 @@ class ViewTypes:
 
     def text(self):
         """The text, before it is laid out."""
-        lines = [line for kind in maybes(self.views) for line in self.maybe(kind)]
+        lines, structs = [], set()
+        for kind in kinds_within(self.views, "maybe", source_type):
+            lines += ([] if kind.label in structs else self.maybe_struct(kind)) + self.maybe(kind)
+            structs.add(kind.label)
         for view in self.views:
             lines += self.case_view(view) if view.cases is not None else self.struct_view(view)
         head = HEAD.format(file=self.library.file_name)
@@ -192,28 +202,34 @@ class ViewTypes:
                   if f"{it}(" in text]
         found.append(f"use speedy::exports::{{{', '.join(calls)}}};")
         found += ["use speedy::encoded::EncodedList;"] * has_lists
+        found += ["use speedy::in_place_bytes::InPlaceBytes;"] * ("InPlaceBytes" in text)
         floats = [it for it in ("F32", "F64") if re.search(rf"\b{it}\b", text)]
         found += [f"use speedy::{it};" for it in floats]
         return found + ["use std::alloc::Global;"] * ("alloc: Global" in text) + [""]
 
-    def maybe(self, kind):
-        """The view of an option."""
+    def maybe_struct(self, kind):
+        """The struct of an option."""
         name, borrowed = name_of(kind), life(kind)
         fields = [("is_some", "u8"), ("value", shown_type(kind.of))]
-        of = source_type(kind)
         found = struct("An option: whether there is a value (0 or 1), and which.", name, borrowed, fields)
         if kind.label in self.empties:
             found += empty_function(name, borrowed, [("is_some", "0"), ("value", empty(kind.of))])
+        return found
+
+    def maybe(self, kind):
+        """How an option is shown."""
+        name, borrowed, of = name_of(kind), life(kind), source_type(kind)
         inner = strip(value(kind.of, "*it", "it"))
         is_array = kind.of.what == "array"
         some = f"{name} {{ is_some: 1, value: {'items' if is_array else inner} }}"
+        given = f"{{ let items = {items(kind.of, '*it')}; {some} }}" if is_array else f"{some},"
         shown = all_of(["view.is_some ≡ 1", fact(kind.of, "view.value", "it")], " " * 10)
-        return found + [
+        return [
             f"impl{borrowed} View<{of}> for {name}{borrowed} {{",
             "    ghost shows = { λ value view. elim value [", "      | None ↦ view.is_some ≡ 0",
             f"      | Some it ↦ {shown}", "    ] };", "",
             f"    fn of(value: &{of}) -> {name}{borrowed} {{ match value {{",
-            f"        Some(it) => {'{ let items = *it; ' + some + ' }' if is_array else some + ','}",
+            f"        Some(it) => {given}",
             f"        None => {name} {{ is_some: 0, value: {empty(kind.of)} }},", "    } }", "}", "",
             *(self.maybe_made(kind, name, borrowed, of) if kind.label in self.written else ())]
 
@@ -239,7 +255,7 @@ class ViewTypes:
         for at, it in enumerate(view.fields):
             place = f"value.{it.access}"
             if it.kind.what == "array":
-                lets.append(f"let items_{at} = {place};")
+                lets.append(f"let items_{at} = {items(it.kind, place)};")
                 place = f"items_{at}"
             inits.append(f"{it.name}: {value(it.kind, place, f'&value.{it.access}')}")
         return found + [
@@ -316,7 +332,7 @@ class ViewTypes:
         lets, inits = "", []
         for it, name in zip(case.fields, bound):
             if it.kind.what == "array":
-                lets += f"let items_{name} = *{name}; "
+                lets += f"let items_{name} = {items(it.kind, f'*{name}')}; "
                 inits.append(f"{it.name}: items_{name}")
             else:
                 inits.append(f"{it.name}: {strip(value(it.kind, f'*{name}', name))}")

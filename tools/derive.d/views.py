@@ -6,8 +6,8 @@ so."""
 from dataclasses import dataclass
 
 import syntax
-from known import ENCODED_LIST
-from lend import LENGTHS, items_of, words
+from known import ENCODED_LIST, IN_PLACE_BYTES
+from lend import items_of
 from names import Fresh, field_name
 from refusal import Refusal
 from words import KEYWORDS, NOWHERE, PRELUDE
@@ -30,17 +30,20 @@ WORDS = frozenset("""
     NULL EOF errno stdin stdout stderr unix linux
     """.split()) | KEYWORDS | NOWHERE
 # No name of a type, beside those of Rust's prelude: what is made has it.
-TAKEN = ("Iterator", "View", "Shown", "Unshown", "Walk", "Bytes", "ListView", "EncodedList", "Global", "F32", "F64")
+TAKEN = ("Iterator", "View", "Shown", "Unshown", "Walk", "Bytes", "ListView", "EncodedList", "InPlaceBytes", "Global",
+         "F32", "F64")
 # The functions of a class in Python.
 OF_PYTHON = ("check", "read", "walk", "to_bytes")
 
 
 @dataclass(frozen=True)
 class Kind:
-    """How a field is shown: `what` says it, and `of` is the number, the kind within or the type of the file."""
+    """How a field is shown: `what` says it, and `of` is the number, the kind within or the type of the file. Bytes by
+    value that stand in the items of a list are held in place."""
     what: str
     of: object = None
     count: int = 0
+    is_in_place: bool = False
 
     @property
     def label(self):
@@ -98,6 +101,11 @@ class Case:
     def borrows(self):
         """Whether it has places in the bytes."""
         return any(it.kind.borrows for it in self.fields)
+
+    @property
+    def in_struct(self):
+        """Its name in Python in a struct of C, whose class has functions too."""
+        return self.snake + "_" * (self.snake in ("of", "value_of"))
 
 
 class View:
@@ -196,16 +204,8 @@ class Views:
             if not taken.is_free(name):
                 raise Refusal(it.line, f"`{name}` is the name of another field, but for the case of its letters")
             taken.take(name)
-            found.append(Shown(name, field_name(it.name) if it.name else str(at), self.kind_of_field(it, path)))
+            found.append(Shown(name, field_name(it.name) if it.name else str(at), self.kind(it.type, path)))
         return found
-
-    def kind_of_field(self, field, path):
-        """How a field is shown."""
-        is_list = items_of(field.type) is not None or getattr(field.type, "path", ()) == ("Option",) and any(
-            items_of(it) is not None for it in field.type.arguments)
-        if is_list and words(field.attributes) & set(LENGTHS):
-            raise Unshown(field.line, "a list whose length is told elsewhere, or is of another width, is not shown")
-        return self.kind(field.type, path)
 
     def kind(self, kind, path):
         """How a type of the source is shown."""
@@ -221,14 +221,16 @@ class Views:
             return Kind("array", self.number(kind.item), kind.length.token.value)
         if isinstance(kind, syntax.Named) and kind.path == ENCODED_LIST:
             return Kind("list", self.kind(kind.arguments[-1], path))
+        if isinstance(kind, syntax.Named) and kind.path == IN_PLACE_BYTES:
+            return Kind("array", "u8", kind.arguments[0].token.value, True)
         if isinstance(kind, syntax.Named) and len(kind.path) == 1:
             found = self.named(kind, kind.path[0], path)
             if found:
                 return found
         if items_of(kind) is not None:
             raise Unshown(line, "a list in a view holds numbers up to 64 bits, floats, flags, characters, texts, "
-                                "bytes, or values of a `pub` type of the file that has a view, no array, and no field "
-                                "with bytes of its own; and it stands in no key and no `SmallVec`")
+                                "bytes, or values of a `pub` type of the file that has a view, no array but of bytes, "
+                                "and no field with bytes of its own; and it stands in no key and no `SmallVec`")
         raise Unshown(line, "a view has numbers up to 64 bits, flags, characters, floats, arrays of so many numbers, "
                             "`&'a str`, `&'a [u8]`, lists, options, and `pub` types of the file of these")
 
@@ -266,15 +268,16 @@ def checked(name, line):
     return name
 
 
-def kinds_within(views, what):
-    """The kinds of fields of views that are so, also in others, each behind those that it holds."""
+def kinds_within(views, what, name=lambda kind: kind.label):
+    """The kinds of fields of views that are so, also in others, each behind those that it holds, and one of each
+    name."""
     found = {}
 
     def add(kind):
         if kind.what in ("maybe", "list"):
             add(kind.of)
         if kind.what == what:
-            found.setdefault(kind.label, kind)
+            found.setdefault(name(kind), kind)
 
     for view in views:
         for kind in view.kinds:

@@ -7,13 +7,14 @@ use base.Stored.{coded_unit}
 use Rattle.speedy_base.specs.Mode.{Mode}
 use Rattle.speedy_layout.specs.Choices.{Choices, unit_case, one_case, either_case, choices_behind}
 use Rattle.speedy_layout.specs.Codecs.{Codec, unsigned_codec, signed_codec, flag_codec, character_codec, borrowed_codec}
-use Rattle.speedy_layout.specs.Codecs.{unit_codec, pair_codec, option_codec, list_codec}
+use Rattle.speedy_layout.specs.Codecs.{unit_codec, pair_codec, option_codec, list_codec, raw_bytes_codec}
 use Rattle.speedy_layout.specs.Codes.{coding}
 use Rattle.speedy_layout.specs.Format.{Asks}
 use Rattle.speedy_layout.specs.Numbers.{unsigned_number, signed_number}
 use Rattle.speedy_layout.specs.Owned.{borrowed_content}
 use Rattle.speedy_layout.specs.Prefixed.{Numbers, prefixed_codec}
 use Rattle.speedy_layout.specs.Sequences.{sequence}
+use Rattle.speedy_layout.specs.Texts.{raw_bytes}
 use Rattle.speedy_layout.specs.Tuples.{unit}
 
 -- reading a value asks for no memory, in any mode
@@ -53,6 +54,10 @@ pub character_no_memory : TakesNoMemory character_codec
 unfolding coding unsigned_number
 character_no_memory mode = refl
 
+pub raw_bytes_no_memory : (n : ℕ) → TakesNoMemory (raw_bytes_codec n)
+unfolding raw_bytes
+raw_bytes_no_memory n mode = refl
+
 pub borrowed_no_memory : {V : Type 0} (codec : Codec V) → TakesNoMemory (borrowed_codec codec)
 unfolding borrowed_content
 borrowed_no_memory codec mode = refl
@@ -89,6 +94,11 @@ flag_in_place = record { codec = flag_codec; coded = coded_bool; no_memory = fla
 
 abbrev pub character_in_place : InPlaceCodec ℕ
 character_in_place = record { codec = character_codec; coded = coded_ℕ; no_memory = character_no_memory }
+
+-- so many bytes
+abbrev pub raw_bytes_in_place : ℕ → InPlaceCodec (List ℕ)
+raw_bytes_in_place n =
+    record { codec = raw_bytes_codec n; coded = coded_list coded_ℕ; no_memory = raw_bytes_no_memory n }
 
 -- what is borrowed takes none, whatever it takes where it is owned
 abbrev pub borrowed_in_place : {V : Type 0} → Coded V → Codec V → InPlaceCodec V

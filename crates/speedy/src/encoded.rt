@@ -277,7 +277,7 @@ impl<'a, C: Context, T: ListItem> ReadFrom<&'a [u8], C> for EncodedList<'a, T> {
 }
 
 // A list of so many items. They are measured in all bytes that remain, and then taken.
-fn read_items<'a, C: Context, T: ListItem, R: LendingReader<&'a [u8], C>>(
+pub(crate) fn read_items<'a, C: Context, T: ListItem, R: LendingReader<&'a [u8], C>>(
     reader: &mut R,
     count: usize,
 ) -> Result<EncodedList<'a, T>, C::Error>
@@ -312,7 +312,7 @@ impl<'a, C: Context, T: WriteListItem<C>> Writable<C> for EncodedList<'a, T> {
 }
 
 // The items, and no number of them.
-fn write_items<T: WriteListItem<C>, C: Context, W: Writer<C>>(
+pub(crate) fn write_items<T: WriteListItem<C>, C: Context, W: Writer<C>>(
     list: &EncodedList<T>,
     writer: &mut W,
 ) -> Result<(), C::Error>

@@ -8,9 +8,11 @@
 
 pub mod cases;
 pub mod encoded;
+mod encoded_lengths;
 pub mod exports;
 pub mod ext;
 pub mod in_place;
+pub mod in_place_bytes;
 pub mod laws;
 pub mod layout;
 pub mod lengths;

@@ -14,6 +14,8 @@ mod cows;
 #[cfg(test)]
 mod encoded;
 #[cfg(test)]
+mod encoded_lengths;
+#[cfg(test)]
 mod endianness;
 #[cfg(test)]
 mod errors;
@@ -23,6 +25,8 @@ mod exports;
 mod floats;
 #[cfg(test)]
 mod frames;
+#[cfg(test)]
+mod in_place_bytes;
 #[cfg(test)]
 mod laws;
 #[cfg(test)]
