@@ -1,6 +1,6 @@
 -- What sources and sinks of bytes do in one call.
 use Rattle.std.specs.Prelude.{◌≡◌, ℕ, ◌<◌, ◌≤◌, Bool, List, [], ◌++◌, length, take, IsTrue, Result, IfOk, OnOk, IfErr}
-use Rattle.std.specs.Prelude.{OnErr}
+use Rattle.std.specs.Prelude.{OnErr, Option, MatchOption}
 use Rattle.std.specs.declared.io.Error.{Error as StdIoError}
 use Rattle.speedy_base.specs.declared.device.Faults.{Faults}
 use Rattle.speedy_base.specs.FailedCalls.{OneFailed}
@@ -52,6 +52,19 @@ pub record Pulls (result : Result ℕ StdIoError) (old new : SourceState) (outpu
   pub fault : IfErr result (λ error. OneFailed error old.faults new.faults)
   -- and takes none of the remaining bytes
   pub unmoved : OnErr result (IsTrue old.tells → new.remaining ≡ old.remaining)
+
+-- bytes that a source lends, and has given: the next n of those that remain
+pub record GivesLent (n : ℕ) (bytes : List ℕ) (old new : SourceState) : Type 0 where
+  pub kept : SourceKept old new
+  pub count : length bytes ≡ n
+  pub no_fault : new.faults ≡ old.faults
+  pub moved : IsTrue old.tells → old.remaining ≡ bytes ++ new.remaining
+  -- to give no byte is to do nothing
+  pub untouched : bytes ≡ [] → new ≡ old
+
+-- one call of `pull_lent` for n bytes: it lends them, or lends nothing and stays as it was
+abbrev pub PullsLent : {A : Type 0} → (A → List ℕ) → ℕ → Option A → SourceState → SourceState → Type 0
+PullsLent shows n lent old new = MatchOption lent (new ≡ old) (λ bytes. GivesLent n (shows bytes) old new)
 
 -- one call of `push` with these bytes
 pub record Pushes (result : Result ℕ StdIoError) (old new : SinkState) (bytes : List ℕ) : Type 0 where

@@ -3,6 +3,7 @@
 ghost use Rattle.std.specs.Prelude.{◌≡◌, ◌+◌, ◌-◌, ◌≤◌, ◌↔◌, min, [], ◌++◌, length, take, drop, None, IsOk, IfOk, OnOk};
 ghost use Rattle.std.specs.Prelude.{OnErr, IsTrue, max, slice_range, vec_len, vec_capacity};
 ghost use Rattle.std.specs.Borrow.{Array, Lends, sem, u8};
+ghost use Rattle.std.specs.Io.BufRead.{Rests};
 ghost use Rattle.speedy_base.specs.Ring.{with_room};
 ghost use Rattle.speedy_base.specs.contracts.circular_buffer.CircularBuffer.{the_row};
 
@@ -190,6 +191,20 @@ impl CircularBuffer {
     {
         self.start += count;
         self.lent = 0;
+    }
+
+    /// Takes `count` bytes from the front, and lends them until the buffer is used again.
+    #[inline]
+    pub fn consume_lent(&mut self, count: usize) -> &[u8]
+        requires { count ≤ length self.old.bytes }
+        ensures* rest { sem 𝓛 (Rests the_row self.entry (λ new.
+            new ≡ record self.old { bytes = drop count self.old.bytes; room = [] })) }
+        ensures bytes { result.now ≡ take count self.old.bytes }
+    {
+        let start = self.start;
+        self.start += count;
+        self.lent = 0;
+        &self.memory[start..start + count]
     }
 
     /// Takes bytes from the front, until the output is full.

@@ -1,10 +1,15 @@
 //! Sources and sinks, where bytes come from and go to: slices, vectors, and files and sockets (`Counted`).
 ghost use Rattle.std.specs.Prelude.{◌≡◌, ◌≤◌, ◌↔◌, min, [], ◌++◌, length, take, drop, IsOk, IfOk, IfErr};
-ghost use Rattle.std.specs.Prelude.{IsTrue, false};
+ghost use Rattle.std.specs.Prelude.{IsTrue, IsSome, false};
+ghost use Rattle.std.specs.Borrow.{sem};
+ghost use denote.Builtin.{u8 as byte};
+ghost use denote.Slice.{ShrSlice};
+ghost use mir.Syntax.{named};
+ghost use Rattle.std.specs.Io.BufRead.{Rests};
 ghost use Rattle.speedy_base.specs.FailedCalls.{OneFailed};
 ghost use Rattle.std.specs.IoError.{error_kind};
 ghost use Rattle.std.specs.Io.KnownBytes.{ReadConsumes, WriteAppends, Keeps};
-ghost use Rattle.speedy_base.specs.Device.{SourceState, SinkState, SourceHolds, Pulls, Pushes, Flushes};
+ghost use Rattle.speedy_base.specs.Device.{SourceState, SinkState, SourceHolds, Pulls, PullsLent, Pushes, Flushes};
 ghost use Rattle.speedy_base.specs.MemoryDevices.{bytes_source, vec_sink_bytes, vec_sink_faults, vec_sink_state};
 ghost use Rattle.speedy_base.specs.MemoryDevices.{counted_inner, counted_faults, counted_settled, counted_source};
 ghost use Rattle.speedy_base.specs.MemoryDevices.{counted_sink, no_faults};
@@ -63,6 +68,16 @@ pub trait Source {
         ensures { IsTrue result → SourceHolds (source self.now) _size }
     {
         false
+    }
+
+    /// Takes the next `count` bytes and lends them until the source is used again, where it holds so many in memory.
+    /// A reader then copies them once. This body lends none, and takes none.
+    #[inline(always)]
+    fn pull_lent(&mut self, _count: usize) -> Option<&[u8]>
+        ensures* after { sem 𝓛 (Rests Self.row self.entry (λ new.
+            PullsLent (λ b. b.now) _count result (source self.old) (source new))) }
+    {
+        None
     }
 }
 
@@ -126,6 +141,18 @@ impl Source for &[u8] {
         output[..count].copy_from_slice(all);
         *self = &all[count..];
         Ok(count)
+    }
+
+    /// Lends the next `count` bytes, where so many are left.
+    #[inline(always)]
+    fn pull_lent(&mut self, count: usize) -> Option<&[u8]>
+        ensures* after { sem 𝓛 (Rests (ShrSlice (named 1) [] byte) self.entry (λ new.
+            PullsLent (λ b. b.now) count result (bytes_source self.old.now) (bytes_source new.now))) }
+        ensures lends { IsSome result ↔ (count ≤ length self.old.now) }
+    {
+        let (front, rest) = self.split_at_checked(count)?;
+        *self = rest;
+        Some(front)
     }
 }
 

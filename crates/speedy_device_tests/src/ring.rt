@@ -51,6 +51,14 @@ fn bytes_are_taken_in_the_order_in_which_they_came(rt: HostRuntime) {
 }
 
 #[test]
+fn bytes_are_lent_as_they_are_taken(rt: HostRuntime) {
+    let mut ring = make_ring(&rt, rt.alloc(), 3, &[1, 2, 3]);
+    assert!(&rt; 2 <= ring.len());
+    assert_bytes(&rt, ring.consume_lent(2), &[1, 2]);
+    assert_holds(&rt, &ring, &[3]);
+}
+
+#[test]
 fn a_reserve_keeps_the_bytes(rt: HostRuntime) {
     let mut ring = make_ring(&rt, rt.alloc(), 3, &[1, 2]);
     assert!(rt; ring.reserve(5).is_ok(), "no room");

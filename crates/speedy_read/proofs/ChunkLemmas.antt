@@ -1,6 +1,6 @@
 -- Numbers that are read by chunks of their digits, or at once of bytes that are lent.
 use Rattle.std.specs.Prelude.{◌≡◌, ℕ, zero, suc, ◌+◌, ◌-◌, ◌*◌, ◌/◌, ◌^◌, ◌<◌, ◌≤◌, List, ◌++◌, length, map, take, Bool}
-use Rattle.std.specs.Prelude.{true, Option, Some, None, Result, Ok, Err, IsErrAnd, refl}
+use Rattle.std.specs.Prelude.{true, Option, Some, None, Result, Ok, Err, IsErrAnd, MatchResult, [], refl}
 use Rattle.std.proofs.Common.{sym, ◌∙◌, ap, subst, subst₂, arith, inl, inr}
 use Rattle.std.proofs.Math.Nat.{le-div_iff_mul-le}
 use Rattle.std.proofs.lemmas.Bool.{cases_lt}
@@ -9,6 +9,7 @@ use borrow.Rule.Slice.PartMut.{put_mid, post_of}
 use Rattle.speedy_base.specs.declared.error.ErrorKind.TheVariants as kinds
 use Rattle.speedy_base.specs.declared.error.Error.{Error}
 use Rattle.speedy_base.specs.declared.endianness.Endianness.{Endianness}
+use Rattle.speedy_base.specs.Digits.{AreBytes}
 use Rattle.speedy_base.specs.Mode.{Mode}
 use Rattle.speedy_base.specs.Error.{error_of, IsNamed, IsIoErrorOf}
 use Rattle.std.specs.declared.io.Error.{Error as StdIoError}
@@ -16,13 +17,15 @@ use Rattle.speedy_layout.specs.FixedNumbers.{IsFixed, encoded_in, each_length}
 use Rattle.speedy_layout.specs.Format.{Format, Each}
 use Rattle.speedy_layout.specs.Laws.{Laws}
 use Rattle.speedy_layout.specs.Lists.{each_as, each_append, repeat, vector}
+use Rattle.speedy_layout.specs.Numbers.{unsigned_number}
 use Rattle.speedy_layout.specs.Owned.{owned_content}
 use Rattle.speedy_layout.specs.Sequences.{asks_nothing_more}
 use Rattle.speedy_layout.specs.Texts.{raw_bytes, any_bytes}
 use Rattle.speedy_read.specs.Codes.{Covers, refused_covered}
 use Rattle.speedy_read.specs.Reading.{ReaderState, IsEnd, Reads, LendsUntilUsed, ends_alone}
-use Rattle.speedy_read.specs.ReadingLemmas.{Got-as, ReadSoFar, more_so_far}
-use Rattle.speedy_read.proofs.ByteLemmas.{SkippedSoFar, chunk_refused}
+use Rattle.speedy_read.specs.ReadingLemmas.{Got-as, ReadSoFar, more_so_far, none_so_far}
+use Rattle.speedy_read.proofs.ByteLemmas.{SkippedSoFar, chunk_refused, all_bytes, more_bytes}
+use Rattle.speedy_read.proofs.ListLemmas.{refused_room}
 
 -- no input has more bytes than a `usize` counts
 pub past_usize : (m n k : ℕ) → (m < 2 ^ 64 → ⊥) → m ≡ n → k < 2 ^ 64 - 1 → k < n
@@ -203,3 +206,15 @@ module _ {E X A : Type 0} {gives : Error → E → Type 0} {eof : E → Bool} {s
           })
         ];
   }
+
+-- a copy of bytes that were read, or want of memory for it
+pub bytes_copied : {E : Type 0} {gives : Error → E → Type 0} {eof : E → Bool} {A B : Type 0} {seen : A → List ℕ}
+    {seen' : B → List ℕ} {old new : ReaderState} {x : A} (mode : Mode) (n : ℕ) (result : Result B E)
+    → MatchResult result (λ y. seen' y ≡ seen x) (gives (error_of kinds.OutOfMemory)) → AreBytes (seen x)
+    → length (seen x) ≡ n → Reads gives eof seen (raw_bytes n) (Ok x) old new
+    → Reads gives eof seen' (vector n (unsigned_number 1 mode)) result old new
+bytes_copied mode n (Ok y) same are sized read =
+    all_bytes mode (more_bytes n [] _ (none_so_far refl) read same) (ap length same ∙ sized)
+    (subst AreBytes (sym same) are)
+bytes_copied mode n (Err e) want are sized read =
+    refused_room n _ e read.kept read.answer.no_fault refl want

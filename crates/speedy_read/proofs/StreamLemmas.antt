@@ -12,7 +12,7 @@ use Rattle.speedy_base.specs.declared.error.Error.{Error}
 use Rattle.speedy_base.specs.Error.{error_of, is_eof_error, IsNamed}
 use Rattle.speedy_base.specs.ErrorKind.{EndsInput, is_eof_kind}
 use Rattle.std.specs.declared.io.Error.{Error as StdIoError}
-use Rattle.speedy_base.specs.Device.{SourceState}
+use Rattle.speedy_base.specs.Device.{SourceState, GivesLent}
 use Rattle.speedy_base.specs.DeviceLemmas.{failed_call}
 use Rattle.speedy_base.specs.FailedCalls.{IsErrorOf, IsOfFailedCall}
 use Rattle.speedy_base.specs.Digits.{AreBytes}
@@ -140,6 +140,35 @@ module _ {E : Type 0} {gives : Error → E → Type 0} {eof : E → Bool} {A : T
   ring_served l same is =
       subst (λ (r : Ring). Reads gives eof seen (raw_bytes n) (Ok x) (ring_state name source ring b mode)
       (ring_state name source r b mode)) (sym is) (prefix_served l same)
+
+-- ---- bytes that are lent
+
+-- where the ring holds none, they are those that the source lends
+pub source_lent : {E : Type 0} {gives : Error → E → Type 0} {eof : E → Bool} {A : Type 0} {seen : A → List ℕ} {x : A}
+    {n : ℕ} (ring : Ring) {name : GName} {b : Bool} {mode : Mode} {old new : SourceState}
+    → ring.bytes ≡ [] → GivesLent n (seen x) old new
+    → Reads gives eof seen (raw_bytes n) (Ok x) (ring_state name old ring b mode) (ring_state name new ring b mode)
+unfolding raw_bytes
+source_lent {seen = seen} {x = x} ring {name = name} {b = b} {mode = mode} {old = old} {new = new} none lent =
+    let taken : IsTrue old.tells → ring.bytes ++ old.remaining ≡ seen x ++ (ring.bytes ++ new.remaining) =
+    λ told. ap (λ (l : List ℕ). l ++ old.remaining) none
+    ∙ (lent.moved told ∙ ap (λ (l : List ℕ). seen x ++ (l ++ new.remaining)) (sym none)) in
+    record {
+      kept = record {
+        fixed = ap (λ (tells : Bool). stream_kind name tells b) lent.kept.tells;
+        mode = refl;
+        tidy = λ tidy. tidy;
+        faults = lent.kept.faults;
+        tail = λ told. (seen x, taken told);
+      };
+      answer = record {
+        prefix = seen x;
+        prefix_is = (refl, lent.count);
+        taken = taken;
+        no_fault = lent.no_fault;
+        untouched = λ nothing. ap (λ (s : SourceState). ring_state name s ring b mode) (lent.untouched nothing);
+      };
+    }
 
 -- ---- filling the ring
 

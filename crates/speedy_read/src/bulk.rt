@@ -10,7 +10,7 @@ ghost use Rattle.speedy_read.specs.Lending.{many_items};
 ghost use Rattle.speedy_read.specs.Reading.{ReadsValue};
 
 use crate::arrays::read_number_places;
-use crate::many::{AsBytes, Fills, FromLent, Many, Places, Strategy};
+use crate::many::{AsBytes, BytesAs, Fills, FromLent, Many, Places, Strategy};
 use crate::reader::{EndOfInput, LendingReader};
 use crate::room::{
     CHUNK, LEAST_CHUNK, MIDDLE_CHUNK, SHORT_CHUNK, append_in_steps, open_chunk, vec_for,
@@ -133,7 +133,7 @@ fn read_bytes_lent<W: FromLent<L, u8>, L: AsSlice<u8> + Drop, C: Context, R: Len
             }
         }
         Some(Err(error)) => Err(error),
-        None => Ok(Many::Owned(read_byte_chunks::<L, C, R>(reader, length, W::SHORT_READS)?)),
+        None => Ok(Many::Owned(read_bytes_copied::<L, C, R>(reader, length, W::SHORT_READS)?)),
     }
 }
 
@@ -338,6 +338,37 @@ fn read_number_chunks<T: FixedNumber, L: AsSlice<u8> + Drop, C: Context, R: Lend
         left -= some;
     }
     Ok(numbers)
+}
+
+// Reads `length` bytes to own them. Those that the reader lends until it is used again are copied at once.
+fn read_bytes_copied<L: AsSlice<u8> + Drop, C: Context, R: LendingReader<L, C>>(
+    reader: &mut R,
+    length: usize,
+    short: bool,
+) -> Result<Vec<u8>, C::Error>
+    ensures { ReadsValue C.Error.IsEof R.state (λ v. v.items)
+        (vector_codec length (unsigned_codec 1)) result reader.old reader.new }
+{
+    let alloc = reader.alloc();
+    match reader.read_bytes_borrowed_from_reader(length) {
+        Some(Ok(bytes)) => copied(alloc, bytes),
+        Some(Err(EndOfInput {})) => Err(error_end_of_input()),
+        None => read_byte_chunks::<L, C, R>(reader, length, short),
+    }
+}
+
+// A copy of the bytes.
+#[inline]
+fn copied<E: From<Error>>(alloc: Global, bytes: &[u8]) -> Result<Vec<u8>, E>
+    ensures same { MatchResult result (λ v. v.items ≡ bytes.now)
+        (E.from_gives (error_of ErrorKind.OutOfMemory)) }
+    ensures range { AreBytes bytes.now }
+{
+    bytes_in_range(bytes);
+    match <AsBytes as BytesAs<u8>>::copy_of(bytes, alloc) {
+        Some(copy) => Ok(copy),
+        None => Err(error_out_of_memory()),
+    }
 }
 
 // How many of the bytes that are left are read at once, at most.

@@ -1,6 +1,6 @@
 //! The reader of a source, buffered or not (`StreamReader`). What it reads of each type is in `reader`.
 ghost use Rattle.std.specs.Prelude.{◌≡◌, ◌≤◌, ◌<◌, [], ◌++◌, length, max, false, true, IsTrue, nat_le, if◌then◌else◌};
-ghost use Rattle.std.specs.Prelude.{Some, None, IfOk, IsOk, refl};
+ghost use Rattle.std.specs.Prelude.{Some, None, IfOk, IsOk, IsSome, refl};
 ghost use Rattle.std.specs.Borrow.{sem, Lends};
 ghost use Rattle.std.specs.Io.BufRead.{Rests};
 ghost use Rattle.speedy_base.specs.Error.{IsNamed};
@@ -369,16 +369,26 @@ impl<'s, 'b, C: Context, S: Source> LendingReader<&'b [u8], C> for StreamReader<
         None
     }
 
+    /// Lends the next bytes from the ring, if it holds them all, or from the source, if the ring is empty and the
+    /// source lends them.
     #[inline(always)]
-    fn read_bytes_borrowed_from_reader(
-        &mut self,
-        _length: usize,
-    ) -> Option<Result<&[u8], EndOfInput>>
+    fn read_bytes_borrowed_from_reader(&mut self, count: usize) -> Option<Result<&[u8], EndOfInput>>
         ensures* after { let reader = ⟦<StreamReader<'s, S, C> as LendingReader<&'b [u8], C>>⟧ in
             sem 𝓛 (Rests (reader_row readers_lifetime S.row C.row)
-            self.entry (λ new. LendsUntilUsed (λ b. b.now) _length result
+            self.entry (λ new. LendsUntilUsed (λ b. b.now) count result
             (reader.state self.old) (reader.state new))) }
+        ensures held { let held = length (stream_model self.old).ring.bytes in
+            0 < held → count ≤ held → IsSome result }
     {
+        if self.ring.is_empty() {
+            return match self.source.pull_lent(count) {
+                Some(bytes) => Some(Ok(bytes)),
+                None => None,
+            };
+        }
+        if count <= self.ring.len() {
+            return Some(Ok(self.ring.consume_lent(count)));
+        }
         None
     }
 

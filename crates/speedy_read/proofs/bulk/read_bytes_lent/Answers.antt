@@ -17,10 +17,10 @@ returns-in-None-from_lent g c = refused_room _ _ _ (rw c.in-Some-Ok.field-0-is a
 pub returns-in-Some-Err : goal.returns-in-Some-Err
 returns-in-Some-Err g c = refused_as refl (cow_lent _ _ tt (rw c.in-Some-Err.field-0-is at c.in-Some-Err.ensures.1))
 
-pub returns-in_ok-read_byte_chunks-in-None : goal.returns-in_ok-read_byte_chunks-in-None
-returns-in_ok-read_byte_chunks-in-None g c =
-    got_as (map-id _) (rw c.in-None.ensures.1 at c.in_ok-read_byte_chunks-in-None.ensures)
+pub returns-in_ok-read_bytes_copied-in-None : goal.returns-in_ok-read_bytes_copied-in-None
+returns-in_ok-read_bytes_copied-in-None g c =
+    got_as (map-id _) (rw c.in-None.ensures.1 at c.in_ok-read_bytes_copied-in-None.ensures)
 
-pub returns-in_err-read_byte_chunks-in-None : goal.returns-in_err-read_byte_chunks-in-None
-returns-in_err-read_byte_chunks-in-None g c =
-    refused_as c.from_residual.ensures.1 (rw c.in-None.ensures.1 at c.in_err-read_byte_chunks-in-None.ensures)
+pub returns-in_err-read_bytes_copied-in-None : goal.returns-in_err-read_bytes_copied-in-None
+returns-in_err-read_bytes_copied-in-None g c =
+    refused_as c.from_residual.ensures.1 (rw c.in-None.ensures.1 at c.in_err-read_bytes_copied-in-None.ensures)
