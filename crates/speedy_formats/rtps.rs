@@ -23,12 +23,8 @@ pub struct Frame<'a> {
     pub body: &'a [u8],
 }
 
-/// Who sends or receives, within a participant (section 9.3.1.2).
-#[derive(Clone, Copy, Readable, Writable)]
-pub struct EntityId {
-    pub key: [u8; 3],
-    pub kind: u8,
-}
+/// Who sends or receives, within a participant (section 9.3.1.2): three bytes of a key, and a kind.
+pub type EntityId = [u8; 4];
 
 /// The body of INFO_TS without the flag I (section 9.4.5.12): seconds since 1970, and their 2^32nd parts.
 #[derive(Readable, Writable)]
@@ -38,7 +34,7 @@ pub struct Timestamp {
 }
 
 /// The number of a change (section 9.3.2.2).
-#[derive(Clone, Copy, Readable, Writable)]
+#[derive(Readable, Writable)]
 pub struct SequenceNumber {
     pub high: i32,
     pub low: u32,

@@ -387,6 +387,9 @@ struct Index<K: Ord, V> {
      ["type AParts<'a> = Followed<(u8, [u8; 4]), Rest<&'a str>>;", "impl<'a> Whole for A<'a> {",
       "    type Ends = EndsWithInput;", "⟦<&'a str as OfLength>⟧.seen it.c) };", "let Followed(parts, Rest(c)) = read;",
       "Followed((self.a, Part(&self.b)), Rest(Part(&self.c))).write_to_end(writer)"]),
+    ("a rest alone", DERIVES + "struct A { #[speedy(length = ..)] a: Vec<u16> }\n",
+     ["type AParts = Rest<Vec<u16>>;", "ghost seen = { λ it. ⟦<Vec<u16> as OfLength>⟧.seen it.a };",
+      "Ok(Rest(a)) => Ok(A { a }),", "        Rest(Part(&self.a)).write_to_end(writer)"]),
     ("parts that may be missing", DERIVES + "pub struct A { a: u8, #[speedy(default_on_eof)] b: u16, "
      "#[speedy(default_on_eof)] c: String }\n",
      ["pub type AParts = Followed<u8, UnlessEnd<u16, UnlessEnd<String, ()>>>;", "Some (",

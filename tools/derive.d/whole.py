@@ -66,9 +66,10 @@ class WholeShape(Shape):
             impl_search.check_ends(item, [kind for _, _, kind in self.last])
             self.check_parameters()
         end = "Rest" if self.is_rest() else "UnlessEnd"
-        self.names_of_whole = {name: scope.need("speedy::whole", name)
-                               for name in ("Followed", "Whole", "EndsWithInput", end)}
-        kind = f"{self.names_of_whole['Followed']}<{type_text(self.first.type())}, {self.end_type()}>"
+        used = ("Whole", "EndsWithInput", end, *(() if self.is_rest_alone() else ("Followed",)))
+        self.names_of_whole = {name: scope.need("speedy::whole", name) for name in used}
+        kind = self.end_type() if self.is_rest_alone() \
+            else f"{self.names_of_whole['Followed']}<{type_text(self.first.type())}, {self.end_type()}>"
         about = f"What [`{item.name}`] is read and written as."
         self.parts_type = self.alias(f"{item.name}Parts", about, kind, self.names(),
                                      scope.helpers_shown)
@@ -98,6 +99,10 @@ class WholeShape(Shape):
         """Whether the end is a rest, and no parts that may be missing."""
         return self.last[0][0].options.is_rest
 
+    def is_rest_alone(self):
+        """Whether a rest is all that is read and written."""
+        return self.is_rest() and not self.first.parts
+
     def end_type(self):
         """The type of the end."""
         if self.is_rest():
@@ -124,9 +129,10 @@ class WholeShape(Shape):
         before, tree = ("", "tt") if not self.first.parts else \
             seen_of_parts(self.first, type_text(self.first.type()), self.scope)
         first = before + clause_text(tree) if before else tree
+        seen = self.end_seen() if self.is_rest_alone() else [first, self.end_seen()]
         return [f"    type Ends = {self.names_of_whole['EndsWithInput']};", "",
                 f"    ghost Seen = {{ {quoted}.Seen }};", "",
-                *clause_lines(4, "ghost seen = { λ it. ", [first, self.end_seen()], " };"), "",
+                *clause_lines(4, "ghost seen = { λ it. ", seen, " };"), "",
                 f"    ghost whole = {{ {quoted}.whole }};"]
 
     def end_seen(self):
@@ -152,11 +158,14 @@ class WholeShape(Shape):
         ok, err = self.scope.variant("Ok"), self.scope.variant("Err")
         bound, lets = read_pattern(self.first)
         rest = Call(self.names_of_whole["Rest"], (self.last[0][1].bound,))
-        # No pattern of a `match` moves two parts out of a value in another.
-        read = Fresh(["parts", *(it.bound for it in self.first.accesses), self.last[0][1].bound]).name("read")
-        taken = Let(Call(self.names_of_whole["Followed"], (bound, rest)), read)
-        pattern = Call(ok, (read,))
-        made = Block((taken, *lets), Call(ok, (self.value(self.first.values, [self.last[0][1].bound]),)))
+        value = Call(ok, (self.value(self.first.values, [self.last[0][1].bound]),))
+        if self.is_rest_alone():
+            pattern, made = Call(ok, (rest,)), value
+        else:
+            # No pattern of a `match` moves two parts out of a value in another.
+            read = Fresh(["parts", *(it.bound for it in self.first.accesses), self.last[0][1].bound]).name("read")
+            taken = Let(Call(self.names_of_whole["Followed"], (bound, rest)), read)
+            pattern, made = Call(ok, (read,)), Block((taken, *lets), value)
         trait = self.scope.need("speedy::whole", "ReadToEnd")
         generics = self.generics
         read = f"<{self.parts_type} as {trait}<{self.lent()}, {generics.context}>>::read_to_end(reader)"
@@ -239,6 +248,8 @@ class WholeShape(Shape):
 
     def written(self):
         """What is written."""
+        if self.is_rest_alone():
+            return self.end_written()
         first = written_among(self.first, self.scope) if self.first.parts else "()"
         return Call(self.names_of_whole["Followed"], (first, self.end_written()))
 

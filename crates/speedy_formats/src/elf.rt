@@ -6,7 +6,7 @@ ghost use Rattle.std.specs.Prelude.{[], ◌∷◌};
 
 use speedy::lengths::OfLength;
 use speedy::magic::{Constant, Magic};
-use speedy::whole::{EndsWithInput, Followed, MemoryReader, ReadToEnd, Rest, Whole, WriteToEnd};
+use speedy::whole::{EndsWithInput, MemoryReader, ReadToEnd, Rest, Whole, WriteToEnd};
 use speedy::{Context, ItemByItem, Layout, LendingReader, Part, ReadFrom, Writable, Writer};
 use std::convert::AsSlice;
 
@@ -341,14 +341,14 @@ pub struct Segments {
 }
 
 /// What [`Segments`] is read and written as.
-type SegmentsParts = Followed<(), Rest<Vec<Segment>>>;
+type SegmentsParts = Rest<Vec<Segment>>;
 
 impl Whole for Segments {
     type Ends = EndsWithInput;
 
     ghost Seen = { ⟦<SegmentsParts as Whole>⟧.Seen };
 
-    ghost seen = { λ it. (tt, ⟦<Vec<Segment> as OfLength>⟧.seen it.items) };
+    ghost seen = { λ it. ⟦<Vec<Segment> as OfLength>⟧.seen it.items };
 
     ghost whole = { ⟦<SegmentsParts as Whole>⟧.whole };
 }
@@ -356,10 +356,7 @@ impl Whole for Segments {
 impl<L: AsSlice<u8> + Drop, C: Context> ReadToEnd<L, C> for Segments {
     fn read_to_end<R: MemoryReader<L, C>>(reader: &mut R) -> Result<Segments, C::Error> {
         match <SegmentsParts as ReadToEnd<L, C>>::read_to_end(reader) {
-            Ok(read) => {
-                let Followed((), Rest(items)) = read;
-                Ok(Segments { items })
-            }
+            Ok(Rest(items)) => Ok(Segments { items }),
             Err(error) => Err(error),
         }
     }
@@ -367,7 +364,7 @@ impl<L: AsSlice<u8> + Drop, C: Context> ReadToEnd<L, C> for Segments {
 
 impl<C: Context> WriteToEnd<C> for Segments {
     fn write_to_end<W: Writer<C>>(&self, writer: &mut W) -> Result<(), C::Error> {
-        Followed((), Rest(Part(&self.items))).write_to_end(writer)
+        Rest(Part(&self.items)).write_to_end(writer)
     }
 }
 
@@ -378,14 +375,14 @@ pub struct Sections {
 }
 
 /// What [`Sections`] is read and written as.
-type SectionsParts = Followed<(), Rest<Vec<Section>>>;
+type SectionsParts = Rest<Vec<Section>>;
 
 impl Whole for Sections {
     type Ends = EndsWithInput;
 
     ghost Seen = { ⟦<SectionsParts as Whole>⟧.Seen };
 
-    ghost seen = { λ it. (tt, ⟦<Vec<Section> as OfLength>⟧.seen it.items) };
+    ghost seen = { λ it. ⟦<Vec<Section> as OfLength>⟧.seen it.items };
 
     ghost whole = { ⟦<SectionsParts as Whole>⟧.whole };
 }
@@ -393,10 +390,7 @@ impl Whole for Sections {
 impl<L: AsSlice<u8> + Drop, C: Context> ReadToEnd<L, C> for Sections {
     fn read_to_end<R: MemoryReader<L, C>>(reader: &mut R) -> Result<Sections, C::Error> {
         match <SectionsParts as ReadToEnd<L, C>>::read_to_end(reader) {
-            Ok(read) => {
-                let Followed((), Rest(items)) = read;
-                Ok(Sections { items })
-            }
+            Ok(Rest(items)) => Ok(Sections { items }),
             Err(error) => Err(error),
         }
     }
@@ -404,7 +398,7 @@ impl<L: AsSlice<u8> + Drop, C: Context> ReadToEnd<L, C> for Sections {
 
 impl<C: Context> WriteToEnd<C> for Sections {
     fn write_to_end<W: Writer<C>>(&self, writer: &mut W) -> Result<(), C::Error> {
-        Followed((), Rest(Part(&self.items))).write_to_end(writer)
+        Rest(Part(&self.items)).write_to_end(writer)
     }
 }
 
@@ -484,14 +478,14 @@ pub struct Symbols {
 }
 
 /// What [`Symbols`] is read and written as.
-type SymbolsParts = Followed<(), Rest<Vec<Symbol>>>;
+type SymbolsParts = Rest<Vec<Symbol>>;
 
 impl Whole for Symbols {
     type Ends = EndsWithInput;
 
     ghost Seen = { ⟦<SymbolsParts as Whole>⟧.Seen };
 
-    ghost seen = { λ it. (tt, ⟦<Vec<Symbol> as OfLength>⟧.seen it.items) };
+    ghost seen = { λ it. ⟦<Vec<Symbol> as OfLength>⟧.seen it.items };
 
     ghost whole = { ⟦<SymbolsParts as Whole>⟧.whole };
 }
@@ -499,10 +493,7 @@ impl Whole for Symbols {
 impl<L: AsSlice<u8> + Drop, C: Context> ReadToEnd<L, C> for Symbols {
     fn read_to_end<R: MemoryReader<L, C>>(reader: &mut R) -> Result<Symbols, C::Error> {
         match <SymbolsParts as ReadToEnd<L, C>>::read_to_end(reader) {
-            Ok(read) => {
-                let Followed((), Rest(items)) = read;
-                Ok(Symbols { items })
-            }
+            Ok(Rest(items)) => Ok(Symbols { items }),
             Err(error) => Err(error),
         }
     }
@@ -510,6 +501,6 @@ impl<L: AsSlice<u8> + Drop, C: Context> ReadToEnd<L, C> for Symbols {
 
 impl<C: Context> WriteToEnd<C> for Symbols {
     fn write_to_end<W: Writer<C>>(&self, writer: &mut W) -> Result<(), C::Error> {
-        Followed((), Rest(Part(&self.items))).write_to_end(writer)
+        Rest(Part(&self.items)).write_to_end(writer)
     }
 }

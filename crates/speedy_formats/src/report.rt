@@ -1,7 +1,7 @@
 //! What the program says of a file that it cannot show, and how it prints lists.
 use speedy::readable::BufferReader;
 use speedy::{Endianness, Error, LendingReader, ReadFrom};
-use std::alloc::AllocError;
+use std::alloc::{AllocError, Global};
 use std::fmt;
 use std::io::{self, Write};
 
@@ -104,7 +104,7 @@ impl fmt::Display for Fault {
     fn fmt<W: fmt::Write>(&self, f: &mut fmt::Formatter<W>) -> fmt::Result {
         match self {
             Fault::Bytes(error) => write!(f, "{error}"),
-            Fault::Value(text) => write!(f, "{text}"),
+            Fault::Value(text) => f.write_str(text),
         }
     }
 }
@@ -124,7 +124,7 @@ impl fmt::Display for Failure {
     fn fmt<W: fmt::Write>(&self, f: &mut fmt::Formatter<W>) -> fmt::Result {
         match self {
             Failure::Unread(error) => write!(f, "{error}"),
-            Failure::Unknown => write!(f, "no format that is known, at byte 0"),
+            Failure::Unknown => f.write_str("no format that is known, at byte 0"),
             Failure::Broken(broken) => write!(f, "{broken}"),
             Failure::Print(error) => write!(f, "{error}"),
         }
@@ -140,7 +140,7 @@ impl<'a> fmt::Display for Text<'a> {
         for byte in self.0 {
             let byte = *byte;
             if byte >= 0x20 && byte < 0x7f {
-                write!(f, "{}", byte as char)?;
+                f.write_char(char::from(byte))?;
             } else {
                 write!(f, "\\x{byte:02x}")?;
             }
@@ -187,6 +187,32 @@ impl<'a> Names<'a> {
     }
 }
 
+/// What stands in a list that is shown.
+pub(crate) trait ShowItem<K: Copy> {
+    /// Shows it in a line, beside what tells more of it, as the names of all items.
+    fn show<W: Write + Drop>(&self, out: &mut W, beside: K) -> io::Result<()>;
+}
+
+/// Shows how many items a list has, between two words, and the first of them, so many at most.
+pub(crate) fn show_items<W: Write + Drop, K: Copy, T: ShowItem<K>>(
+    out: &mut W,
+    (before, behind): (&str, &str),
+    items: &[T],
+    beside: K,
+    most: usize,
+) -> io::Result<()> {
+    writeln!(out, "{before}{}{behind}", items.len())?;
+    for item in first(items, most) {
+        item.show(out, beside)?;
+    }
+    write_rest(out, items.len(), most)
+}
+
+/// The first items of a list, so many at most.
+pub(crate) fn first<T>(items: &[T], most: usize) -> &[T] {
+    items.get(..most).unwrap_or(items)
+}
+
 /// How many items of a list are not printed where so many are: a line says it.
 pub(crate) fn write_rest<W: Write + Drop>(
     out: &mut W,
@@ -213,14 +239,17 @@ pub(crate) fn write_again<W: Write + Drop>(
     Ok(())
 }
 
-/// Passes values up to the first one that is broken, in which the reader stops, and says how many they are.
+/// How many values stand before the first one that is broken, and how many bytes before its fault.
 pub(crate) fn pass_values<'a, T: ReadFrom<&'a [u8], Endianness> + Drop>(
-    reader: &mut BufferReader<'a, Endianness>,
-) -> usize {
+    alloc: Global,
+    order: Endianness,
+    bytes: &'a [u8],
+) -> (usize, usize) {
+    let mut reader = BufferReader::new(alloc, order, bytes);
     for count in 0..usize::MAX {
         if reader.len() == 0 || reader.read_value::<T>().is_err() {
-            return count;
+            return (count, bytes.len().saturating_sub(reader.len()));
         }
     }
-    usize::MAX
+    (usize::MAX, bytes.len())
 }

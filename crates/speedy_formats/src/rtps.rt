@@ -153,47 +153,8 @@ impl<'a, C: Context> ReadFrom<&'a [u8], C> for Frame<'a> {
     }
 }
 
-/// Who sends or receives, within a participant (section 9.3.1.2).
-#[derive(Clone, Copy)]
-pub struct EntityId {
-    pub key: [u8; 3],
-    pub kind: u8,
-}
-
-/// What [`EntityId`] is read and written as.
-type EntityIdParts = ([u8; 3], u8);
-
-impl Layout for EntityId {
-    ghost Seen = { ⟦<EntityIdParts as Layout>⟧.Seen };
-
-    ghost seen = { λ it. ⟦<EntityIdParts as Layout>⟧.seen (it.key, it.kind) };
-
-    ghost layout = { ⟦<EntityIdParts as Layout>⟧.layout };
-}
-
-impl<L: AsSlice<u8> + Drop, C: Context> ReadFrom<L, C> for EntityId {
-    type Strategy = ItemByItem<C>;
-
-    fn read_from<R: LendingReader<L, C>>(reader: &mut R) -> Result<EntityId, C::Error> {
-        match reader.read_value() {
-            Ok(parts) => {
-                let (key, kind) = parts;
-                Ok(EntityId { key, kind })
-            }
-            Err(error) => Err(error),
-        }
-    }
-
-    fn minimum_bytes_needed() -> usize {
-        4
-    }
-}
-
-impl<C: Context> Writable<C> for EntityId {
-    fn write_to<W: Writer<C>>(&self, writer: &mut W) -> Result<(), C::Error> {
-        writer.write_value(&(Part(&self.key), self.kind))
-    }
-}
+/// Who sends or receives, within a participant (section 9.3.1.2): three bytes of a key, and a kind.
+pub type EntityId = [u8; 4];
 
 /// The body of INFO_TS without the flag I (section 9.4.5.12): seconds since 1970, and their 2^32nd parts.
 #[derive(Drop)]
@@ -236,7 +197,7 @@ impl<C: Context> Writable<C> for Timestamp {
 }
 
 /// The number of a change (section 9.3.2.2).
-#[derive(Clone, Copy)]
+#[derive(Drop)]
 pub struct SequenceNumber {
     pub high: i32,
     pub low: u32,
@@ -278,15 +239,15 @@ impl<C: Context> Writable<C> for SequenceNumber {
 /// The body of HEARTBEAT (section 9.4.5.7): which changes a writer has.
 #[derive(Drop)]
 pub struct Heartbeat {
-    pub reader: EntityId,
-    pub writer: EntityId,
+    pub reader: [u8; 4],
+    pub writer: [u8; 4],
     pub first: SequenceNumber,
     pub last: SequenceNumber,
     pub count: i32,
 }
 
 /// What [`Heartbeat`] is read and written as.
-type HeartbeatParts = (EntityId, EntityId, SequenceNumber, SequenceNumber, i32);
+type HeartbeatParts = ([u8; 4], [u8; 4], SequenceNumber, SequenceNumber, i32);
 
 impl Layout for Heartbeat {
     ghost Seen = { ⟦<HeartbeatParts as Layout>⟧.Seen };
@@ -301,13 +262,16 @@ impl<L: AsSlice<u8> + Drop, C: Context> ReadFrom<L, C> for Heartbeat {
 
     fn read_from<R: LendingReader<L, C>>(reader: &mut R) -> Result<Heartbeat, C::Error> {
         match reader.read_value() {
-            Ok((reader_, writer_, first, last, count)) => Ok(Heartbeat {
-                reader: reader_,
-                writer: writer_,
-                first,
-                last,
-                count,
-            }),
+            Ok(parts) => {
+                let (reader_, writer_, first, last, count) = parts;
+                Ok(Heartbeat {
+                    reader: reader_,
+                    writer: writer_,
+                    first,
+                    last,
+                    count,
+                })
+            }
             Err(error) => Err(error),
         }
     }
@@ -406,14 +370,14 @@ impl<C: Context> Writable<C> for SequenceNumberSet {
 /// The body of ACKNACK (section 9.4.5.2): which changes a reader lacks.
 #[derive(Drop)]
 pub struct AckNack {
-    pub reader: EntityId,
-    pub writer: EntityId,
+    pub reader: [u8; 4],
+    pub writer: [u8; 4],
     pub lacking: SequenceNumberSet,
     pub count: i32,
 }
 
 /// What [`AckNack`] is read and written as.
-type AckNackParts = (EntityId, EntityId, SequenceNumberSet, i32);
+type AckNackParts = ([u8; 4], [u8; 4], SequenceNumberSet, i32);
 
 impl Layout for AckNack {
     ghost Seen = { ⟦<AckNackParts as Layout>⟧.Seen };
@@ -428,12 +392,15 @@ impl<L: AsSlice<u8> + Drop, C: Context> ReadFrom<L, C> for AckNack {
 
     fn read_from<R: LendingReader<L, C>>(reader: &mut R) -> Result<AckNack, C::Error> {
         match reader.read_value() {
-            Ok((reader_, writer_, lacking, count)) => Ok(AckNack {
-                reader: reader_,
-                writer: writer_,
-                lacking,
-                count,
-            }),
+            Ok(parts) => {
+                let (reader_, writer_, lacking, count) = parts;
+                Ok(AckNack {
+                    reader: reader_,
+                    writer: writer_,
+                    lacking,
+                    count,
+                })
+            }
             Err(error) => Err(error),
         }
     }
@@ -460,8 +427,8 @@ impl<C: Context> Writable<C> for AckNack {
 pub struct DataStart<'a> {
     pub extra_flags: u16,
     pub offset: u16,
-    pub reader: EntityId,
-    pub writer: EntityId,
+    pub reader: [u8; 4],
+    pub writer: [u8; 4],
     pub number: SequenceNumber,
     pub unknown: &'a [u8],
 }
@@ -488,11 +455,7 @@ impl Length<(u16, ())> for DataStartUnknownLength {
 /// What [`DataStart`] is read and written as.
 type DataStartParts<'a> = (
     u16,
-    WithLength<
-        DataStartUnknownLength,
-        (u16, Other<(EntityId, EntityId, SequenceNumber)>),
-        &'a [u8],
-    >,
+    WithLength<DataStartUnknownLength, (u16, Other<([u8; 4], [u8; 4], SequenceNumber)>), &'a [u8]>,
 );
 
 impl<'a> Layout for DataStart<'a> {
@@ -504,8 +467,8 @@ impl<'a> Layout for DataStart<'a> {
         (
           it.offset,
           (
-            ⟦<EntityId as Layout>⟧.seen it.reader,
-            (⟦<EntityId as Layout>⟧.seen it.writer, ⟦<SequenceNumber as Layout>⟧.seen it.number),
+            ⟦<[u8; 4] as Layout>⟧.seen it.reader,
+            (⟦<[u8; 4] as Layout>⟧.seen it.writer, ⟦<SequenceNumber as Layout>⟧.seen it.number),
           ),
         ),
         ⟦<&'a [u8] as Layout>⟧.seen it.unknown,

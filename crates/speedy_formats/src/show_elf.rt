@@ -1,10 +1,10 @@
 //! What an ELF file says of itself, much as `readelf -hlSsW` prints it.
-use crate::elf::{FileHeader, Section, Sections, Segment, Segments};
+use crate::elf::{FileHeader, Section, Sections, Segment};
 use crate::programs::{
     file_header_bytes, order_of, read_file_header, read_sections, read_segments, section_bytes,
     sections_bytes, segments_bytes,
 };
-use crate::report::{Broken, Failure, Names, Text, write_rest};
+use crate::report::{Broken, Failure, Names, ShowItem, Text, show_items};
 use crate::show_symbols::{is_again, section_at, show_symbols};
 use speedy::Endianness;
 use std::alloc::Global;
@@ -71,8 +71,8 @@ pub(crate) fn show_elf<W: Write + Drop>(
     let names = names_of(bytes, &header, &sections)?;
     check_names(&header, &sections, names)?;
     show_header(out, &header, order)?;
-    show_segments(out, &segments, most)?;
-    show_sections(out, &sections, names, most)?;
+    show_items(out, ("  ", " segments"), &segments.items, (), most)?;
+    show_items(out, ("  ", " sections"), &sections.items, names, most)?;
     let symbols_again = show_symbols(alloc, out, bytes, &header, order, &sections, most)?;
     let header_again = is_again(file_header_bytes(alloc, order, &header), bytes.get(..64));
     let segments_again = is_again(segments_bytes(alloc, order, &segments), Some(segment_table));
@@ -182,81 +182,50 @@ fn show_header<W: Write + Drop>(
         Endianness::LittleEndian => "little",
         Endianness::BigEndian => "big",
     };
-    write!(out, "  {} ({})", kind_name(header.kind), header.kind)?;
-    write!(
-        out,
-        " for {} ({})",
-        machine_name(header.machine),
-        header.machine
-    )?;
-    writeln!(out, ", in {order} endian, entry {:#x}", header.entry)
-}
-
-fn show_segment<W: Write + Drop>(out: &mut W, segment: &Segment) -> io::Result<()> {
-    write!(
-        out,
-        "    kind {:#x} flags {:#x}",
-        segment.kind, segment.flags
-    )?;
-    write!(
-        out,
-        " offset {:#x} size {:#x}",
-        segment.offset, segment.file_size
-    )?;
-    write!(
-        out,
-        " address {:#x} {:#x}",
-        segment.address, segment.physical_address
-    )?;
     writeln!(
         out,
-        " size {:#x} alignment {:#x}",
-        segment.memory_size, segment.alignment
+        "  {} ({}) for {} ({}), in {order} endian, entry {:#x}",
+        kind_name(header.kind),
+        header.kind,
+        machine_name(header.machine),
+        header.machine,
+        header.entry
     )
 }
 
-fn show_segments<W: Write + Drop>(out: &mut W, segments: &Segments, most: usize) -> io::Result<()> {
-    writeln!(out, "  {} segments", segments.items.len())?;
-    for segment in segments.items.iter().take(most) {
-        show_segment(out, segment)?;
+impl ShowItem<()> for Segment {
+    fn show<W: Write + Drop>(&self, out: &mut W, _beside: ()) -> io::Result<()> {
+        writeln!(
+            out,
+            "    kind {:#x} flags {:#x} offset {:#x} size {:#x} address {:#x} {:#x} size {:#x} alignment {:#x}",
+            self.kind,
+            self.flags,
+            self.offset,
+            self.file_size,
+            self.address,
+            self.physical_address,
+            self.memory_size,
+            self.alignment
+        )
     }
-    write_rest(out, segments.items.len(), most)
 }
 
-fn show_section<W: Write + Drop>(
-    out: &mut W,
-    section: &Section,
-    names: Names<'_>,
-) -> io::Result<()> {
-    let name = names.get(section.name as usize);
-    write!(
-        out,
-        "    kind {:#x} flags {:#x}",
-        section.kind, section.flags
-    )?;
-    write!(
-        out,
-        " offset {:#x} size {:#x}",
-        section.offset, section.size
-    )?;
-    write!(
-        out,
-        " address {:#x} items {:#x}",
-        section.address, section.entry_size
-    )?;
-    write!(out, " link {} info {}", section.link, section.info)?;
-    writeln!(out, " alignment {:#x} {}", section.alignment, Text(name))
-}
-
-fn show_sections<W: Write + Drop>(
-    out: &mut W,
-    sections: &Sections,
-    names: Names<'_>,
-    most: usize,
-) -> io::Result<()> {
-    writeln!(out, "  {} sections", sections.items.len())?;
-    for section in sections.items.iter().take(most) {
-        show_section(out, section, names)?;
+impl<'a> ShowItem<Names<'a>> for Section {
+    fn show<W: Write + Drop>(&self, out: &mut W, names: Names<'a>) -> io::Result<()> {
+        writeln!(
+            out,
+            "    kind {:#x} flags {:#x} offset {:#x} size {:#x} address {:#x} items {:#x} \
+            link {} info {} alignment {:#x} {}",
+            self.kind,
+            self.flags,
+            self.offset,
+            self.size,
+            self.address,
+            self.entry_size,
+            self.link,
+            self.info,
+            self.alignment,
+            Text(names.get(self.name as usize))
+        )
     }
-    write_rest(out, sections.items.len(), most)
 }

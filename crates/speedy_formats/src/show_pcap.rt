@@ -1,7 +1,7 @@
 //! What a file of captured packets holds, much as `tcpdump` prints it.
 use crate::captures::{capture_bytes, next_packet, order_of, read_capture};
-use crate::pcap::{Capture, FileHeader, Packet};
-use crate::report::{Broken, Failure, pass_values, write_again, write_rest};
+use crate::pcap::{FileHeader, Packet};
+use crate::report::{Broken, Failure, ShowItem, pass_values, show_items, write_again, write_rest};
 use crate::times::Moment;
 use speedy::device::Source;
 use speedy::readable::{BufferReader, StreamReader};
@@ -26,7 +26,8 @@ pub(crate) fn show_pcap<W: Write + Drop>(
     };
     match read_capture(alloc, order, bytes) {
         Ok(capture) => {
-            show_capture(out, &capture, order, is_fine, most)?;
+            show_header(out, &capture.header, order)?;
+            show_items(out, ("  ", " packets"), &capture.packets, is_fine, most)?;
             write_again(out, capture_bytes(alloc, order, &capture), bytes)
         }
         Err(error) => Err(broken(alloc, order, bytes, error)),
@@ -43,13 +44,9 @@ fn broken(alloc: Global, order: Endianness, bytes: &[u8], error: Error) -> Failu
             error,
         );
     }
-    let number = pass_values::<Packet<'_>>(&mut reader);
-    Broken::bytes_of(
-        "packet",
-        number,
-        bytes.len().saturating_sub(reader.len()),
-        error,
-    )
+    let packets = bytes.get(HEADER..).unwrap_or(b"");
+    let (number, passed) = pass_values::<Packet<'_>>(alloc, order, packets);
+    Broken::bytes_of("packet", number, passed.saturating_add(HEADER), error)
 }
 
 /// What packets of a number begin with.
@@ -74,53 +71,30 @@ pub(crate) fn show_header<W: Write + Drop>(
         Endianness::LittleEndian => "little",
         Endianness::BigEndian => "big",
     };
-    write!(
-        out,
-        "  packets {} ({})",
-        link_name(header.link),
-        header.link
-    )?;
-    write!(out, ", version {}.{}", header.major, header.minor)?;
     writeln!(
         out,
-        ", in {order} endian, of at most {} bytes",
+        "  packets {} ({}), version {}.{}, in {order} endian, of at most {} bytes",
+        link_name(header.link),
+        header.link,
+        header.major,
+        header.minor,
         header.longest
     )
 }
 
-/// A packet's time and size.
-pub(crate) fn show_packet<W: Write + Drop>(
-    out: &mut W,
-    packet: &Packet<'_>,
-    is_fine: bool,
-) -> io::Result<()> {
-    write!(out, "    {}", Moment(i64::from(packet.seconds)))?;
-    if is_fine {
-        write!(out, ".{:09}", packet.fraction)?;
-    } else {
-        write!(out, ".{:06}", packet.fraction)?;
+/// Its time, and how many bytes it has, beside whether its time is told in nanoseconds.
+impl<'a> ShowItem<bool> for Packet<'a> {
+    fn show<W: Write + Drop>(&self, out: &mut W, is_fine: bool) -> io::Result<()> {
+        let digits = if is_fine { 9 } else { 6 };
+        writeln!(
+            out,
+            "    {}.{:0digits$} UTC {} of {} bytes",
+            Moment(i64::from(self.seconds)),
+            self.fraction,
+            self.bytes.len(),
+            self.original
+        )
     }
-    writeln!(
-        out,
-        " UTC {} of {} bytes",
-        packet.bytes.len(),
-        packet.original
-    )
-}
-
-fn show_capture<W: Write + Drop>(
-    out: &mut W,
-    capture: &Capture<'_>,
-    order: Endianness,
-    is_fine: bool,
-    most: usize,
-) -> io::Result<()> {
-    show_header(out, &capture.header, order)?;
-    writeln!(out, "  {} packets", capture.packets.len())?;
-    for packet in capture.packets.iter().take(most) {
-        show_packet(out, packet, is_fine)?;
-    }
-    write_rest(out, capture.packets.len(), most)
 }
 
 /// Says what a stream of packets holds, with one of them in memory at a time.
@@ -165,7 +139,7 @@ fn show_rest<W: Write + Drop, S: Source>(
             Err(error) => return Err(Broken::bytes_of("packet", number, at, error)),
         };
         if number < most {
-            show_packet(out, &packet, is_fine)?;
+            packet.show(out, is_fine)?;
         }
         at = at.saturating_add(BEFORE).saturating_add(packet.bytes.len());
     }

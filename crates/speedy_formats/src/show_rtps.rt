@@ -2,8 +2,8 @@
 use crate::messages::{
     Body, Message, Submessage, message_bytes, read_front, read_message, read_parameters,
 };
-use crate::report::{Broken, Failure, Text, write_again, write_rest};
-use crate::rtps::{CdrText, EntityId, Parameter, SequenceNumber};
+use crate::report::{Broken, Failure, Text, first, write_again, write_rest};
+use crate::rtps::{CdrText, Parameter, SequenceNumber};
 use crate::times::Moment;
 use speedy::Endianness;
 use std::alloc::Global;
@@ -20,12 +20,6 @@ impl<'a> fmt::Display for Digits<'a> {
             write!(f, "{byte:02x}")?;
         }
         Ok(())
-    }
-}
-
-impl fmt::Display for EntityId {
-    fn fmt<W: fmt::Write>(&self, f: &mut fmt::Formatter<W>) -> fmt::Result {
-        write!(f, "{}{:02x}", Digits(&self.key), self.kind)
     }
 }
 
@@ -102,7 +96,7 @@ fn show_message<W: Write + Drop>(
         )),
     };
     show_header(out, &message)?;
-    for submessage in message.submessages.iter().take(most) {
+    for submessage in first(&message.submessages, most) {
         show_submessage(alloc, out, submessage)?;
     }
     write_rest(out, message.submessages.len(), most)?;
@@ -111,14 +105,15 @@ fn show_message<W: Write + Drop>(
 
 fn show_header<W: Write + Drop>(out: &mut W, message: &Message<'_>) -> io::Result<()> {
     let header = &message.header;
-    write!(out, "  RTPS {}.{}", header.major, header.minor)?;
-    write!(
+    writeln!(
         out,
-        ", vendor {}, participant {}",
+        "  RTPS {}.{}, vendor {}, participant {}, {} submessages",
+        header.major,
+        header.minor,
         Digits(&header.vendor),
-        Digits(&header.participant)
-    )?;
-    writeln!(out, ", {} submessages", message.submessages.len())
+        Digits(&header.participant),
+        message.submessages.len()
+    )
 }
 
 /// The name of a kind of submessages (section 9.4.5.1.1).
@@ -145,52 +140,59 @@ fn show_submessage<W: Write + Drop>(
     submessage: &Submessage<'_>,
 ) -> io::Result<()> {
     let frame = &submessage.frame;
-    write!(
+    writeln!(
         out,
-        "    {} {:#x} flags {:#x}",
+        "    {} {:#x} flags {:#x}, {} bytes{}, {} more",
         kind_name(frame.kind),
         frame.kind,
-        frame.flags
+        frame.flags,
+        frame.body.len(),
+        submessage.body,
+        submessage.rest.len()
     )?;
-    write!(out, ", {} bytes", frame.body.len())?;
-    show_body(out, &submessage.body)?;
-    writeln!(out, ", {} more", submessage.rest.len())?;
     if matches!(&submessage.body, Body::Data { .. }) {
         show_payload(alloc, out, submessage.rest)?;
     }
     Ok(())
 }
 
-fn show_body<W: Write + Drop>(out: &mut W, body: &Body<'_>) -> io::Result<()> {
-    match body {
-        Body::AckNack(it) => {
-            write!(out, ": {} to {}", it.reader, it.writer)?;
-            write!(
-                out,
-                ", {} bits from {}, {}",
-                it.lacking.bits, it.lacking.base, it.count
-            )
-        }
-        Body::Heartbeat(it) => {
-            write!(out, ": {} to {}", it.writer, it.reader)?;
-            write!(out, ", {} to {}, {}", it.first, it.last, it.count)
-        }
-        Body::Time(it) => write!(
-            out,
-            ": {} UTC and {:#x}",
-            Moment(i64::from(it.seconds)),
-            it.fraction
-        ),
-        Body::Data { start, parameters } => {
-            write!(out, ": {} to {}", start.writer, start.reader)?;
-            write!(
-                out,
-                ", number {}, {} parameters",
+impl<'a> fmt::Display for Body<'a> {
+    fn fmt<W: fmt::Write>(&self, f: &mut fmt::Formatter<W>) -> fmt::Result {
+        match self {
+            Body::AckNack(it) => write!(
+                f,
+                ": {} to {}, {} bits from {}, {}",
+                Digits(&it.reader),
+                Digits(&it.writer),
+                it.lacking.bits,
+                it.lacking.base,
+                it.count
+            ),
+            Body::Heartbeat(it) => write!(
+                f,
+                ": {} to {}, {} to {}, {}",
+                Digits(&it.writer),
+                Digits(&it.reader),
+                it.first,
+                it.last,
+                it.count
+            ),
+            Body::Time(it) => write!(
+                f,
+                ": {} UTC and {:#x}",
+                Moment(i64::from(it.seconds)),
+                it.fraction
+            ),
+            Body::Data { start, parameters } => write!(
+                f,
+                ": {} to {}, number {}, {} parameters",
+                Digits(&start.writer),
+                Digits(&start.reader),
                 start.number,
                 parameters.len()
-            )
+            ),
+            Body::Other => Ok(()),
         }
-        Body::Other => Ok(()),
     }
 }
 

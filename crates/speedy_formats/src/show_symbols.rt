@@ -1,7 +1,7 @@
 //! The symbols of an ELF file.
 use crate::elf::{FileHeader, Section, Sections, Symbol};
 use crate::programs::{read_symbols, section_bytes, symbols_bytes};
-use crate::report::{Broken, Failure, Names, Text, write_rest};
+use crate::report::{Broken, Failure, Names, ShowItem, Text, show_items};
 use speedy::{Endianness, Error};
 use std::alloc::Global;
 use std::io::{self, Write};
@@ -50,14 +50,19 @@ fn table_of<'a>(
     }
 }
 
-fn show_symbol<W: Write + Drop>(out: &mut W, symbol: &Symbol, names: Names<'_>) -> io::Result<()> {
-    write!(out, "    value {:#x} size {}", symbol.value, symbol.size)?;
-    write!(
-        out,
-        " info {:#x} visibility {} section {}",
-        symbol.info, symbol.visibility, symbol.section
-    )?;
-    writeln!(out, " {}", Text(names.get(symbol.name as usize)))
+impl<'a> ShowItem<Names<'a>> for Symbol {
+    fn show<W: Write + Drop>(&self, out: &mut W, names: Names<'a>) -> io::Result<()> {
+        writeln!(
+            out,
+            "    value {:#x} size {} info {:#x} visibility {} section {} {}",
+            self.value,
+            self.size,
+            self.info,
+            self.visibility,
+            self.section,
+            Text(names.get(self.name as usize))
+        )
+    }
 }
 
 /// Shows a table of symbols, and says whether they were written again as they were.
@@ -73,11 +78,7 @@ fn show_table<W: Write + Drop>(
         Ok(symbols) => symbols,
         Err(error) => return Err(Broken::bytes("the symbols", table.len(), error)),
     };
-    writeln!(out, "{} symbols", symbols.items.len())?;
-    for symbol in symbols.items.iter().take(most) {
-        show_symbol(out, symbol, names)?;
-    }
-    write_rest(out, symbols.items.len(), most)?;
+    show_items(out, ("", " symbols"), &symbols.items, names, most)?;
     Ok(is_again(symbols_bytes(alloc, order, &symbols), Some(table)))
 }
 

@@ -1,9 +1,8 @@
 //! What a file of sound holds.
-use crate::report::{Broken, Failure, Text, pass_values, write_again, write_rest};
+use crate::report::{Broken, Failure, ShowItem, Text, pass_values, show_items, write_again};
 use crate::sounds::{read_sample_format, read_sound, sound_bytes};
-use crate::wav::{Chunk, Riff, SampleFormat};
-use speedy::readable::BufferReader;
-use speedy::{Endianness, Error, LendingReader};
+use crate::wav::{Chunk, SampleFormat};
+use speedy::{Endianness, Error};
 use std::alloc::Global;
 use std::io::{self, Write};
 
@@ -41,7 +40,7 @@ pub(crate) fn show_wav<W: Write + Drop>(
             .saturating_add(chunk.content.len())
             .saturating_add(chunk.padding.len());
     }
-    show_chunks(out, &sound, most)?;
+    show_items(out, ("  ", " chunks"), &sound.wave.chunks, (), most)?;
     write_again(out, sound_bytes(alloc, &sound), bytes)
 }
 
@@ -61,29 +60,24 @@ fn broken(alloc: Global, bytes: &[u8], error: Error) -> Failure {
         return Broken::bytes("the form WAVE", BEFORE, error);
     }
     let chunks = form.get(4..).unwrap_or(b"");
-    let mut reader = BufferReader::new(alloc, Endianness::LittleEndian, chunks);
-    let number = pass_values::<Chunk<'_>>(&mut reader);
-    let at = size.saturating_sub(reader.len()).saturating_add(BEFORE);
-    if reader.len() == 0 && at < bytes.len() {
+    let (number, passed) = pass_values::<Chunk<'_>>(alloc, Endianness::LittleEndian, chunks);
+    let at = passed.saturating_add(FORM);
+    if passed == chunks.len() && at < bytes.len() {
         return Broken::bytes("the end of the chunk RIFF", at, error);
     }
     Broken::bytes_of("chunk", number, at, error)
 }
 
 fn show_format<W: Write + Drop>(out: &mut W, format: &SampleFormat) -> io::Result<()> {
-    write!(
+    writeln!(
         out,
-        "  sound of {} channels, {} samples a second",
-        format.channels, format.rate
-    )?;
-    writeln!(out, " of {} bits, format {}", format.bits, format.tag)
+        "  sound of {} channels, {} samples a second of {} bits, format {}",
+        format.channels, format.rate, format.bits, format.tag
+    )
 }
 
-fn show_chunks<W: Write + Drop>(out: &mut W, sound: &Riff<'_>, most: usize) -> io::Result<()> {
-    let chunks = &sound.wave.chunks;
-    writeln!(out, "  {} chunks", chunks.len())?;
-    for chunk in chunks.iter().take(most) {
-        writeln!(out, "    {} {} bytes", Text(&chunk.kind), chunk.size)?;
+impl<'a> ShowItem<()> for Chunk<'a> {
+    fn show<W: Write + Drop>(&self, out: &mut W, _beside: ()) -> io::Result<()> {
+        writeln!(out, "    {} {} bytes", Text(&self.kind), self.size)
     }
-    write_rest(out, chunks.len(), most)
 }

@@ -1,10 +1,13 @@
 //! What a time zone file holds, much as `zdump` prints it.
-use crate::report::{Broken, Failure, Names, Text, write_again, write_rest};
+use crate::report::{
+    Broken, Failure, Names, ShowItem, Text, first, show_items, write_again, write_rest,
+};
 use crate::times::{Moment, Offset};
 use crate::tzif::{Block, LocalType};
 use crate::zones::{broken_part, old_zone_bytes, read_old_zone, read_zone, zone_bytes};
 use speedy::Error;
 use std::alloc::Global;
+use std::fmt;
 use std::io::{self, Write};
 
 /// Says what a time zone file holds.
@@ -87,19 +90,33 @@ fn check_block<T>(block: &Block<T>, width: usize, end: usize) -> Result<(), Fail
     Ok(())
 }
 
-/// A name, an offset, and whether it is daylight saving time.
-fn write_local<W: Write + Drop>(
-    out: &mut W,
-    names: Names<'_>,
-    local: &LocalType,
-) -> io::Result<()> {
-    let name = names.get(usize::from(local.name));
-    let daylight = if local.is_daylight == 0 {
-        ""
-    } else {
-        " daylight"
-    };
-    writeln!(out, "{} {}{daylight}", Offset(local.offset), Text(name))
+/// A local type: an offset, a name, and whether it is daylight saving time.
+#[derive(Clone, Copy)]
+struct Local<'a> {
+    names: Names<'a>,
+    local: Option<&'a LocalType>,
+}
+
+impl<'a> fmt::Display for Local<'a> {
+    fn fmt<W: fmt::Write>(&self, f: &mut fmt::Formatter<W>) -> fmt::Result {
+        let Some(local) = self.local else {
+            return write!(f, "?");
+        };
+        let name = Text(self.names.get(usize::from(local.name)));
+        let daylight = if local.is_daylight == 0 {
+            ""
+        } else {
+            " daylight"
+        };
+        write!(f, "{} {name}{daylight}", Offset(local.offset))
+    }
+}
+
+impl<'a> ShowItem<Names<'a>> for LocalType {
+    fn show<W: Write + Drop>(&self, out: &mut W, names: Names<'a>) -> io::Result<()> {
+        let local = Some(self);
+        writeln!(out, "    {}", Local { names, local })
+    }
 }
 
 /// Says what a block holds.
@@ -112,23 +129,35 @@ where
     i64: From<T>,
 {
     let names = Names::new(&block.names);
-    writeln!(out, "  time zone, {} local types", block.types.len())?;
-    for local in block.types.iter().take(most) {
-        write!(out, "    ")?;
-        write_local(out, names, local)?;
-    }
-    write_rest(out, block.types.len(), most)?;
-    writeln!(out, "  {} changes", block.times.len())?;
-    for (time, kind) in block.times.iter().zip(&block.kinds).take(most) {
-        write!(out, "    {} UTC ", Moment(i64::from(*time)))?;
-        match block.types.get(usize::from(*kind)) {
-            Some(local) => write_local(out, names, local)?,
-            None => writeln!(out, "?")?,
-        }
-    }
-    write_rest(out, block.times.len(), most)?;
+    show_items(
+        out,
+        ("  time zone, ", " local types"),
+        &block.types,
+        names,
+        most,
+    )?;
+    show_changes(out, block, names, most)?;
     if !block.leaps.is_empty() {
         writeln!(out, "  {} leap seconds", block.leaps.len())?;
     }
     Ok(())
+}
+
+/// Says when the local time changes.
+fn show_changes<W: Write + Drop, T: Copy>(
+    out: &mut W,
+    block: &Block<T>,
+    names: Names<'_>,
+    most: usize,
+) -> io::Result<()>
+where
+    i64: From<T>,
+{
+    writeln!(out, "  {} changes", block.times.len())?;
+    for (time, kind) in first(&block.times, most).iter().zip(&block.kinds) {
+        let local = block.types.get(usize::from(*kind));
+        let time = Moment(i64::from(*time));
+        writeln!(out, "    {time} UTC {}", Local { names, local })?;
+    }
+    write_rest(out, block.times.len(), most)
 }

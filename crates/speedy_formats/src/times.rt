@@ -57,8 +57,11 @@ impl fmt::Display for Moment {
         let hour = since % 86_400 / 3_600;
         let minute = since % 3_600 / 60;
         let second = since % 60;
-        write!(f, "{:04}-{:02}-{:02} ", day.year, day.month, day.day)?;
-        write!(f, "{hour:02}:{minute:02}:{second:02}")
+        write!(
+            f,
+            "{:04}-{:02}-{:02} {hour:02}:{minute:02}:{second:02}",
+            day.year, day.month, day.day
+        )
     }
 }
 

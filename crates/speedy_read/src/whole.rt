@@ -116,10 +116,11 @@ impl<'a, C: Context, T: ReadWhole<&'a [u8], C>> ReadableWhole<'a, C> for T {
     }
 }
 
-// Parts with a layout, and then a value that has what is left.
+// Parts with a layout, and then a value that has what is left. In line, LLVM lays zeros for large parts and moves them
+// once more for each function around this.
 impl<L: AsSlice<u8> + Drop, C: Context, A: ReadFrom<L, C>, W: ReadWhole<L, C>> ReadToEnd<L, C>
     for Followed<A, W> {
-    #[inline]
+    #[inline(never)]
     fn read_to_end<R: MemoryReader<L, C>>(reader: &mut R) -> Result<Followed<A, W>, C::Error> {
         let first = A::read_from(reader)?;
         let rest = W::read_whole(reader)?;
