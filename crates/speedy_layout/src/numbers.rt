@@ -3,10 +3,10 @@
 //! Their layout is their digits in the order of the encoding. What is said of a width is said here.
 #![tactic(auto, using(speedy_base::specs::DigitsLemmas::written))]
 
-ghost use Rattle.std.specs.Prelude.{refl};
+ghost use Rattle.std.specs.Prelude.{◌≡◌, ◌+◌, ◌*◌, ◌^◌, length, refl};
 ghost use Rattle.std.specs.Cmp.{unsigned_Decides, signed_Decides};
 ghost use Rattle.std.specs.Int.{w8, w16, w32, w64, w128, cast_signed};
-ghost use Rattle.speedy_base.specs.Digits.{number};
+ghost use Rattle.speedy_base.specs.Digits.{number, little_digits};
 ghost use Rattle.speedy_layout.specs.Codecs.{signed_codec, unsigned_codec, usize_codec};
 ghost use Rattle.speedy_layout.specs.FixedNumbers.{unsigned_fixed, signed_fixed};
 ghost use Rattle.speedy_layout.specs.Views.{byte_number_alike, signed_byte_alike};
@@ -19,6 +19,7 @@ use crate::view_items::ZeroCopyable;
 use speedy_base::context::{Context, LittleEndian};
 use speedy_base::endianness::Endianness;
 use speedy_base::numbers::turned;
+use std::simd::Simd;
 
 impl Layout for u8 {
     ghost seen = { λ x. x };
@@ -148,6 +149,18 @@ impl SameKey for u64 {
     ghost same_key = { unsigned_Decides };
 }
 
+// Puts the bytes of two numbers, least digit first. As lanes of one vector they are stored together, so a compiler sees
+// that a list of such pairs is a copy of memory.
+#[inline(always)]
+fn put_two(first: u64, second: u64, output: &mut [u8])
+    requires { length output.old ≡ 16 }
+    ensures { output.new ≡ little_digits 16 (first + 2 ^ 64 * second) }
+{
+    Simd::from_array([first, second])
+        .to_le_bytes()
+        .copy_to_slice(output);
+}
+
 impl Layout for u128 {
     ghost seen = { λ x. x };
 
@@ -169,13 +182,10 @@ impl FixedNumber for u128 {
         // Two numbers of 64 bits are turned much faster than one of 128.
         let low = (self % (1 << 64)) as u64;
         let high = (self >> 64) as u64;
-        let (first, second) = output.split_at_mut(8);
         match order {
-            Endianness::LittleEndian => {
-                low.encode(order, first);
-                high.encode(order, second);
-            }
+            Endianness::LittleEndian => put_two(low, high, output),
             Endianness::BigEndian => {
+                let (first, second) = output.split_at_mut(8);
                 high.encode(order, first);
                 low.encode(order, second);
             }

@@ -141,8 +141,8 @@ pub(crate) fn put_values_at<T: Layout, P: FixedBytes<T>>(
     ensures { PutsAt T.layout.format T.seen values.now P.BYTES order at buffer.old result buffer.new }
 {
     let end = at + values.len() * P::BYTES;
-    // Of one byte are flags, which become bytes by a test.
-    let may_copy = order == Endianness::LittleEndian && P::BYTES > 1 && P::BYTES <= 8;
+    // Numbers of these sizes lie in memory as their bytes. Of one byte are flags, which become bytes by a test.
+    let may_copy = order == Endianness::LittleEndian && matches!(P::BYTES, 2 | 4 | 8 | 16);
     if may_copy && values.len() >= LEAST_COPIED {
         put_by_chunks::<T, P>(values, order, &mut buffer[at..end]);
     } else {
