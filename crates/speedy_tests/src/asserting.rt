@@ -2,8 +2,8 @@
 //!
 //! A test ends where one of these does not hold. They answer nothing, so a test has no other way out than its end,
 //! which is what makes it quick to prove. `assert_encoding` calls each form of `Readable` over a buffer. Other tests
-//! decode by `read_value` of a reader, whose proof names less of the type. For that the helpers ask for `ReadMany`, which
-//! `Readable` rests on.
+//! decode by `read_value` of a reader, whose proof names less of the type. For that the helpers ask for `ReadMany`,
+//! which `Readable` rests on.
 use speedy::collections::FromItems;
 use speedy::context::{BigEndian, Context, LittleEndian};
 use speedy::endianness::Endianness;
