@@ -184,54 +184,6 @@ impl<'a> Source for Asked<'a> {
     }
 }
 
-/// Bytes in memory as a source that lends, which counts how often it moved some and how often it lent some.
-#[derive(Drop)]
-struct Lending<'a> {
-    bytes: &'a [u8],
-    pulls: usize,
-    loans: usize,
-}
-
-impl<'a> Source for Lending<'a> {
-    ghost source = { λ s. bytes_source s.bytes.now };
-
-    fn pull(&mut self, output: &mut [u8]) -> Result<usize, io::Error> {
-        self.pulls = self.pulls.wrapping_add(1);
-        self.bytes.pull(output)
-    }
-
-    fn pull_lent(&mut self, count: usize) -> Option<&[u8]> {
-        self.loans = self.loans.wrapping_add(1);
-        self.bytes.pull_lent(count)
-    }
-}
-
-/// Asserts that three numbers and a text are read of a source that lends, and how often it was asked to pull and to
-/// lend.
-fn assert_lent(rt: &impl Abort, alloc: Global, is_buffering: bool, calls: (usize, usize)) {
-    let bytes = [3, 0, 0, 0, 1, 0, 2, 0, 3, 0, 2, 0, 0, 0, b'o', b'k', 9];
-    let mut source = Lending {
-        bytes: &bytes,
-        pulls: 0,
-        loans: 0,
-    };
-    let mut reader = make_reader(rt, alloc, &mut source, is_buffering);
-    let numbers: Vec<u16> = reader.read_value().expect(rt, "numbers");
-    assert!(rt; numbers.as_slice() == [1, 2, 3].as_slice());
-    let text: String = reader.read_value().expect(rt, "a text");
-    assert!(rt; text.as_str() == "ok");
-    let source = reader.into_source();
-    assert!(rt; (source.pulls, source.loans) == calls);
-    assert_bytes(rt, source.bytes, if is_buffering { &[] } else { &[9] });
-}
-
-#[test]
-fn lists_are_taken_from_what_a_source_lends(rt: HostRuntime) {
-    // Unbuffered the lengths are pulled, and what they tell of is lent; of a ring that holds all it is lent at once.
-    assert_lent(&rt, rt.alloc(), false, (2, 2));
-    assert_lent(&rt, rt.alloc(), true, (1, 0));
-}
-
 #[test]
 fn bytes_in_memory_are_lent_where_they_are_there(rt: HostRuntime) {
     let mut source: &[u8] = &[1, 2, 3];
