@@ -14,14 +14,14 @@ use std::process::Abort;
 struct ItemsLength {}
 
 impl Length<u8> for ItemsLength {
-    ghost is_told = { λ _. ⊤ };
+    ghost is_told = { λ _. Unit {0} };
 
     ghost told = { λ n. n };
 
     ghost field = { codes "items" };
 
     fn length(count: u8) -> Option<usize> {
-        Some(usize::from(count))
+        Some(count as usize)
     }
 
     fn field() -> &'static str {
