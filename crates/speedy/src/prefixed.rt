@@ -4,7 +4,7 @@ ghost use Rattle.std.specs.Prelude.{◌≡◌};
 
 pub use speedy_layout::frames::Framed;
 use speedy_layout::part::Part;
-pub use speedy_layout::prefixed::{Prefix, Prefixed, Told, U7};
+pub use speedy_layout::prefixed::{Prefix, Prefixed, Told, U7, U7_MAX};
 pub use speedy_read::prefixed::{ReadPrefix, ReadTold};
 pub use speedy_write::prefixed::{WritePrefix, WriteTold};
 

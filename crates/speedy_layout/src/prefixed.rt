@@ -33,6 +33,9 @@ impl Prefix for VarInt64 {
     ghost numbers = { varint_numbers };
 }
 
+/// The greatest number of seven bits.
+pub const U7_MAX: u8 = 127;
+
 /// Numbers of one byte that are at most 127. Greater ones are the error `OutOfRangeLength`.
 #[derive(Drop)]
 pub struct U7 {}

@@ -10,7 +10,7 @@ use crate::readable::ReadFrom;
 use crate::reader::LendingReader;
 use speedy_base::context::Context;
 use speedy_base::error::error_out_of_range_length;
-use speedy_layout::prefixed::{Prefix, Prefixed, Told, U7};
+use speedy_layout::prefixed::{Prefix, Prefixed, Told, U7, U7_MAX};
 use speedy_layout::varint::VarInt64;
 use std::convert::AsSlice;
 use std::marker::PhantomData;
@@ -149,9 +149,6 @@ pub fn read_length<L: AsSlice<u8> + Drop, C: Context, R: LendingReader<L, C>>(
 {
     read_length_u32(reader)
 }
-
-// The greatest length of seven bits.
-const U7_MAX: u8 = 127;
 
 /// Reads a length that is a byte of at most 127. Any other is the error `OutOfRangeLength`.
 #[inline]

@@ -1,18 +1,22 @@
 -- Values that are put where they are to stand are written.
-use Rattle.std.specs.Prelude.{◌≡◌, ℕ, ◌+◌, ◌-◌, ◌*◌, ◌≤◌, List, [], ◌∷◌, ◌++◌, length, map, take, drop, Ok, Some, refl}
+use Rattle.std.specs.Prelude.{◌≡◌, ℕ, ◌+◌, ◌-◌, ◌*◌, ◌/◌, ◌<◌, ◌≤◌, List, [], ◌∷◌, ◌++◌, length, map, take, drop, Ok, Err}
+use Rattle.std.specs.Prelude.{Some, refl}
 use borrow.Rule.Slice.PartMut.{put_mid}
 use native.Mathlib.Nat.{add-mul}
 use Rattle.std.specs.Borrow.{GName}
-use Rattle.std.proofs.Common.{◌∙◌, sym, subst, ap, arith}
+use Rattle.std.proofs.Common.{◌∙◌, sym, subst, ap, inl, inr, arith}
+use Rattle.std.proofs.Math.Nat.{div-lt_iff_lt-mul}
 use Rattle.std.proofs.lemmas.List.{append-nil, drop-append-le, length-take-le, map-append, take_all}
 use Rattle.std.proofs.lemmas.Slice.{take-put_mid}
 use Rattle.speedy_base.specs.declared.endianness.Endianness.{Endianness}
 use Rattle.speedy_base.specs.declared.error.Error.{Error}
+use Rattle.speedy_base.specs.declared.error.ErrorKind.TheVariants as kinds
 use Rattle.speedy_base.specs.Device.{SinkState}
+use Rattle.speedy_base.specs.Error.{error_of}
 use Rattle.speedy_base.specs.Mode.{Mode}
 use Rattle.speedy_layout.specs.Format.{Format, Each}
 use Rattle.speedy_layout.specs.Laws.{Laws}
-use Rattle.speedy_layout.specs.Lists.{each_append}
+use Rattle.speedy_layout.specs.Lists.{each_append, repeat_laws}
 use Rattle.speedy_write.specs.CollectorLemmas.{put_length, part_prefix}
 use Rattle.speedy_write.specs.Collectors.{buffer_state, sink_state, BufferAppends}
 use Rattle.speedy_write.specs.FixedBytes.{PutsAt, PutsBehind}
@@ -73,6 +77,32 @@ module _ {E A V : Type 0} {gives : Error → E → Type 0} {F : Mode → Format 
         };
       } in
       values_are_written laws seen values same p.is_written written
+
+-- values that take more bytes than are left are refused, and nothing is put
+pub none_put : {E A V : Type 0} {gives : Error → E → Type 0} {F : Mode → Format V} {least size left : ℕ} {mode : Mode}
+    {targets : List GName} {e : E} {appended : List ℕ → Type 0}
+    (laws : (mode : Mode) → Laws mode.strict least (F mode)) (seen : A → V) (values : List A) → least ≡ size → 0 < size
+    → left / size < length values → gives (error_of kinds.UnexpectedEndOfOutputBuffer) e → appended []
+    → WritesEach gives F seen values (Err e) (buffer_state mode targets left) (buffer_state mode targets left) appended
+none_put {size = size} {left = left} {mode = mode} laws seen values same some past error none =
+    let all = repeat_laws (laws mode) (length values) in
+    let long : left < length values * size = (div-lt_iff_lt-mul some).0 past in
+    record {
+      kept = record { fixed = refl; mode = refl; faults = omega arith; waits = λ settled. settled };
+      answer = record {
+        beginning = λ b h. record { prefix = []; rest = b; is_written = h; is_appended = none };
+        appends = ([], none);
+        because = inr (record {
+          no_fault = refl;
+          no_fit = λ b h fit.
+              let takes = all.least_size (map seen values) b (all.written_encodes (map seen values) b h) in
+              let each = ap (λ (n : ℕ). length values * n) same in
+              absurd (omega (arith, takes, each, long, fit));
+          no_encoding = λ unbounded. absurd (cc);
+          kind = inl ((λ unbounded. absurd (cc)), error);
+        });
+      };
+    }
 
 -- behind what waits in a room
 pub put_behind : {A V : Type 0} {F : Mode → Format V} {order : Endianness} {at end size : ℕ} {buffer after : List ℕ}

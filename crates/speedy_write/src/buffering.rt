@@ -3,8 +3,8 @@
 
 ghost use Rattle.std.specs.Borrow.{GName};
 ghost use Rattle.std.specs.Iterator.{IsFinite};
-ghost use Rattle.std.specs.Prelude.{◌≡◌, ◌+◌, ◌-◌, ◌*◌, ◌≤◌, ◌↔◌, List, [], ◌++◌, length, map, take, drop, None, Ok};
-ghost use Rattle.std.specs.Prelude.{IsTrue, false, OnOk, refl};
+ghost use Rattle.std.specs.Prelude.{◌≡◌, ◌+◌, ◌-◌, ◌*◌, ◌≤◌, ◌↔◌, List, [], ◌++◌, length, map, take, drop, None};
+ghost use Rattle.std.specs.Prelude.{IsTrue, OnOk, IsSome, MatchOption, refl};
 ghost use Rattle.speedy_base.specs.Mode.{Mode};
 ghost use Rattle.speedy_write.specs.Collectors.{sink_state};
 ghost use Rattle.speedy_write.specs.FixedBytes.{PutsBehind};
@@ -382,22 +382,25 @@ impl<'s, S: Sink, C: Context> Writer<C> for BufferingCollector<'s, S, C> {
 
     /// Puts the values where others wait, if they have room there.
     #[inline]
-    fn put_fixed<T: Layout, P: FixedBytes<T>>(&mut self, values: &[T]) -> bool
+    fn put_fixed<T: Layout, P: FixedBytes<T>>(
+        &mut self,
+        values: &[T],
+    ) -> Option<Result<(), C::Error>>
         ensures puts { let writer = ⟦<BufferingCollector<'s, S, C> as Writer<C>>⟧ in
-            IsTrue result → WritesValues C.Error.from_gives writer.state writer.appends T.seen
-            T.layout values.now (Ok tt) self.old self.new }
-        ensures unchanged { result ≡ false → self.new ≡ self.old }
+            MatchOption result (self.new ≡ self.old) (λ written.
+            WritesValues C.Error.from_gives writer.state writer.appends T.seen T.layout values.now
+            written self.old self.new) }
         ensures fits { let held = self.old.waiting in
-            length values.now * P.BYTES ≤ length held.room.now - held.end → IsTrue result }
+            length values.now * P.BYTES ≤ length held.room.now - held.end → IsSome result }
     {
         P::has_few_bytes();
         let room = self.waiting.room.len() - self.waiting.end;
         if values.len() > room / P::BYTES {
-            return false;
+            return None;
         }
         self.waiting
             .add_values::<T, P>(values, self.context.endianness());
-        true
+        Some(Ok(()))
     }
 
     /// Tells the sink of these bytes, and of those that wait: both are pushed next.

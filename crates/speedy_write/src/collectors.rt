@@ -1,8 +1,8 @@
 //! The writers of the ways of writing: into a buffer, into a vector, into a sink, and one that only counts.
 ghost use Rattle.std.specs.Prelude.{◌≡◌, ◌+◌, ◌-◌, ◌*◌, ◌^◌, ◌≤◌, ℕ, [], ◌∷◌, ◌++◌, length, vec_len, vec_capacity};
-ghost use Rattle.std.specs.Prelude.{Some, None, Ok, IsOk, IfErr, OnErr, IsSome, IsTrue, false, take, nat_le, refl};
+ghost use Rattle.std.specs.Prelude.{Some, None, IsOk, IfErr, OnErr, IsSome, MatchOption, take, nat_le, refl};
 ghost use Rattle.speedy_base.specs.FailedCalls.{IsOfFailedCall};
-ghost use Rattle.speedy_write.specs.Writing.{RefusesFull, CountsBytes, Fits, WritesValues, WritesSlice};
+ghost use Rattle.speedy_write.specs.Writing.{RefusesFull, CountsBytes, WritesValues, WritesSlice};
 ghost use Rattle.speedy_write.specs.Pushing.{PushesAll};
 ghost use Rattle.speedy_write.specs.Collectors.{buffer_state, BufferAppends, size_state, SizeAppends, sink_state};
 ghost use Rattle.speedy_write.specs.Collectors.{SinkTakes};
@@ -123,24 +123,27 @@ impl<'a, C: Context, U> Writer<C> for BufferCollector<'a, C, U> {
         Ok(())
     }
 
-    /// Puts the values where they are to stand, if they fit.
+    /// Puts the values where they are to stand, or none where they do not fit, which is the error
+    /// `UnexpectedEndOfOutputBuffer`.
     #[inline]
-    fn put_fixed<T: Layout, P: FixedBytes<T>>(&mut self, values: &[T]) -> bool
+    fn put_fixed<T: Layout, P: FixedBytes<T>>(
+        &mut self,
+        values: &[T],
+    ) -> Option<Result<(), C::Error>>
         ensures puts { let writer = ⟦<BufferCollector<'a, C, U> as Writer<C>>⟧ in
-            IsTrue result → WritesValues C.Error.from_gives writer.state writer.appends T.seen
-            T.layout values.now (Ok tt) self.old self.new }
-        ensures unchanged { result ≡ false → self.new ≡ self.old }
-        ensures fits { let writer = ⟦<BufferCollector<'a, C, U> as Writer<C>>⟧ in
-            Fits (length values.now * P.BYTES) (writer.state self.old).space → IsTrue result }
+            MatchOption result (self.new ≡ self.old) (λ written.
+            WritesValues C.Error.from_gives writer.state writer.appends T.seen T.layout values.now
+            written self.old self.new) }
+        ensures answers { IsSome result }
     {
         P::has_few_bytes();
         let room = self.buffer.len() - self.position;
         if values.len() > room / P::BYTES {
-            return false;
+            return Some(Err(error_end_of_output_buffer()));
         }
         let order = self.context.endianness();
         self.position = put_values_at::<T, P>(values, order, &mut *self.buffer, self.position);
-        true
+        Some(Ok(()))
     }
 
     #[inline(always)]
@@ -275,22 +278,27 @@ impl<'a, C: Context> Writer<C> for VecCollector<'a, C> {
         count
     }
 
-    /// Puts the values where they are to stand, if they fit and are not too many to lay zeros for first: at most 16
-    /// KiB.
+    /// Puts the values where they are to stand, or none where they do not fit, which is the error
+    /// `UnexpectedEndOfOutputBuffer`. It says `None` of those that fit and are too many to lay zeros for first: more
+    /// than 16 KiB.
     #[inline]
-    fn put_fixed<T: Layout, P: FixedBytes<T>>(&mut self, values: &[T]) -> bool
+    fn put_fixed<T: Layout, P: FixedBytes<T>>(
+        &mut self,
+        values: &[T],
+    ) -> Option<Result<(), C::Error>>
         ensures puts { let writer = ⟦<VecCollector<'a, C> as Writer<C>>⟧ in
-            IsTrue result → WritesValues C.Error.from_gives writer.state writer.appends T.seen
-            T.layout values.now (Ok tt) self.old self.new }
-        ensures unchanged { result ≡ false → self.new ≡ self.old }
-        ensures fits { let writer = ⟦<VecCollector<'a, C> as Writer<C>>⟧ in
-            length values.now * P.BYTES ≤ 16384 → Fits (length values.now * P.BYTES) (writer.state self.old).space
-            → IsTrue result }
+            MatchOption result (self.new ≡ self.old) (λ written.
+            WritesValues C.Error.from_gives writer.state writer.appends T.seen T.layout values.now
+            written self.old self.new) }
+        ensures answers { length values.now * P.BYTES ≤ 16384 → IsSome result }
     {
         P::has_few_bytes();
-        let room = (self.most - self.position).min(MOST_ZEROS);
+        let room = self.most - self.position;
         if values.len() > room / P::BYTES {
-            return false;
+            return Some(Err(error_end_of_output_buffer()));
+        }
+        if values.len() > MOST_ZEROS / P::BYTES {
+            return None;
         }
         let next = self.position + values.len() * P::BYTES;
         reach(&mut *self.bytes, next, self.most);
@@ -301,7 +309,7 @@ impl<'a, C: Context> Writer<C> for VecCollector<'a, C> {
             self.bytes.as_mut_slice(),
             self.position,
         );
-        true
+        Some(Ok(()))
     }
 
     #[inline(always)]

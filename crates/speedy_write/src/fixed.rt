@@ -20,9 +20,10 @@ pub trait FixedBytes<T: Layout> {
 
     ghost BYTES: { ℕ };
 
-    /// Shows that `BYTES` is 1 to 16. It does nothing else.
+    /// Shows that `BYTES` is 1 to 16, and the least size of the type. It does nothing else.
     fn has_few_bytes()
-        ensures { (0 < Self.BYTES) × (Self.BYTES ≤ 16) };
+        ensures few { (0 < Self.BYTES) × (Self.BYTES ≤ 16) }
+        ensures least { T.layout.least ≡ Self.BYTES };
 
     /// Puts the bytes of the value, in the order, which fill the output.
     fn put(value: &T, order: Endianness, output: &mut [u8])
@@ -48,22 +49,33 @@ impl<T: FixedNumber> FixedBytes<T> for Digits {
     }
 }
 
-/// Values that are encoded as numbers are put as the digits of these.
+/// Flags and characters are put as the digits of their codes.
 pub(crate) struct CodeDigits {}
 
-impl<T: ToCode> FixedBytes<T> for CodeDigits
-where
-    T::Code: FixedNumber,
-{
-    const BYTES: usize = <T::Code as FixedSize>::SIZE;
+impl FixedBytes<bool> for CodeDigits {
+    const BYTES: usize = 1;
 
-    ghost BYTES = { T.Code.Digits.LENGTH };
+    ghost BYTES = { 1 };
 
     #[inline(always)]
     fn has_few_bytes() {}
 
     #[inline(always)]
-    fn put(value: &T, order: Endianness, output: &mut [u8]) {
+    fn put(value: &bool, order: Endianness, output: &mut [u8]) {
+        put_number(value.encode(), order, output);
+    }
+}
+
+impl FixedBytes<char> for CodeDigits {
+    const BYTES: usize = 4;
+
+    ghost BYTES = { 4 };
+
+    #[inline(always)]
+    fn has_few_bytes() {}
+
+    #[inline(always)]
+    fn put(value: &char, order: Endianness, output: &mut [u8]) {
         put_number(value.encode(), order, output);
     }
 }
@@ -191,13 +203,13 @@ pub(crate) fn write_values<C: Context, T: Layout, P: FixedBytes<T>, W: Writer<C>
     if W::COUNTS {
         return None;
     }
-    if writer.put_fixed::<T, P>(values) {
-        return Some(Ok(()));
-    }
-    // Its answer is passed on by its parts: so this one copies no error where the values were put.
-    match write_by_chunks::<C, T, P, W>(values, writer) {
-        Ok(()) => Some(Ok(())),
-        Err(error) => Some(Err(error)),
+    match writer.put_fixed::<T, P>(values) {
+        Some(written) => Some(written),
+        // It is passed on by its parts, and so no error is copied where the values were put.
+        None => match write_by_chunks::<C, T, P, W>(values, writer) {
+            Ok(()) => Some(Ok(())),
+            Err(error) => Some(Err(error)),
+        },
     }
 }
 
@@ -221,10 +233,6 @@ fn write_by_chunks<C: Context, T: Layout, P: FixedBytes<T>, W: Writer<C>>(
         result writer.old writer.new }
 {
     P::has_few_bytes();
-    // Where they have no room, a short chunk shows it soon.
-    if writer.can_write_at_least(values.len().saturating_mul(P::BYTES)) == Some(false) {
-        return write_chunks::<C, T, P, W>(values, &mut [0; SHORT_CHUNK], writer);
-    }
     match values.len() {
         0..=4 => write_chunks::<C, T, P, W>(values, &mut [0; SHORT_CHUNK], writer),
         5..=8_191 => write_many_chunks::<C, T, P, W>(values, &mut [0; CHUNK], writer),

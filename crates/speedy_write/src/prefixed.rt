@@ -10,7 +10,7 @@ use crate::writable::Writable;
 use crate::writer::Writer;
 use speedy_base::context::Context;
 use speedy_base::error::error_out_of_range_length;
-use speedy_layout::prefixed::{Prefix, Prefixed, Told, U7};
+use speedy_layout::prefixed::{Prefix, Prefixed, Told, U7, U7_MAX};
 use speedy_layout::varint::VarInt64;
 
 /// How the numbers of a type are written: by the function of that type below, which the original has too.
@@ -110,9 +110,6 @@ pub fn write_length<C: Context, W: Writer<C>>(length: usize, writer: &mut W) -> 
     }
 }
 
-// The greatest length of seven bits.
-const U7_MAX: usize = 127;
-
 /// Writes a length as a byte of at most 127. A longer one is the error `OutOfRangeLength`, before anything is written.
 #[inline]
 pub fn write_length_u7<C: Context, W: Writer<C>>(
@@ -122,7 +119,7 @@ pub fn write_length_u7<C: Context, W: Writer<C>>(
     ensures { WritesLength C.Error.from_gives W.state W.appends (length_number 1 127) (2 ^ 7) length
         result writer.old writer.new }
 {
-    if length > U7_MAX {
+    if length > usize::from(U7_MAX) {
         return Err(error_out_of_range_length());
     }
     writer.write_u8(length as u8)

@@ -1,5 +1,5 @@
 //! Writers: where values are written, and the writes that each has.
-ghost use Rattle.std.specs.Prelude.{◌≡◌, ◌≤◌, ℕ, [], ◌++◌, List, Option, Bool, false, IsTrue, Ok, length, take};
+ghost use Rattle.std.specs.Prelude.{◌≡◌, ◌≤◌, ℕ, [], ◌++◌, List, Option, Bool, MatchOption, Ok, length, take};
 ghost use Rattle.std.specs.Borrow.{sem, Lends};
 ghost use Rattle.std.specs.Iterator.{IsFinite, IsFiniteIterable};
 ghost use Rattle.std.specs.Int.{w8, w16, w32, w64, w128};
@@ -53,17 +53,20 @@ pub trait Writer<C: Context> {
         None
     }
 
-    /// Writes values that each take as many bytes, where the writer puts them at once in the room that it has, and says
-    /// whether it did. This body says that it did not, and does nothing.
+    /// Writes values that each take as many bytes, where the writer puts them at once in the room that it has, or knows
+    /// that they have none. This body says `None`, and does nothing.
     #[inline(always)]
-    fn put_fixed<T: Layout, P: FixedBytes<T>>(&mut self, _values: &[T]) -> bool
+    fn put_fixed<T: Layout, P: FixedBytes<T>>(
+        &mut self,
+        _values: &[T],
+    ) -> Option<Result<(), C::Error>>
     where
         Self: Sized,
-        ensures puts { IsTrue result → WritesValues C.Error.from_gives state appends T.seen T.layout
-            _values.now (Ok tt) self.old self.new }
-        ensures unchanged { result ≡ false → self.new ≡ self.old }
+        ensures { MatchOption result (self.new ≡ self.old) (λ written.
+            WritesValues C.Error.from_gives state appends T.seen T.layout _values.now
+            written self.old self.new) }
     {
-        false
+        None
     }
 
     /// Writes the first of the items that an iterator gives, each of them whole, as many as the writer puts at once in
