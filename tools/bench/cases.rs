@@ -11,6 +11,8 @@ use std::time::Duration;
 /// The rows, and of each case in each order the line of `Input::compared`.
 pub struct Bench {
     pub rng: Rng,
+    /// The one case that is added, or all of them.
+    pub only: Option<String>,
     pub rows: Vec<Row>,
     pub sums: Vec<String>,
 }
@@ -18,6 +20,9 @@ pub struct Bench {
 impl Bench {
     /// Adds all rows of a case.
     pub fn add<T: Ported>(&mut self, case: &'static str, items: usize, value: T) {
+        if !self.is_added(case) {
+            return;
+        }
         let value: &'static T = Box::leak(Box::new(value));
         for big in [false, true] {
             let input = Input::new(case, items, big, value);
@@ -30,6 +35,10 @@ impl Bench {
                     .map(|(how, op)| input.write(op, how, value, buffer)),
             );
         }
+    }
+
+    fn is_added(&self, case: &str) -> bool {
+        self.only.as_ref().is_none_or(|it| it == case)
     }
 
     fn add_reads<T: Ported>(&mut self, input: Input) {
@@ -67,6 +76,9 @@ impl Bench {
     where
         T: Readable<'static, Endianness>,
     {
+        if !self.is_added(case) {
+            return;
+        }
         for big in [false, true] {
             let input = Input::new(case, texts.len(), big, texts);
             let counted = unsafe { read(input.bytes.as_ptr(), input.bytes.len(), big, 1) };
