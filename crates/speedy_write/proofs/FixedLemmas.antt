@@ -1,6 +1,6 @@
 -- Values that are put where they are to stand are written.
-use Rattle.std.specs.Prelude.{◌≡◌, ℕ, ◌+◌, ◌-◌, ◌*◌, ◌/◌, ◌<◌, ◌≤◌, List, [], ◌∷◌, ◌++◌, length, map, take, drop, Ok, Err}
-use Rattle.std.specs.Prelude.{Some, refl}
+use Rattle.std.specs.Prelude.{◌≡◌, ℕ, ◌+◌, ◌-◌, ◌*◌, ◌/◌, ◌<◌, ◌≤◌, List, [], ◌∷◌, ◌++◌, length, map, take, drop}
+use Rattle.std.specs.Prelude.{Ok, Err, Some, refl}
 use borrow.Rule.Slice.PartMut.{put_mid}
 use native.Mathlib.Nat.{add-mul}
 use Rattle.std.specs.Borrow.{GName}
