@@ -375,6 +375,28 @@ fn a_long_list_that_ends_early_is_refused_by_its_last_read(rt: HostRuntime) {
     }
 }
 
+/// Asserts that a buffered reader of bytes in memory, which lend what it does not hold, reads a list of `count` numbers
+/// of 2 bytes and the byte behind it.
+fn assert_list_is_lent(rt: &impl Abort, alloc: Global, count: u16) {
+    let numbers: Vec<u16> = (0..count).collect(alloc).expect(rt, "numbers");
+    let mut bytes = numbers
+        .write_to_vec_with_ctx(alloc, LittleEndian {})
+        .expect(rt, "their bytes");
+    bytes.push(7).expect(rt, "a byte more");
+    let mut source: &[u8] = &bytes;
+    let mut reader = make_reader(rt, alloc, &mut source, true);
+    assert_ok(rt, reader.read_value::<Vec<u16>>(), numbers);
+    assert_ok(rt, reader.read_u8(), 7);
+    assert_end(rt, reader.read_u8());
+}
+
+#[test]
+fn a_long_list_is_read_past_the_ring_from_bytes_in_memory(rt: HostRuntime) {
+    for count in [4_093, 4_094, 4_095, 8_189, 8_190, 8_191, 20_000] {
+        assert_list_is_lent(&rt, rt.alloc(), count);
+    }
+}
+
 /// Asserts that the items of a collection, of which the last byte lacks, end as items that are read one by one: as
 /// `UnexpectedEndOfInput`, however many they are.
 fn assert_collection_ends_early(rt: &impl Abort, alloc: Global, count: u16) {

@@ -169,6 +169,13 @@ pub none_lent : {X A : Type 0} (shown : A → List ℕ) (size : ℕ) {old new : 
 none_lent {X = X} {A = A} shown size {old = old} {new = new} is h =
     subst (λ (o : Option (Result A X)). LendsUntilUsed shown size o old new) is h
 
+-- and as much was read so far
+pub not_lent : {X A : Type 0} (shown : A → List ℕ) (size : ℕ) {S : List ℕ → Type 0} {old mid new : ReaderState}
+    {lent : Option (Result A X)} → ReadSoFar S old mid → lent ≡ None → LendsUntilUsed shown size lent mid new
+    → ReadSoFar S old new
+not_lent shown size {S = S} {old = old} so_far is h =
+    subst (λ (s : ReaderState). ReadSoFar S old s) (sym (none_lent shown size is h)) so_far
+
 -- n bytes were lent
 pub lent_length : {X A : Type 0} {shown : A → List ℕ} (size : ℕ) {old new : ReaderState} {x : A}
     → Reads (ends_alone {E = X}) (λ _. true) shown (raw_bytes size) (Ok x) old new → length (shown x) ≡ size

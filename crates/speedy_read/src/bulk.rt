@@ -313,7 +313,8 @@ fn numbers_of<T: FixedNumber>(
     Ok(append_each(Vec::with_capacity(alloc, count)?, order, digits))
 }
 
-// Reads `count` numbers, as many at a time as the chunk has room for.
+// Reads `count` numbers, as many at a time as the chunk has room for. Those that the reader lends go past the chunk: a
+// buffered reader lends from its source what lies behind the bytes that it held.
 #[inline]
 fn read_number_chunks<T: FixedNumber, L: AsSlice<u8> + Drop, C: Context, R: LendingReader<L, C>>(
     reader: &mut R,
@@ -329,9 +330,22 @@ fn read_number_chunks<T: FixedNumber, L: AsSlice<u8> + Drop, C: Context, R: Lend
     let mut left = count;
     while left > 0 {
         let some = left.min(most);
+        let order = reader.endianness();
+        match reader.read_bytes_borrowed_from_reader(some * T::SIZE) {
+            Some(Ok(digits)) => {
+                numbers = match append_in_steps(numbers, order, digits, left) {
+                    Ok(more) => more,
+                    Err(_) => return Err(error_out_of_memory()),
+                };
+                left -= some;
+                continue;
+            }
+            Some(Err(EndOfInput {})) => return Err(error_end_of_input()),
+            None => {}
+        }
         let digits = &mut chunk[..some * T::SIZE];
         reader.read_bytes(digits)?;
-        numbers = match append_in_steps(numbers, reader.endianness(), digits, left) {
+        numbers = match append_in_steps(numbers, order, digits, left) {
             Ok(more) => more,
             Err(_) => return Err(error_out_of_memory()),
         };
