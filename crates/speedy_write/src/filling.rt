@@ -9,6 +9,7 @@ use crate::collectors::BufferCollector;
 use crate::writable::Writable;
 use speedy_base::context::Context;
 use speedy_layout::Layout;
+use std::mem;
 
 /// How values of a type are written to a buffer.
 ///
@@ -48,6 +49,9 @@ impl<C: Context, T: Writable<C>> FillsFront<T, C> for Whole {
         let mut count = 0;
         let mut end = 0;
         for item in items {
+            if buffer.len() - end < mem::size_of_val(item) {
+                return (count, end);
+            }
             let Some(more) = fill_prefix::<C, T, U>(item, context, &mut buffer[end..]) else {
                 return (count, end);
             };
@@ -68,6 +72,9 @@ impl<C: Context, T: Writable<C>> FillsFront<T, C> for Whole {
     {
         let mut end = 0;
         while let Some(item) = items.next() {
+            if buffer.len() - end < mem::size_of_val(&item) {
+                return (end, Some(item));
+            }
             let Some(more) = fill_prefix::<C, T, U>(&item, context, &mut buffer[end..]) else {
                 return (end, Some(item));
             };
