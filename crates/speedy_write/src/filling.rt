@@ -41,6 +41,9 @@ pub trait FillsFront<T: Layout, C: Context> {
 }
 
 /// The way of `Writable`: each value is written whole, or not at all.
+///
+/// The room is compared with a value's size in memory first, for speed alone: of parts of one size a compiler then
+/// leaves out the tests.
 pub(crate) struct Whole {}
 
 impl<C: Context, T: Writable<C>> FillsFront<T, C> for Whole {
