@@ -62,20 +62,6 @@ pub struct Section {
     pub entry_size: u64,
 }
 
-/// The table of segments, to its end.
-#[derive(Readable, Writable)]
-pub struct Segments {
-    #[speedy(length = ..)]
-    pub items: Vec<Segment>,
-}
-
-/// The table of sections, to its end.
-#[derive(Readable, Writable)]
-pub struct Sections {
-    #[speedy(length = ..)]
-    pub items: Vec<Section>,
-}
-
 /// A symbol (chapter 4, "Symbol Table").
 #[derive(Readable, Writable)]
 pub struct Symbol {
@@ -91,9 +77,9 @@ pub struct Symbol {
     pub size: u64,
 }
 
-/// A table of symbols, to its end.
+/// A table of segments, sections or symbols, to its end.
 #[derive(Readable, Writable)]
-pub struct Symbols {
+pub struct Table<T> {
     #[speedy(length = ..)]
-    pub items: Vec<Symbol>,
+    pub items: Vec<T>,
 }

@@ -7,7 +7,9 @@ ghost use Rattle.std.specs.Prelude.{[], ◌∷◌};
 use speedy::lengths::OfLength;
 use speedy::magic::{Constant, Magic};
 use speedy::whole::{EndsWithInput, MemoryReader, ReadToEnd, Rest, Whole, WriteToEnd};
-use speedy::{Context, ItemByItem, Layout, LendingReader, Part, ReadFrom, Writable, Writer};
+use speedy::{
+    Context, ItemByItem, Layout, LendingReader, Part, ReadFrom, ReadMany, Writable, Writer,
+};
 use std::convert::AsSlice;
 
 /// What a file begins with (chapter 4, "ELF Header").
@@ -334,74 +336,6 @@ impl<C: Context> Writable<C> for Section {
     }
 }
 
-/// The table of segments, to its end.
-#[derive(Drop)]
-pub struct Segments {
-    pub items: Vec<Segment>,
-}
-
-/// What [`Segments`] is read and written as.
-type SegmentsParts = Rest<Vec<Segment>>;
-
-impl Whole for Segments {
-    type Ends = EndsWithInput;
-
-    ghost Seen = { ⟦<SegmentsParts as Whole>⟧.Seen };
-
-    ghost seen = { λ it. ⟦<Vec<Segment> as OfLength>⟧.seen it.items };
-
-    ghost whole = { ⟦<SegmentsParts as Whole>⟧.whole };
-}
-
-impl<L: AsSlice<u8> + Drop, C: Context> ReadToEnd<L, C> for Segments {
-    fn read_to_end<R: MemoryReader<L, C>>(reader: &mut R) -> Result<Segments, C::Error> {
-        match <SegmentsParts as ReadToEnd<L, C>>::read_to_end(reader) {
-            Ok(Rest(items)) => Ok(Segments { items }),
-            Err(error) => Err(error),
-        }
-    }
-}
-
-impl<C: Context> WriteToEnd<C> for Segments {
-    fn write_to_end<W: Writer<C>>(&self, writer: &mut W) -> Result<(), C::Error> {
-        Rest(Part(&self.items)).write_to_end(writer)
-    }
-}
-
-/// The table of sections, to its end.
-#[derive(Drop)]
-pub struct Sections {
-    pub items: Vec<Section>,
-}
-
-/// What [`Sections`] is read and written as.
-type SectionsParts = Rest<Vec<Section>>;
-
-impl Whole for Sections {
-    type Ends = EndsWithInput;
-
-    ghost Seen = { ⟦<SectionsParts as Whole>⟧.Seen };
-
-    ghost seen = { λ it. ⟦<Vec<Section> as OfLength>⟧.seen it.items };
-
-    ghost whole = { ⟦<SectionsParts as Whole>⟧.whole };
-}
-
-impl<L: AsSlice<u8> + Drop, C: Context> ReadToEnd<L, C> for Sections {
-    fn read_to_end<R: MemoryReader<L, C>>(reader: &mut R) -> Result<Sections, C::Error> {
-        match <SectionsParts as ReadToEnd<L, C>>::read_to_end(reader) {
-            Ok(Rest(items)) => Ok(Sections { items }),
-            Err(error) => Err(error),
-        }
-    }
-}
-
-impl<C: Context> WriteToEnd<C> for Sections {
-    fn write_to_end<W: Writer<C>>(&self, writer: &mut W) -> Result<(), C::Error> {
-        Rest(Part(&self.items)).write_to_end(writer)
-    }
-}
-
 /// A symbol (chapter 4, "Symbol Table").
 #[derive(Drop)]
 pub struct Symbol {
@@ -471,35 +405,35 @@ impl<C: Context> Writable<C> for Symbol {
     }
 }
 
-/// A table of symbols, to its end.
+/// A table of segments, sections or symbols, to its end.
 #[derive(Drop)]
-pub struct Symbols {
-    pub items: Vec<Symbol>,
+pub struct Table<T> {
+    pub items: Vec<T>,
 }
 
-/// What [`Symbols`] is read and written as.
-type SymbolsParts = Rest<Vec<Symbol>>;
+/// What [`Table`] is read and written as.
+type TableParts<T> = Rest<Vec<T>>;
 
-impl Whole for Symbols {
+impl<T: Layout> Whole for Table<T> {
     type Ends = EndsWithInput;
 
-    ghost Seen = { ⟦<SymbolsParts as Whole>⟧.Seen };
+    ghost Seen = { ⟦<TableParts<T> as Whole>⟧.Seen };
 
-    ghost seen = { λ it. ⟦<Vec<Symbol> as OfLength>⟧.seen it.items };
+    ghost seen = { λ it. ⟦<Vec<T> as OfLength>⟧.seen it.items };
 
-    ghost whole = { ⟦<SymbolsParts as Whole>⟧.whole };
+    ghost whole = { ⟦<TableParts<T> as Whole>⟧.whole };
 }
 
-impl<L: AsSlice<u8> + Drop, C: Context> ReadToEnd<L, C> for Symbols {
-    fn read_to_end<R: MemoryReader<L, C>>(reader: &mut R) -> Result<Symbols, C::Error> {
-        match <SymbolsParts as ReadToEnd<L, C>>::read_to_end(reader) {
-            Ok(Rest(items)) => Ok(Symbols { items }),
+impl<L: AsSlice<u8> + Drop, C: Context, T: ReadMany<L, C>> ReadToEnd<L, C> for Table<T> {
+    fn read_to_end<R: MemoryReader<L, C>>(reader: &mut R) -> Result<Table<T>, C::Error> {
+        match <TableParts<T> as ReadToEnd<L, C>>::read_to_end(reader) {
+            Ok(Rest(items)) => Ok(Table { items }),
             Err(error) => Err(error),
         }
     }
 }
 
-impl<C: Context> WriteToEnd<C> for Symbols {
+impl<C: Context, T: Writable<C>> WriteToEnd<C> for Table<T> {
     fn write_to_end<W: Writer<C>>(&self, writer: &mut W) -> Result<(), C::Error> {
         Rest(Part(&self.items)).write_to_end(writer)
     }

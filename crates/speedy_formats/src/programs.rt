@@ -5,9 +5,9 @@ ghost use Rattle.speedy.specs.ReadWholes.{AnswersWhole};
 ghost use Rattle.speedy.specs.WaysOfReading.{AnswersBuffer};
 ghost use Rattle.speedy.specs.WaysOfWriting.{WritesToVec, WritesToVecIn};
 
-use crate::elf::{FileHeader, Section, Sections, Segments, Symbols};
+use crate::elf::{FileHeader, Section, Table};
 use speedy::whole::{ReadableWhole, Whole, WriteWhole};
-use speedy::{Endianness, Error, IsEof, Layout, Readable, Writable};
+use speedy::{Context, Endianness, Error, IsEof, Layout, ReadMany, Readable, Writable};
 use std::alloc::Global;
 
 /// The byte order of a file of 64 bits, which its fifth and sixth byte tell.
@@ -29,28 +29,16 @@ pub fn read_file_header(alloc: Global, order: Endianness, bytes: &[u8]) -> Resul
     <FileHeader as Readable<Endianness>>::read_from_buffer_with_ctx(alloc, order, bytes)
 }
 
-/// The segments that all of the bytes are.
-pub fn read_segments(alloc: Global, order: Endianness, table: &[u8]) -> Result<Segments, Error>
-    ensures { let it = ⟦<Segments as Whole>⟧ in
-        AnswersWhole ⟦<Error as IsEof>⟧ it.seen it.whole (plain_mode order) result table.now }
+/// The table that all of the bytes are: segments, sections or symbols.
+pub fn read_table<'a, C: Context, T: ReadMany<&'a [u8], C>>(
+    alloc: Global,
+    context: C,
+    table: &'a [u8],
+) -> Result<Table<T>, C::Error>
+    ensures { let it = ⟦<Table<T> as Whole>⟧ in
+        AnswersWhole C.Error.IsEof it.seen it.whole (C.mode context) result table.now }
 {
-    <Segments as ReadableWhole<Endianness>>::read_whole_from_buffer_with_ctx(alloc, order, table)
-}
-
-/// The sections that all of the bytes are.
-pub fn read_sections(alloc: Global, order: Endianness, table: &[u8]) -> Result<Sections, Error>
-    ensures { let it = ⟦<Sections as Whole>⟧ in
-        AnswersWhole ⟦<Error as IsEof>⟧ it.seen it.whole (plain_mode order) result table.now }
-{
-    <Sections as ReadableWhole<Endianness>>::read_whole_from_buffer_with_ctx(alloc, order, table)
-}
-
-/// The symbols that all of the bytes are.
-pub fn read_symbols(alloc: Global, order: Endianness, table: &[u8]) -> Result<Symbols, Error>
-    ensures { let it = ⟦<Symbols as Whole>⟧ in
-        AnswersWhole ⟦<Error as IsEof>⟧ it.seen it.whole (plain_mode order) result table.now }
-{
-    <Symbols as ReadableWhole<Endianness>>::read_whole_from_buffer_with_ctx(alloc, order, table)
+    <Table<T> as ReadableWhole<C>>::read_whole_from_buffer_with_ctx(alloc, context, table)
 }
 
 /// The bytes of a section, where they lie in the file.
@@ -73,37 +61,15 @@ pub fn file_header_bytes(
     header.write_to_vec_with_ctx(alloc, order)
 }
 
-/// The bytes of a table of segments, 56 for each.
-pub fn segments_bytes(
+/// The bytes of a table: 56 for each segment, 64 for each section, 24 for each symbol.
+pub fn table_bytes<T: Writable<Endianness>>(
     alloc: Global,
     order: Endianness,
-    segments: &Segments,
+    table: &Table<T>,
 ) -> Result<Vec<u8>, Error>
-    ensures { let it = ⟦<Segments as Whole>⟧ in
+    ensures { let it = ⟦<Table<T> as Whole>⟧ in
         WritesToVecIn ⟦<Error as From<Error>>⟧.from_gives (it.whole.format (plain_mode order))
-        (it.seen segments.now) (λ bytes. bytes.items) result }
+        (it.seen table.now) (λ bytes. bytes.items) result }
 {
-    segments.write_whole_to_vec_with_ctx(alloc, order)
-}
-
-/// The bytes of a table of sections, 64 for each.
-pub fn sections_bytes(
-    alloc: Global,
-    order: Endianness,
-    sections: &Sections,
-) -> Result<Vec<u8>, Error>
-    ensures { let it = ⟦<Sections as Whole>⟧ in
-        WritesToVecIn ⟦<Error as From<Error>>⟧.from_gives (it.whole.format (plain_mode order))
-        (it.seen sections.now) (λ bytes. bytes.items) result }
-{
-    sections.write_whole_to_vec_with_ctx(alloc, order)
-}
-
-/// The bytes of a table of symbols, 24 for each.
-pub fn symbols_bytes(alloc: Global, order: Endianness, symbols: &Symbols) -> Result<Vec<u8>, Error>
-    ensures { let it = ⟦<Symbols as Whole>⟧ in
-        WritesToVecIn ⟦<Error as From<Error>>⟧.from_gives (it.whole.format (plain_mode order))
-        (it.seen symbols.now) (λ bytes. bytes.items) result }
-{
-    symbols.write_whole_to_vec_with_ctx(alloc, order)
+    table.write_whole_to_vec_with_ctx(alloc, order)
 }

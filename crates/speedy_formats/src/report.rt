@@ -88,6 +88,18 @@ impl Failure {
     }
 }
 
+/// What was read as a part of this name, or that it is broken, at a byte.
+pub(crate) fn part_read<T: Drop>(
+    part: &'static str,
+    at: usize,
+    outcome: Result<T, Error>,
+) -> Result<T, Failure> {
+    match outcome {
+        Ok(value) => Ok(value),
+        Err(error) => Err(Broken::bytes(part, at, error)),
+    }
+}
+
 impl From<io::Error> for Failure {
     fn from(error: io::Error) -> Failure {
         Failure::Print(error)

@@ -1,10 +1,9 @@
 //! What an ELF file says of itself, much as `readelf -hlSsW` prints it.
-use crate::elf::{FileHeader, Section, Sections, Segment};
+use crate::elf::{FileHeader, Section, Segment};
 use crate::programs::{
-    file_header_bytes, order_of, read_file_header, read_sections, read_segments, section_bytes,
-    sections_bytes, segments_bytes,
+    file_header_bytes, order_of, read_file_header, read_table, section_bytes, table_bytes,
 };
-use crate::report::{Broken, Failure, Names, ShowItem, Text, show_items};
+use crate::report::{Broken, Failure, Names, ShowItem, Text, part_read, show_items};
 use crate::show_symbols::{is_again, section_at, show_symbols};
 use speedy::Endianness;
 use std::alloc::Global;
@@ -12,7 +11,7 @@ use std::io::{self, Write};
 
 /// Where a table lies in a file, with how it is named where it is broken.
 #[derive(Clone, Copy)]
-struct Table {
+struct Place {
     name: &'static str,
     /// Where the header tells its place.
     told_at: usize,
@@ -23,8 +22,8 @@ struct Table {
     count: u16,
 }
 
-/// The bytes of a table.
-fn table_bytes<'a>(bytes: &'a [u8], table: Table) -> Result<&'a [u8], Failure> {
+/// The bytes of the file that a table has.
+fn find_table<'a>(bytes: &'a [u8], table: Place) -> Result<&'a [u8], Failure> {
     if table.count == 0 {
         return Ok(&bytes[..0]);
     }
@@ -54,29 +53,32 @@ pub(crate) fn show_elf<W: Write + Drop>(
             "it is not of 64 bits in a known order",
         ));
     };
-    let header = match read_file_header(alloc, order, bytes) {
-        Ok(header) => header,
-        Err(error) => return Err(Broken::bytes("the header", bytes.len(), error)),
-    };
-    let segment_table = table_bytes(bytes, segment_table(&header))?;
-    let section_table = table_bytes(bytes, section_table(&header))?;
-    let segments = match read_segments(alloc, order, segment_table) {
-        Ok(segments) => segments,
-        Err(error) => return Err(Broken::bytes("the segments", 0x20, error)),
-    };
-    let sections = match read_sections(alloc, order, section_table) {
-        Ok(sections) => sections,
-        Err(error) => return Err(Broken::bytes("the sections", 0x28, error)),
-    };
-    let names = names_of(bytes, &header, &sections)?;
-    check_names(&header, &sections, names)?;
+    let header = part_read(
+        "the header",
+        bytes.len(),
+        read_file_header(alloc, order, bytes),
+    )?;
+    let segment_table = find_table(bytes, segment_place(&header))?;
+    let section_table = find_table(bytes, section_place(&header))?;
+    let segments = part_read(
+        "the segments",
+        0x20,
+        read_table::<_, Segment>(alloc, order, segment_table),
+    )?;
+    let sections = part_read(
+        "the sections",
+        0x28,
+        read_table::<_, Section>(alloc, order, section_table),
+    )?;
+    let names = names_of(bytes, &header, &sections.items)?;
+    check_names(&header, &sections.items, names)?;
     show_header(out, &header, order)?;
     show_items(out, ("  ", " segments"), &segments.items, (), most)?;
     show_items(out, ("  ", " sections"), &sections.items, names, most)?;
-    let symbols_again = show_symbols(alloc, out, bytes, &header, order, &sections, most)?;
+    let symbols_again = show_symbols(alloc, out, bytes, &header, order, &sections.items, most)?;
     let header_again = is_again(file_header_bytes(alloc, order, &header), bytes.get(..64));
-    let segments_again = is_again(segments_bytes(alloc, order, &segments), Some(segment_table));
-    let sections_again = is_again(sections_bytes(alloc, order, &sections), Some(section_table));
+    let segments_again = is_again(table_bytes(alloc, order, &segments), Some(segment_table));
+    let sections_again = is_again(table_bytes(alloc, order, &sections), Some(section_table));
     let same = if header_again && segments_again && sections_again && symbols_again {
         "the same"
     } else {
@@ -86,8 +88,8 @@ pub(crate) fn show_elf<W: Write + Drop>(
     Ok(())
 }
 
-fn segment_table(header: &FileHeader) -> Table {
-    Table {
+fn segment_place(header: &FileHeader) -> Place {
+    Place {
         name: "table of segments",
         told_at: 0x20,
         offset: header.segments_offset,
@@ -97,8 +99,8 @@ fn segment_table(header: &FileHeader) -> Table {
     }
 }
 
-fn section_table(header: &FileHeader) -> Table {
-    Table {
+fn section_place(header: &FileHeader) -> Place {
+    Place {
         name: "table of sections",
         told_at: 0x28,
         offset: header.sections_offset,
@@ -112,12 +114,12 @@ fn section_table(header: &FileHeader) -> Table {
 fn names_of<'a>(
     bytes: &'a [u8],
     header: &FileHeader,
-    sections: &Sections,
+    sections: &[Section],
 ) -> Result<Names<'a>, Failure> {
     if header.names == 0 {
         return Ok(Names::new(b""));
     }
-    let Some(section) = sections.items.get(usize::from(header.names)) else {
+    let Some(section) = sections.get(usize::from(header.names)) else {
         return Err(Broken::value(
             "section of names",
             usize::from(header.names),
@@ -137,11 +139,11 @@ fn names_of<'a>(
 }
 
 /// Looks that each section has a name, where there are names.
-fn check_names(header: &FileHeader, sections: &Sections, names: Names<'_>) -> Result<(), Failure> {
+fn check_names(header: &FileHeader, sections: &[Section], names: Names<'_>) -> Result<(), Failure> {
     if header.names == 0 {
         return Ok(());
     }
-    for (number, section) in sections.items.iter().enumerate() {
+    for (number, section) in sections.iter().enumerate() {
         if !names.has(section.name as usize) {
             let at = section_at(header, number);
             return Err(Broken::value("section", number, at, "there is no such name"));

@@ -1,7 +1,9 @@
 //! What a file of captured packets holds, much as `tcpdump` prints it.
 use crate::captures::{capture_bytes, next_packet, order_of, read_capture};
 use crate::pcap::{FileHeader, Packet};
-use crate::report::{Broken, Failure, ShowItem, pass_values, show_items, write_again, write_rest};
+use crate::report::{
+    Broken, Failure, ShowItem, part_read, pass_values, show_items, write_again, write_rest,
+};
 use crate::times::Moment;
 use speedy::device::Source;
 use speedy::readable::{BufferReader, StreamReader};
@@ -105,18 +107,16 @@ pub(crate) fn show_stream<W: Write + Drop, S: Source>(
     most: usize,
 ) -> Result<(), Failure> {
     let mut reader = StreamReader::new(alloc, Endianness::LittleEndian, source, true)?;
-    let magic = match reader.peek_u32() {
-        Ok(magic) => magic.to_le_bytes(),
-        Err(error) => return Err(Broken::bytes("the magic number", 0, error)),
-    };
-    let Some((order, is_fine)) = order_of(&magic) else {
+    let magic = part_read("the magic number", 0, reader.peek_u32())?;
+    let Some((order, is_fine)) = order_of(&magic.to_le_bytes()) else {
         return Err(Broken::value("magic number", 0, 0, "it is none of this format"));
     };
     *reader.context_mut() = order;
-    match reader.read_value() {
-        Ok(header) => show_header(out, &header, order)?,
-        Err(error) => return Err(Broken::bytes("the header", 0, error)),
-    }
+    show_header(
+        out,
+        &part_read("the header", 0, reader.read_value())?,
+        order,
+    )?;
     show_rest(out, &mut reader, is_fine, most)
 }
 

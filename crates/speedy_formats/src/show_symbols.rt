@@ -1,7 +1,7 @@
 //! The symbols of an ELF file.
-use crate::elf::{FileHeader, Section, Sections, Symbol};
-use crate::programs::{read_symbols, section_bytes, symbols_bytes};
-use crate::report::{Broken, Failure, Names, ShowItem, Text, show_items};
+use crate::elf::{FileHeader, Section, Symbol};
+use crate::programs::{read_table, section_bytes, table_bytes};
+use crate::report::{Broken, Failure, Names, ShowItem, Text, part_read, show_items};
 use speedy::{Endianness, Error};
 use std::alloc::Global;
 use std::io::{self, Write};
@@ -29,7 +29,7 @@ pub(crate) fn is_again(written: Result<Vec<u8>, Error>, bytes: Option<&[u8]>) ->
 fn table_of<'a>(
     bytes: &'a [u8],
     section: &Section,
-    sections: &Sections,
+    sections: &[Section],
     most: usize,
 ) -> Result<(&'a [u8], Names<'a>), &'static str> {
     if section.entry_size != SYMBOL || section.size % SYMBOL != 0 {
@@ -41,7 +41,7 @@ fn table_of<'a>(
     if table.len() > most {
         return Err("it overlaps another table of symbols");
     }
-    let Some(names) = sections.items.get(section.link as usize) else {
+    let Some(names) = sections.get(section.link as usize) else {
         return Err("it has no section of names");
     };
     match section_bytes(bytes, names) {
@@ -74,12 +74,13 @@ fn show_table<W: Write + Drop>(
     names: Names<'_>,
     most: usize,
 ) -> Result<bool, Failure> {
-    let symbols = match read_symbols(alloc, order, table) {
-        Ok(symbols) => symbols,
-        Err(error) => return Err(Broken::bytes("the symbols", table.len(), error)),
-    };
+    let symbols = part_read(
+        "the symbols",
+        table.len(),
+        read_table::<_, Symbol>(alloc, order, table),
+    )?;
     show_items(out, ("", " symbols"), &symbols.items, names, most)?;
-    Ok(is_again(symbols_bytes(alloc, order, &symbols), Some(table)))
+    Ok(is_again(table_bytes(alloc, order, &symbols), Some(table)))
 }
 
 /// Shows each table of symbols, and says whether all were written again as they were. Tables that overlap are refused:
@@ -90,12 +91,12 @@ pub(crate) fn show_symbols<W: Write + Drop>(
     bytes: &[u8],
     header: &FileHeader,
     order: Endianness,
-    sections: &Sections,
+    sections: &[Section],
     most: usize,
 ) -> Result<bool, Failure> {
     let mut again = true;
     let mut left = bytes.len();
-    for (number, section) in sections.items.iter().enumerate() {
+    for (number, section) in sections.iter().enumerate() {
         if !TABLES.contains(&section.kind) {
             continue;
         }
