@@ -16,16 +16,16 @@ use std::mem;
 /// `Writer` comes before `Writable`, and cannot name it. So a writer that lends its room takes the way of writing to it
 /// as a type.
 pub trait FillsFront<T: Layout, C: Context> {
-    /// Writes the first of the items to the front of a buffer, as many as fit, and says how many, and where they end.
-    /// `U` says what the buffer is used for.
+    /// Writes the first of the items to the front of a buffer, and says how many, and where they end. It may stop
+    /// before any of them, as before the first that does not fit. `U` says what the buffer is used for.
     fn fill_each<U>(items: &[T], context: &mut C, buffer: &mut [u8]) -> (usize, usize)
         ensures mode { C.mode context.new ≡ C.mode context.old }
         ensures some { result.0 ≤ length items.now }
         ensures fills { let format = T.layout.format (C.mode context.old) in
             IsAtFront (Each format.writes) (map T.seen (take result.0 items.now)) buffer.new result.1 };
 
-    /// Writes the first of the items that an iterator gives to the front of a buffer, as many as fit. It says where
-    /// they end, and returns the next item, or `None` where none is left.
+    /// Writes the first of the items that an iterator gives to the front of a buffer. It says where they end, and
+    /// returns the next item, or `None` where none is left. It may stop before any of them too.
     fn fill_from<U, I: Iterator<Item = T>>(
         items: &mut I,
         context: &mut C,
