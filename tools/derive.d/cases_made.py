@@ -377,6 +377,9 @@ struct Index<K: Ord, V> {
      ["Context as SpeedyContext,", "Layout as SpeedyLayout,", "Writer as SpeedyWriter,",
       "use std::result::Result as StdResult;", "enum Result {", "0 => match reader.read_value() {", "    type_: u8,",
       "type ContextPartsParts = (u8, u8);", "    ghost_: u8,", "reader: reader_,"]),
+    ("a type called `Drop` beside one that holds itself", DERIVES + "struct Drop(u8);\n"
+     + "#[derive(Readable, Writable)]\n#[speedy(depth = 4)]\nstruct Node { a: Drop, b: Vec<Node> }\n",
+     ["use std::ops::Drop as StdDrop;", "#[derive(Drop)]\nstruct Drop(u8);", "#[derive(Drop)]\nstruct NodeLevel("]),
     ("keys of one's own", "use std::collections::BTreeMap;\n"
      "#[derive(PartialEq, Eq, PartialOrd, Ord, Readable, Writable)]\nstruct Key { a: u8, b: String }\n"
      "#[derive(PartialEq, Eq, Hash, Readable, Writable)]\nenum Kind { A, B }\n"

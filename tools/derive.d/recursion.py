@@ -349,7 +349,7 @@ class LevelShape(Shape):
         scope, level, name = self.scope, self.level, self.item.name
         scope.ghosts.add("ℕ")
         scope.ghost_paths |= {f"{LAYERS}.levels_above", f"{LAYERS}.at_level"}
-        return [f"/// The levels that are left for a [`{name}`].", f"#[derive({scope.prelude('Drop')})]",
+        return [f"/// The levels that are left for a [`{name}`].", "#[derive(Drop)]",
                 f"struct {level}({scope.prelude('Option')}<&'static {level}>);", "",
                 *impl([], self.holding.need("Levels"), level, "", [
                     self.declared(level, f"fold-{level}"), "",
