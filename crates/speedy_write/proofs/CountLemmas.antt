@@ -14,7 +14,7 @@ use Rattle.speedy_layout.specs.Wholes.{WholeLaws, whole_laws}
 use Rattle.speedy_layout.specs.Lists.{each_append, each_more, repeat, repeat_laws}
 use Rattle.speedy_write.specs.Writing.{WriterState, Writes, WritesEach, WritesBytes, CountsBytes}
 use Rattle.speedy_write.specs.Sequences.{form_written, whole_form_written, one_whole_length}
-use Rattle.speedy_write.specs.Counting.{counting_state, CountAppends, CountsEach, Takes}
+use Rattle.speedy_write.specs.Counting.{counting_state, CountAppends, CountsEach, HasSize}
 use Rattle.speedy_write.specs.WaysOfWriting.{NeedsIn}
 use Rattle.speedy_write.proofs.ListLemmas.{first_items}
 
@@ -53,7 +53,7 @@ counted laws = whole_counted (whole_laws laws)
 -- one more item is counted
 pub one_more_counted : {A V : Type 0} {x : A} {sum size : ℕ} (writes : V → List ℕ → Type 0) (seen : A → V)
     (items : List A) (i : ℕ) → i < length items → x ≡ get_or items i x → CountsEach writes (map seen (take i items)) sum
-    → Takes writes (seen x) size → CountsEach writes (map seen (take (i + 1) items)) (sum + size)
+    → HasSize writes (seen x) size → CountsEach writes (map seen (take (i + 1) items)) (sum + size)
 one_more_counted {x = x} writes seen items i within is h k = (
   h.0 ++ k.0,
   subst (λ vs. Each writes vs (h.0 ++ k.0))
@@ -103,17 +103,17 @@ items_counted_if gives state appends F old new seen items laws h (Some written) 
 pub whole_item_counted : {E V : Type 0} {gives : Error → E → Type 0} {F : Mode → Format V} {size : ℕ}
     {result : Result (Unit {0}) E} {old new : WriterState} {appended : List ℕ → Type 0} {mode : Mode} {v : V}
     → ((mode : Mode) → WholeLaws mode.strict (F mode)) → mode ≡ old.mode
-    → Takes (F mode).writes v size
+    → HasSize (F mode).writes v size
     → ((bytes : List ℕ) → length bytes ≡ size → WritesBytes gives bytes result old new appended)
     → Writes gives F v result old new appended
 whole_item_counted {F = F} {size = size} {v = v} laws same h told =
-    let k = subst (λ (e : Mode). Takes (F e).writes v size) same h in
+    let k = subst (λ (e : Mode). HasSize (F e).writes v size) same h in
     whole_form_written laws k.1 (told k.0 (sym k.2))
 
 pub item_counted : {E V : Type 0} {gives : Error → E → Type 0} {F : Mode → Format V} {least size : ℕ}
     {result : Result (Unit {0}) E} {old new : WriterState} {appended : List ℕ → Type 0} {mode : Mode} {v : V}
     → ((mode : Mode) → Laws mode.strict least (F mode)) → mode ≡ old.mode
-    → Takes (F mode).writes v size
+    → HasSize (F mode).writes v size
     → ((bytes : List ℕ) → length bytes ≡ size → WritesBytes gives bytes result old new appended)
     → Writes gives F v result old new appended
 item_counted laws = whole_item_counted (λ mode. whole_laws (laws mode))

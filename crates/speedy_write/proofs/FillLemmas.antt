@@ -2,6 +2,7 @@
 use Rattle.std.specs.Prelude.{◌≡◌, ℕ, ◌-◌, ◌≤◌, List, ◌++◌, length, Bool, Result, Ok, Err, IsOk, refl}
 use Rattle.std.specs.Borrow.{GName}
 use Rattle.std.proofs.Common.{◌∙◌, sym, ap, subst, arith, inl, inr}
+use Rattle.std.proofs.Math.Nat.{lt_of_not-le}
 use Rattle.std.proofs.lemmas.List.{append-nil, drop_all}
 use Rattle.speedy_base.specs.declared.error.Error.{Error}
 use Rattle.speedy_base.specs.declared.device.Faults.{Faults}
@@ -11,7 +12,7 @@ use Rattle.speedy_base.specs.Mode.{Mode}
 use Rattle.speedy_layout.specs.Format.{Format}
 use Rattle.speedy_layout.specs.Wholes.{WholeLaws}
 use Rattle.speedy_write.specs.Writing.{WriterState, Writes}
-use Rattle.speedy_write.specs.Collectors.{buffer_state, BufferAppends}
+use Rattle.speedy_write.specs.Collectors.{buffer_state, BufferAppends, DoesNotFit}
 use Rattle.speedy_write.specs.WaysOfWriting.{IsShortest, Stands}
 use Rattle.speedy_write.specs.CollectorLemmas.{put_in_front}
 use Rattle.speedy_write.specs.Sequences.{one_whole_length}
@@ -59,6 +60,13 @@ module _ {E : Type 0} {gives : Error → E → Type 0} {V : Type 0} {F : Mode �
         → IsOk result
     fill_succeeds bytes (Ok u) writes fit none w = refl
     fill_succeeds bytes (Err e) writes fit none w = absurd (never_refused bytes writes fit none (restated w))
+
+    -- what is refused does not fit
+    pub refused_too_long : {e : E} → after.faults ≡ no_faults
+        → Writes gives F v (Err e) (buffer_state at targets (length A - p)) after (λ b. BufferAppends p A b q B)
+        → DoesNotFit (F mode).writes v (length old)
+    refused_too_long none w bytes writes =
+        lt_of_not-le (λ fit. never_refused bytes writes fit none (restated w))
 
     -- and what it puts stands at the front
     pub fill_stands : {new : List ℕ} (result : Result (Unit {0}) E)

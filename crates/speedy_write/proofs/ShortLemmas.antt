@@ -10,11 +10,11 @@ use Rattle.speedy_layout.specs.Encoding.{Encodes}
 use Rattle.speedy_layout.specs.Format.{Parts-joined}
 use Rattle.speedy_layout.specs.Numbers.{unsigned_codec, unsigned_number}
 use Rattle.speedy_layout.specs.Sequences.{sequence}
-use Rattle.speedy_write.specs.Counting.{Takes}
+use Rattle.speedy_write.specs.Counting.{HasSize}
 
 -- an address of 4 octets, which are encoded as a number, takes five bytes
 pub short_address_takes : (mode : Mode) (octets : List ℕ) (n : ℕ) → n < 2 ^ 32
-    → Encodes (unsigned_codec 4) (address_codec 4) n octets → Takes (ip_address mode).writes (inl octets) 5
+    → Encodes (unsigned_codec 4) (address_codec 4) n octets → HasSize (ip_address mode).writes (inl octets) 5
 unfolding sequence coding unsigned_number
 short_address_takes mode octets n small is =
     let number = digits mode.order 4 n in (
@@ -27,7 +27,7 @@ short_address_takes mode octets n small is =
 
 -- and one of 16 takes seventeen
 pub long_address_takes : (mode : Mode) (octets : List ℕ) (n : ℕ) → n < 2 ^ 128
-    → Encodes (unsigned_codec 16) (address_codec 16) n octets → Takes (ip_address mode).writes (inr octets) 17
+    → Encodes (unsigned_codec 16) (address_codec 16) n octets → HasSize (ip_address mode).writes (inr octets) 17
 unfolding sequence coding unsigned_number
 long_address_takes mode octets n small is =
     let number = digits mode.order 16 n in (

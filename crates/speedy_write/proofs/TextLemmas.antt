@@ -15,11 +15,11 @@ use Rattle.speedy_layout.specs.Numbers.{unsigned_number}
 use Rattle.speedy_layout.specs.Owned.{owned_content, borrowed_content}
 use Rattle.speedy_layout.specs.Sequences.{sequence}
 use Rattle.speedy_layout.specs.Texts.{raw_bytes, text, text_of_length}
-use Rattle.speedy_write.specs.Counting.{CountsEach, Takes}
+use Rattle.speedy_write.specs.Counting.{CountsEach, HasSize}
 use Rattle.speedy_write.proofs.CountLemmas.{one_more_counted}
 
 -- a text whose length four bytes hold takes these and as many bytes as it has
-pub text_takes : (mode : Mode) (v : List ℕ) → IsUtf8 v → length v < 2 ^ 32 → Takes (text mode).writes v (length v + 4)
+pub text_takes : (mode : Mode) (v : List ℕ) → IsUtf8 v → length v < 2 ^ 32 → HasSize (text mode).writes v (length v + 4)
 unfolding text text_of_length owned_content coding raw_bytes sequence unsigned_number
 text_takes mode v utf8 few =
     let count = digits mode.order 4 (length v) in (
@@ -30,8 +30,8 @@ text_takes mode v utf8 few =
     )
 
 -- and one that is borrowed takes as many
-pub borrowed_takes : {V : Type 0} (F : Format V) {v : V} {size : ℕ} → Takes F.writes v size
-    → Takes (borrowed_content F).writes v size
+pub borrowed_takes : {V : Type 0} (F : Format V) {v : V} {size : ℕ} → HasSize F.writes v size
+    → HasSize (borrowed_content F).writes v size
 unfolding borrowed_content
 borrowed_takes F h = h
 
@@ -45,7 +45,7 @@ Joined F seen texts i joined sum = joined < 2 ^ 32 →
 pub one_more_joined : {A V : Type 0} (F : Mode → Format V) (seen : A → V) (texts : List A) {x : A}
     {i joined sum size : ℕ} → i < length texts → length texts ≤ 4294967295 → x ≡ get_or texts i x
     → Joined F seen texts i joined sum
-    → ((mode : Mode) → size < 2 ^ 32 → Takes (F mode).writes (seen x) (size + 4))
+    → ((mode : Mode) → size < 2 ^ 32 → HasSize (F mode).writes (seen x) (size + 4))
     → Joined F seen texts (i + 1) (bit_or joined size) ((sum + size) % 2 ^ 64)
 one_more_joined F seen texts {x = x} {i = i} {joined = joined} {sum = sum} {size = size}
     within few is h takes below =

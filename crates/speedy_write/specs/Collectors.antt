@@ -1,7 +1,10 @@
 -- What the collectors hold.
-use Rattle.std.specs.Prelude.{◌≡◌, ℕ, ◌+◌, ◌-◌, ◌^◌, ◌≤◌, List, [], ◌∷◌, ◌++◌, length, take, drop, Some, None, true}
-use Rattle.std.specs.Prelude.{false, IsTrue}
+use Rattle.std.specs.Prelude.{◌≡◌, ℕ, ◌+◌, ◌-◌, ◌^◌, ◌<◌, ◌≤◌, ◌⊎◌, List, [], ◌∷◌, ◌++◌, length, take, drop, Some, None}
+use Rattle.std.specs.Prelude.{true, false, IsTrue, Option, IfSome}
 use Rattle.std.specs.Borrow.{GName}
+use denote.Memory.{lone}
+use denote.RattleType.{RattleType}
+use prog.Memory.{size, capped}
 use Rattle.speedy_base.specs.declared.error.ErrorKind.TheVariants as kinds
 use Rattle.speedy_base.specs.Device.{SinkState, SinkKept}
 use Rattle.speedy_base.specs.MemoryDevices.{no_faults}
@@ -48,6 +51,18 @@ pub record BufferAppends (position : ℕ) (buffer bytes : List ℕ) (end : ℕ) 
 pub record IsAtFront {V : Type 0} (writes : V → List ℕ → Type 0) (v : V) (buffer : List ℕ) (end : ℕ) : Type 0 where
   pub within : end ≤ length buffer
   pub is_written : writes v (take end buffer)
+
+-- a value does not fit in a room: it has no encoding, or each is longer
+abbrev pub DoesNotFit : {V : Type 0} → (V → List ℕ → Type 0) → V → ℕ → Type 0
+DoesNotFit writes v room = (bytes : List ℕ) → writes v bytes → room < length bytes
+
+-- how many bytes a value of a type takes in memory, as `mem::size_of_val` tells
+abbrev pub value_size : RattleType → ℕ
+value_size R = capped (size (lone R.mir))
+
+-- the next item, if there is one, does not fit in the room that is left, or that is shorter than the item is in memory
+abbrev pub NextHasNoRoom : {A V : Type 0} → ℕ → (V → List ℕ → Type 0) → (A → V) → Option A → ℕ → Type 0
+NextHasNoRoom size writes seen next room = IfSome next (λ x. (room < size) ⊎ DoesNotFit writes (seen x) room)
 
 -- the sum grows by the number of bytes
 abbrev pub SizeAppends : ℕ → List ℕ → ℕ → Type 0

@@ -29,8 +29,8 @@ pub count_additive : (a b c : ℕ) (s t : List ℕ) → CountAppends a s b → C
 count_additive a b c s t h k = omega (arith, length-append s t)
 
 -- the value has a canonical encoding of n bytes
-abbrev pub Takes : {V : Type 0} → (V → List ℕ → Type 0) → V → ℕ → Type 0
-Takes writes v size = (bytes : List ℕ) × writes v bytes × (size ≡ length bytes)
+abbrev pub HasSize : {V : Type 0} → (V → List ℕ → Type 0) → V → ℕ → Type 0
+HasSize writes v size = (bytes : List ℕ) × writes v bytes × (size ≡ length bytes)
 
 -- the values, one after another, have a canonical encoding of n bytes
 abbrev pub CountsEach : {V : Type 0} → (V → List ℕ → Type 0) → List V → ℕ → Type 0

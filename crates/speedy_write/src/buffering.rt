@@ -4,9 +4,9 @@
 ghost use Rattle.std.specs.Borrow.{GName};
 ghost use Rattle.std.specs.Iterator.{IsFinite};
 ghost use Rattle.std.specs.Prelude.{◌≡◌, ◌+◌, ◌-◌, ◌*◌, ◌≤◌, ◌↔◌, List, [], ◌++◌, length, map, take, drop, None};
-ghost use Rattle.std.specs.Prelude.{IsTrue, OnOk, IsSome, MatchOption, refl};
+ghost use Rattle.std.specs.Prelude.{IsTrue, Ok, OnOk, IsSome, MatchOption, slice_get, refl};
 ghost use Rattle.speedy_base.specs.Mode.{Mode};
-ghost use Rattle.speedy_write.specs.Collectors.{sink_state};
+ghost use Rattle.speedy_write.specs.Collectors.{sink_state, NextHasNoRoom, value_size};
 ghost use Rattle.speedy_write.specs.FixedBytes.{PutsBehind};
 ghost use Rattle.speedy_write.specs.Writing.{WritesBytes, RefusesFull, WritesValues, WritesSlice};
 ghost use Rattle.speedy_write.specs.Collections.{TakesSome};
@@ -96,6 +96,9 @@ impl<'b> Waiting<'b> {
         ensures adds { let format = T.layout.format (C.mode context.old) in (put : List T)
             × TakesSome I.can_next I.remaining I.next_gives put result items.old items.new
             × WaitsBehind (Each format.writes) (map T.seen put) (waiting self.old) (waiting self.new) }
+        ensures stops { let format = T.layout.format (C.mode context.old) in
+            NextHasNoRoom (value_size T.row) format.writes T.seen result
+            (length self.new.room.now - self.new.end) }
     {
         let start = self.end;
         let (end, next) = P::fill_from::<Room, I>(items, context, &mut self.room[start..]);
@@ -115,6 +118,9 @@ impl<'b> Waiting<'b> {
         ensures adds { let format = T.layout.format (C.mode context.old) in
             WaitsBehind (Each format.writes) (map T.seen (take result items.now)) (waiting self.old)
             (waiting self.new) }
+        ensures stops { let format = T.layout.format (C.mode context.old) in
+            NextHasNoRoom (value_size T.row) format.writes T.seen (slice_get items.now result)
+            (length self.new.room.now - self.new.end) }
     {
         let start = self.end;
         let (count, end) = P::fill_each::<Room>(items, context, &mut self.room[start..]);
@@ -369,14 +375,32 @@ impl<'s, S: Sink, C: Context> Writer<C> for BufferingCollector<'s, S, C> {
     fn put_from<T: Layout + Drop, P: FillsFront<T, C>, I: Iterator<Item = T>>(
         &mut self,
         items: &mut I,
-    ) -> Option<T> {
+    ) -> Option<T>
+        requires { I.can_next items.old × IsFinite (I.remaining items.old) }
+        ensures puts { let writer = ⟦<BufferingCollector<'s, S, C> as Writer<C>>⟧ in (put : List T)
+            × TakesSome I.can_next I.remaining I.next_gives put result items.old items.new
+            × WritesValues C.Error.from_gives writer.state writer.appends T.seen T.layout put (Ok tt)
+            self.old self.new }
+        ensures stops { let format = T.layout.format (C.mode self.old.context) in
+            let held = self.new.waiting in
+            NextHasNoRoom (value_size T.row) format.writes T.seen result (length held.room.now - held.end) }
+    {
         self.waiting
             .add_from::<C, T, P, I>(items, &mut self.context)
     }
 
     /// Writes the items where others wait, as many as have room there.
     #[inline]
-    fn put_each<T: Layout, P: FillsFront<T, C>>(&mut self, items: &[T]) -> usize {
+    fn put_each<T: Layout, P: FillsFront<T, C>>(&mut self, items: &[T]) -> usize
+        ensures some { result ≤ length items.now }
+        ensures puts { let writer = ⟦<BufferingCollector<'s, S, C> as Writer<C>>⟧ in
+            WritesValues C.Error.from_gives writer.state writer.appends T.seen T.layout
+            (take result items.now) (Ok tt) self.old self.new }
+        ensures stops { let format = T.layout.format (C.mode self.old.context) in
+            let held = self.new.waiting in
+            NextHasNoRoom (value_size T.row) format.writes T.seen (slice_get items.now result)
+            (length held.room.now - held.end) }
+    {
         self.waiting.add_each::<C, T, P>(items, &mut self.context)
     }
 

@@ -1,11 +1,14 @@
 //! The writers of the ways of writing: into a buffer, into a vector, into a sink, and one that only counts.
 ghost use Rattle.std.specs.Prelude.{◌≡◌, ◌+◌, ◌-◌, ◌*◌, ◌^◌, ◌≤◌, ℕ, [], ◌∷◌, ◌++◌, length, vec_len, vec_capacity};
-ghost use Rattle.std.specs.Prelude.{Some, None, IsOk, IfErr, OnErr, IsSome, MatchOption, take, nat_le, refl};
+ghost use Rattle.std.specs.Prelude.{Ok, Some, None, IsOk, IfErr, OnErr, IsSome, MatchOption, List, take, slice_get};
+ghost use Rattle.std.specs.Prelude.{nat_le, refl};
+ghost use Rattle.std.specs.Iterator.{IsFinite};
 ghost use Rattle.speedy_base.specs.FailedCalls.{IsOfFailedCall};
 ghost use Rattle.speedy_write.specs.Writing.{RefusesFull, CountsBytes, WritesValues, WritesSlice};
 ghost use Rattle.speedy_write.specs.Pushing.{PushesAll};
 ghost use Rattle.speedy_write.specs.Collectors.{buffer_state, BufferAppends, size_state, SizeAppends, sink_state};
-ghost use Rattle.speedy_write.specs.Collectors.{SinkTakes};
+ghost use Rattle.speedy_write.specs.Collectors.{SinkTakes, NextHasNoRoom, value_size};
+ghost use Rattle.speedy_write.specs.Collections.{TakesSome};
 ghost use Rattle.speedy_write.specs.CollectorLemmas.{buffer_nothing, buffer_additive, vec_nothing, vec_additive};
 ghost use Rattle.speedy_write.specs.CollectorLemmas.{size_nothing, size_additive, sink_nothing, sink_additive};
 
@@ -260,7 +263,16 @@ impl<'a, C: Context> Writer<C> for VecCollector<'a, C> {
     fn put_from<T: Layout + Drop, P: FillsFront<T, C>, I: Iterator<Item = T>>(
         &mut self,
         items: &mut I,
-    ) -> Option<T> {
+    ) -> Option<T>
+        requires { I.can_next items.old × IsFinite (I.remaining items.old) }
+        ensures puts { let writer = ⟦<VecCollector<'a, C> as Writer<C>>⟧ in (put : List T)
+            × TakesSome I.can_next I.remaining I.next_gives put result items.old items.new
+            × WritesValues C.Error.from_gives writer.state writer.appends T.seen T.layout put (Ok tt)
+            self.old self.new }
+        ensures stops { let format = T.layout.format (C.mode self.old.context.now) in
+            NextHasNoRoom (value_size T.row) format.writes T.seen result
+            (vec_len self.new.bytes.now - self.new.position) }
+    {
         let start = self.position;
         let zeros = &mut self.bytes.as_mut_slice()[start..];
         let (end, next) = P::fill_from::<Zeros, I>(items, &mut *self.context, zeros);
@@ -270,7 +282,15 @@ impl<'a, C: Context> Writer<C> for VecCollector<'a, C> {
 
     /// Writes the items over the zeros, as many as fit there.
     #[inline]
-    fn put_each<T: Layout, P: FillsFront<T, C>>(&mut self, items: &[T]) -> usize {
+    fn put_each<T: Layout, P: FillsFront<T, C>>(&mut self, items: &[T]) -> usize
+        ensures some { result ≤ length items.now }
+        ensures puts { let writer = ⟦<VecCollector<'a, C> as Writer<C>>⟧ in
+            WritesValues C.Error.from_gives writer.state writer.appends T.seen T.layout
+            (take result items.now) (Ok tt) self.old self.new }
+        ensures stops { let format = T.layout.format (C.mode self.old.context.now) in
+            NextHasNoRoom (value_size T.row) format.writes T.seen (slice_get items.now result)
+            (vec_len self.new.bytes.now - self.new.position) }
+    {
         let start = self.position;
         let zeros = &mut self.bytes.as_mut_slice()[start..];
         let (count, end) = P::fill_each::<Zeros>(items, &mut *self.context, zeros);

@@ -1,7 +1,7 @@
 //! Items that are written one after another, or counted together.
 ghost use Rattle.std.specs.Prelude.{◌≡◌, ◌≤◌, ◌*◌, length, map, IfSome, MatchOption};
 ghost use Rattle.speedy_base.specs.Mode.{Mode};
-ghost use Rattle.speedy_write.specs.Counting.{CountsEach, Takes};
+ghost use Rattle.speedy_write.specs.Counting.{CountsEach, HasSize};
 ghost use Rattle.speedy_write.specs.Writing.{WritesValue, WritesValues};
 
 use crate::filling::Whole;
@@ -130,7 +130,7 @@ pub(crate) trait Short: Layout {
     fn size(&self) -> usize
         ensures few { result ≤ 31 }
         ensures takes { (mode : Mode) →
-            Takes (Self.layout.format mode).writes (Self.seen self.now) result };
+            HasSize (Self.layout.format mode).writes (Self.seen self.now) result };
 }
 
 // Tells a writer that counts how many bytes the values take together. On another writer it does nothing.

@@ -1,9 +1,9 @@
 //! How items are written whole where a writer has room: to the front of a buffer, as many as fit (`FillsFront`).
 ghost use Rattle.std.specs.Iterator.{IsFinite};
-ghost use Rattle.std.specs.Prelude.{◌≡◌, ◌≤◌, List, length, map, take, IfSome};
+ghost use Rattle.std.specs.Prelude.{◌≡◌, ◌-◌, ◌≤◌, List, length, map, take, slice_get, IfSome, IfNone};
 ghost use Rattle.speedy_layout.specs.Format.{Each};
 ghost use Rattle.speedy_write.specs.Collections.{TakesSome};
-ghost use Rattle.speedy_write.specs.Collectors.{IsAtFront};
+ghost use Rattle.speedy_write.specs.Collectors.{IsAtFront, DoesNotFit, NextHasNoRoom, value_size};
 
 use crate::collectors::BufferCollector;
 use crate::writable::Writable;
@@ -16,16 +16,20 @@ use std::mem;
 /// `Writer` comes before `Writable`, and cannot name it. So a writer that lends its room takes the way of writing to it
 /// as a type.
 pub trait FillsFront<T: Layout, C: Context> {
-    /// Writes the first of the items to the front of a buffer, and says how many, and where they end. It may stop
-    /// before any of them, as before the first that does not fit. `U` says what the buffer is used for.
+    /// Writes the first of the items to the front of a buffer, and says how many, and where they end. It stops before
+    /// the first that does not fit, or for which what is left of the buffer is shorter than a value of the type in
+    /// memory. `U` says what the buffer is used for.
     fn fill_each<U>(items: &[T], context: &mut C, buffer: &mut [u8]) -> (usize, usize)
         ensures mode { C.mode context.new ≡ C.mode context.old }
         ensures some { result.0 ≤ length items.now }
         ensures fills { let format = T.layout.format (C.mode context.old) in
-            IsAtFront (Each format.writes) (map T.seen (take result.0 items.now)) buffer.new result.1 };
+            IsAtFront (Each format.writes) (map T.seen (take result.0 items.now)) buffer.new result.1 }
+        ensures stops { let format = T.layout.format (C.mode context.old) in
+            NextHasNoRoom (value_size T.row) format.writes T.seen (slice_get items.now result.0)
+            (length buffer.new - result.1) };
 
     /// Writes the first of the items that an iterator gives to the front of a buffer. It says where they end, and
-    /// returns the next item, or `None` where none is left. It may stop before any of them too.
+    /// returns the next item, or `None` where none is left. It stops before the same items as `fill_each`.
     fn fill_from<U, I: Iterator<Item = T>>(
         items: &mut I,
         context: &mut C,
@@ -37,7 +41,9 @@ pub trait FillsFront<T: Layout, C: Context> {
         ensures mode { C.mode context.new ≡ C.mode context.old }
         ensures fills { let format = T.layout.format (C.mode context.old) in (put : List T)
             × TakesSome I.can_next I.remaining I.next_gives put result.1 items.old items.new
-            × IsAtFront (Each format.writes) (map T.seen put) buffer.new result.0 };
+            × IsAtFront (Each format.writes) (map T.seen put) buffer.new result.0 }
+        ensures stops { let format = T.layout.format (C.mode context.old) in
+            NextHasNoRoom (value_size T.row) format.writes T.seen result.1 (length buffer.new - result.0) };
 }
 
 /// The way of `Writable`: each value is written whole, or not at all.
@@ -99,6 +105,8 @@ pub(crate) fn fill_prefix<C: Context, T: Writable<C>, U>(
     ensures mode { C.mode context.new ≡ C.mode context.old }
     ensures fills { let format = T.layout.format (C.mode context.old) in
         IfSome result (λ end. IsAtFront format.writes (T.seen value.now) buffer.new end) }
+    ensures refuses { let format = T.layout.format (C.mode context.old) in
+        IfNone result (DoesNotFit format.writes (T.seen value.now) (length buffer.old)) }
 {
     let mut collector: BufferCollector<C, (U, T)> = BufferCollector::for_use(context, buffer);
     let outcome = value.write_to(&mut collector);

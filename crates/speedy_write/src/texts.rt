@@ -3,7 +3,7 @@ ghost use Rattle.std.specs.Prelude.{◌≡◌, ◌<◌, ◌+◌, ◌^◌, map, I
 ghost use Rattle.speedy_base.specs.Mode.{Mode};
 ghost use Rattle.speedy_layout.specs.Codecs.{text_codec};
 ghost use Rattle.speedy_layout.specs.Prefixed.{prefixed_codec, text_behind};
-ghost use Rattle.speedy_write.specs.Counting.{CountsEach, Takes};
+ghost use Rattle.speedy_write.specs.Counting.{CountsEach, HasSize};
 ghost use Rattle.speedy_write.specs.Writing.{WritesValue, WritesValues};
 
 use crate::each::MOST_ITEMS;
@@ -116,7 +116,7 @@ pub(crate) trait Text: Layout {
     // How many bytes the text has. So many and four more are written, where that number is below 2^32.
     fn length(&self) -> usize
         ensures { (mode : Mode) → result < 2 ^ 32 →
-            Takes (Self.layout.format mode).writes (Self.seen self.now) (result + 4) };
+            HasSize (Self.layout.format mode).writes (Self.seen self.now) (result + 4) };
 }
 
 impl Text for String {
@@ -145,7 +145,7 @@ impl Text for BoxedStr {
 #[inline(always)]
 fn length_of(text: &str) -> usize
     ensures { (mode : Mode) → result < 2 ^ 32 →
-        Takes (text_codec.format mode).writes text.now (result + 4) }
+        HasSize (text_codec.format mode).writes text.now (result + 4) }
 {
     text.len()
 }

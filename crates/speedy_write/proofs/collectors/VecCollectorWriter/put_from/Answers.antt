@@ -5,8 +5,8 @@ use borrow.Rule.Slice.PartMut.{put_mid, same_len_mid, mid_len}
 use Rattle.speedy_write.proofs.FrontLemmas.{items_behind}
 use Rattle.speedy_write.proofs.collectors.VecCollectorWriter.put_from.Goals as goal
 
-pub returns : goal.returns
-returns g c =
+pub returns-clause-puts : goal.returns-clause-puts
+returns-clause-puts g c =
     let w = c.args.self.now in
     let lent = c.as_mut_slice.result.now in
     let filled = c.fill_from-end.new.buffer in
