@@ -10,6 +10,14 @@ pub struct ToldList {
 }
 
 #[derive(Readable, Writable)]
+pub struct ToldScores {
+    pub length: u8,
+    pub group: char,
+    #[speedy(length = length)]
+    pub scores: Vec<u16>,
+}
+
+#[derive(Readable, Writable)]
 pub struct ToldCowText<'a> {
     pub length: u8,
     #[speedy(length = length * 2)]

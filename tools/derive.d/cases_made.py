@@ -64,6 +64,8 @@ pub struct Contact {
      + "struct C<const N: usize>(u8, Padding<N>);\n",
      ["    a: Padding<3>,", "    c: Zeros<0x10>,", "        23\n", "struct B(Zeros<GAP>, u8);",
       "((λ h. refl, λ e. refl))", "struct C<const N: usize>(u8, Padding<N>);"]),
+    ("a character beside a length", DERIVES + "struct A { n: u8, c: char, #[speedy(length = n)] t: String }\n",
+     ["                let c = c.0;\n                Ok(A { n, c, t })\n"]),
     ("padding of a told length", "use speedy::{PaddingBytes, ZeroBytes};\n" + DERIVES
      + "struct A { n: u16, #[speedy(length = n)] t: String, #[speedy(length = (4 - n % 4) % 4)] p: PaddingBytes }\n"
      + DERIVES + "struct B(u8, #[speedy(length = t0)] ZeroBytes);\n",

@@ -201,13 +201,14 @@ class Others:
         return "_"
 
     def taken(self, name, names, values):
-        """A tuple is taken apart; an array is bound, since it is not moved out of a field, and an option, which is
-        named twice."""
+        """A tuple is taken apart; an array is bound, since it is not moved out of a field, a character, of which as a
+        field no value is made, and an option, which is named twice."""
         if not self.items:
             return []
         found = [Let(tuple_of([bound_of(item) for item in self.items]), f"{name}.0")]
         alone = self.items[0] if len(self.items) == 1 else None
-        if alone is None or isinstance(alone.part.type, syntax.Array) or alone.part.taken_by:
+        is_bound = alone is None or isinstance(alone.part.type, syntax.Array) or is_listed(alone.part.type, "char")
+        if is_bound or alone.part.taken_by:
             return found + [item.part.option_taken() for item in self.items if item.part.taken_by]
         if alone.field is not None:
             values[alone.place] = renamed(alone, f"{name}.0")

@@ -3,7 +3,7 @@
 //! Made from `told_lengths.rs` by `tools/derive`: change that, and make this again.
 ghost use Rattle.std.specs.Prelude.{codes, ◌*◌, ◌<◌, ◌^◌, ◌≡◌};
 
-use speedy::lengths::{Length, WithLength};
+use speedy::lengths::{Length, Other, WithLength};
 use speedy::{Context, ItemByItem, Layout, LendingReader, Part, ReadFrom, Writable, Writer};
 use std::borrow::CowStr;
 use std::convert::AsSlice;
@@ -71,6 +71,82 @@ impl<C: Context> Writable<C> for ToldList {
             length: PhantomData,
         };
         writer.write_value(&data)
+    }
+}
+
+#[derive(Drop)]
+pub struct ToldScores {
+    pub length: u8,
+    pub group: char,
+    pub scores: Vec<u16>,
+}
+
+/// The length of [`ToldScores::scores`].
+struct ToldScoresScoresLength {}
+
+impl Length<(u8, ())> for ToldScoresScoresLength {
+    ghost is_told = { λ _. Unit {0} };
+
+    ghost told = { λ it. it.0 };
+
+    ghost field = { codes "scores" };
+
+    fn length((length, _): (u8, ())) -> Option<usize> {
+        Some(length as usize)
+    }
+
+    fn field() -> &'static str {
+        "scores"
+    }
+}
+
+/// What [`ToldScores`] is read and written as.
+type ToldScoresParts = WithLength<ToldScoresScoresLength, (u8, Other<char>), Vec<u16>>;
+
+impl Layout for ToldScores {
+    ghost Seen = { ⟦<ToldScoresParts as Layout>⟧.Seen };
+
+    ghost seen = { λ it. ((it.length, ⟦<char as Layout>⟧.seen it.group), ⟦<Vec<u16> as Layout>⟧.seen it.scores) };
+
+    ghost layout = { ⟦<ToldScoresParts as Layout>⟧.layout };
+}
+
+impl<L: AsSlice<u8> + Drop, C: Context> ReadFrom<L, C> for ToldScores {
+    type Strategy = ItemByItem<C>;
+
+    fn read_from<R: LendingReader<L, C>>(reader: &mut R) -> Result<ToldScores, C::Error> {
+        match reader.read_value::<ToldScoresParts>() {
+            Ok(scores) => {
+                let WithLength {
+                    before,
+                    value: scores,
+                    length: _,
+                } = scores;
+                let (length, group) = before;
+                let group = group.0;
+                Ok(ToldScores {
+                    length,
+                    group,
+                    scores,
+                })
+            }
+            Err(error) => Err(error),
+        }
+    }
+
+    fn minimum_bytes_needed() -> usize {
+        5
+    }
+}
+
+impl<C: Context> Writable<C> for ToldScores {
+    fn write_to<W: Writer<C>>(&self, writer: &mut W) -> Result<(), C::Error> {
+        let scores: WithLength<ToldScoresScoresLength, _, _> = WithLength {
+            before: (self.length, Other(self.group)),
+            value: Part(&self.scores),
+            length: PhantomData,
+        };
+        writer.write_value(&scores)
     }
 }
 
