@@ -17,6 +17,13 @@ pub struct LengthOfOption {
 }
 
 #[derive(Readable, Writable)]
+pub struct LengthBesideSigned {
+    #[speedy(length_type = u8)]
+    pub name: Option<String>,
+    pub level: i16,
+}
+
+#[derive(Readable, Writable)]
 pub enum LengthsInCases {
     A,
     B(#[speedy(length_type = u16)] Option<String>, u8),

@@ -49,8 +49,9 @@ def answers_of_struct(shape, taken, place):
             else ("Writable", "write_to", "write_value")
         lines = ["", "pub returns : goal.returns", *rewritten("returns", lent, f"c.{called}.ensures")]
         found |= file_of(place, [name + trait, function], lines)
-    is_signed = has_signed(taken) and (is_nested(taken.tree) or any(part.tree is not None for part in taken.parts))
-    if shape.item.readable and not shape.ends_with_input and (is_signed or lent and not moves_array(taken)):
+    is_signed = has_signed(taken)
+    is_long = is_signed and (is_nested(taken.tree) or any(part.tree is not None for part in taken.parts))
+    if shape.item.readable and not shape.ends_with_input and (is_long or lent and not moves_array(taken)):
         lines = answered("returns-in-Ok", "Ok", "read_value", read, None, is_signed, is_signed)
         uses = [RULES] if is_signed else []
         found |= file_of(place, [f"{name}ReadFrom{lending(shape)}", "read_from"], lines, uses)

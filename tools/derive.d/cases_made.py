@@ -182,6 +182,11 @@ ANSWERED = [
       "read_a_cases_3": ["behind n = right_case (right_case (rest.choices.case_of n))\n",
                          "let read = read_of c.in-Ok.is c.read_value.ensures in\n    read_at behind cases.seen",
                          "    c.in-41.is (read.kept, read.answer)"]}),
+    ("a signed number beside an option behind a length",
+     DERIVES + "struct A(#[speedy(length_type = u8)] Option<String>, i16);\n", {
+         "AWritable/write_to": ["returns g c = rw c.lent_option-t0.ensures at c.write_value.ensures"],
+         "AReadFrom/read_from": ["use Rattle.std.proofs.Common.{rules}\n",
+                                 "answer = search (rules, answer, ranges) }"]}),
     ("a signed number behind a length", DERIVES + """struct A {
     n: u8,
     #[speedy(length = n)]

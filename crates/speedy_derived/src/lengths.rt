@@ -108,6 +108,48 @@ impl<C: Context> Writable<C> for LengthOfOption {
 }
 
 #[derive(Drop)]
+pub struct LengthBesideSigned {
+    pub name: Option<String>,
+    pub level: i16,
+}
+
+/// What [`LengthBesideSigned`] is read and written as.
+type LengthBesideSignedParts = (Option<Prefixed<u8, String>>, i16);
+
+impl Layout for LengthBesideSigned {
+    ghost Seen = { ⟦<LengthBesideSignedParts as Layout>⟧.Seen };
+
+    ghost seen = { λ it. (⟦<Option<String> as Layout>⟧.seen it.name, ⟦<i16 as Layout>⟧.seen it.level) };
+
+    ghost layout = { ⟦<LengthBesideSignedParts as Layout>⟧.layout };
+}
+
+impl<L: AsSlice<u8> + Drop, C: Context> ReadFrom<L, C> for LengthBesideSigned {
+    type Strategy = ItemByItem<C>;
+
+    fn read_from<R: LendingReader<L, C>>(reader: &mut R) -> Result<LengthBesideSigned, C::Error> {
+        match reader.read_value::<LengthBesideSignedParts>() {
+            Ok((name, level)) => {
+                let name = option_value(name);
+                Ok(LengthBesideSigned { name, level })
+            }
+            Err(error) => Err(error),
+        }
+    }
+
+    fn minimum_bytes_needed() -> usize {
+        3
+    }
+}
+
+impl<C: Context> Writable<C> for LengthBesideSigned {
+    fn write_to<W: Writer<C>>(&self, writer: &mut W) -> Result<(), C::Error> {
+        let name: Option<Prefixed<u8, _>> = lent_option(&self.name);
+        writer.write_value(&(name, Part(&self.level)))
+    }
+}
+
+#[derive(Drop)]
 pub enum LengthsInCases {
     A,
     B(Option<String>, u8),

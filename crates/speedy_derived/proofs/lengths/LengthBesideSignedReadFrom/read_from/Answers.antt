@@ -1,0 +1,9 @@
+use Rattle.std.proofs.Common.{rules}
+use Rattle.speedy_derived.proofs.lengths.LengthBesideSignedReadFrom.read_from.Goals as goal
+
+pub returns-in-Ok : goal.returns-in-Ok
+returns-in-Ok g c =
+    let read = rw c.in-Ok.is at c.read_value.ensures in
+    let answer = rw c.option_value-name.ensures at read.answer in
+    let ranges = rw c.in-Ok.is at c.read_value.type_inv in
+    record { kept = read.kept; answer = search (rules, answer, ranges) }
