@@ -201,8 +201,8 @@ class Others:
         return "_"
 
     def taken(self, name, names, values):
-        """A tuple is taken apart; an array is bound, since it is not moved out of a field, a character, of which as a
-        field no value is made, and an option, which is named twice."""
+        """A tuple is taken apart. An array is bound, since it is not moved out of a field; a character too, since the
+        borrow checker covers no value that is made of a field that is one; and an option, which is named twice."""
         if not self.items:
             return []
         found = [Let(tuple_of([bound_of(item) for item in self.items]), f"{name}.0")]
