@@ -1,6 +1,7 @@
 //! Items that are written one after another, or counted together.
-ghost use Rattle.std.specs.Prelude.{◌≡◌, ◌≤◌, ◌*◌, length, map, IfSome, MatchOption};
+ghost use Rattle.std.specs.Prelude.{◌≡◌, ◌≤◌, ◌<◌, ◌*◌, ◌⊎◌, Any, length, map, MatchOption};
 ghost use Rattle.speedy_base.specs.Mode.{Mode};
+ghost use Rattle.speedy_write.specs.Collectors.{DoesNotFit};
 ghost use Rattle.speedy_write.specs.Counting.{CountsEach, HasSize};
 ghost use Rattle.speedy_write.specs.Writing.{WritesValue, WritesValues};
 
@@ -103,13 +104,16 @@ pub(crate) const MOST_ITEMS: usize = 4_294_967_295;
 // The most bytes of an item that is counted with others. A processor compares with it in one instruction.
 const MOST_BYTES: usize = 2_147_483_647;
 
-// How many bytes the items take, where there are not too many of them and all can be written.
+// How many bytes the items take, where there are not too many of them and none is too long.
 //
 // Each is counted from zero, so that a compiler sees where each takes as many, and multiplies.
 fn count_each<C: Context, T: Writable<C>>(items: &[T], context: &mut C) -> Option<usize>
     ensures mode { C.mode context.new ≡ C.mode context.old }
-    ensures counts { let format = T.layout.format (C.mode context.old) in
-        IfSome result (λ size. CountsEach format.writes (map T.seen items.now) size) }
+    ensures counts { let writes = (T.layout.format (C.mode context.old)).writes in
+        MatchOption result
+        ((4294967295 < length items.now)
+        ⊎ Any (λ x. DoesNotFit writes (T.seen x) 2147483647) items.now)
+        (λ size. CountsEach writes (map T.seen items.now) size) }
 {
     if items.len() > MOST_ITEMS {
         return None;
@@ -155,7 +159,8 @@ const BLOCK: usize = 2_048;
 // How many bytes the values take, where there are not too many of them.
 fn size_of_short<T: Short>(values: &[T]) -> Option<usize>
     ensures { (mode : Mode) → let format = T.layout.format mode in
-        IfSome result (λ size. CountsEach format.writes (map T.seen values.now) size) }
+        MatchOption result (4294967295 < length values.now)
+        (λ size. CountsEach format.writes (map T.seen values.now) size) }
 {
     if values.len() > MOST_ITEMS {
         return None;
