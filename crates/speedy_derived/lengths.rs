@@ -1,6 +1,6 @@
 //! Texts, lists, maps and sets behind lengths of other widths, and options of these.
 use speedy::{Readable, Writable};
-use std::collections::{BTreeMap, HashSet};
+use std::collections::{BTreeMap, HashMap, HashSet};
 
 #[derive(Readable, Writable)]
 pub struct LengthsOfMaps {
@@ -30,5 +30,20 @@ pub enum LengthsInCases {
     C {
         #[speedy(length_type = u7)]
         held: Option<BTreeMap<u8, u16>>,
+    },
+}
+
+/// An enum of one variant, beside which others may come.
+#[derive(Readable, Writable)]
+#[speedy(tag_type = u8)]
+pub enum LengthsInOneCase {
+    #[speedy(tag = 4)]
+    First {
+        counts: HashMap<u8, u16>,
+        #[speedy(length_type = u8)]
+        name: Option<String>,
+        level: i16,
+        size: u64,
+        is_new: bool,
     },
 }

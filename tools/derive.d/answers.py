@@ -12,7 +12,7 @@ def answers(shape, place):
     """The answers of an enum's `write_case`, `tag` and `read_case`: the path of each file below the crate's folder, and
     its text."""
     if len(shape.cases) == 1:
-        return {}
+        return answers_of_one(shape, place)
     name, arms = shape.item.name, Arms(shape, place)
     has_units = arms.are_many and not all(case.taken.parts for case in shape.cases)
     uses = arms.uses(["write_arm"], *(["Ok", "refl"] if has_units else []))
@@ -24,6 +24,26 @@ def answers(shape, place):
         found |= read_file(place, [f"{name}ReadCases{lending(shape)}", "read_case"], shape.first, arms)
         for group in shape.later:
             found |= read_file(place, [group.function], group.cases, LaterArms(shape, place, group))
+    return found
+
+
+def answers_of_one(shape, place):
+    """The answers of an enum of one variant. No equation says which value the arm of its `write_case` matched, but each
+    field that it binds comes with one: from these a search finds that what is seen of the fields is seen of the value.
+    """
+    case, arms, name, found = shape.cases[0], Arms(shape, place), shape.item.name, {}
+    if not case.taken.parts or not arms.is_named:
+        return {}
+    if shape.item.writable:
+        steps = options_of(case.taken, "lent_by", set(), case.variant.name)
+        lines = ["", "-- a fact before the equation of what it tells",
+                 "turned : {A B C : Type 0} → (A → B → C) → B → A → C", "turned f fact is = f is fact",
+                 "", "pub returns : goal.returns",
+                 *rewritten("returns", steps, "c.write_value.ensures", arms.write_seen)]
+        uses = [RULES, *arms.uses(["write_arm"])]
+        found |= file_of(place, [f"{name}WriteCases", "write_case"], lines, uses)
+    if shape.item.readable:
+        found |= read_file(place, [f"{name}ReadCases{lending(shape)}", "read_case"], shape.first, arms)
     return found
 
 

@@ -57,6 +57,13 @@ class Arms:
         writer = f"g.{self.generics.writer}.Writer"
         return [f"write_arm cases {told} {writer}.state {writer}.appends {result} _ _", f"c.in-{variant}.is {fact}"]
 
+    def write_seen(self, fact):
+        """The lines of what is written of the only variant, by what is seen of its fields."""
+        told = f"g.{self.generics.context}.Error.From.from_gives"
+        writer = f"g.{self.generics.writer}.Writer"
+        return ["turned (write_arm (record { Seen = cases.Seen; seen = λ v. v; choices = cases.choices })",
+                f"{told} {writer}.state {writer}.appends _ _ _) {fact} (search (rules))"]
+
     def without_parts(self, arm, lines):
         """The answer of the arm of a case without parts."""
         goal = f"returns-in-{arm}"

@@ -155,10 +155,14 @@ BROKEN = [
     ("many types behind a length of another width", "use std::collections::HashMap;\n"
      + struct("    a: HashMap<u32, u32>,\n    b: Vec<Vec<(u8, bool, u8, f32, u64)>>,\n    #[speedy(length_type = u8)]\n"
               "    c: Box<str>"), 4, "gives up its search"),
-    ("an enum of one variant with a hash map", HEAD + DERIVES
-     + "enum A {\n    B(std::collections::HashMap<u8, u8>),\n}\n", 3, "that has a `HashMap`"),
-    ("an enum of one variant of many parts", HEAD + DERIVES + "enum A {\n    B(u8, u16, String, u8, bool),\n}\n", 3,
-     "which has the same bytes"),
+    ("an enum of one variant of many parts with a hash map", "use std::collections::HashMap;\n" + HEAD + DERIVES
+     + "enum A {\n    B(HashMap<u8, u8>, u8, u16, u32, u64, String),\n}\n", 4, "beside a `HashMap` or a `HashSet`"),
+    ("an enum of one variant with several hash maps", "use std::collections::HashMap;\n" + HEAD + DERIVES
+     + "enum A {\n    B(HashMap<u8, HashMap<u8, u8>>, u8, u16, u32),\n}\n", 4, "beside a `HashMap` or a `HashSet`"),
+    ("an enum of one variant with a parameter and a hash map", HEAD + DERIVES
+     + "enum A<T> {\n    B(std::collections::HashMap<u8, T>),\n}\n", 3, "that has a `HashMap`"),
+    ("an enum of one variant of many parts with a number", HEAD + DERIVES
+     + "enum A<const N: usize> {\n    B(u8, u16, String, u8, [u8; N]),\n}\n", 3, "which has the same bytes"),
     ("many types in a variant", "use std::collections::BTreeMap;\n" + HEAD + DERIVES + "enum A {\n"
      "    B(#[speedy(varint)] u64, Vec<(char, bool)>, Vec<Box<Vec<i64>>>, "
      "Box<BTreeMap<bool, BTreeMap<(u64, u64), Vec<(char, u8)>>>>),\n}\n", 4, "gives up its search"),

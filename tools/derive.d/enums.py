@@ -4,9 +4,11 @@ import expressions
 import impl_search
 import in_place
 import keys
+import lengths
 import syntax
 import whole
 from answers import answers
+from arms import Arms
 from groups import Later, groups_of, later_groups, tree_of
 from impls import Shape
 from parts import (NUMBERS, PartMaker, accesses_of_variant, built, number_of, read_arm, seen_of_parts,
@@ -23,11 +25,17 @@ MOST_VARIANTS = 256
 MOST_OWNING = 128
 OWNING = ("Box", "BoxedSlice", "BoxedStr", "BTreeMap", "BTreeSet", "CowSlice", "CowStr", "HashMap", "HashSet",
           "IndexMap", "IndexSet", "ListUntil", "SmallVec", "String", "Vec")
-# An enum of one variant has at most so many parts, made of so many types, of which one of the same file stands for
-# several: its arms have no goals of their own, which could be answered, and the search meets its limit.
+# An enum of one variant that has a parameter which is a type or a number has at most so many parts, made of so many
+# types, of which one of the same file stands for several: `answers_of_one` names the cases of others alone, and here a
+# search meets its limit.
 PARTS_OF_ONE = 4
 TYPES_OF_ONE = 8
 TYPES_OF_OWN = 4
+# One without has at most so many parts with a hash map or set, and at most so many of both multiplied where it has
+# more of these: the search for `write_case` looks at what each is made of once for each part. Of some 40 such enums
+# those had no proof that had 6 to 8 parts with one map, or a product of 10 and more.
+PARTS_BESIDE_HASHED = 5
+PARTS_BY_HASHED = 6
 
 
 class Case:
@@ -228,13 +236,20 @@ class EnumShape(Shape):
 
 
 def refuse_one_variant(shape):
-    """Refuses an enum whose only variant has many parts, or a `HashMap` as one that is written."""
+    """Refuses an enum that is written whose only variant has too many parts beside hash maps and sets, or one with a
+    parameter that is a type or a number, whose only variant has many parts or a `HashMap`."""
     item, kinds = shape.item, shape.kinds
     if len(shape.cases) != 1:
         return
-    has_map = item.writable and any(map(is_hash_map, kinds))
-    if has_map or len(kinds) > PARTS_OF_ONE or sum(map(types_in, kinds)) > TYPES_OF_ONE:
-        what = "a `HashMap`" if has_map else "many parts"
+    if Arms(shape, shape.place).is_named:
+        hashed, parts = hashed_in(kinds), len(lengths.leaf_parts(shape.cases[0].taken.parts))
+        is_past = parts > PARTS_BESIDE_HASHED if hashed == 1 else parts * hashed > PARTS_BY_HASHED
+        what = "many parts beside a `HashMap` or a `HashSet`" if item.writable and is_past else None
+    else:
+        has_map = item.writable and any(map(is_hash_map, kinds))
+        is_past = len(kinds) > PARTS_OF_ONE or sum(map(types_in, kinds)) > TYPES_OF_ONE
+        what = "a `HashMap`" if has_map else "many parts" if is_past else None
+    if what:
         raise Refusal(item.line, f"`{item.name}` has one variant, and that has {what}, which finds no proof: put its "
                                  "fields into a struct of their own, which has the same bytes")
 
@@ -255,6 +270,16 @@ def owns_or_borrows(kind):
 def is_hash_map(kind):
     """Whether a type is a `HashMap`, as it is or behind a length."""
     return is_listed(parts_of(kind)[-1] if is_listed(kind, "Prefixed", "WithLength") else kind, "HashMap")
+
+
+def hashed_in(kinds):
+    """How many hash maps and sets some types are made of. Beside one, those of the same file count as one each."""
+    def count(kind, is_counted):
+        """How many such types a type is made of."""
+        return is_counted(kind) + sum(count(it, is_counted) for it in parts_of(kind))
+
+    hashed = sum(count(kind, lambda it: is_listed(it, "HashMap", "HashSet")) for kind in kinds)
+    return hashed and hashed + sum(count(kind, lambda it: isinstance(it, Own)) for kind in kinds)
 
 
 def types_in(kind):

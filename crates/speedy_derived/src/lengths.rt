@@ -10,7 +10,7 @@ use speedy::prefixed::{Prefixed, U7, lent_option, option_value};
 use speedy::private::error_invalid_enum_variant;
 use speedy::varint::VarInt64;
 use speedy::{Context, ItemByItem, Layout, LendingReader, Part, ReadFrom, Writable, Writer};
-use std::collections::{BTreeMap, HashSet};
+use std::collections::{BTreeMap, HashMap, HashSet};
 use std::convert::AsSlice;
 use std::marker::PhantomData;
 
@@ -255,5 +255,121 @@ impl<C: Context> WriteCases<C> for LengthsInCases {
 impl<C: Context> Writable<C> for LengthsInCases {
     fn write_to<W: Writer<C>>(&self, writer: &mut W) -> Result<(), C::Error> {
         write_tagged::<u32, Self, C, W>(self, writer)
+    }
+}
+
+/// An enum of one variant, beside which others may come.
+#[derive(Drop)]
+pub enum LengthsInOneCase {
+    First {
+        counts: HashMap<u8, u16>,
+        name: Option<String>,
+        level: i16,
+        size: u64,
+        is_new: bool,
+    },
+}
+
+/// The parts of [`LengthsInOneCase::First`].
+type LengthsInOneCaseFirstParts = (
+    HashMap<u8, u16>,
+    Option<Prefixed<u8, String>>,
+    i16,
+    u64,
+    bool,
+);
+
+/// The cases of [`LengthsInOneCase`], each with its tag.
+type LengthsInOneCaseCases = Case<4, LengthsInOneCaseFirstParts>;
+
+impl Cases for LengthsInOneCase {
+    ghost use Rattle.speedy_derived.specs.declared.lengths.LengthsInOneCase.{LengthsInOneCase};
+
+    ghost Seen = { ⟦<LengthsInOneCaseCases as CaseTree>⟧.Seen };
+
+    ghost seen = { λ it. elim it [
+      | LengthsInOneCase.First t0 t1 t2 t3 t4 ↦ (
+        ⟦<HashMap<u8, u16> as Layout>⟧.seen t0,
+        (
+          ⟦<Option<String> as Layout>⟧.seen t1,
+          (⟦<i16 as Layout>⟧.seen t2, (⟦<u64 as Layout>⟧.seen t3, ⟦<bool as Layout>⟧.seen t4)),
+        ),
+      )
+    ] };
+
+    ghost choices = { ⟦<LengthsInOneCaseCases as CaseTree>⟧.choices };
+}
+
+impl Layout for LengthsInOneCase {
+    ghost Seen = { ⟦<Prefixed<u8, LengthsInOneCase> as Layout>⟧.Seen };
+
+    ghost seen = { ⟦<LengthsInOneCase as Cases>⟧.seen };
+
+    ghost layout = { ⟦<Prefixed<u8, LengthsInOneCase> as Layout>⟧.layout };
+}
+
+impl<L: AsSlice<u8> + Drop, C: Context> ReadCases<L, C> for LengthsInOneCase {
+    fn read_case<R: LendingReader<L, C>>(
+        tag: usize,
+        reader: &mut R,
+    ) -> Result<LengthsInOneCase, C::Error> {
+        match tag {
+            4 => match reader.read_value::<LengthsInOneCaseFirstParts>() {
+                Ok(parts) => {
+                    let (counts, name, level, size, is_new) = parts;
+                    let name = option_value(name);
+                    Ok(LengthsInOneCase::First {
+                        counts,
+                        name,
+                        level,
+                        size,
+                        is_new,
+                    })
+                }
+                Err(error) => Err(error),
+            },
+            _ => Err(error_invalid_enum_variant()),
+        }
+    }
+}
+
+impl<L: AsSlice<u8> + Drop, C: Context> ReadFrom<L, C> for LengthsInOneCase {
+    type Strategy = ItemByItem<C>;
+
+    fn read_from<R: LendingReader<L, C>>(reader: &mut R) -> Result<LengthsInOneCase, C::Error> {
+        read_tagged::<u8, Self, L, C, R>(reader)
+    }
+
+    fn minimum_bytes_needed() -> usize {
+        1
+    }
+}
+
+impl<C: Context> WriteCases<C> for LengthsInOneCase {
+    fn tag(&self) -> usize {
+        match self {
+            LengthsInOneCase::First { .. } => 4,
+        }
+    }
+
+    fn write_case<W: Writer<C>>(&self, writer: &mut W) -> Result<(), C::Error> {
+        match self {
+            LengthsInOneCase::First {
+                counts,
+                name,
+                level,
+                size,
+                is_new,
+            } => {
+                let name: Option<Prefixed<u8, _>> = lent_option(name);
+                writer.write_value(&(Part(counts), name, Part(level), *size, *is_new))
+            }
+        }
+    }
+}
+
+impl<C: Context> Writable<C> for LengthsInOneCase {
+    fn write_to<W: Writer<C>>(&self, writer: &mut W) -> Result<(), C::Error> {
+        write_tagged::<u8, Self, C, W>(self, writer)
     }
 }

@@ -1,0 +1,18 @@
+use Rattle.std.proofs.Common.{rules}
+use Rattle.speedy.specs.CaseArms.{read_arm, read_of}
+use Rattle.speedy_derived.specs.contracts.lengths.LengthsInOneCaseCasesImpl.TheImpl.{ghosts as cases}
+use Rattle.speedy_derived.proofs.lengths.LengthsInOneCaseReadCases.read_case.Goals as goal
+
+pub returns-in-Ok : goal.returns-in-Ok
+returns-in-Ok g c =
+    let read = read_of c.in-Ok.is c.read_value.ensures in
+    let answer = rw c.option_value-name.ensures at read.answer in
+    let ranges = rw c.in-Ok.is at c.read_value.type_inv in
+    read_arm cases g.C.Error.From.from_gives g.C.Error.IsEof.eof g.R.LendingReader.state _ _ _
+    c.in-4.is (read.kept, search (rules, answer, ranges))
+
+pub returns-in-Err : goal.returns-in-Err
+returns-in-Err g c =
+    let read = read_of c.in-Err.is c.read_value.ensures in
+    read_arm cases g.C.Error.From.from_gives g.C.Error.IsEof.eof g.R.LendingReader.state _ _ _
+    c.in-4.is (read.kept, read.answer)
