@@ -156,9 +156,9 @@ BROKEN = [
      + struct("    a: HashMap<u32, u32>,\n    b: Vec<Vec<(u8, bool, u8, f32, u64)>>,\n    #[speedy(length_type = u8)]\n"
               "    c: Box<str>"), 4, "gives up its search"),
     ("an enum of one variant of many parts with a hash map", "use std::collections::HashMap;\n" + HEAD + DERIVES
-     + "enum A {\n    B(HashMap<u8, u8>, u8, u16, u32, u64, String),\n}\n", 4, "beside a `HashMap` or a `HashSet`"),
-    ("an enum of one variant with several hash maps", "use std::collections::HashMap;\n" + HEAD + DERIVES
-     + "enum A {\n    B(HashMap<u8, HashMap<u8, u8>>, u8, u16, u32),\n}\n", 4, "beside a `HashMap` or a `HashSet`"),
+     + "enum A {\n    B(HashMap<u8, u8>, u8, u16, u32, u64, String),\n}\n", 4, "that has a `HashMap` beside others"),
+    ("an enum of one variant of parts that own memory", "use indexmap::IndexMap;\n" + HEAD + DERIVES
+     + "enum A {\n    B(" + "IndexMap<u8, u8>, " * 4 + "u8),\n}\n", 4, "that has many parts that own memory"),
     ("an enum of one variant with a parameter and a hash map", HEAD + DERIVES
      + "enum A<T> {\n    B(std::collections::HashMap<u8, T>),\n}\n", 3, "that has a `HashMap`"),
     ("an enum of one variant of many parts with a number", HEAD + DERIVES

@@ -158,14 +158,14 @@ ANSWERED = [
                                "state _ _ _\n    c.in-1.is (read.kept, answer)",
                                "pub returns-in-Err-read_value-2 : goal.returns-in-Err-read_value-2"]}),
     ("variants without parts", DERIVES + "enum A { B }\n" + DERIVES + "enum C { D, E }\n", {}),
-    ("one variant of many parts", "use std::collections::HashMap;\n" + DERIVES + """enum A<'a> {
-    B(HashMap<u8, u16>, &'a str, #[speedy(length_type = u8)] Option<String>, i16, u64),
+    ("one variant of many parts", "use std::collections::HashMap;\n" + DERIVES + """enum A {
+    B(HashMap<u8, u16>, bool, #[speedy(length_type = u8)] Option<String>, i16, u64),
 }
 """, {"AWriteCases/write_case": ["let written = rw c.lent_option-t2.ensures at c.write_value.ensures in",
                                  "turned (write_arm (record { Seen = cases.Seen; seen = λ v. v;",
                                  "appends _ _ _) written (search (rules))"],
-      "AReadCasesRefSliceU8/read_case": ["let answer = rw c.option_value-t2.ensures at read.answer in",
-                                         "c.in-0.is (read.kept, search (rules, answer, ranges))"]}),
+      "AReadCases/read_case": ["let answer = rw c.option_value-t2.ensures at read.answer in",
+                               "c.in-0.is (read.kept, search (rules, answer, ranges))"]}),
     ("variants whose result has another form", DERIVES + """enum A {
     B { n: u8, #[speedy(length = n)] a: Vec<u16> },
     C([u8; 4], u8, #[speedy(length_type = u8)] Option<String>),

@@ -4,7 +4,6 @@ import expressions
 import impl_search
 import in_place
 import keys
-import lengths
 import syntax
 import whole
 from answers import answers
@@ -31,11 +30,11 @@ OWNING = ("Box", "BoxedSlice", "BoxedStr", "BTreeMap", "BTreeSet", "CowSlice", "
 PARTS_OF_ONE = 4
 TYPES_OF_ONE = 8
 TYPES_OF_OWN = 4
-# One without has at most so many parts with a hash map or set, and at most so many of both multiplied where it has
-# more of these: the search for `write_case` looks at what each is made of once for each part. Of some 40 such enums
-# those had no proof that had 6 to 8 parts with one map, or a product of 10 and more.
-PARTS_BESIDE_HASHED = 5
-PARTS_BY_HASHED = 6
+# One without is refused past so many records in what its parts are: the search for `write_case` enters 128 in all, those
+# of all parts for each but the last. A hash map is made of many, and of one more for each of its types.
+RECORDS_OF_ONE = 99
+SCALARS = ("bool", "char", *(f"{kind}{bits}" for kind in "iu" for bits in (8, 16, 32, 64, 128)))
+RECORDS = {"HashMap": 24, "HashSet": 15, "IndexMap": 7, "IndexSet": 7, "BTreeMap": 3, "BTreeSet": 3}
 
 
 class Case:
@@ -236,20 +235,20 @@ class EnumShape(Shape):
 
 
 def refuse_one_variant(shape):
-    """Refuses an enum that is written whose only variant has too many parts beside hash maps and sets, or one with a
-    parameter that is a type or a number, whose only variant has many parts or a `HashMap`."""
+    """Refuses an enum whose only variant finds no proof: one that is written, of too many records, or with a parameter
+    that is a type or a number, with many parts or a `HashMap`."""
     item, kinds = shape.item, shape.kinds
     if len(shape.cases) != 1:
         return
+    has_map = item.writable and any(map(is_hash_map, kinds))
     if Arms(shape, shape.place).is_named:
-        hashed, parts = hashed_in(kinds), len(lengths.leaf_parts(shape.cases[0].taken.parts))
-        is_past = parts > PARTS_BESIDE_HASHED if hashed == 1 else parts * hashed > PARTS_BY_HASHED
-        what = "many parts beside a `HashMap` or a `HashSet`" if item.writable and is_past else None
+        others = len(shape.cases[0].taken.accesses) - 1
+        is_past = item.writable and others * sum(map(records_in, kinds)) > RECORDS_OF_ONE
+        what = "a `HashMap` beside others" if has_map else "many parts that own memory"
     else:
-        has_map = item.writable and any(map(is_hash_map, kinds))
-        is_past = len(kinds) > PARTS_OF_ONE or sum(map(types_in, kinds)) > TYPES_OF_ONE
-        what = "a `HashMap`" if has_map else "many parts" if is_past else None
-    if what:
+        is_past = has_map or len(kinds) > PARTS_OF_ONE or sum(map(types_in, kinds)) > TYPES_OF_ONE
+        what = "a `HashMap`" if has_map else "many parts"
+    if is_past:
         raise Refusal(item.line, f"`{item.name}` has one variant, and that has {what}, which finds no proof: put its "
                                  "fields into a struct of their own, which has the same bytes")
 
@@ -272,14 +271,15 @@ def is_hash_map(kind):
     return is_listed(parts_of(kind)[-1] if is_listed(kind, "Prefixed", "WithLength") else kind, "HashMap")
 
 
-def hashed_in(kinds):
-    """How many hash maps and sets some types are made of. Beside one, those of the same file count as one each."""
-    def count(kind, is_counted):
-        """How many such types a type is made of."""
-        return is_counted(kind) + sum(count(it, is_counted) for it in parts_of(kind))
-
-    hashed = sum(count(kind, lambda it: is_listed(it, "HashMap", "HashSet")) for kind in kinds)
-    return hashed and hashed + sum(count(kind, lambda it: isinstance(it, Own)) for kind in kinds)
+def records_in(kind):
+    """Of how many records the values of a type are made, as a search enters them: those in lists and enums are not."""
+    if is_listed(kind, "Prefixed", "WithLength", "Other") or isinstance(kind, syntax.Tuple):
+        return sum(map(records_in, parts_of(kind)))
+    if is_listed(kind, *SCALARS, "Option", "Result"):
+        return 0
+    inner = sum(not is_listed(it, *SCALARS) and types_in(it) for it in parts_of(kind)) \
+        if is_listed(kind, "HashMap", "HashSet") else 0
+    return RECORDS.get(getattr(kind, "name", None), 1) + inner
 
 
 def types_in(kind):
