@@ -32,3 +32,11 @@ pub enum Json {
     List(Vec<Json>),
     Object(Vec<(String, Json)>),
 }
+
+/// A document, whose parts hold values of their own types.
+#[derive(Debug, PartialEq, Readable, Writable)]
+pub struct Document {
+    pub version: u16,
+    pub root: Json,
+    pub outline: Node,
+}

@@ -133,9 +133,10 @@ class Shape:
 
     def least_lines(self, name="minimum_bytes_needed"):
         """The least size: as a number where it is known here, since a call at the type of the parts takes longer to
-        prove, or else that of the parts. With a lifetime it needs its clause, which a trait does not give there."""
+        prove, or else that of the parts, as where these hold a type with `depth`. With a lifetime it needs its clause,
+        which a trait does not give there."""
         known = self.scope.least[self.item.name]
-        if known is not None:
+        if known is not None and (self.item.depth or self.item.name not in self.scope.layered):
             body = str(known)
         elif self.item.name in self.scope.with_open_arrays:
             body = self.sum_of_least(self.tuple_type)

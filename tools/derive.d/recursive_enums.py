@@ -73,6 +73,7 @@ class RecursiveEnumShape(LevelShape):
         self.shaped([case.fields for case in self.cases], scope)
         self.refuse_endless()
         scope.least[item.name] = NUMBERS[item.tag_type][2]
+        scope.layered.add(item.name)
         self.number = type_text(number_of(scope, item.tag_type, item.line))
 
     def refuse_endless(self):

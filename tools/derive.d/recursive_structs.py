@@ -22,6 +22,7 @@ class RecursiveStructShape(LevelShape):
         self.tuple_type = self.fields.least()
         self.parts_type = type_text(self.tuple_type)
         scope.least[item.name] = least(self.tuple_type, scope)
+        scope.layered.add(item.name)
 
     def shapes(self):
         """Names what values are read and written as."""

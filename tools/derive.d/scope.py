@@ -47,6 +47,8 @@ class Scope:
         self.ghost_paths = made.ghost_paths
         # The least sizes of the types of this file that are made, and of the bytes before fields, by their names.
         self.least = {}
+        # Which types of this file have `depth`, or a least size that is made of that of such a type.
+        self.layered = set()
         # Which types of this file hold an array whose type names a lifetime, or whose size a parameter says, and
         # whether each owns memory.
         self.with_lent_arrays = set()

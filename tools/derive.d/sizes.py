@@ -49,6 +49,19 @@ def size_of(kind, scope):
     return size_of_listed(kind, scope) if isinstance(kind, Listed) else None
 
 
+def is_layered(kind, scope):
+    """Whether the least size of a type is made of that of one with `depth`, whose layers a search does not unfold."""
+    if isinstance(kind, syntax.Tuple):
+        return any(is_layered(part, scope) for part in kind.parts)
+    if isinstance(kind, syntax.Array):
+        return is_layered(kind.item, scope)
+    if isinstance(kind, Own):
+        return kind.name in scope.layered
+    if isinstance(kind, Listed) and kind.name in (*WITHIN, *TWICE):
+        return is_layered(kind.arguments[WITHIN.get(kind.name, 0)], scope)
+    return False
+
+
 def times(size, count):
     """So many bytes so many times, where the count is a literal."""
     return size * int(count.replace("_", ""), 0) if count[0].isdigit() else None

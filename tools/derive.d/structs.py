@@ -9,7 +9,7 @@ from impls import Shape
 from parts import (PartMaker, accesses_of_struct, built, outline, read_arm, seen_of_parts, write_statements, written)
 from rattle import Block, Call, Match, clause_lines, type_text
 from recursive_structs import RecursiveStructShape
-from sizes import is_copied, least
+from sizes import is_copied, is_layered, least
 
 # So many numbers are read where they are called for.
 FEW = 8
@@ -26,6 +26,8 @@ class StructShape(Shape):
             impl_search.check(item, self.taken)
         kind = self.tuple_type = self.taken.type()
         scope.least[item.name] = least(kind, scope)
+        if is_layered(kind, scope):
+            scope.layered.add(item.name)
         # A single part of a short type needs no other name.
         if isinstance(self.taken.tree, list) or len(type_text(kind)) > 24:
             self.parts_type = self.alias(f"{item.name}Parts", f"What [`{item.name}`] is read and written as.", kind,

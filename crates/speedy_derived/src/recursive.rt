@@ -510,3 +510,47 @@ impl<C: Context> Writable<C> for Json {
         WriteLevel::<Json>::write_level::<C, W>(JSON_LEVELS, self, writer)
     }
 }
+
+/// A document, whose parts hold values of their own types.
+#[derive(Debug, PartialEq, Drop)]
+pub struct Document {
+    pub version: u16,
+    pub root: Json,
+    pub outline: Node,
+}
+
+/// What [`Document`] is read and written as.
+type DocumentParts = (u16, Json, Node);
+
+impl Layout for Document {
+    ghost Seen = { ⟦<DocumentParts as Layout>⟧.Seen };
+
+    ghost seen = { λ it. ⟦<DocumentParts as Layout>⟧.seen (it.version, it.root, it.outline) };
+
+    ghost layout = { ⟦<DocumentParts as Layout>⟧.layout };
+}
+
+impl<L: AsSlice<u8> + Drop, C: Context> ReadFrom<L, C> for Document {
+    type Strategy = ItemByItem<C>;
+
+    fn read_from<R: LendingReader<L, C>>(reader: &mut R) -> Result<Document, C::Error> {
+        match reader.read_value() {
+            Ok((version, root, outline)) => Ok(Document {
+                version,
+                root,
+                outline,
+            }),
+            Err(error) => Err(error),
+        }
+    }
+
+    fn minimum_bytes_needed() -> usize {
+        <DocumentParts as ReadFrom<L, C>>::minimum_bytes_needed()
+    }
+}
+
+impl<C: Context> Writable<C> for Document {
+    fn write_to<W: Writer<C>>(&self, writer: &mut W) -> Result<(), C::Error> {
+        writer.write_value(&(self.version, Part(&self.root), Part(&self.outline)))
+    }
+}
