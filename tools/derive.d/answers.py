@@ -3,7 +3,9 @@ few variants and parts."""
 import lengths
 from arms import Arms, LaterArms
 from parts import has_other_form, is_nested, moves_array
+from rattle import names_in
 
+CASES = "speedy::cases"
 # What a search for a proof is given besides a fact.
 RULES = "use Rattle.std.proofs.Common.{rules}"
 
@@ -13,15 +15,15 @@ def answers(shape, place):
     its text."""
     if len(shape.cases) == 1:
         return answers_of_one(shape, place)
-    name, arms = shape.item.name, Arms(shape, place)
+    arms, writing = Arms(shape, place), shape.impl_name(CASES, "WriteCases")
     has_units = arms.are_many and not all(case.taken.parts for case in shape.cases)
     uses = arms.uses(["write_arm"], *(["Ok", "refl"] if has_units else []))
-    found = file_of(place, [f"{name}WriteCases", "write_case"], write_answers(shape, arms), uses)
+    found = file_of(place, [writing, "write_case"], write_answers(shape, arms), uses)
     if arms.is_named and arms.are_many:
         uses = arms.uses(["tag_arm"], "refl")
-        found |= file_of(place, [f"{name}WriteCases", "tag"], tag_answers(shape), uses)
+        found |= file_of(place, [writing, "tag"], tag_answers(shape), uses)
     if shape.item.readable:
-        found |= read_file(place, [f"{name}ReadCases{lending(shape)}", "read_case"], shape.first, arms)
+        found |= read_file(place, [reading(shape), "read_case"], shape.first, arms)
         for group in shape.later:
             found |= read_file(place, [group.function], group.cases, LaterArms(shape, place, group))
     return found
@@ -31,7 +33,7 @@ def answers_of_one(shape, place):
     """The answers of an enum of one variant. No equation says which value the arm of its `write_case` matched, but each
     field that it binds comes with one: from these a search finds that what is seen of the fields is seen of the value.
     """
-    case, arms, name, found = shape.cases[0], Arms(shape, place), shape.item.name, {}
+    case, arms, found = shape.cases[0], Arms(shape, place), {}
     if not case.taken.parts or not arms.is_named:
         return {}
     if shape.item.writable:
@@ -41,9 +43,9 @@ def answers_of_one(shape, place):
                  "", "pub returns : goal.returns",
                  *rewritten("returns", steps, "c.write_value.ensures", arms.write_seen)]
         uses = [RULES, *arms.uses(["write_arm"])]
-        found |= file_of(place, [f"{name}WriteCases", "write_case"], lines, uses)
+        found |= file_of(place, [shape.impl_name(CASES, "WriteCases"), "write_case"], lines, uses)
     if shape.item.readable:
-        found |= read_file(place, [f"{name}ReadCases{lending(shape)}", "read_case"], shape.first, arms)
+        found |= read_file(place, [reading(shape), "read_case"], shape.first, arms)
     return found
 
 
@@ -63,19 +65,26 @@ def answers_of_struct(shape, taken, place):
     lent, read = options_of(taken, "lent_by", set(), None), options_of(taken, "taken_by", set(), None)
     if place is None:
         return {}
-    name, found = shape.item.name, {}
+    found = {}
     if shape.item.writable and lent:
-        trait, function, called = ("WriteToEnd", "write_to_end", "write_to_end") if shape.ends_with_input \
-            else ("Writable", "write_to", "write_value")
+        module, trait, function, called = ("speedy::whole", "WriteToEnd", "write_to_end", "write_to_end") \
+            if shape.ends_with_input else ("speedy", "Writable", "write_to", "write_value")
         lines = ["", "pub returns : goal.returns", *rewritten("returns", lent, f"c.{called}.ensures")]
-        found |= file_of(place, [name + trait, function], lines)
+        found |= file_of(place, [shape.impl_name(module, trait), function], lines)
     is_signed = has_signed(taken)
-    is_long = is_signed and (is_nested(taken.tree) or any(part.tree is not None for part in taken.parts))
+    is_long = is_signed and (is_nested(taken.tree) or any(part.tree is not None for part in taken.parts)
+                             or is_hashed(taken))
     if shape.item.readable and not shape.ends_with_input and (is_long or lent and not moves_array(taken)):
         lines = answered("returns-in-Ok", "Ok", "read_value", read, None, is_signed, is_signed)
         uses = [RULES] if is_signed else []
-        found |= file_of(place, [f"{name}ReadFrom{lending(shape)}", "read_from"], lines, uses)
+        found |= file_of(place, [shape.impl_name("speedy", "ReadFrom", lending(shape)), "read_from"], lines, uses)
     return found
+
+
+def is_hashed(taken):
+    """Whether a hashed map or set is a part among others: more is known of it than a search looks at by itself."""
+    kinds = [*(part.type for part in taken.parts), *(kind for kind, _ in taken.skipped)]
+    return len(kinds) > 2 and any(names_in(kind) & {"HashMap", "HashSet"} for kind in kinds)
 
 
 def has_signed(taken):
@@ -86,6 +95,11 @@ def has_signed(taken):
 def lending(shape):
     """What the name of an impl of reading has at its end."""
     return "RefSliceU8" if shape.generics.lending else ""
+
+
+def reading(shape):
+    """What the impl is called that reads the cases of an enum."""
+    return shape.impl_name(CASES, "ReadCases", lending(shape))
 
 
 def answered(goal, arm, step, taken, tag, is_searched=False, is_signed=False, arms=None):

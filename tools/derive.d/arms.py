@@ -15,13 +15,12 @@ class Arms:
     lemma = "read_arm"
 
     def __init__(self, shape, place):
-        name = f"{shape.item.name}Cases"
         self.crate, *modules = place
-        self.path = ".".join([f"Rattle.{self.crate}.specs.contracts", *modules, f"{name}Impl.TheImpl"])
+        cases = shape.impl_name("speedy::cases", "Cases")
+        self.path = ".".join([f"Rattle.{self.crate}.specs.contracts", *modules, f"{cases}.TheImpl"])
         self.generics = shape.generics
         self.are_many = len(shape.cases) >= MANY
-        # The alias of the tree has the impl's own name, so the impl's module has `Impl` behind it.
-        self.is_named = shape.cases_type.partition("<")[0] == name \
+        self.is_named = shape.cases_type.partition("<")[0] == f"{shape.item.name}Cases" \
             and all(it.kind == "lifetime" for it in shape.item.parameters)
 
     def definition(self):
@@ -78,7 +77,8 @@ class LaterArms(Arms):
     def __init__(self, shape, place, group):
         super().__init__(shape, place)
         self.group = group
-        self.rest = ".".join([f"Rattle.{self.crate}.specs.contracts", *place[1:], f"{group.type}CaseTree.TheImpl"])
+        tree = shape.impl_name("speedy::cases", "CaseTree", of=group.type)
+        self.rest = ".".join([f"Rattle.{self.crate}.specs.contracts", *place[1:], f"{tree}.TheImpl"])
 
     def uses(self, lemmas, *words):
         """What the file imports, and what it says of a tag."""

@@ -162,6 +162,15 @@ ANSWERED = [
                                "state _ _ _\n    c.in-1.is (read.kept, answer)",
                                "pub returns-in-Err-read_value-2 : goal.returns-in-Err-read_value-2"]}),
     ("variants without parts", DERIVES + "enum A { B }\n" + DERIVES + "enum C { D, E }\n", {}),
+    ("types called as the traits of impls", DERIVES + "struct Cases(u8);\n" + DERIVES + "struct WriteCases(u8);\n"
+     + DERIVES + "struct AReadCases(u8, u8);\n" + DERIVES + "enum A { B(u8), C(u16) }\n",
+     {"ASpeedyWriteCases/write_case": ["messages.ASpeedyCases.TheImpl.{ghosts as cases}\n",
+                                       "proofs.messages.ASpeedyWriteCases.write_case.Goals as goal\n"],
+      "AReadCasesAnyAny/read_case": ["proofs.messages.AReadCasesAnyAny.read_case.Goals as goal\n"]}),
+    ("a signed number beside a hash map", "use std::collections::HashMap;\n" + DERIVES
+     + "struct A { a: u64, b: HashMap<u32, u64>, c: i32 }\n" + DERIVES + "struct B { a: HashMap<u32, u64>, b: i32 }\n",
+     {"AReadFrom/read_from": ["    let ranges = rw c.in-Ok.is at c.read_value.type_inv in\n"
+                              "    record { kept = read.kept; answer = search (rules, read.answer, ranges) }"]}),
     ("one variant of many parts", "use std::collections::HashMap;\n" + DERIVES + """enum A {
     B(HashMap<u8, u16>, bool, #[speedy(length_type = u8)] Option<String>, i16, u64),
 }

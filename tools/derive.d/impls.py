@@ -5,6 +5,9 @@ from generics import Generics
 from rattle import function, impl, names_in, type_text
 from sizes import least
 
+# How the kit writes the arguments of traits that have some, each of which may be any type.
+ARGUMENTS = {"ReadFrom": "AnyAny", "ReadCases": "AnyAny", "Writable": "Any", "WriteCases": "Any", "WriteToEnd": "Any"}
+
 
 class Shape:
     """What the impls of a type are made of: `takens` are its fields, those of each variant or of the struct."""
@@ -41,6 +44,12 @@ class Shape:
         head = f"{visibility}type {name}{self.generics.of_alias(names)}"
         self.scope.beside += [f"/// {about}", f"{head} = {type_text(kind)};", ""]
         return name + self.generics.arguments(names)
+
+    def impl_name(self, module, trait, behind="", of=""):
+        """What the kit calls an impl of a trait, for the type or for another: by the name that the trait has here. Where
+        a type or an alias of the module is called so, the arguments of the trait stand behind it."""
+        name = f"{of or self.item.name}{self.scope.called(module, trait)}{behind}"
+        return name if self.scope.fresh.is_free(name) else name + ARGUMENTS.get(trait, "Impl")
 
     # Heads.
 

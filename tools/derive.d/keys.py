@@ -361,9 +361,8 @@ def add_enum(shape, variants):
         return []
     name, scope = shape.item.name, shape.scope
     crate, *modules = shape.place
-    place = ".".join([*modules, name])
-    own = scope.keys[name] = Own(law=(f"Rattle.{crate}.specs.contracts.{place}SameKey.TheImpl.Laws",
-                                      f"{name.lower()}_key"))
+    place, law = ".".join([*modules, name]), ".".join([*modules, shape.impl_name("speedy", "SameKey")])
+    own = scope.keys[name] = Own(law=(f"Rattle.{crate}.specs.contracts.{law}.TheImpl.Laws", f"{name.lower()}_key"))
     if any(case.variant.fields for case in shape.cases):
         own.reason = "a variant has parts"
         return []

@@ -15,12 +15,13 @@ def answers(shape):
 def files(shape, read, least, write):
     """The files of the proofs of reading, of the least size and of writing: what is imported, and the answers."""
     crate, *modules = shape.place
-    level, name = shape.level, shape.item.name
+    levels, level, name = "speedy::levels", shape.level, shape.item.name
     found, wanted = {}, []
     if shape.item.readable:
-        wanted += [(f"{level}ReadLevel{name}", "+read_level", read), (f"{name}ReadFrom", "minimum_bytes_needed", least)]
+        wanted += [(shape.impl_name(levels, "ReadLevel", name, of=level), "+read_level", read),
+                   (shape.impl_name("speedy", "ReadFrom"), "minimum_bytes_needed", least)]
     if shape.item.writable:
-        wanted.append((f"{level}WriteLevel{name}", "+write_level", write))
+        wanted.append((shape.impl_name(levels, "WriteLevel", name, of=level), "+write_level", write))
     for trait, function_, proofs in wanted:
         path = [*modules, trait, function_]
         goals = f"use Rattle.{'.'.join([crate, 'proofs', *path])}.Goals as goal"
