@@ -4,8 +4,9 @@ import random
 DERIVES = "#[derive(Readable, Writable)]\n"
 
 MADE = [
-    ("a struct that holds one with a depth", DERIVES + "#[speedy(depth = 4)]\npub struct Tree { pub below: Vec<Tree> }\n"
-     + DERIVES + "pub struct A { pub tree: Tree, pub b: u8 }\n" + DERIVES + "pub struct B { pub trees: Vec<Tree> }\n",
+    ("a struct that holds one with a depth",
+     DERIVES + "#[speedy(depth = 4)]\npub struct Tree { pub below: Vec<Tree> }\n" + DERIVES
+     + "pub struct A { pub tree: Tree, pub b: u8 }\n" + DERIVES + "pub struct B { pub trees: Vec<Tree> }\n",
      ["        <AParts as ReadFrom<L, C>>::minimum_bytes_needed()\n",
       "    fn minimum_bytes_needed() -> usize {\n        4\n    }\n}\n\nimpl<C: Context> Writable<C> for B {"]),
     ("a struct", '''/// Whom to write to.

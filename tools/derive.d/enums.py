@@ -30,8 +30,8 @@ OWNING = ("Box", "BoxedSlice", "BoxedStr", "BTreeMap", "BTreeSet", "CowSlice", "
 PARTS_OF_ONE = 4
 TYPES_OF_ONE = 8
 TYPES_OF_OWN = 4
-# One without is refused past so many records in what its parts are: the search for `write_case` enters 128 in all, those
-# of all parts for each but the last. A hash map is made of many, and of one more for each of its types.
+# One without is refused past so many records in what its parts are: the search for `write_case` enters 128 in all,
+# those of all parts for each but the last. A hash map is made of many, and of one more for each of its types.
 RECORDS_OF_ONE = 99
 SCALARS = ("bool", "char", *(f"{kind}{bits}" for kind in "iu" for bits in (8, 16, 32, 64, 128)))
 RECORDS = {"HashMap": 24, "HashSet": 15, "IndexMap": 7, "IndexSet": 7, "BTreeMap": 3, "BTreeSet": 3}
