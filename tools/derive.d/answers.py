@@ -1,11 +1,10 @@
 """Proofs that the source determines: of the arms of enums, and of options behind a length. A search finds the same for
 few variants and parts."""
 import lengths
-from arms import Arms, LaterArms
+from arms import CASES, Arms, LaterArms
 from parts import has_other_form, is_nested, moves_array
 from rattle import names_in
 
-CASES = "speedy::cases"
 # What a search for a proof is given besides a fact.
 RULES = "use Rattle.std.proofs.Common.{rules}"
 

@@ -1,5 +1,6 @@
 """How the answers of an enum's arms are stated."""
 
+CASES = "speedy::cases"
 # An enum of so many variants has answers for tags and for variants without parts, too, which a search finds slowly.
 MANY = 8
 
@@ -16,7 +17,7 @@ class Arms:
 
     def __init__(self, shape, place):
         self.crate, *modules = place
-        cases = shape.impl_name("speedy::cases", "Cases")
+        cases = shape.impl_name(CASES, "Cases")
         self.path = ".".join([f"Rattle.{self.crate}.specs.contracts", *modules, f"{cases}.TheImpl"])
         self.generics = shape.generics
         self.are_many = len(shape.cases) >= MANY
@@ -77,7 +78,7 @@ class LaterArms(Arms):
     def __init__(self, shape, place, group):
         super().__init__(shape, place)
         self.group = group
-        tree = shape.impl_name("speedy::cases", "CaseTree", of=group.type)
+        tree = shape.impl_name(CASES, "CaseTree", of=group.type)
         self.rest = ".".join([f"Rattle.{self.crate}.specs.contracts", *place[1:], f"{tree}.TheImpl"])
 
     def uses(self, lemmas, *words):

@@ -5,13 +5,13 @@ than their number. The first group is read by `read_case`, and each other one by
 group before it has the tag."""
 import in_place
 import rattle
+from arms import CASES
 from trees import chained, grouped, halved
 
 # So many cases one function reads at most, if there are more than MOST_WHOLE. Beside larger groups the search leaves
 # open what holds of all other tags; in smaller ones the impls that calls rest on are named again more often.
 GROUP = 20
 MOST_WHOLE = 24
-CASES = "speedy::cases"
 
 
 def groups_of(item, items):

@@ -46,9 +46,9 @@ class Shape:
         return name + self.generics.arguments(names)
 
     def impl_name(self, module, trait, behind="", of=""):
-        """What the kit calls an impl of a trait, for the type or for another: by the name that the trait has here.
-        Where a type or an alias of the module is called so, the arguments of the trait stand behind it."""
-        name = f"{of or self.item.name}{self.scope.called(module, trait)}{behind}"
+        """What the kit calls an impl of a trait, for the type or for another: by the name that the trait is imported
+        under. Where a type or an alias of the module is called so, the arguments of the trait stand behind it."""
+        name = f"{of or self.item.name}{self.scope.need(module, trait)}{behind}"
         return name if self.scope.fresh.is_free(name) else name + ARGUMENTS.get(trait, "Impl")
 
     # Heads.

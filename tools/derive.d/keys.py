@@ -361,11 +361,13 @@ def add_enum(shape, variants):
         return []
     name, scope = shape.item.name, shape.scope
     crate, *modules = shape.place
-    place, law = ".".join([*modules, name]), ".".join([*modules, shape.impl_name("speedy", "SameKey")])
-    own = scope.keys[name] = Own(law=(f"Rattle.{crate}.specs.contracts.{law}.TheImpl.Laws", f"{name.lower()}_key"))
+    place = ".".join([*modules, name])
+    own = scope.keys[name] = Own()
     if any(case.variant.fields for case in shape.cases):
         own.reason = "a variant has parts"
         return []
+    law = ".".join([f"Rattle.{crate}.specs.contracts", *modules, shape.impl_name("speedy", "SameKey"), "TheImpl.Laws"])
+    own.law = law, f"{name.lower()}_key"
     lines, words = enum_clause(name, variants, shape.quoted(name))
     uses = [f"    ghost use Rattle.{crate}.specs.declared.{place}.{{{name}}};",
             f"    ghost use Rattle.{crate}.specs.contracts.{place}.{{the_type}};"] if len(shape.cases) > 1 else []

@@ -92,10 +92,6 @@ class Scope:
             self.import_as(module, name, local)
         return self.locals[module, name]
 
-    def called(self, module, name):
-        """What a name of the kit or of this library is here, or will be where it is imported."""
-        return self.locals.get((module, name)) or (name if self.fresh.is_free(name) else alias_of(module, name))
-
     def import_as(self, module, name, local, visibility=""):
         """Imports a name under another, or under its own."""
         self.fresh.take(local)
