@@ -6,7 +6,10 @@ TYPES = ("Header Entry Packet Kind Colour Record Point Frame Chunk Config Wire S
 ODD_TYPES = ("Result Option Drop Context Part Case Cases CaseTree Magic Layout Option_ Writer Reader Either "
              "UnitCase Prefixed WithLength Length Other Varint Constant ReadFrom Writable_ ItemByItem SameKey "
              "Error Parts F32 AsSlice PhantomData Default_ Seen Codec Self_ WIRE Rattle HeaderParts EntryCases "
-             "BeforeFrameData Message").split()
+             "BeforeFrameData Message Writable WriteCases WriteLevel ReadLevel ReadOwn WriteOwn OwnParts Levels "
+             "Recursive Shape Itself Both Lent Own ReadToEnd WriteToEnd Whole WholePart MemoryReader Holds OfLength "
+             "ReadPrefix WritePrefix EncodedList ListUntil MadeWith Global LendingReader Endianness_ MessageReadCases "
+             "EntryWritable AnyCases Any Box_ Hash_").split()
 FIELDS = ("id name kind flags count size width height items bytes text label first second offset checksum "
           "parent version port owner created note left right ratio enabled").split()
 # Names that clauses, made code and its helpers use, or that differ little from another.
