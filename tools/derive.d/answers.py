@@ -1,5 +1,7 @@
 """Proofs that the source determines: of the arms of enums, and of options behind a length. A search finds the same for
 few variants and parts."""
+import textwrap
+
 import lengths
 from arms import CASES, Arms, LaterArms
 from parts import has_other_form, is_nested, moves_array
@@ -70,12 +72,12 @@ def answers_of_struct(shape, taken, place):
             if shape.ends_with_input else ("speedy", "Writable", "write_to", "write_value")
         lines = ["", "pub returns : goal.returns", *rewritten("returns", lent, f"c.{called}.ensures")]
         found |= file_of(place, [shape.impl_name(module, trait), function], lines)
-    is_signed = has_signed(taken)
-    is_long = is_signed and (is_nested(taken.tree) or any(part.tree is not None for part in taken.parts)
-                             or is_hashed(taken))
+    ranges = ranges_of(taken)
+    is_long = ranges and (is_nested(taken.tree) or any(part.tree is not None for part in taken.parts)
+                          or is_hashed(taken))
     if shape.item.readable and not shape.ends_with_input and (is_long or lent and not moves_array(taken)):
-        lines = answered("returns-in-Ok", "Ok", "read_value", read, None, is_signed, is_signed)
-        uses = [RULES] if is_signed else []
+        lines = answered("returns-in-Ok", "Ok", "read_value", read, None, bool(ranges), ranges)
+        uses = [RULES] if ranges else []
         found |= file_of(place, [shape.impl_name("speedy", "ReadFrom", lending(shape)), "read_from"], lines, uses)
     return found
 
@@ -86,9 +88,19 @@ def is_hashed(taken):
     return len(kinds) > 2 and any(names_in(kind) & {"HashMap", "HashSet"} for kind in kinds)
 
 
-def has_signed(taken):
-    """Whether a part is a signed number: what was read is the number again since it is within its range."""
-    return any(part.is_signed() for part in lengths.leaf_parts(taken.parts))
+def ranges_of(taken):
+    """Where what is known of what was read, `held`, says the range of each signed number: what was read is the number
+    again since it is within its range."""
+    return [f"held{place}" for part, place in places(taken.tree)
+            if any(it.is_signed() for it in lengths.leaf_parts([part]))]
+
+
+def places(tree, place=""):
+    """The parts of a tree of tuples, if there is one, each with where what is known of the tuple says what is known of
+    the part: behind its bytes and where they stand, each part in a pair with those behind it."""
+    if not isinstance(tree, list):
+        return [] if tree is None else [(tree, place)]
+    return [it for at, below in enumerate(tree) for it in places(below, f"{place}.1.1{'.1' * at}.0")]
 
 
 def lending(shape):
@@ -101,27 +113,32 @@ def reading(shape):
     return shape.impl_name(CASES, "ReadCases", lending(shape))
 
 
-def answered(goal, arm, step, taken, tag, is_searched=False, is_signed=False, arms=None):
+def answered(goal, arm, step, taken, tag, is_searched=False, ranges=(), arms=None):
     """The answer of a goal by what was read, of which some options are taken: as the value of a tag, by the arms of its
     enum, or of a struct. Where the result has another form, a search finds what was read in it, by the ranges of signed
-    numbers."""
+    numbers. These lie deep in what is known of the result, and a search looks into so many records alone."""
     of_call = arms.read_of(arm, step) if arms else f"rw c.in-{arm}.is at c.{step}.ensures"
     found, answer = [f"    let read = {of_call} in"], "read.answer"
     for place, ensured in enumerate(taken):
         name = "answer" + "'" * place
         found.append(f"    let {name} = rw {ensured} at {answer} in")
         answer = name
-    if is_searched and is_signed:
-        found.append(f"    let ranges = rw c.in-{arm}.is at c.{step}.type_inv in")
+    if is_searched and ranges:
+        found.append(f"    let held = (rw c.in-{arm}.is at c.{step}.type_inv).1.1.1.1.1.0 in")
     if is_searched:
-        answer = f"search (rules, {answer}{', ranges' if is_signed else ''})"
+        answer = f"search ({', '.join(['rules', answer, *ranges])})"
     last = arms.read(tag, f"(read.kept, {answer})") if arms \
         else [f"record {{ kept = read.kept; answer = {answer} }}"]
     if is_searched or len(last) > 1:
-        found += [f"    {line}" for line in last]
+        found += [part for line in last for part in laid_out(f"    {line}")]
     else:
         found[-1] += f" {last[0]}"
     return ["", f"pub {goal} : goal.{goal}", f"{goal} g c =", *found]
+
+
+def laid_out(line):
+    """A line of an answer as lines of up to 120 columns."""
+    return textwrap.wrap(line, 120, subsequent_indent="    ", break_long_words=False, break_on_hyphens=False)
 
 
 def file_of(place, within, lines, uses=()):
@@ -198,7 +215,7 @@ def read_answers(cases, arms):
         end = "" if place == 0 else "-read_value" if place == 1 else f"-read_value-{place}"
         step = f"read_value-in-{tag}" if place else "read_value"
         taken = options_of(case.taken, "taken_by", known, f"Ok{end}")
-        how = (has_other_form(case.taken), has_signed(case.taken))
+        how = (has_other_form(case.taken), ranges_of(case.taken))
         found += answered(f"returns-in-Ok{end}", f"Ok{end}", step, taken, tag, *how, arms=arms)
         found += answered(f"returns-in-Err{end}", f"Err{end}", step, [], tag, arms=arms)
     for case in cases:

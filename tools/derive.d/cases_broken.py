@@ -63,9 +63,6 @@ BROKEN = [
      "`length = ..` is taken of"),
     ("a rest behind a part that may be missing", struct("    #[speedy(default_on_eof)]\n    a: u8,\n"
      "    #[speedy(length = ..)]\n    b: Vec<u8>"), 5, "is the last field"),
-    ("a skipped part whose default takes memory, beside one that may be missing",
-     struct("    #[speedy(skip)]\n    a: Box<u32>,\n    #[speedy(default_on_eof)]\n    b: u8"), 5,
-     "the default of this type takes memory"),
     ("a missing part whose default takes memory", struct("    #[speedy(default_on_eof)]\n    a: Box<u32>"), 5,
      "the default of this type takes memory"),
     ("a missing part of two settings", struct("    #[speedy(default_on_eof, varint)]\n    a: u64"), 4,
@@ -146,8 +143,9 @@ BROKEN = [
     ("a length behind a reference", HEAD + "#[derive(Writable)]\n"
      "struct A<'a> {\n    n: u8,\n    #[speedy(length = n)]\n    a: &'a String,\n}", 6, "`length` is taken of"),
     ("a number with a length", told("n", "u8", "u64").replace("length", "varint, length"), 5, "a number has no length"),
-    ("a box that is skipped beside a length that is told",
-     struct("    n: u8,\n    #[speedy(length = n)]\n    a: Vec<u8>,\n    #[speedy(skip)]\n    b: Box<u32>"), 8,
+    ("a box that is skipped", struct("    a: Vec<u8>,\n    #[speedy(skip)]\n    b: (u8, Box<u32>)"), 6,
+     "the default of this field takes memory"),
+    ("a box that is skipped in a variant", HEAD + DERIVES + "enum A { B(String, #[speedy(skip)] Box<u32>), C }", 3,
      "hold it in an `Option`"),
     ("lists in lists", struct("    a: Vec<Vec<Vec<Vec<Vec<u8>>>>>"), 3, "gives up its search"),
     ("options in too many fields", struct(",\n".join(f"    f{it}: Option<Option<u16>>" for it in range(28))), 3,

@@ -170,8 +170,8 @@ ANSWERED = [
       "AReadCasesAnyAny/read_case": ["proofs.messages.AReadCasesAnyAny.read_case.Goals as goal\n"]}),
     ("a signed number beside a hash map", "use std::collections::HashMap;\n" + DERIVES
      + "struct A { a: u64, b: HashMap<u32, u64>, c: i32 }\n" + DERIVES + "struct B { a: HashMap<u32, u64>, b: i32 }\n",
-     {"AReadFrom/read_from": ["    let ranges = rw c.in-Ok.is at c.read_value.type_inv in\n"
-                              "    record { kept = read.kept; answer = search (rules, read.answer, ranges) }"]}),
+     {"AReadFrom/read_from": ["    let held = (rw c.in-Ok.is at c.read_value.type_inv).1.1.1.1.1.0 in\n",
+                              "answer = search (rules, read.answer, held.1.1.1.1.0) }"]}),
     ("one variant of many parts", "use std::collections::HashMap;\n" + DERIVES + """enum A {
     B(HashMap<u8, u16>, bool, #[speedy(length_type = u8)] Option<String>, i16, u64),
 }
@@ -179,7 +179,7 @@ ANSWERED = [
                                  "turned (write_arm (record { Seen = cases.Seen; seen = λ v. v;",
                                  "appends _ _ _) written (search (rules))"],
       "AReadCases/read_case": ["let answer = rw c.option_value-t2.ensures at read.answer in",
-                               "c.in-0.is (read.kept, search (rules, answer, ranges))"]}),
+                               "c.in-0.is (read.kept, search (rules, answer, held.1.1.1.1.1.0))"]}),
     ("variants whose result has another form", DERIVES + """enum A {
     B { n: u8, #[speedy(length = n)] a: Vec<u16> },
     C([u8; 4], u8, #[speedy(length_type = u8)] Option<String>),
@@ -191,9 +191,8 @@ ANSWERED = [
       "AReadCases/read_case": ["use Rattle.std.proofs.Common.{rules}\n",
                                "    c.in-0.is (read.kept, search (rules, read.answer))",
                                "    c.in-1.is (read.kept, search (rules, answer))",
-                               "    let ranges = rw c.in-Ok-read_value-2.is at c.read_value-in-2.type_inv in\n"
-                               "    read_arm",
-                               "    c.in-2.is (read.kept, search (rules, read.answer, ranges))",
+                               "    let held = (rw c.in-Ok-read_value-2.is at c.read_value-in-2.type_inv)",
+                               "    c.in-2.is (read.kept, search (rules, read.answer, held))",
                                "    c.in-3.is (read.kept, search (rules, read.answer))"]}),
     ("an enum that is read in groups", DERIVES + "enum A { " + ", ".join(f"V{it}(u8)" for it in range(42)) + " }\n",
      {"AWriteCases/tag": ["returns-in-V41 g c = tag_arm cases _ c.in-V41.is refl"],
@@ -208,7 +207,7 @@ ANSWERED = [
      DERIVES + "struct A(#[speedy(length_type = u8)] Option<String>, i16);\n", {
          "AWritable/write_to": ["returns g c = rw c.lent_option-t0.ensures at c.write_value.ensures"],
          "AReadFrom/read_from": ["use Rattle.std.proofs.Common.{rules}\n",
-                                 "answer = search (rules, answer, ranges) }"]}),
+                                 "answer = search (rules, answer, held.1.1.1.0) }"]}),
     ("a signed number behind a length", DERIVES + """struct A {
     n: u8,
     #[speedy(length = n)]
@@ -217,8 +216,8 @@ ANSWERED = [
 }
 """ + DERIVES + "struct B(u8, i32);\n", {
     "AReadFrom/read_from": ["use Rattle.std.proofs.Common.{rules}\n",
-                            "    let ranges = rw c.in-Ok.is at c.read_value.type_inv in\n"
-                            "    record { kept = read.kept; answer = search (rules, read.answer, ranges) }"]}),
+                            "    let held = (rw c.in-Ok.is at c.read_value.type_inv).1.1.1.1.1.0 in\n"
+                            "    record { kept = read.kept; answer = search (rules, read.answer, held.1.1.1.0) }"]}),
 ]
 
 MADE += [

@@ -161,6 +161,9 @@ class PartMaker:
             arrays.check(self.item, self.scope, it, kind)
             if it.options.skip:
                 value, defaulted = defaults.default(kind, self.scope, it.line) if self.item.readable else ("", ())
+                if "error_out_of_memory" in value:
+                    raise Refusal(it.line, "the default of this field takes memory, which no layout says that reading "
+                                           "asks for: hold it in an `Option`, whose default takes none")
                 found.values.append(value)
                 found.skipped.append((kind, defaulted))
                 continue
@@ -173,16 +176,7 @@ class PartMaker:
         joined = lengths.joined(items, self.scope, self.owner, lives)
         found.parts = [it if isinstance(it, Part) else self.told(it) for it in joined]
         found.tree = split(found.parts)
-        self.refuse_memory(found)
         return found
-
-    def refuse_memory(self, taken):
-        """Refuses a field that is skipped and takes memory beside a length that is told: reading may end there, between
-        the statements that take apart what was read, and then the search for proofs meets its limit."""
-        for it, value in zip(taken.fields, taken.values):
-            if it.options.skip and "error_out_of_memory" in value and any(part.tree for part in taken.parts):
-                raise Refusal(it.line, "the default of this field takes memory, which finds no proof beside a length "
-                                       "that fields tell: hold it in an `Option`, whose default takes none")
 
     def part(self, it, access, kind):
         """The part of one field, and the value of the field in reading."""

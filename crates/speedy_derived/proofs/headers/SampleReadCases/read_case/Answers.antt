@@ -6,9 +6,9 @@ use Rattle.speedy_derived.proofs.headers.SampleReadCases.read_case.Goals as goal
 pub returns-in-Ok : goal.returns-in-Ok
 returns-in-Ok g c =
     let read = read_of c.in-Ok.is c.read_value.ensures in
-    let ranges = rw c.in-Ok.is at c.read_value.type_inv in
+    let held = (rw c.in-Ok.is at c.read_value.type_inv).1.1.1.1.1.0 in
     read_arm cases g.C.Error.From.from_gives g.C.Error.IsEof.eof g.R.LendingReader.state _ _ _
-    c.in-0.is (read.kept, search (rules, read.answer, ranges))
+    c.in-0.is (read.kept, search (rules, read.answer, held.1.1.1.0))
 
 pub returns-in-Err : goal.returns-in-Err
 returns-in-Err g c =

@@ -5,5 +5,5 @@ pub returns-in-Ok : goal.returns-in-Ok
 returns-in-Ok g c =
     let read = rw c.in-Ok.is at c.read_value.ensures in
     let answer = rw c.option_value-name.ensures at read.answer in
-    let ranges = rw c.in-Ok.is at c.read_value.type_inv in
-    record { kept = read.kept; answer = search (rules, answer, ranges) }
+    let held = (rw c.in-Ok.is at c.read_value.type_inv).1.1.1.1.1.0 in
+    record { kept = read.kept; answer = search (rules, answer, held.1.1.1.0) }
