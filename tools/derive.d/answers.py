@@ -1,9 +1,7 @@
 """Proofs that the source determines: of the arms of enums, and of options behind a length. A search finds the same for
 few variants and parts."""
-import textwrap
-
 import lengths
-from arms import CASES, Arms, LaterArms
+from arms import CASES, Arms, LaterArms, laid_out
 from parts import has_other_form, is_nested, moves_array
 from rattle import names_in
 
@@ -22,7 +20,7 @@ def answers(shape, place):
     found = file_of(place, [writing, "write_case"], write_answers(shape, arms), uses)
     if arms.is_named and arms.are_many:
         uses = arms.uses(["tag_arm"], "refl")
-        found |= file_of(place, [writing, "tag"], tag_answers(shape), uses)
+        found |= file_of(place, [writing, "tag"], tag_answers(shape, arms), uses)
     if shape.item.readable:
         found |= read_file(place, [reading(shape), "read_case"], shape.first, arms)
         for group in shape.later:
@@ -130,15 +128,10 @@ def answered(goal, arm, step, taken, tag, is_searched=False, ranges=(), arms=Non
     last = arms.read(tag, f"(read.kept, {answer})") if arms \
         else [f"record {{ kept = read.kept; answer = {answer} }}"]
     if is_searched or len(last) > 1:
-        found += [part for line in last for part in laid_out(f"    {line}")]
+        found += [f"    {part}" for line in last for part in laid_out(line)]
     else:
         found[-1] += f" {last[0]}"
     return ["", f"pub {goal} : goal.{goal}", f"{goal} g c =", *found]
-
-
-def laid_out(line):
-    """A line of an answer as lines of up to 120 columns."""
-    return textwrap.wrap(line, 120, subsequent_indent="    ", break_long_words=False, break_on_hyphens=False)
 
 
 def file_of(place, within, lines, uses=()):
@@ -180,12 +173,13 @@ def rewritten(goal, steps, fact, matched=None):
     return [f"{goal} g c =", *found, *(f"    {line}" for line in last)]
 
 
-def tag_answers(shape):
+def tag_answers(shape, arms):
     """The tag of an arm is that of the case of the variant that it matches."""
     found = []
     for case in shape.cases if shape.item.writable else []:
         goal = f"returns-in-{case.variant.name}"
-        found += ["", f"pub {goal} : goal.{goal}", f"{goal} g c = tag_arm cases _ c.in-{case.variant.name}.is refl"]
+        lines = laid_out(f"tag_arm {arms.cases} _ c.in-{case.variant.name}.is refl")
+        found += ["", f"pub {goal} : goal.{goal}", *rewritten(goal, [], "", lambda _, lines=lines: lines)]
     return found
 
 

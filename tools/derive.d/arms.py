@@ -1,28 +1,48 @@
 """How the answers of an enum's arms are stated."""
+import textwrap
 
 CASES = "speedy::cases"
 # An enum of so many variants has answers for tags and for variants without parts, too, which a search finds slowly.
 MANY = 8
 
 
+def laid_out(line):
+    """A line of an answer as lines that stand within 120 columns."""
+    return textwrap.wrap(line, 116, break_long_words=False, break_on_hyphens=False)
+
+
 class Arms:
     """How the arms of an enum answer: from what holds of what an arm matched, as the tag, to what the function ensures.
 
-    Lemmas do this that take the enum's cases, which are named by the module of its impl of `Cases`. Where parameters
-    that are types or numbers would have to be given to that, or it has another name, the goal is rewritten, for which
-    the whole tree of the cases is computed in each arm."""
+    Lemmas do this that take the enum's cases, which are named by the module of its impl of `Cases`. Where numbers would
+    have to be given to that, or more than how a parameter is laid out, or it has another name, the goal is rewritten,
+    for which the whole tree of the cases is computed in each arm."""
 
     # What goes from the tag that an arm of reading matched to the tag.
     lemma = "read_arm"
 
     def __init__(self, shape, place):
         self.crate, *modules = place
-        cases = shape.impl_name(CASES, "Cases")
-        self.path = ".".join([f"Rattle.{self.crate}.specs.contracts", *modules, f"{cases}.TheImpl"])
         self.generics = shape.generics
         self.are_many = len(shape.cases) >= MANY
+        types = self.types_given(shape) if self.are_many else []
+        self.path = ".".join([f"Rattle.{self.crate}.specs.contracts", *modules,
+                              f"{shape.impl_name(CASES, 'Cases', types=len(types))}.TheImpl"])
         self.is_named = shape.cases_type.partition("<")[0] == f"{shape.item.name}Cases" \
-            and all(it.kind == "lifetime" for it in shape.item.parameters)
+            and len(types) == sum(it.kind != "lifetime" for it in shape.item.parameters)
+        # Each parameter that is a type stands before how the first is laid out.
+        rows = [f"g.row.{it}" for it in types]
+        given = rows + [f"g.{it}.Layout{end}" for it in types for end in ("", "-dict")]
+        self.cases = f"(cases {' '.join(given)})" if types else "cases"
+
+    @staticmethod
+    def types_given(shape):
+        """The parameters that the cases of an enum take: types of which they ask how these are laid out, no more."""
+        generics = shape.generics
+        asked = generics.of_impl(shape.asked, generics.laying_out())
+        plain = {f"{it.name}: {shape.scope.need('speedy', 'Layout')}": it.name for it in shape.item.parameters
+                 if it.kind == "type"}
+        return [] if generics.wheres_text() else [plain[it] for it in asked if it in plain]
 
     def definition(self):
         """What stands before the answers of reading."""
@@ -47,7 +67,7 @@ class Arms:
             return [f"rw c.in-{tag}.is {pair}"]
         context = f"g.{self.generics.context}.Error"
         told = f"{context}.From.from_gives {context}.IsEof.eof g.{self.generics.reader}.LendingReader.state"
-        return [f"read_arm cases {told} _ _ _", f"c.in-{tag}.is {pair}"]
+        return [*laid_out(f"read_arm {self.cases} {told} _ _ _"), f"c.in-{tag}.is {pair}"]
 
     def write(self, variant, fact, result="_"):
         """The lines of what is written of a variant."""
@@ -55,7 +75,8 @@ class Arms:
             return [f"rw c.in-{variant}.is {fact}"]
         told = f"g.{self.generics.context}.Error.From.from_gives"
         writer = f"g.{self.generics.writer}.Writer"
-        return [f"write_arm cases {told} {writer}.state {writer}.appends {result} _ _", f"c.in-{variant}.is {fact}"]
+        return [*laid_out(f"write_arm {self.cases} {told} {writer}.state {writer}.appends {result} _ _"),
+                f"c.in-{variant}.is {fact}"]
 
     def write_seen(self, fact):
         """The lines of what is written of the only variant, by what is seen of its fields."""
@@ -77,6 +98,8 @@ class LaterArms(Arms):
 
     def __init__(self, shape, place, group):
         super().__init__(shape, place)
+        # A definition of the file has no parameters.
+        self.is_named = self.is_named and self.cases == "cases"
         self.group = group
         tree = shape.impl_name(CASES, "CaseTree", of=group.type)
         self.rest = ".".join([f"Rattle.{self.crate}.specs.contracts", *place[1:], f"{tree}.TheImpl"])

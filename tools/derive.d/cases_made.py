@@ -194,6 +194,15 @@ ANSWERED = [
                                "    let held = (rw c.in-Ok-read_value-2.is at c.read_value-in-2.type_inv)",
                                "    c.in-2.is (read.kept, search (rules, read.answer, held))",
                                "    c.in-3.is (read.kept, search (rules, read.answer))"]}),
+    ("an enum of many variants with parameters", DERIVES + "enum A<'a, T, U> { B(&'a str, T), C(U), "
+     + ", ".join(f"V{it}" for it in range(7)) + " }\n" + DERIVES
+     + "enum D<T: Clone> { E(T), " + ", ".join(f"V{it}" for it in range(7)) + " }\n",
+     {"AWriteCases/write_case": ["messages.AAnyAnyCases.TheImpl.{ghosts as cases}\n",
+                                 "    write_arm (cases g.row.T g.row.U g.T.Layout g.T.Layout-dict g.U.Layout "],
+      "AWriteCases/tag": ["returns-in-V0 g c = tag_arm (cases g.row.T g.row.U g.T.Layout "],
+      "AReadCasesRefSliceU8/read_case": ["    read_arm (cases g.row.T g.row.U g.T.Layout g.T.Layout-dict g.U.Layout "],
+      "DWriteCases/write_case": ["returns-in-E g c = rw c.in-E.is c.write_value.ensures"],
+      "DReadCases/read_case": ["rw c.in-0.is (read.kept, read.answer)"]}),
     ("an enum that is read in groups", DERIVES + "enum A { " + ", ".join(f"V{it}(u8)" for it in range(42)) + " }\n",
      {"AWriteCases/tag": ["returns-in-V41 g c = tag_arm cases _ c.in-V41.is refl"],
       "AWriteCases/write_case": ["    c.in-V41.is c.write_value-in-V41.ensures"],

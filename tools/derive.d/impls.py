@@ -45,11 +45,15 @@ class Shape:
         self.scope.beside += [f"/// {about}", f"{head} = {type_text(kind)};", ""]
         return name + self.generics.arguments(names)
 
-    def impl_name(self, module, trait, behind="", of=""):
+    def impl_name(self, module, trait, behind="", of="", types=0):
         """What the kit calls an impl of a trait, for the type or for another: by the name that the trait is imported
-        under. Where a type or an alias of the module is called so, the arguments of the trait stand behind it."""
-        name = f"{of or self.item.name}{self.scope.need(module, trait)}{behind}"
-        return name if self.scope.fresh.is_free(name) else name + ARGUMENTS.get(trait, "Impl")
+        under. Where a type or an alias of the module is called so, the arguments of the trait stand behind it, or those
+        of the type within it, if that has so many which are types."""
+        item, local = of or self.item.name, self.scope.need(module, trait)
+        name = f"{item}{local}{behind}"
+        if self.scope.fresh.is_free(name):
+            return name
+        return f"{item}{'Any' * types}{local}{behind}" if types else name + ARGUMENTS.get(trait, "Impl")
 
     # Heads.
 
