@@ -168,9 +168,12 @@ def rewritten(goal, steps, fact, matched=None):
         else:
             found.append(f"    let {name} = rw {step} at {fact} in")
             fact, last = name, matched(name) if matched else [name]
-    if not found and len(last) == 1:
-        return [f"{goal} g c = {last[0]}"]
-    return [f"{goal} g c =", *found, *(f"    {line}" for line in last)]
+    return defined(goal, last) if not found else [f"{goal} g c =", *found, *(f"    {line}" for line in last)]
+
+
+def defined(goal, lines):
+    """The answer of a goal by these lines, or on its own line where it is one."""
+    return [f"{goal} g c = {lines[0]}"] if len(lines) == 1 else [f"{goal} g c =", *(f"    {line}" for line in lines)]
 
 
 def tag_answers(shape, arms):
@@ -179,7 +182,7 @@ def tag_answers(shape, arms):
     for case in shape.cases if shape.item.writable else []:
         goal = f"returns-in-{case.variant.name}"
         lines = laid_out(f"tag_arm {arms.cases} _ c.in-{case.variant.name}.is refl")
-        found += ["", f"pub {goal} : goal.{goal}", *rewritten(goal, [], "", lambda _, lines=lines: lines)]
+        found += ["", f"pub {goal} : goal.{goal}", *defined(goal, lines)]
     return found
 
 
