@@ -1,7 +1,7 @@
 """Proofs that the source determines: of the arms of enums, and of options behind a length. A search finds the same for
 few variants and parts."""
 import lengths
-from arms import CASES, Arms, LaterArms, laid_out
+from arms import CASES, Arms, LaterArms, wrapped
 from parts import has_other_form, is_nested, moves_array
 from rattle import names_in
 
@@ -128,7 +128,7 @@ def answered(goal, arm, step, taken, tag, is_searched=False, ranges=(), arms=Non
     last = arms.read(tag, f"(read.kept, {answer})") if arms \
         else [f"record {{ kept = read.kept; answer = {answer} }}"]
     if is_searched or len(last) > 1:
-        found += [f"    {part}" for line in last for part in laid_out(line)]
+        found += [f"    {part}" for line in last for part in wrapped(line)]
     else:
         found[-1] += f" {last[0]}"
     return ["", f"pub {goal} : goal.{goal}", f"{goal} g c =", *found]
@@ -181,7 +181,7 @@ def tag_answers(shape, arms):
     found = []
     for case in shape.cases if shape.item.writable else []:
         goal = f"returns-in-{case.variant.name}"
-        lines = laid_out(f"tag_arm {arms.cases} _ c.in-{case.variant.name}.is refl")
+        lines = wrapped(f"tag_arm {arms.cases} _ c.in-{case.variant.name}.is refl")
         found += ["", f"pub {goal} : goal.{goal}", *defined(goal, lines)]
     return found
 

@@ -6,7 +6,7 @@ CASES = "speedy::cases"
 MANY = 8
 
 
-def laid_out(line):
+def wrapped(line):
     """A line of an answer as lines that stand within 120 columns."""
     return textwrap.wrap(line, 116, break_long_words=False, break_on_hyphens=False)
 
@@ -67,7 +67,7 @@ class Arms:
             return [f"rw c.in-{tag}.is {pair}"]
         context = f"g.{self.generics.context}.Error"
         told = f"{context}.From.from_gives {context}.IsEof.eof g.{self.generics.reader}.LendingReader.state"
-        return [*laid_out(f"read_arm {self.cases} {told} _ _ _"), f"c.in-{tag}.is {pair}"]
+        return [*wrapped(f"read_arm {self.cases} {told} _ _ _"), f"c.in-{tag}.is {pair}"]
 
     def write(self, variant, fact, result="_"):
         """The lines of what is written of a variant."""
@@ -75,7 +75,7 @@ class Arms:
             return [f"rw c.in-{variant}.is {fact}"]
         told = f"g.{self.generics.context}.Error.From.from_gives"
         writer = f"g.{self.generics.writer}.Writer"
-        return [*laid_out(f"write_arm {self.cases} {told} {writer}.state {writer}.appends {result} _ _"),
+        return [*wrapped(f"write_arm {self.cases} {told} {writer}.state {writer}.appends {result} _ _"),
                 f"c.in-{variant}.is {fact}"]
 
     def write_seen(self, fact):
