@@ -1,14 +1,11 @@
 //! Lists that lie where they were read: how they are read, written again in either order, shown and walked.
-ghost use Rattle.std.specs.Prelude.{◌≡◌};
-ghost use Rattle.speedy.specs.EncodedLists.{Measures, WritesFirst};
-ghost use Rattle.speedy.specs.Exports.{ShowsText};
-
-use crate::asserting::{assert_bytes, assert_kind, assert_refused};
+use crate::asserting::{assert_bytes, assert_kind, assert_ok, assert_ok_items, assert_refused};
 use speedy::context::{BigEndian, LittleEndian, StrictLittleEndian};
 use speedy::encoded::{EncodedList, ListItem, WriteListItem, measure_items, write_first_item};
 use speedy::error::Error;
-use speedy::exports::{ListView, View, Walk, check, next, read, write};
+use speedy::exports::{ListView, Walk, check, next, read, write};
 use speedy::in_place::InPlace;
+use speedy::readable::BufferReader;
 use speedy::{
     Context, Endianness, F32, ItemByItem, Layout, LendingReader, ReadFrom, Readable, Writable,
     Writer,
@@ -16,162 +13,6 @@ use speedy::{
 use std::alloc::Global;
 use std::convert::AsSlice;
 use std::process::Abort;
-
-/// What a tool makes of a struct that a list holds.
-#[derive(Debug, PartialEq, Drop)]
-struct Named<'a> {
-    id: u16,
-    name: &'a str,
-}
-
-type NamedParts<'a> = (u16, &'a str);
-
-impl<'a> Layout for Named<'a> {
-    ghost Seen = { ⟦<NamedParts<'a> as Layout>⟧.Seen };
-
-    ghost seen = { λ it. ⟦<NamedParts<'a> as Layout>⟧.seen (it.id, it.name) };
-
-    ghost layout = { ⟦<NamedParts<'a> as Layout>⟧.layout };
-}
-
-impl<'a, C: Context> ReadFrom<&'a [u8], C> for Named<'a> {
-    type Strategy = ItemByItem<C>;
-
-    fn read_from<R: LendingReader<&'a [u8], C>>(reader: &mut R) -> Result<Named<'a>, C::Error> {
-        match reader.read_value() {
-            Ok((id, name)) => Ok(Named { id, name }),
-            Err(error) => Err(error),
-        }
-    }
-
-    fn minimum_bytes_needed() -> usize
-        ensures { result ≡ ⟦<NamedParts<'a> as Layout>⟧.layout.least }
-    {
-        6
-    }
-}
-
-impl<'a, C: Context> Writable<C> for Named<'a> {
-    fn write_to<W: Writer<C>>(&self, writer: &mut W) -> Result<(), C::Error> {
-        writer.write_value(&(self.id, self.name))
-    }
-}
-
-impl<'a> InPlace for Named<'a> {
-    ghost Seen = { ⟦<NamedParts<'a> as InPlace>⟧.Seen };
-
-    ghost in_place = { ⟦<NamedParts<'a> as InPlace>⟧.in_place };
-}
-
-impl<'a> ListItem for Named<'a> {
-    fn measure<C: Context>(
-        alloc: Global,
-        context: C,
-        count: usize,
-        bytes: &[u8],
-    ) -> Result<usize, C::Error>
-        ensures { Measures C.Error.IsEof ⟦<Named<'a> as InPlace>⟧.in_place.codec
-            (C.mode context) count result bytes.now }
-    {
-        measure_items::<Named, C>(alloc, context, count, bytes)
-    }
-}
-
-impl<'a, C: Context> WriteListItem<C> for Named<'a> {
-    fn write_first<W: Writer<C>>(
-        alloc: Global,
-        order: Endianness,
-        bytes: &[u8],
-        writer: &mut W,
-    ) -> Option<(usize, Result<(), C::Error>)>
-        ensures { WritesFirst C.Error.from_gives W.state W.appends
-            ⟦<Named<'a> as InPlace>⟧.in_place.codec order bytes.now result writer.old writer.new }
-    {
-        write_first_item::<Named, C, W>(alloc, order, bytes, writer)
-    }
-}
-
-/// What is shown of it.
-#[repr(C)]
-#[derive(Clone, Copy)]
-struct NamedView<'a> {
-    id: u16,
-    name: &'a [u8],
-}
-
-impl<'a> View<Named<'a>> for NamedView<'a> {
-    ghost shows = { λ value view. (view.id ≡ value.id) × (ShowsText value.name.now view.name.now) };
-
-    fn of(value: &Named<'a>) -> NamedView<'a> {
-        NamedView {
-            id: value.id,
-            name: value.name.as_bytes(),
-        }
-    }
-}
-
-/// A flag, of which there are several encodings.
-#[derive(Debug, PartialEq, Drop)]
-struct Flag {
-    value: bool,
-}
-
-impl Layout for Flag {
-    ghost Seen = { ⟦<bool as Layout>⟧.Seen };
-
-    ghost seen = { λ it. ⟦<bool as Layout>⟧.seen it.value };
-
-    ghost layout = { ⟦<bool as Layout>⟧.layout };
-}
-
-impl<L: AsSlice<u8> + Drop, C: Context> ReadFrom<L, C> for Flag {
-    type Strategy = ItemByItem<C>;
-
-    fn read_from<R: LendingReader<L, C>>(reader: &mut R) -> Result<Flag, C::Error> {
-        match reader.read_value() {
-            Ok(value) => Ok(Flag { value }),
-            Err(error) => Err(error),
-        }
-    }
-
-    fn minimum_bytes_needed() -> usize {
-        1
-    }
-}
-
-impl<C: Context> Writable<C> for Flag {
-    fn write_to<W: Writer<C>>(&self, writer: &mut W) -> Result<(), C::Error> {
-        writer.write_value(&self.value)
-    }
-}
-
-impl InPlace for Flag {
-    ghost Seen = { ⟦<bool as InPlace>⟧.Seen };
-
-    ghost in_place = { ⟦<bool as InPlace>⟧.in_place };
-}
-
-impl ListItem for Flag {
-    fn measure<C: Context>(
-        alloc: Global,
-        context: C,
-        count: usize,
-        bytes: &[u8],
-    ) -> Result<usize, C::Error> {
-        measure_items::<Flag, C>(alloc, context, count, bytes)
-    }
-}
-
-impl<C: Context> WriteListItem<C> for Flag {
-    fn write_first<W: Writer<C>>(
-        alloc: Global,
-        order: Endianness,
-        bytes: &[u8],
-        writer: &mut W,
-    ) -> Option<(usize, Result<(), C::Error>)> {
-        write_first_item::<Flag, C, W>(alloc, order, bytes, writer)
-    }
-}
 
 /// A value of no bytes.
 #[derive(Debug, PartialEq, Drop)]
@@ -236,67 +77,66 @@ impl<C: Context> WriteListItem<C> for Nothing {
     }
 }
 
-type Names<'a> = EncodedList<'a, Named<'a>>;
+type Texts<'a> = EncodedList<'a, &'a str>;
 
-/// Two items in little endian, of the names `a` and `bc`, behind their number.
-const NAMES: [u8; 19] = [2, 0, 0, 0, 1, 0, 1, 0, 0, 0, 97, 2, 0, 2, 0, 0, 0, 98, 99];
+/// The texts `a` and `bc` behind their number, in little endian.
+const TEXTS: [u8; 15] = [2, 0, 0, 0, 1, 0, 0, 0, 97, 2, 0, 0, 0, 98, 99];
 
 /// The same in big endian.
-const NAMES_BIG: [u8; 19] = [0, 0, 0, 2, 0, 1, 0, 0, 0, 1, 97, 0, 2, 0, 0, 0, 2, 98, 99];
+const TEXTS_BIG: [u8; 15] = [0, 0, 0, 2, 0, 0, 0, 1, 97, 0, 0, 0, 2, 98, 99];
 
-fn names<'a>(rt: &impl Abort, alloc: Global, bytes: &'a [u8]) -> Names<'a> {
-    let list = <Names as Readable<LittleEndian>>::read_from_buffer(alloc, bytes);
-    list.expect(rt, "a list")
+/// The list that the bytes begin with, in little endian, and how many of them it has.
+fn read_texts(alloc: Global, bytes: &[u8]) -> (Result<Texts<'_>, Error>, usize) {
+    <Texts as Readable<LittleEndian>>::read_with_length_from_buffer(alloc, bytes)
 }
 
 #[test]
 fn a_list_lies_where_its_bytes_do(rt: HostRuntime) {
     let alloc = rt.alloc();
-    let mut more = [9; 20];
-    more[..19].copy_from_slice(&NAMES);
-    let read = <Names as Readable<LittleEndian>>::read_with_length_from_buffer(alloc, &more);
-    assert!(&rt; read.1 == 19);
-    let list = read.0.expect(&rt, "a list");
+    let mut more = [9; 16];
+    more[..15].copy_from_slice(&TEXTS);
+    let (read, size) = read_texts(alloc, &more);
+    assert!(&rt; size == 15);
+    let list = read.expect(&rt, "a list");
     assert!(&rt; list.len() == 2 && !list.is_empty());
     assert!(&rt; list.order() == Endianness::LittleEndian);
-    assert_bytes(&rt, list.bytes(), &NAMES[4..]);
+    assert_bytes(&rt, list.bytes(), &TEXTS[4..]);
+    let (none, _) = read_texts(alloc, &[0; 4]);
+    assert!(&rt; none.expect(&rt, "a list").is_empty());
+}
+
+#[test]
+fn the_items_of_a_list_are_read_one_by_one(rt: HostRuntime) {
+    let alloc = rt.alloc();
+    let two = [0, 0, 0, 2, 0, 1, 0, 2, 9];
+    let mut reader = BufferReader::new(alloc, BigEndian {}, &two);
+    let list: EncodedList<u16> = reader.read_value().expect(&rt, "a list");
+    assert_bytes(&rt, list.bytes(), &two[4..8]);
     let mut items = list.reader();
-    let first: Named = items.read_value().expect(&rt, "an item");
-    let second: Named = items.read_value().expect(&rt, "an item");
-    assert!(&rt; first.id == 1 && first.name == "a" && second.id == 2 && second.name == "bc");
+    assert_ok(&rt, items.read_u16(), 1);
+    assert_ok(&rt, items.read_u16(), 2);
     assert!(&rt; items.is_empty());
-    // Numbers too, and a list of none.
-    let two = &[0, 0, 0, 2, 0, 1, 0, 2, 9];
-    let numbers = <EncodedList<u16> as Readable<BigEndian>>::read_from_buffer_with_ctx(
-        alloc,
-        BigEndian {},
-        two,
-    );
-    assert_bytes(&rt, numbers.expect(&rt, "a list").bytes(), &two[4..8]);
-    assert!(&rt; names(&rt, alloc, &[0; 4]).is_empty());
 }
 
 #[test]
 fn a_list_of_items_without_bytes_is_read_at_once(rt: HostRuntime) {
     let bytes = [255; 5];
-    let list = <EncodedList<Nothing> as Readable<LittleEndian>>::read_from_buffer(
-        rt.alloc(),
-        &bytes,
-    ).expect(&rt, "a list");
+    let mut reader = BufferReader::new(rt.alloc(), LittleEndian {}, &bytes);
+    let list: EncodedList<Nothing> = reader.read_value().expect(&rt, "a list");
     assert!(&rt; list.len() == 0xffff_ffff && list.bytes().is_empty());
 }
 
 /// The error of bytes that begin with no list.
 fn refusal(rt: &impl Abort, alloc: Global, bytes: &[u8]) -> Error {
-    match <Names as Readable<LittleEndian>>::read_from_buffer(alloc, bytes) {
-        Ok(_) => panic!(rt; "it is read"),
-        Err(error) => error,
+    match read_texts(alloc, bytes) {
+        (Ok(_), _) => panic!(rt; "it is read"),
+        (Err(error), _) => error,
     }
 }
 
 /// The error where nothing is lent.
 fn refusal_of_a_copy(rt: &impl Abort, alloc: Global, bytes: &[u8]) -> Error {
-    match <Names as Readable<LittleEndian>>::read_from_buffer_copying_data(alloc, bytes) {
+    match <Texts as Readable<LittleEndian>>::read_from_buffer_copying_data(alloc, bytes) {
         Ok(_) => panic!(rt; "it is read"),
         Err(error) => error,
     }
@@ -306,96 +146,59 @@ fn refusal_of_a_copy(rt: &impl Abort, alloc: Global, bytes: &[u8]) -> Error {
 fn what_is_no_list_is_refused(rt: HostRuntime) {
     let alloc = rt.alloc();
     // Cut before an item, and within one.
-    for end in [4, 11, 18] {
-        let error = refusal(&rt, alloc, &NAMES[..end]);
+    for end in [4, 10, 14] {
+        let error = refusal(&rt, alloc, &TEXTS[..end]);
         assert_kind(&rt, alloc, &error, "UnexpectedEndOfInput");
     }
-    let mut other = NAMES;
-    other[17] = 0xff;
+    let mut other = TEXTS;
+    other[13] = 0xff;
     let error = refusal(&rt, alloc, &other);
     assert_kind(&rt, alloc, &error, "InvalidUtf8");
     // Where nothing is lent, also of a list that is empty.
-    for bytes in [&NAMES[..], &[0; 4]] {
+    for bytes in [&TEXTS[..], &[0; 4]] {
         let error = refusal_of_a_copy(&rt, alloc, bytes);
         assert_kind(&rt, alloc, &error, "Unsized");
     }
 }
 
+/// Two flags, of which the second is not in its canonical encoding.
+const FLAGS: [u8; 6] = [2, 0, 0, 0, 1, 2];
+
 #[test]
 fn a_strict_context_takes_canonical_items_alone(rt: HostRuntime) {
     let alloc = rt.alloc();
-    let flags = [2, 0, 0, 0, 1, 0];
-    let other = [2, 0, 0, 0, 1, 2];
-    let list = <EncodedList<Flag> as Readable<StrictLittleEndian>>::read_from_buffer_with_ctx(
-        alloc,
-        StrictLittleEndian {},
-        &flags,
-    );
-    assert_bytes(&rt, list.expect(&rt, "a list").bytes(), &[1, 0]);
-    let list = <EncodedList<Flag> as Readable<StrictLittleEndian>>::read_from_buffer_with_ctx(
-        alloc,
-        StrictLittleEndian {},
-        &other,
-    );
-    assert_refused(&rt, alloc, list, "NotWrittenForm");
-    let list = <EncodedList<Flag> as Readable<LittleEndian>>::read_from_buffer(
-        alloc, &other,
-    ).expect(&rt, "a list");
-    // It is written in its canonical encoding.
-    let written = Writable::<LittleEndian>::write_to_vec(&list, alloc).expect(&rt, "bytes");
-    assert_bytes(&rt, written.as_slice(), &[2, 0, 0, 0, 1, 1]);
+    for (length, kind) in [(6, "NotWrittenForm"), (5, "UnexpectedEndOfInput")] {
+        let mut reader = BufferReader::new(alloc, StrictLittleEndian {}, &FLAGS[..length]);
+        let outcome: Result<EncodedList<bool>, Error> = reader.read_value();
+        assert_refused(&rt, alloc, outcome, kind);
+    }
+}
+
+#[test]
+fn items_are_written_in_their_canonical_encoding(rt: HostRuntime) {
+    let alloc = rt.alloc();
+    let mut reader = BufferReader::new(alloc, LittleEndian {}, &FLAGS);
+    let list: EncodedList<bool> = reader.read_value().expect(&rt, "a list");
+    let written = Writable::<LittleEndian>::write_to_vec(&list, alloc);
+    assert_ok_items(&rt, written, &[2, 0, 0, 0, 1, 1]);
 }
 
 #[test]
 fn a_list_is_written_in_either_order(rt: HostRuntime) {
     let alloc = rt.alloc();
-    let list = names(&rt, alloc, &NAMES);
-    let little = Writable::<LittleEndian>::write_to_vec(&list, alloc).expect(&rt, "bytes");
-    assert_bytes(&rt, little.as_slice(), &NAMES);
-    let big = Writable::<BigEndian>::write_to_vec_with_ctx(&list, alloc, BigEndian {}).expect(
-        &rt, "bytes",
-    );
-    assert_bytes(&rt, big.as_slice(), &NAMES_BIG);
-    let mut short = [0; 18];
+    let (read, _) = read_texts(alloc, &TEXTS);
+    let list = read.expect(&rt, "a list");
+    for (order, bytes) in [
+        (Endianness::LittleEndian, &TEXTS),
+        (Endianness::BigEndian, &TEXTS_BIG),
+    ] {
+        assert_ok_items(&rt, list.write_to_vec_with_ctx(alloc, order), bytes);
+    }
+    let mut short = [0; 14];
     let outcome = Writable::<LittleEndian>::write_to_buffer(&list, &mut short);
-    assert_refused(
-        &rt,
-        alloc,
-        outcome,
-        "OutputBufferIsTooSmall { actual_size: 18, expected_size: 19 }",
-    );
+    let kind = "OutputBufferIsTooSmall { actual_size: 14, expected_size: 15 }";
+    assert_refused(&rt, alloc, outcome, kind);
 }
-
-#[test]
-fn a_list_is_shown_and_walked(rt: HostRuntime) {
-    let alloc = rt.alloc();
-    let mut view = empty_list();
-    let mut size = 0;
-    assert!(&rt; read::<Names, ListView>(alloc, &NAMES_BIG, 1, &mut view, &mut size) == 0);
-    assert!(&rt; size == 19 && view.count == 2 && view.order == 1);
-    let mut buffer = [9; 20];
-    assert!(&rt; write::<Names, ListView>(alloc, &view, 0, &mut buffer, &mut size) == 0);
-    assert!(&rt; size == 19 && buffer[..19] == NAMES[..] && buffer[19] == 9);
-    let mut item = NamedView { id: 0, name: &[] };
-    let order = view.order;
-    assert!(&rt; next::<Named, NamedView>(alloc, &mut view.items, order, &mut item) == 0);
-    assert!(&rt; item.id == 1 && item.name == b"a".as_slice());
-    assert!(&rt; next::<Named, NamedView>(alloc, &mut view.items, order, &mut item) == 0);
-    assert!(&rt; item.id == 2 && item.name == b"bc".as_slice());
-    assert!(&rt; view.items.left.is_empty());
-    let mut numbers = Walk {
-        left: &[1, 0, 2, 0],
-    };
-    let mut number = 0;
-    assert!(&rt; next::<u16, u16>(alloc, &mut numbers, 0, &mut number) == 0 && number == 1);
-    assert!(&rt; next::<u16, u16>(alloc, &mut numbers, 1, &mut number) == 0 && number == 512);
-}
-
-/// Two texts, in little endian.
-const TEXTS: [u8; 15] = [2, 0, 0, 0, 1, 0, 0, 0, 97, 2, 0, 0, 0, 98, 99];
-
-/// A list of one list of two numbers, in little endian.
-const NESTED: [u8; 12] = [1, 0, 0, 0, 2, 0, 0, 0, 7, 0, 8, 0];
 
 fn empty_list() -> ListView<'static> {
     ListView {
@@ -406,32 +209,55 @@ fn empty_list() -> ListView<'static> {
 }
 
 #[test]
-fn texts_and_lists_are_items_too(rt: HostRuntime) {
+fn a_list_is_shown_and_written_again(rt: HostRuntime) {
     let alloc = rt.alloc();
     let mut view = empty_list();
     let mut size = 0;
-    let mut buffer = [9; 15];
-    assert!(&rt; read::<EncodedList<&str>, ListView>(alloc, &TEXTS, 0, &mut view, &mut size) == 0);
-    assert!(&rt;
-        write::<EncodedList<&str>, ListView>(alloc, &view, 0, &mut buffer, &mut size) == 0
-    );
-    assert!(&rt; size == 15 && buffer == TEXTS);
+    assert!(&rt; read::<Texts, ListView>(alloc, &TEXTS_BIG, 1, &mut view, &mut size) == 0);
+    assert!(&rt; size == 15 && view.count == 2 && view.order == 1);
+    assert_bytes(&rt, view.items.left, &TEXTS_BIG[4..]);
+    let mut buffer = [9; 16];
+    assert!(&rt; write::<Texts, ListView>(alloc, &view, 0, &mut buffer, &mut size) == 0);
+    assert!(&rt; size == 15 && buffer[..15] == TEXTS[..] && buffer[15] == 9);
+}
+
+#[test]
+fn texts_and_bytes_are_walked(rt: HostRuntime) {
+    let alloc = rt.alloc();
+    let mut items = Walk { left: &TEXTS[4..] };
     let mut text: &[u8] = &[];
-    assert!(&rt; next::<&str, &[u8]>(alloc, &mut view.items, 0, &mut text) == 0);
+    assert!(&rt; next::<&str, &[u8]>(alloc, &mut items, 0, &mut text) == 0);
     assert_bytes(&rt, text, b"a");
-    assert!(&rt; next::<&[u8], &[u8]>(alloc, &mut view.items, 0, &mut text) == 0);
+    assert!(&rt; next::<&[u8], &[u8]>(alloc, &mut items, 0, &mut text) == 0);
     assert_bytes(&rt, text, b"bc");
-    let mut lists = Walk { left: &NESTED[4..] };
+    assert!(&rt; items.left.is_empty());
+}
+
+/// A list of one list of two numbers, in little endian.
+const NESTED: [u8; 12] = [1, 0, 0, 0, 2, 0, 0, 0, 7, 0, 8, 0];
+
+#[test]
+fn lists_are_items_too(rt: HostRuntime) {
+    let alloc = rt.alloc();
+    let mut size = 0;
     assert!(&rt; check::<EncodedList<EncodedList<u16>>>(alloc, &NESTED, 0, &mut size) == 0);
     assert!(&rt; size == 12);
+    let mut lists = Walk { left: &NESTED[4..] };
+    let mut view = empty_list();
     assert!(&rt; next::<EncodedList<u16>, ListView>(alloc, &mut lists, 0, &mut view) == 0);
     assert!(&rt; view.count == 2 && lists.left.is_empty());
     assert_bytes(&rt, view.items.left, &NESTED[8..]);
 }
 
 #[test]
-fn flags_and_characters_are_items_too(rt: HostRuntime) {
+fn numbers_flags_and_characters_are_items_too(rt: HostRuntime) {
     let alloc = rt.alloc();
+    let mut numbers = Walk {
+        left: &[1, 0, 2, 0],
+    };
+    let mut number = 0;
+    assert!(&rt; next::<u16, u16>(alloc, &mut numbers, 0, &mut number) == 0 && number == 1);
+    assert!(&rt; next::<u16, u16>(alloc, &mut numbers, 1, &mut number) == 0 && number == 512);
     let mut flags = Walk { left: &[1, 0] };
     let mut flag = 0;
     assert!(&rt; next::<bool, u8>(alloc, &mut flags, 0, &mut flag) == 0 && flag == 1);
@@ -452,19 +278,19 @@ fn flags_and_characters_are_items_too(rt: HostRuntime) {
 fn a_view_of_no_list_is_refused(rt: HostRuntime) {
     let alloc = rt.alloc();
     let mut size = 0;
-    let mut buffer = [9; 20];
+    let mut buffer = [9; 16];
     let view = ListView {
-        items: Walk { left: &NAMES[4..] },
+        items: Walk { left: &TEXTS[4..] },
         count: 2,
         order: 0,
     };
-    assert!(&rt; write::<Names, ListView>(alloc, &view, 0, &mut buffer, &mut size) == 0);
+    assert!(&rt; write::<Texts, ListView>(alloc, &view, 0, &mut buffer, &mut size) == 0);
     // Too many items, too few, another byte order, and none.
     for (count, order) in [(3, 0), (1, 0), (2, 1), (2, 2)] {
         let mut other = view;
         other.count = count;
         other.order = order;
-        let answer = write::<Names, ListView>(alloc, &other, 0, &mut buffer, &mut size);
+        let answer = write::<Texts, ListView>(alloc, &other, 0, &mut buffer, &mut size);
         assert!(&rt; answer == 6 && size == 0);
     }
 }
