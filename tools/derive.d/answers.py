@@ -7,6 +7,8 @@ from rattle import names_in
 
 # What a search for a proof is given besides a fact.
 RULES = "use Rattle.std.proofs.Common.{rules}"
+# A search by itself clones variants of fewer parts.
+MANY_CLONED = 5
 
 
 def answers(shape, place):
@@ -26,6 +28,25 @@ def answers(shape, place):
         for group in shape.later:
             found |= read_file(place, [group.function], group.cases, LaterArms(shape, place, group))
     return found
+
+
+def clone_answers(shape, place):
+    """The answers of the `clone` that the kit derives of an enum, for variants of many parts: what it makes of one is
+    found by a search once the variant stands in the goal. A goal is named by how many parts were cloned, in all arms
+    up to its own."""
+    kept = shape.scope.derives.kept[shape.item.name]
+    if "Clone" not in kept or "Copy" in kept or len(shape.cases) == 1:
+        return {}
+    cloned, lines = 0, []
+    given = "g c" if any(it.kind != "lifetime" for it in shape.item.parameters) else "c"
+    for case in shape.cases:
+        name, parts = case.variant.name, len(case.variant.fields)
+        cloned += parts
+        if parts >= MANY_CLONED:
+            goal = f"returns-in-Ok-{cloned}"
+            lines += ["", f"pub {goal} : goal.{goal}",
+                      f"{goal} {given} = record {{ cases = rw c.in-{name}.is (search rules) }}"]
+    return file_of(place, [shape.derived_impl_name("Clone"), "clone"], lines, [RULES])
 
 
 def answers_of_one(shape, place):

@@ -203,6 +203,20 @@ ANSWERED = [
       "AReadCasesRefSliceU8/read_case": ["    read_arm (cases g.row.T g.row.U g.T.Layout g.T.Layout-dict g.U.Layout "],
       "DWriteCases/write_case": ["returns-in-E g c = rw c.in-E.is c.write_value.ensures"],
       "DReadCases/read_case": ["rw c.in-0.is (read.kept, read.answer)"]}),
+    ("variants of many parts that are cloned", DERIVES + """#[derive(Clone)] enum A {
+    B(u8, u16),
+    C(String, Box<[u8]>, Vec<u8>, #[speedy(skip)] Option<u64>, u32),
+}
+""" + DERIVES + "#[derive(Clone)] enum D<T> { E(T, T, u8, u8, u8), F }\n" + DERIVES
+     + "#[derive(Clone, Copy)] enum G { H(u8, u8, u8, u8, u8), I }\n",
+     {"AClone/clone": ["returns-in-Ok-7 c = record { cases = rw c.in-C.is (search rules) }"],
+      "AWriteCases/write_case": ["c.in-B.is c.write_value.ensures"],
+      "AReadCases/read_case": ["c.in-0.is (read.kept, read.answer)"],
+      "DClone/clone": ["returns-in-Ok-5 g c = record { cases = rw c.in-E.is (search rules) }"],
+      "DWriteCases/write_case": ["c.in-E.is c.write_value.ensures"],
+      "DReadCases/read_case": ["c.in-0.is (read.kept, read.answer)"],
+      "GWriteCases/write_case": ["c.in-H.is c.write_value.ensures"],
+      "GReadCases/read_case": ["c.in-0.is (read.kept, read.answer)"]}),
     ("an enum that is read in groups", DERIVES + "enum A { " + ", ".join(f"V{it}(u8)" for it in range(42)) + " }\n",
      {"AWriteCases/tag": ["returns-in-V41 g c = tag_arm cases _ c.in-V41.is refl"],
       "AWriteCases/write_case": ["    c.in-V41.is c.write_value-in-V41.ensures"],

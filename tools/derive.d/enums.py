@@ -6,7 +6,7 @@ import in_place
 import keys
 import syntax
 import whole
-from answers import answers
+from answers import answers, clone_answers
 from arms import Arms
 from groups import Later, groups_of, later_groups, tree_of
 from impls import Shape
@@ -304,5 +304,5 @@ def enum_lines(item, scope, place):
     refuse_one_variant(shape)
     refuse_late_variants(shape)
     found = shape.lines()
-    scope.answers.update(answers(shape, place))
+    scope.answers.update({**answers(shape, place), **clone_answers(shape, place)})
     return found

@@ -55,6 +55,11 @@ class Shape:
             return name
         return f"{item}{'Any' * types}{local}{behind}" if types else name + ARGUMENTS.get(trait, "Impl")
 
+    def derived_impl_name(self, trait):
+        """What the kit calls an impl that it derives for the type."""
+        name = f"{self.item.name}{trait}"
+        return name if self.scope.fresh.is_free(name) else f"{name}Impl"
+
     # Heads.
 
     def laying_out(self, trait, body):
