@@ -179,7 +179,7 @@ fn write_in_both_orders(rt: &impl Abort, writer: &mut impl Writer<Endianness>) {
     assert_ok(rt, writer.write_value(&1_u16), ());
     assert_ok(rt, writer.write_bytes(&[]), ());
     *writer.context_mut() = Endianness::BigEndian;
-    writer.reserve(2);
+    assert_ok(rt, writer.write_bytes_before(&[], 2), ());
     assert_ok(rt, writer.write_u16(2), ());
 }
 

@@ -1,4 +1,6 @@
 //! A writer of one's own, over another one: it adds up the bytes that it writes.
+ghost use Rattle.std.specs.Prelude.{false};
+
 use speedy::{Context, Writer};
 
 /// A writer that keeps a sum of the bytes that it passes on to another one.
@@ -8,6 +10,8 @@ pub struct Summed<W> {
 }
 
 impl<C: Context, W: Writer<C>> Writer<C> for Summed<W> {
+    ghost is_counter = { false };
+
     ghost at = { λ it. W.at it.writer };
 
     ghost with_context = { λ it c. record it { writer = W.with_context it.writer c } };
@@ -26,6 +30,14 @@ impl<C: Context, W: Writer<C>> Writer<C> for Summed<W> {
             }
             Err(error) => Err(error),
         }
+    }
+
+    fn counts() -> bool {
+        false
+    }
+
+    fn count_bytes(&mut self, _size: usize) -> Option<Result<(), C::Error>> {
+        None
     }
 
     fn context(&self) -> &C {

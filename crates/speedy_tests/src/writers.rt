@@ -116,10 +116,31 @@ fn a_writer_puts_its_bytes_in_turn(rt: HostRuntime) {
 fn a_writer_says_how_much_fits(rt: HostRuntime) {
     let mut context = Endianness::LittleEndian;
     let mut buffer = [9; 24];
-    let writer = BufferCollector::new(&mut context, &mut buffer);
+    let mut writer = BufferCollector::new(&mut context, &mut buffer);
     assert_same(&rt, writer.endianness(), Endianness::LittleEndian);
     assert_same(&rt, writer.can_write_at_least(24), Some(true));
     assert_same(&rt, writer.can_write_at_least(25), Some(false));
+    assert_ok(&rt, writer.write_bytes_before(&[1], 23), ());
+    assert_same(&rt, writer.finish(), 1);
+}
+
+// Counts bytes where the writer only counts, and says whether it did.
+fn count<W: Writer<Endianness>>(size: usize, writer: &mut W) -> (bool, bool) {
+    let counted = writer.count_bytes(size);
+    (W::counts(), counted.is_some_and(|outcome| outcome.is_ok()))
+}
+
+#[test]
+fn bytes_are_counted_where_none_are_kept(rt: HostRuntime) {
+    let mut context = Endianness::LittleEndian;
+    let mut counter = SizeCalculatorCollector::new(&mut context);
+    assert_same(&rt, count(usize::MAX, &mut counter), (true, true));
+    assert_same(&rt, count(1, &mut counter), (true, false));
+    assert_same(&rt, counter.finish(), usize::MAX);
+    let mut buffer = [9; 2];
+    let mut writer = BufferCollector::new(&mut context, &mut buffer);
+    assert_same(&rt, count(1, &mut writer), (false, false));
+    assert_same(&rt, writer.finish(), 0);
 }
 
 #[test]

@@ -1,6 +1,5 @@
 -- The items of several arrays are written as these are, one after the other.
-use Rattle.std.specs.Prelude.{◌≡◌, ℕ, suc, List, [], ◌∷◌, length, map, flat_map, All, Option, None, Some, MatchOption}
-use Rattle.std.specs.Prelude.{Result, refl}
+use Rattle.std.specs.Prelude.{◌≡◌, ℕ, suc, List, [], ◌∷◌, length, map, flat_map, All, Result, refl}
 use Rattle.std.proofs.Common.{sym, ◌∙◌, subst, arith}
 use Rattle.std.proofs.lemmas.List.{length-map, map-append}
 use Rattle.speedy_base.specs.declared.error.Error.{Error}
@@ -51,12 +50,10 @@ module _ {E : Type 0} (gives : Error → E → Type 0) {A V : Type 0} (F : Mode 
       (λ b h. (b, (all, items_of writes seen n arrays b h.1), refl))
       (λ b h. (b, (all, items_of encodes seen n arrays b h.1))) w
 
-  -- where the items were written together, so were the arrays
-  pub bulk_written : (written : Option (Result (Unit {0}) E)) (unchanged : Type 0) (items : List A)
+  -- where the items were written one after another, so were the arrays
+  pub items_written : (result : Result (Unit {0}) E) (items : List A)
       → All (λ array. length array ≡ n) arrays → items ≡ flat_map (λ x. x) arrays
-      → MatchOption written unchanged (λ result. WritesEach gives F seen items result old new appended)
-      → MatchOption written unchanged
-      (λ result. WritesEach gives (λ mode. vector n (F mode)) (map seen) arrays result old new appended)
-  bulk_written None unchanged items whole same h = h
-  bulk_written (Some result) unchanged items whole same h =
+      → WritesEach gives F seen items result old new appended
+      → WritesEach gives (λ mode. vector n (F mode)) (map seen) arrays result old new appended
+  items_written result items whole same h =
       arrays_written result whole (subst (λ xs. WritesEach gives F seen xs result old new appended) same h)

@@ -1,11 +1,12 @@
 -- What a writer does that only counts.
-use Rattle.std.specs.Prelude.{◌≡◌, ℕ, ◌+◌, ◌-◌, ◌^◌, List, [], ◌++◌, length, min, None, true, false}
+use Rattle.std.specs.Prelude.{◌≡◌, ℕ, ◌+◌, ◌-◌, ◌^◌, ◌<◌, ◌⊎◌, List, [], ◌++◌, length, min, None, true, false}
 use Rattle.std.specs.Borrow.{GName}
 use Rattle.std.proofs.Common.{arith, length-append}
 use Rattle.speedy_base.specs.declared.error.ErrorKind.TheVariants as kinds
 use Rattle.speedy_base.specs.MemoryDevices.{no_faults}
 use Rattle.speedy_base.specs.Mode.{Mode}
-use Rattle.speedy_layout.specs.Format.{Each}
+use Rattle.speedy_layout.specs.Format.{Each, Format}
+use Rattle.speedy_write.specs.Collectors.{DoesNotFit}
 use Rattle.speedy_write.specs.Writing.{WriterState}
 
 -- a collector that counts has no bound
@@ -35,3 +36,7 @@ HasSize writes v size = (bytes : List ℕ) × writes v bytes × (size ≡ length
 -- the values, one after another, have a canonical encoding of n bytes
 abbrev pub CountsEach : {V : Type 0} → (V → List ℕ → Type 0) → List V → ℕ → Type 0
 CountsEach writes vs size = (bytes : List ℕ) × Each writes vs bytes × (length bytes ≡ size)
+
+-- values that are not counted together: too many, or such as have no encoding of a length that a `usize` counts
+abbrev pub AreTooLong : {V : Type 0} → (Mode → Format V) → List V → Type 0
+AreTooLong F vs = (4294967295 < length vs) ⊎ ((mode : Mode) → DoesNotFit (Each (F mode).writes) vs (2 ^ 64 - 1))

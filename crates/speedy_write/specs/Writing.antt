@@ -147,6 +147,12 @@ module _ {E S : Type 0} (gives : Error → E → Type 0) (state : S → WriterSt
     WritesValues seen codec values result old new =
         WritesEach gives codec.format seen values result (state old) (state new) (λ b. appends old b new)
 
+    -- the write of values where there is an answer; where there is none, the writer is as it was
+    abbrev pub WritesIfSome : {A V : Type 0} → (A → V) → Codec V → List A → Option (Result (Unit {0}) E) → S → S
+        → Type 0
+    WritesIfSome seen codec values answer old new =
+        MatchOption answer (new ≡ old) (λ result. WritesValues seen codec values result old new)
+
     -- the write of these bytes
     abbrev pub WritesSlice : List ℕ → Result (Unit {0}) E → S → S → Type 0
     WritesSlice bytes result old new =

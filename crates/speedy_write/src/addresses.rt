@@ -1,9 +1,12 @@
 //! How addresses are written.
+ghost use Rattle.std.specs.Prelude.{◌≤◌, length, IsTrue, IsSome};
+ghost use Rattle.speedy_write.specs.Writing.{WritesIfSome};
+
 use crate::each::{Short, count_short};
 use crate::writable::Writable;
 use crate::writer::Writer;
 use speedy_base::context::Context;
-use speedy_layout::ToCode;
+use speedy_layout::{Layout, ToCode};
 use std::net::{IpAddr, Ipv4Addr, Ipv6Addr};
 
 impl<C: Context> Writable<C> for Ipv4Addr {
@@ -37,10 +40,12 @@ impl<C: Context> Writable<C> for IpAddr {
 
     /// Counts the values together, where each takes few bytes. It writes none.
     #[inline(always)]
-    fn write_in_bulk<W: Writer<C>>(
-        items: &[IpAddr],
-        writer: &mut W,
-    ) -> Option<Result<(), C::Error>> {
+    fn write_in_bulk<W: Writer<C>>(items: &[IpAddr], writer: &mut W) -> Option<Result<(), C::Error>>
+        ensures counts { let layout = ⟦<IpAddr as Layout>⟧ in
+            WritesIfSome C.Error.from_gives W.state W.appends layout.seen layout.layout items.now
+            result writer.old writer.new }
+        ensures answers { IsTrue W.is_counter → length items.now ≤ 4294967295 → IsSome result }
+    {
         count_short(items, writer)
     }
 }

@@ -4,11 +4,11 @@
 ghost use Rattle.std.specs.Borrow.{GName};
 ghost use Rattle.std.specs.Iterator.{IsFinite};
 ghost use Rattle.std.specs.Prelude.{◌≡◌, ◌+◌, ◌-◌, ◌*◌, ◌≤◌, ◌↔◌, List, [], ◌++◌, length, map, take, drop, None};
-ghost use Rattle.std.specs.Prelude.{IsTrue, Ok, OnOk, IsSome, MatchOption, slice_get, refl};
+ghost use Rattle.std.specs.Prelude.{IsTrue, Ok, OnOk, IsSome, slice_get, refl, false};
 ghost use Rattle.speedy_base.specs.Mode.{Mode};
 ghost use Rattle.speedy_write.specs.Collectors.{sink_state, NextHasNoRoom, value_size};
 ghost use Rattle.speedy_write.specs.FixedBytes.{PutsBehind};
-ghost use Rattle.speedy_write.specs.Writing.{WritesBytes, RefusesFull, WritesValues, WritesSlice};
+ghost use Rattle.speedy_write.specs.Writing.{WritesBytes, RefusesFull, WritesIfSome, WritesValues, WritesSlice};
 ghost use Rattle.speedy_write.specs.Collections.{TakesSome};
 ghost use Rattle.speedy_write.specs.Buffering.{Buffers, PushesWaiting, WaitsBehind, buffers_nothing};
 ghost use Rattle.speedy_write.specs.Buffering.{buffers_additive};
@@ -329,6 +329,8 @@ impl<'s, S: Sink, C: Context> BufferingCollector<'s, S, C> {
 impl<'s, S: Sink, C: Context> Writer<C> for BufferingCollector<'s, S, C> {
     const PUTS: bool = true;
 
+    ghost is_counter = { false };
+
     ghost use Rattle.speedy_write.specs.CollectorModels.{buffering_model, waiting};
 
     ghost at = { λ w. w.context };
@@ -411,9 +413,8 @@ impl<'s, S: Sink, C: Context> Writer<C> for BufferingCollector<'s, S, C> {
         values: &[T],
     ) -> Option<Result<(), C::Error>>
         ensures puts { let writer = ⟦<BufferingCollector<'s, S, C> as Writer<C>>⟧ in
-            MatchOption result (self.new ≡ self.old) (λ written.
-            WritesValues C.Error.from_gives writer.state writer.appends T.seen T.layout values.now
-            written self.old self.new) }
+            WritesIfSome C.Error.from_gives writer.state writer.appends T.seen T.layout values.now
+            result self.old self.new }
         ensures fits { let held = self.old.waiting in
             length values.now * P.BYTES ≤ length held.room.now - held.end → IsSome result }
     {
@@ -427,11 +428,26 @@ impl<'s, S: Sink, C: Context> Writer<C> for BufferingCollector<'s, S, C> {
         Some(Ok(()))
     }
 
-    /// Tells the sink of these bytes, and of those that wait: both are pushed next.
-    #[inline(always)]
-    fn reserve(&mut self, additional: usize) {
+    /// Tells the sink of these bytes, of those that follow, and of those that wait.
+    #[inline]
+    fn write_bytes_before(&mut self, slice: &[u8], following: usize) -> Result<(), C::Error> {
+        if following == 0 {
+            return self.write_bytes(slice);
+        }
         let waiting = self.waiting.end - self.waiting.start;
-        self.sink.reserve(additional.saturating_add(waiting));
+        let further = following.saturating_add(slice.len());
+        self.sink.reserve(further.saturating_add(waiting));
+        self.write_bytes(slice)
+    }
+
+    #[inline(always)]
+    fn counts() -> bool {
+        false
+    }
+
+    #[inline(always)]
+    fn count_bytes(&mut self, _size: usize) -> Option<Result<(), C::Error>> {
+        None
     }
 
     #[inline(always)]

@@ -1,10 +1,10 @@
 //! The writers of the ways of writing: into a buffer, into a vector, into a sink, and one that only counts.
 ghost use Rattle.std.specs.Prelude.{◌≡◌, ◌+◌, ◌-◌, ◌*◌, ◌^◌, ◌≤◌, ℕ, [], ◌∷◌, ◌++◌, length, vec_len, vec_capacity};
-ghost use Rattle.std.specs.Prelude.{Ok, Some, None, IsOk, IfErr, OnErr, IsSome, MatchOption, List, take, slice_get};
-ghost use Rattle.std.specs.Prelude.{nat_le, refl};
+ghost use Rattle.std.specs.Prelude.{Ok, Some, None, IsOk, IfErr, OnErr, IsSome, List, take, slice_get, nat_le, refl};
+ghost use Rattle.std.specs.Prelude.{true, false};
 ghost use Rattle.std.specs.Iterator.{IsFinite};
 ghost use Rattle.speedy_base.specs.FailedCalls.{IsOfFailedCall};
-ghost use Rattle.speedy_write.specs.Writing.{RefusesFull, CountsBytes, WritesValues, WritesSlice};
+ghost use Rattle.speedy_write.specs.Writing.{RefusesFull, WritesIfSome, WritesValues, WritesSlice};
 ghost use Rattle.speedy_write.specs.Pushing.{PushesAll};
 ghost use Rattle.speedy_write.specs.Collectors.{buffer_state, BufferAppends, size_state, SizeAppends, sink_state};
 ghost use Rattle.speedy_write.specs.Collectors.{SinkTakes, NextHasNoRoom, value_size};
@@ -85,6 +85,8 @@ impl<'a, C, U> BufferCollector<'a, C, U> {
 }
 
 impl<'a, C: Context, U> Writer<C> for BufferCollector<'a, C, U> {
+    ghost is_counter = { false };
+
     ghost at = { λ w. w.context.now };
 
     ghost with_context = { λ w c. record w { context = record w.context { now = c } } };
@@ -134,9 +136,8 @@ impl<'a, C: Context, U> Writer<C> for BufferCollector<'a, C, U> {
         values: &[T],
     ) -> Option<Result<(), C::Error>>
         ensures puts { let writer = ⟦<BufferCollector<'a, C, U> as Writer<C>>⟧ in
-            MatchOption result (self.new ≡ self.old) (λ written.
-            WritesValues C.Error.from_gives writer.state writer.appends T.seen T.layout values.now
-            written self.old self.new) }
+            WritesIfSome C.Error.from_gives writer.state writer.appends T.seen T.layout values.now
+            result self.old self.new }
         ensures answers { IsSome result }
     {
         P::has_few_bytes();
@@ -147,6 +148,16 @@ impl<'a, C: Context, U> Writer<C> for BufferCollector<'a, C, U> {
         let order = self.context.endianness();
         self.position = put_values_at::<T, P>(values, order, &mut *self.buffer, self.position);
         Some(Ok(()))
+    }
+
+    #[inline(always)]
+    fn counts() -> bool {
+        false
+    }
+
+    #[inline(always)]
+    fn count_bytes(&mut self, _size: usize) -> Option<Result<(), C::Error>> {
+        None
     }
 
     #[inline(always)]
@@ -220,6 +231,8 @@ struct Zeros {}
 
 impl<'a, C: Context> Writer<C> for VecCollector<'a, C> {
     const PUTS: bool = true;
+
+    ghost is_counter = { false };
 
     ghost use Rattle.speedy_write.specs.CollectorModels.{vec_model};
 
@@ -307,9 +320,8 @@ impl<'a, C: Context> Writer<C> for VecCollector<'a, C> {
         values: &[T],
     ) -> Option<Result<(), C::Error>>
         ensures puts { let writer = ⟦<VecCollector<'a, C> as Writer<C>>⟧ in
-            MatchOption result (self.new ≡ self.old) (λ written.
-            WritesValues C.Error.from_gives writer.state writer.appends T.seen T.layout values.now
-            written self.old self.new) }
+            WritesIfSome C.Error.from_gives writer.state writer.appends T.seen T.layout values.now
+            result self.old self.new }
         ensures answers { length values.now * P.BYTES ≤ 16384 → IsSome result }
     {
         P::has_few_bytes();
@@ -330,6 +342,16 @@ impl<'a, C: Context> Writer<C> for VecCollector<'a, C> {
             self.position,
         );
         Some(Ok(()))
+    }
+
+    #[inline(always)]
+    fn counts() -> bool {
+        false
+    }
+
+    #[inline(always)]
+    fn count_bytes(&mut self, _size: usize) -> Option<Result<(), C::Error>> {
+        None
     }
 
     #[inline(always)]
@@ -451,6 +473,8 @@ impl<'s, S, C: Drop> WritingCollector<'s, S, C> {
 }
 
 impl<'s, S: Sink, C: Context> Writer<C> for WritingCollector<'s, S, C> {
+    ghost is_counter = { false };
+
     ghost at = { λ w. w.context };
 
     ghost with_context = { λ w c. record w { context = c } };
@@ -490,9 +514,23 @@ impl<'s, S: Sink, C: Context> Writer<C> for WritingCollector<'s, S, C> {
         push_all(self.alloc, slice, &mut *self.sink)
     }
 
+    /// Tells the sink of these bytes and of those that follow.
+    #[inline]
+    fn write_bytes_before(&mut self, slice: &[u8], following: usize) -> Result<(), C::Error> {
+        if following > 0 {
+            self.sink.reserve(following.saturating_add(slice.len()));
+        }
+        push_all(self.alloc, slice, &mut *self.sink)
+    }
+
     #[inline(always)]
-    fn reserve(&mut self, additional: usize) {
-        self.sink.reserve(additional);
+    fn counts() -> bool {
+        false
+    }
+
+    #[inline(always)]
+    fn count_bytes(&mut self, _size: usize) -> Option<Result<(), C::Error>> {
+        None
     }
 
     #[inline(always)]
@@ -562,7 +600,7 @@ impl<'a, C> SizeCalculatorCollector<'a, C> {
 }
 
 impl<'a, C: Context> Writer<C> for SizeCalculatorCollector<'a, C> {
-    const COUNTS: bool = true;
+    ghost is_counter = { true };
 
     ghost at = { λ w. w.context.now };
 
@@ -593,14 +631,14 @@ impl<'a, C: Context> Writer<C> for SizeCalculatorCollector<'a, C> {
         Ok(())
     }
 
+    #[inline(always)]
+    fn counts() -> bool {
+        true
+    }
+
     /// Adds `size` bytes at once.
     #[inline]
-    fn count_bytes(&mut self, size: usize) -> Option<Result<(), C::Error>>
-        ensures counts { let writer = ⟦<SizeCalculatorCollector<'a, C> as Writer<C>>⟧ in
-            CountsBytes C.Error.from_gives writer.state writer.appends size
-            result self.old self.new }
-        ensures answers { IsSome result }
-    {
+    fn count_bytes(&mut self, size: usize) -> Option<Result<(), C::Error>> {
         if size > usize::MAX - self.size {
             return Some(Err(error_out_of_range_length()));
         }

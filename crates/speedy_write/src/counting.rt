@@ -1,9 +1,8 @@
 //! The writer that `bytes_needed` of `writable` counts by. Items of a list are counted together in `each`.
 //!
 //! It stays at `usize::MAX`, where the public `SizeCalculatorCollector` of `collectors` refuses.
-ghost use Rattle.std.specs.Prelude.{◌≡◌, ◌∷◌, [], None, IsSome, refl};
+ghost use Rattle.std.specs.Prelude.{◌≡◌, ◌∷◌, [], None, refl, true};
 ghost use Rattle.speedy_write.specs.Counting.{counting_state, CountAppends, count_nothing, count_additive};
-ghost use Rattle.speedy_write.specs.Writing.{CountsBytes};
 
 use crate::writer::Writer;
 use speedy_base::context::Context;
@@ -42,7 +41,7 @@ impl<'a, C> CountingCollector<'a, C> {
 }
 
 impl<'a, C: Context> Writer<C> for CountingCollector<'a, C> {
-    const COUNTS: bool = true;
+    ghost is_counter = { true };
 
     ghost at = { λ w. w.context.now };
 
@@ -70,14 +69,14 @@ impl<'a, C: Context> Writer<C> for CountingCollector<'a, C> {
         Ok(())
     }
 
+    #[inline(always)]
+    fn counts() -> bool {
+        true
+    }
+
     /// Adds `size` bytes at once.
     #[inline(always)]
-    fn count_bytes(&mut self, size: usize) -> Option<Result<(), C::Error>>
-        ensures counts { let writer = ⟦<CountingCollector<'a, C> as Writer<C>>⟧ in
-            CountsBytes C.Error.from_gives writer.state writer.appends size
-            result self.old self.new }
-        ensures answers { IsSome result }
-    {
+    fn count_bytes(&mut self, size: usize) -> Option<Result<(), C::Error>> {
         self.size = self.size.saturating_add(size);
         Some(Ok(()))
     }

@@ -1,9 +1,9 @@
 //! Items that are written one after another, or counted together.
-ghost use Rattle.std.specs.Prelude.{◌≡◌, ◌≤◌, ◌<◌, ◌*◌, ◌⊎◌, Any, length, map, MatchOption};
+ghost use Rattle.std.specs.Prelude.{◌≡◌, ◌≤◌, ◌<◌, ◌*◌, ◌⊎◌, Any, length, map, MatchOption, IsTrue, IsSome, IfSome};
 ghost use Rattle.speedy_base.specs.Mode.{Mode};
 ghost use Rattle.speedy_write.specs.Collectors.{DoesNotFit};
 ghost use Rattle.speedy_write.specs.Counting.{CountsEach, HasSize};
-ghost use Rattle.speedy_write.specs.Writing.{WritesValue, WritesValues};
+ghost use Rattle.speedy_write.specs.Writing.{WritesIfSome, WritesValue, WritesValues};
 
 use crate::filling::Whole;
 use crate::writable::Writable;
@@ -19,7 +19,7 @@ pub(crate) fn write_items<C: Context, T: Writable<C>, W: Writer<C>>(
     ensures { WritesValues C.Error.from_gives W.state W.appends T.seen T.layout items.now
         result writer.old writer.new }
 {
-    if W::COUNTS {
+    if W::counts() {
         if let Some(size) = count_each(items, writer.context_mut()) {
             if let Some(counted) = writer.count_bytes(size) {
                 return counted;
@@ -59,7 +59,7 @@ pub(crate) fn write_item<C: Context, T: Writable<C>, W: Writer<C>>(
     ensures { WritesValue C.Error.from_gives W.state W.appends T.seen T.layout item.now
         result writer.old writer.new }
 {
-    if W::COUNTS {
+    if W::counts() {
         if let Ok(bytes) = item.bytes_needed(writer.context_mut()) {
             if let Some(outcome) = writer.count_bytes(bytes) {
                 return outcome;
@@ -137,17 +137,18 @@ pub(crate) trait Short: Layout {
             HasSize (Self.layout.format mode).writes (Self.seen self.now) result };
 }
 
-// Tells a writer that counts how many bytes the values take together. On another writer it does nothing.
+// Tells a writer that counts how many bytes the values take together, unless they are too many. On another writer it
+// does nothing.
 #[inline]
 pub(crate) fn count_short<C: Context, T: Short, W: Writer<C>>(
     values: &[T],
     writer: &mut W,
 ) -> Option<Result<(), C::Error>>
-    ensures { MatchOption result (writer.new ≡ writer.old) (λ written.
-        WritesValues C.Error.from_gives W.state W.appends T.seen T.layout values.now
-        written writer.old writer.new) }
+    ensures counts { WritesIfSome C.Error.from_gives W.state W.appends T.seen T.layout values.now
+        result writer.old writer.new }
+    ensures answers { IsTrue W.is_counter → length values.now ≤ 4294967295 → IsSome result }
 {
-    if !W::COUNTS {
+    if !W::counts() {
         return None;
     }
     writer.count_bytes(size_of_short(values)?)
@@ -158,9 +159,9 @@ const BLOCK: usize = 2_048;
 
 // How many bytes the values take, where there are not too many of them.
 fn size_of_short<T: Short>(values: &[T]) -> Option<usize>
-    ensures { (mode : Mode) → let format = T.layout.format mode in
-        MatchOption result (4294967295 < length values.now)
-        (λ size. CountsEach format.writes (map T.seen values.now) size) }
+    ensures answers { length values.now ≤ 4294967295 → IsSome result }
+    ensures counts { (mode : Mode) → let format = T.layout.format mode in
+        IfSome result (λ size. CountsEach format.writes (map T.seen values.now) size) }
 {
     if values.len() > MOST_ITEMS {
         return None;

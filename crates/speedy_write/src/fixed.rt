@@ -1,9 +1,9 @@
 //! Values of a type whose encodings all have the same number of bytes: many of them go to the writer by chunks.
-ghost use Rattle.std.specs.Prelude.{◌≡◌, ◌<◌, ◌≤◌, ◌+◌, ◌*◌, ℕ, length, map, MatchOption};
+ghost use Rattle.std.specs.Prelude.{◌≡◌, ◌<◌, ◌≤◌, ◌+◌, ◌*◌, ℕ, length, map, false, IsSome};
 ghost use Rattle.speedy_base.specs.Mode.{Mode};
 ghost use Rattle.speedy_layout.specs.Format.{Each};
 ghost use Rattle.speedy_write.specs.FixedBytes.{PutsAt};
-ghost use Rattle.speedy_write.specs.Writing.{WritesAtOnce, WritesValues};
+ghost use Rattle.speedy_write.specs.Writing.{WritesIfSome, WritesAtOnce, WritesValues};
 
 use crate::writer::Writer;
 use speedy_base::context::Context;
@@ -196,11 +196,11 @@ pub(crate) fn write_values<C: Context, T: Layout, P: FixedBytes<T>, W: Writer<C>
     values: &[T],
     writer: &mut W,
 ) -> Option<Result<(), C::Error>>
-    ensures { MatchOption result (writer.new ≡ writer.old) (λ written.
-        WritesValues C.Error.from_gives W.state W.appends T.seen T.layout values.now
-        written writer.old writer.new) }
+    ensures writes { WritesIfSome C.Error.from_gives W.state W.appends T.seen T.layout values.now
+        result writer.old writer.new }
+    ensures answers { W.is_counter ≡ false → IsSome result }
 {
-    if W::COUNTS {
+    if W::counts() {
         return None;
     }
     match writer.put_fixed::<T, P>(values) {
@@ -235,27 +235,13 @@ fn write_by_chunks<C: Context, T: Layout, P: FixedBytes<T>, W: Writer<C>>(
     P::has_few_bytes();
     match values.len() {
         0..=4 => write_chunks::<C, T, P, W>(values, &mut [0; SHORT_CHUNK], writer),
-        5..=8_191 => write_many_chunks::<C, T, P, W>(values, &mut [0; CHUNK], writer),
-        _ => write_many_chunks::<C, T, P, W>(values, &mut [0; LONG_CHUNK], writer),
+        5..=8_191 => write_chunks::<C, T, P, W>(values, &mut [0; CHUNK], writer),
+        _ => write_chunks::<C, T, P, W>(values, &mut [0; LONG_CHUNK], writer),
     }
 }
 
-// Writes the values by chunks, and tells the writer first how many bytes they are: a sink in memory then grows once.
-#[inline]
-fn write_many_chunks<C: Context, T: Layout, P: FixedBytes<T>, W: Writer<C>>(
-    values: &[T],
-    chunk: &mut [u8],
-    writer: &mut W,
-) -> Result<(), C::Error>
-    requires { P.BYTES ≤ length chunk.old }
-    ensures { WritesValues C.Error.from_gives W.state W.appends T.seen T.layout values.now
-        result writer.old writer.new }
-{
-    writer.reserve(values.len().saturating_mul(P::BYTES));
-    write_chunks::<C, T, P, W>(values, chunk, writer)
-}
-
-// Writes the values by chunks: as many at a time as the chunk has room for.
+// Writes the values by chunks: as many at a time as the chunk has room for. With the first it tells the writer how many
+// bytes follow: a sink in memory then grows once.
 #[inline]
 fn write_chunks<C: Context, T: Layout, P: FixedBytes<T>, W: Writer<C>>(
     values: &[T],
@@ -273,7 +259,12 @@ fn write_chunks<C: Context, T: Layout, P: FixedBytes<T>, W: Writer<C>>(
         let (some, more) = rest.split_at(rest.len().min(most));
         let bytes = &mut chunk[..some.len() * P::BYTES];
         put_values::<T, P>(some, writer.endianness(), bytes);
-        writer.write_bytes(bytes)?;
+        let following = if rest.len() == values.len() {
+            more.len().saturating_mul(P::BYTES)
+        } else {
+            0
+        };
+        writer.write_bytes_before(bytes, following)?;
         rest = more;
     }
     Ok(())

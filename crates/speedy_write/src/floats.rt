@@ -1,9 +1,12 @@
 //! How floats are written: as their bits.
+ghost use Rattle.std.specs.Prelude.{◌≡◌, false, IsSome};
+ghost use Rattle.speedy_write.specs.Writing.{WritesIfSome};
+
 use crate::fixed::{Digits, write_values};
 use crate::writable::Writable;
 use crate::writer::Writer;
 use speedy_base::context::Context;
-use speedy_layout::{F32, F64};
+use speedy_layout::{F32, F64, Layout};
 
 impl<C: Context> Writable<C> for F32 {
     #[inline]
@@ -13,7 +16,12 @@ impl<C: Context> Writable<C> for F32 {
 
     /// Writes the floats by chunks of their bits.
     #[inline(always)]
-    fn write_in_bulk<W: Writer<C>>(items: &[F32], writer: &mut W) -> Option<Result<(), C::Error>> {
+    fn write_in_bulk<W: Writer<C>>(items: &[F32], writer: &mut W) -> Option<Result<(), C::Error>>
+        ensures writes { let layout = ⟦<F32 as Layout>⟧ in
+            WritesIfSome C.Error.from_gives W.state W.appends layout.seen layout.layout items.now
+            result writer.old writer.new }
+        ensures answers { W.is_counter ≡ false → IsSome result }
+    {
         write_values::<C, F32, Digits, W>(items, writer)
     }
 }
@@ -26,7 +34,12 @@ impl<C: Context> Writable<C> for F64 {
 
     /// Writes the floats by chunks of their bits.
     #[inline(always)]
-    fn write_in_bulk<W: Writer<C>>(items: &[F64], writer: &mut W) -> Option<Result<(), C::Error>> {
+    fn write_in_bulk<W: Writer<C>>(items: &[F64], writer: &mut W) -> Option<Result<(), C::Error>>
+        ensures writes { let layout = ⟦<F64 as Layout>⟧ in
+            WritesIfSome C.Error.from_gives W.state W.appends layout.seen layout.layout items.now
+            result writer.old writer.new }
+        ensures answers { W.is_counter ≡ false → IsSome result }
+    {
         write_values::<C, F64, Digits, W>(items, writer)
     }
 }

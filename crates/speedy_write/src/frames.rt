@@ -30,7 +30,7 @@ pub fn write_counted_value<C: Context, T: WriteWhole<C>, W: Writer<C>>(
     ensures { Writes C.Error.from_gives T.whole.format (T.seen value.now) result
         (W.state writer.old) (W.state writer.new) (λ b. W.appends writer.old b writer.new) }
 {
-    if W::COUNTS {
+    if W::counts() {
         if let Some(counted) = writer.count_bytes(length) {
             return counted;
         }

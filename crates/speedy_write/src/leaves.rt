@@ -1,9 +1,13 @@
 //! How characters, byte orders, durations and UUIDs are written.
+ghost use Rattle.std.specs.Prelude.{◌≡◌, false, IsSome};
+ghost use Rattle.speedy_write.specs.Writing.{WritesIfSome};
+
 use crate::fixed::{CodeDigits, Durations, write_values};
 use crate::writable::Writable;
 use crate::writer::Writer;
 use speedy_base::context::Context;
 use speedy_base::endianness::Endianness;
+use speedy_layout::Layout;
 use std::time::Duration;
 use uuid::Uuid;
 
@@ -15,7 +19,12 @@ impl<C: Context> Writable<C> for char {
 
     /// Writes the characters by chunks of their bytes.
     #[inline(always)]
-    fn write_in_bulk<W: Writer<C>>(items: &[char], writer: &mut W) -> Option<Result<(), C::Error>> {
+    fn write_in_bulk<W: Writer<C>>(items: &[char], writer: &mut W) -> Option<Result<(), C::Error>>
+        ensures writes { let layout = ⟦<char as Layout>⟧ in
+            WritesIfSome C.Error.from_gives W.state W.appends layout.seen layout.layout items.now
+            result writer.old writer.new }
+        ensures answers { W.is_counter ≡ false → IsSome result }
+    {
         write_values::<C, char, CodeDigits, W>(items, writer)
     }
 }
@@ -38,7 +47,12 @@ impl<C: Context> Writable<C> for Duration {
     fn write_in_bulk<W: Writer<C>>(
         items: &[Duration],
         writer: &mut W,
-    ) -> Option<Result<(), C::Error>> {
+    ) -> Option<Result<(), C::Error>>
+        ensures writes { let layout = ⟦<Duration as Layout>⟧ in
+            WritesIfSome C.Error.from_gives W.state W.appends layout.seen layout.layout items.now
+            result writer.old writer.new }
+        ensures answers { W.is_counter ≡ false → IsSome result }
+    {
         write_values::<C, Duration, Durations, W>(items, writer)
     }
 }

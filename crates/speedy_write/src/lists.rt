@@ -1,14 +1,15 @@
 //! How lists are written: vectors, slices, boxed slices, small vectors and arrays.
-ghost use Rattle.std.specs.Prelude.{◌≡◌, ◌<◌, length, map, All};
+ghost use Rattle.std.specs.Prelude.{◌≡◌, ◌<◌, ◌*◌, ◌^◌, length, map, All, IsSome};
 ghost use Rattle.speedy_layout.specs.Codecs.{list_codec};
 ghost use Rattle.speedy_layout.specs.Prefixed.{list_behind, prefixed_codec};
-ghost use Rattle.speedy_write.specs.Writing.{WritesValue};
+ghost use Rattle.speedy_write.specs.Writing.{WritesIfSome, WritesValue};
 
 use crate::prefixed::{WritePrefix, WriteTold};
 use crate::writable::Writable;
 use crate::writer::Writer;
 use smallvec::SmallVec;
 use speedy_base::context::Context;
+use speedy_layout::Layout;
 use std::boxed::BoxedSlice;
 
 impl<C: Context, T: Writable<C>> Writable<C> for Vec<T> {
@@ -47,16 +48,18 @@ impl<C: Context, T: Writable<C>, const N: usize> Writable<C> for [T; N] {
         T::write_many(self.as_slice(), writer)
     }
 
-    /// Writes the items of all the arrays together, where that is faster than one by one.
+    /// Writes the items of all the arrays one after another, unless they are more than a `usize` counts, as items
+    /// without bytes may be.
     #[inline(always)]
-    fn write_in_bulk<W: Writer<C>>(
-        items: &[[T; N]],
-        writer: &mut W,
-    ) -> Option<Result<(), C::Error>> {
-        // Items without bytes may be more than a `usize` counts.
+    fn write_in_bulk<W: Writer<C>>(items: &[[T; N]], writer: &mut W) -> Option<Result<(), C::Error>>
+        ensures writes { let layout = ⟦<[T; N] as Layout>⟧ in
+            WritesIfSome C.Error.from_gives W.state W.appends layout.seen layout.layout items.now
+            result writer.old writer.new }
+        ensures answers { length items.now * N < 2 ^ 64 → IsSome result }
+    {
         items.len().checked_mul(N)?;
         are_whole(items);
-        T::write_in_bulk(items.as_flattened(), writer)
+        Some(T::write_many(items.as_flattened(), writer))
     }
 }
 

@@ -1,10 +1,10 @@
 //! How texts are written.
-ghost use Rattle.std.specs.Prelude.{◌≡◌, ◌<◌, ◌+◌, ◌^◌, map, IfSome, MatchOption};
+ghost use Rattle.std.specs.Prelude.{◌≡◌, ◌<◌, ◌+◌, ◌^◌, ℕ, List, map, IfSome, IfNone, IsTrue};
 ghost use Rattle.speedy_base.specs.Mode.{Mode};
 ghost use Rattle.speedy_layout.specs.Codecs.{text_codec};
 ghost use Rattle.speedy_layout.specs.Prefixed.{prefixed_codec, text_behind};
-ghost use Rattle.speedy_write.specs.Counting.{CountsEach, HasSize};
-ghost use Rattle.speedy_write.specs.Writing.{WritesValue, WritesValues};
+ghost use Rattle.speedy_write.specs.Counting.{AreTooLong, CountsEach, HasSize};
+ghost use Rattle.speedy_write.specs.Writing.{WritesIfSome, WritesValue, WritesValues};
 
 use crate::each::MOST_ITEMS;
 use crate::lengths::write_text_alone;
@@ -24,10 +24,13 @@ impl<C: Context> Writable<C> for String {
 
     /// Counts the texts together, by their lengths. It writes none.
     #[inline(always)]
-    fn write_in_bulk<W: Writer<C>>(
-        items: &[String],
-        writer: &mut W,
-    ) -> Option<Result<(), C::Error>> {
+    fn write_in_bulk<W: Writer<C>>(items: &[String], writer: &mut W) -> Option<Result<(), C::Error>>
+        ensures counts { let layout = ⟦<String as Layout>⟧ in
+            WritesIfSome C.Error.from_gives W.state W.appends layout.seen layout.layout items.now
+            result writer.old writer.new }
+        ensures answers { let layout = ⟦<String as Layout>⟧ in IsTrue W.is_counter →
+            IfNone result (AreTooLong layout.layout.format (map layout.seen items.now)) }
+    {
         count_texts(items, writer)
     }
 }
@@ -43,7 +46,13 @@ impl<'a, C: Context> Writable<C> for &'a str {
     fn write_in_bulk<W: Writer<C>>(
         items: &[&'a str],
         writer: &mut W,
-    ) -> Option<Result<(), C::Error>> {
+    ) -> Option<Result<(), C::Error>>
+        ensures counts { let layout = ⟦<&'a str as Layout>⟧ in
+            WritesIfSome C.Error.from_gives W.state W.appends layout.seen layout.layout items.now
+            result writer.old writer.new }
+        ensures answers { let layout = ⟦<&'a str as Layout>⟧ in IsTrue W.is_counter →
+            IfNone result (AreTooLong layout.layout.format (map layout.seen items.now)) }
+    {
         count_texts(items, writer)
     }
 }
@@ -59,7 +68,13 @@ impl<C: Context> Writable<C> for BoxedStr {
     fn write_in_bulk<W: Writer<C>>(
         items: &[BoxedStr],
         writer: &mut W,
-    ) -> Option<Result<(), C::Error>> {
+    ) -> Option<Result<(), C::Error>>
+        ensures counts { let layout = ⟦<BoxedStr as Layout>⟧ in
+            WritesIfSome C.Error.from_gives W.state W.appends layout.seen layout.layout items.now
+            result writer.old writer.new }
+        ensures answers { let layout = ⟦<BoxedStr as Layout>⟧ in IsTrue W.is_counter →
+            IfNone result (AreTooLong layout.layout.format (map layout.seen items.now)) }
+    {
         count_texts(items, writer)
     }
 }
@@ -115,8 +130,10 @@ pub(crate) fn write_text_behind<N: WritePrefix, C: Context, W: Writer<C>>(
 pub(crate) trait Text: Layout {
     // How many bytes the text has. So many and four more are written, where that number is below 2^32.
     fn length(&self) -> usize
-        ensures { (mode : Mode) → result < 2 ^ 32 →
-            HasSize (Self.layout.format mode).writes (Self.seen self.now) (result + 4) };
+        ensures takes { (mode : Mode) → result < 2 ^ 32 →
+            HasSize (Self.layout.format mode).writes (Self.seen self.now) (result + 4) }
+        ensures few { (mode : Mode) (bytes : List ℕ) →
+            (Self.layout.format mode).writes (Self.seen self.now) bytes → result < 2 ^ 32 };
 }
 
 impl Text for String {
@@ -144,35 +161,40 @@ impl Text for BoxedStr {
 // How many bytes a text has.
 #[inline(always)]
 fn length_of(text: &str) -> usize
-    ensures { (mode : Mode) → result < 2 ^ 32 →
+    ensures takes { (mode : Mode) → result < 2 ^ 32 →
         HasSize (text_codec.format mode).writes text.now (result + 4) }
+    ensures few { (mode : Mode) (bytes : List ℕ) →
+        (text_codec.format mode).writes text.now bytes → result < 2 ^ 32 }
 {
     text.len()
 }
 
-// Tells a writer that counts how many bytes the texts take together.
+// Tells a writer that counts how many bytes the texts take together, unless they are too many or too long. On another
+// writer it does nothing.
 #[inline]
 fn count_texts<C: Context, T: Text, W: Writer<C>>(
     texts: &[T],
     writer: &mut W,
 ) -> Option<Result<(), C::Error>>
-    ensures { MatchOption result (writer.new ≡ writer.old) (λ written.
-        WritesValues C.Error.from_gives W.state W.appends T.seen T.layout texts.now
-        written writer.old writer.new) }
+    ensures counts { WritesIfSome C.Error.from_gives W.state W.appends T.seen T.layout texts.now
+        result writer.old writer.new }
+    ensures answers { IsTrue W.is_counter →
+        IfNone result (AreTooLong T.layout.format (map T.seen texts.now)) }
 {
-    if !W::COUNTS {
+    if !W::counts() {
         return None;
     }
     writer.count_bytes(size_of_texts(texts)?)
 }
 
-// How many bytes the texts take, where there are not too many of them, and none is too long.
+// How many bytes the texts take, unless they are too many or too long.
 //
 // Their lengths are joined by `|`, and compared together: so a compiler adds several at a time.
 #[inline]
 fn size_of_texts<T: Text>(texts: &[T]) -> Option<usize>
-    ensures { (mode : Mode) → let format = T.layout.format mode in
+    ensures counts { (mode : Mode) → let format = T.layout.format mode in
         IfSome result (λ size. CountsEach format.writes (map T.seen texts.now) size) }
+    ensures answers { IfNone result (AreTooLong T.layout.format (map T.seen texts.now)) }
 {
     if texts.len() > MOST_ITEMS {
         return None;

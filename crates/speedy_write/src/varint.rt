@@ -1,11 +1,12 @@
 //! How integers of variable length are written: by `write_u64_varint` of `writer`.
-ghost use Rattle.std.specs.Prelude.{◌<◌};
+ghost use Rattle.std.specs.Prelude.{◌<◌, ◌≤◌, length, IsTrue, IsSome};
+ghost use Rattle.speedy_write.specs.Writing.{WritesIfSome};
 
 use crate::each::{Short, count_short};
 use crate::writable::Writable;
 use crate::writer::Writer;
 use speedy_base::context::Context;
-use speedy_layout::VarInt64;
+use speedy_layout::{Layout, VarInt64};
 
 impl<C: Context> Writable<C> for VarInt64 {
     #[inline]
@@ -18,7 +19,12 @@ impl<C: Context> Writable<C> for VarInt64 {
     fn write_in_bulk<W: Writer<C>>(
         items: &[VarInt64],
         writer: &mut W,
-    ) -> Option<Result<(), C::Error>> {
+    ) -> Option<Result<(), C::Error>>
+        ensures counts { let layout = ⟦<VarInt64 as Layout>⟧ in
+            WritesIfSome C.Error.from_gives W.state W.appends layout.seen layout.layout items.now
+            result writer.old writer.new }
+        ensures answers { IsTrue W.is_counter → length items.now ≤ 4294967295 → IsSome result }
+    {
         count_short(items, writer)
     }
 }

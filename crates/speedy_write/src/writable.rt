@@ -1,8 +1,8 @@
 //! Types that can be written (`Writable`), the ways of writing them, and `bytes_needed`.
-ghost use Rattle.std.specs.Prelude.{◌≡◌, ◌≤◌, ℕ, List, length, MatchOption, MatchResult, IsOk};
+ghost use Rattle.std.specs.Prelude.{◌≡◌, ◌≤◌, ℕ, List, length, MatchResult, IsOk};
 ghost use Rattle.speedy_base.specs.Error.{error_of};
 ghost use Rattle.speedy_base.specs.Mode.{plain_mode};
-ghost use Rattle.speedy_write.specs.Writing.{WritesValue, WritesValues};
+ghost use Rattle.speedy_write.specs.Writing.{WritesIfSome, WritesValue, WritesValues};
 ghost use Rattle.speedy_write.specs.WaysOfWriting.{Needs, IsShortest, Stands, WritesToBuffer, WritesToVec};
 ghost use Rattle.speedy_write.specs.WaysOfWriting.{WritesToStream, WritesAndFlushes, WritesToFile};
 
@@ -55,9 +55,8 @@ pub trait Writable<C: Context>: Layout {
     fn write_in_bulk<W: Writer<C>>(_items: &[Self], _writer: &mut W) -> Option<Result<(), C::Error>>
     where
         Self: Sized,
-        ensures { MatchOption result (_writer.new ≡ _writer.old) (λ written.
-            WritesValues C.Error.from_gives W.state W.appends Self.seen Self.layout _items.now
-            written _writer.old _writer.new) }
+        ensures { WritesIfSome C.Error.from_gives W.state W.appends Self.seen Self.layout _items.now
+            result _writer.old _writer.new }
     {
         None
     }

@@ -1,12 +1,13 @@
 //! Writers: where values are written, and the writes that each has.
-ghost use Rattle.std.specs.Prelude.{◌≡◌, ◌≤◌, ℕ, [], ◌++◌, List, Option, Bool, MatchOption, Ok, length, take};
+ghost use Rattle.std.specs.Prelude.{◌≡◌, ◌≤◌, ℕ, [], ◌++◌, List, Option, Bool, Ok, length, take, IsTrue, IsSome};
 ghost use Rattle.std.specs.Borrow.{sem, Lends};
 ghost use Rattle.std.specs.Iterator.{IsFinite, IsFiniteIterable};
 ghost use Rattle.std.specs.Int.{w8, w16, w32, w64, w128};
 ghost use Rattle.speedy_layout.specs.Codecs.{varint_codec};
 ghost use Rattle.speedy_write.specs.Collections.{TakesSome, WritesItems};
 ghost use Rattle.speedy_write.specs.Writing.{WriterState, WritesValue, WritesValues, WritesSlice, WritesNumber};
-ghost use Rattle.speedy_write.specs.Writing.{WritesSigned, WritesAtOnce, RefusesFull, CountsBytes, IsRight};
+ghost use Rattle.speedy_write.specs.Writing.{WritesSigned, WritesAtOnce, WritesIfSome, RefusesFull, CountsBytes};
+ghost use Rattle.speedy_write.specs.Writing.{IsRight};
 
 use crate::each::write_item;
 use crate::filling::{FillsFront, Whole};
@@ -18,11 +19,11 @@ use speedy_layout::{Layout, ToCode, VarInt64};
 
 /// Writers, with the calls of each.
 pub trait Writer<C: Context> {
-    /// Whether `count_bytes` ever answers `Some`. It is a hint: nothing rests on it but speed.
-    const COUNTS: bool = false;
-
     /// Whether `put_from` ever puts an item. It is a hint: nothing rests on it but speed.
     const PUTS: bool = false;
+
+    /// Whether the writer only counts bytes, and keeps none.
+    ghost is_counter: { Bool };
 
     /// The context that the writer holds.
     ghost at: { Self → C };
@@ -45,13 +46,23 @@ pub trait Writer<C: Context> {
             result self.old self.new }
         ensures full { RefusesFull C.Error.from_gives state result self.old self.new };
 
-    /// Counts `size` bytes, where the writer only counts. This body says `None`, and does nothing.
+    /// Writes all the bytes, as `write_bytes` does, where `following` bytes more are written next: a sink may make room
+    /// for all of them at once. This body is `write_bytes`.
     #[inline(always)]
-    fn count_bytes(&mut self, _size: usize) -> Option<Result<(), C::Error>>
-        ensures { CountsBytes C.Error.from_gives state appends _size result self.old self.new }
+    fn write_bytes_before(&mut self, slice: &[u8], _following: usize) -> Result<(), C::Error>
+        ensures { WritesSlice C.Error.from_gives state appends slice.now result self.old self.new }
     {
-        None
+        self.write_bytes(slice)
     }
+
+    /// Whether the writer only counts bytes, and keeps none.
+    fn counts() -> bool
+        ensures { result ≡ is_counter };
+
+    /// Counts `size` bytes, where the writer only counts. Another one says `None`, and does nothing.
+    fn count_bytes(&mut self, size: usize) -> Option<Result<(), C::Error>>
+        ensures counts { CountsBytes C.Error.from_gives state appends size result self.old self.new }
+        ensures answers { IsTrue is_counter → IsSome result };
 
     /// Writes values that each take as many bytes, where the writer puts them at once in the room that it has, or knows
     /// that they have none. This body says `None`, and does nothing.
@@ -62,9 +73,8 @@ pub trait Writer<C: Context> {
     ) -> Option<Result<(), C::Error>>
     where
         Self: Sized,
-        ensures { MatchOption result (self.new ≡ self.old) (λ written.
-            WritesValues C.Error.from_gives state appends T.seen T.layout _values.now
-            written self.old self.new) }
+        ensures { WritesIfSome C.Error.from_gives state appends T.seen T.layout _values.now
+            result self.old self.new }
     {
         None
     }
@@ -98,14 +108,6 @@ pub trait Writer<C: Context> {
     {
         0
     }
-
-    /// Tells the writer how many bytes are written next, for which its sink may make room at once. It writes nothing.
-    /// This body does nothing.
-    #[inline(always)]
-    fn reserve(&mut self, _additional: usize)
-        ensures state { state self.new ≡ state self.old }
-        ensures nothing { appends self.old [] self.new }
-    {}
 
     /// The context that numbers are written under.
     fn context(&self) -> &C
@@ -179,7 +181,7 @@ pub trait Writer<C: Context> {
             result self.old self.new }
     {
         // To count is faster without a branch.
-        if !Self::COUNTS && value < 128 {
+        if !Self::counts() && value < 128 {
             return self.write_bytes(&[value as u8]);
         }
         let (bytes, count) = VarInt64::from(value).encode();

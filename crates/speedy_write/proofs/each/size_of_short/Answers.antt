@@ -18,8 +18,8 @@ loop-rest-preserved g c =
       λ mode. more_counted _ g.T.Layout.seen done some (so_far.3 mode) (c.size_of_block.ensures.counts mode),
     )
 
-pub returns : goal.returns
-returns g c mode =
+pub returns-clause-counts : goal.returns-clause-counts
+returns-clause-counts g c mode =
     let so_far = c.loop-rest.invariant in
     let writes = (g.T.Layout.layout.format mode).writes in
     let all = none_left so_far.0 c.loop-rest.rest.now (eqb-true _ _ (sym c.loop-rest-test.ensures)) so_far.1 in
