@@ -94,9 +94,10 @@ def answers_of_struct(shape, taken, place):
     ranges = ranges_of(taken)
     is_long = ranges and (is_nested(taken.tree) or any(part.tree is not None for part in taken.parts)
                           or is_hashed(taken))
-    if shape.item.readable and not shape.ends_with_input and (is_long or lent and not moves_array(taken)):
-        lines = answered("returns-in-Ok", "Ok", "read_value", read, None, bool(ranges), ranges)
-        uses = [RULES] if ranges else []
+    if shape.item.readable and not shape.ends_with_input and (is_long or lent):
+        is_searched = bool(ranges) or moves_array(taken)
+        lines = answered("returns-in-Ok", "Ok", "read_value", read, None, is_searched, ranges)
+        uses = [RULES] if is_searched else []
         found |= file_of(place, [shape.impl_name("speedy", "ReadFrom", lending(shape)), "read_from"], lines, uses)
     return found
 

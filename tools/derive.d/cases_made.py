@@ -172,6 +172,12 @@ ANSWERED = [
      + "struct A { a: u64, b: HashMap<u32, u64>, c: i32 }\n" + DERIVES + "struct B { a: HashMap<u32, u64>, b: i32 }\n",
      {"AReadFrom/read_from": ["    let held = (rw c.in-Ok.is at c.read_value.type_inv).1.1.1.1.1.0 in\n",
                               "answer = search (rules, read.answer, held.1.1.1.1.0) }"]}),
+    ("an array beside an option behind a length", "use std::collections::HashMap;\n" + DERIVES
+     + "struct A { a: [u8; 4], b: HashMap<u32, u8>, #[speedy(length_type = u8)] c: Option<String> }\n",
+     {"AReadFrom/read_from": ["use Rattle.std.proofs.Common.{rules}\n",
+                              "let answer = rw c.option_value-c.ensures at read.answer in\n"
+                              "    record { kept = read.kept; answer = search (rules, answer) }"],
+      "AWritable/write_to": ["returns g c = rw c.lent_option-c.ensures at c.write_value.ensures"]}),
     ("one variant of many parts", "use std::collections::HashMap;\n" + DERIVES + """enum A {
     B(HashMap<u8, u16>, bool, #[speedy(length_type = u8)] Option<String>, i16, u64),
 }
