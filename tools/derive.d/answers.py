@@ -179,6 +179,20 @@ def options_of(taken, by, known, arm):
     return found
 
 
+def answered_by(goal, steps, fact, matched):
+    """The answer of a goal by what was written, of which some options were lent, as `matched` says. In its answer alone
+    these are rewritten one after another: of a case of many parts the whole is too much for that."""
+    if not steps:
+        return defined(goal, matched(fact))
+    found, answer = [f"    let before = {fact} in"], "before.answer"
+    for place, step in enumerate(steps):
+        name = "answer" + "'" * place
+        found.append(f"    let {name} = rw {step} at {answer} in")
+        answer = name
+    last = matched(f"(record {{ kept = before.kept; answer = {answer} }})")
+    return [f"{goal} g c =", *found, *(f"    {line}" for line in last)]
+
+
 def rewritten(goal, steps, fact, matched=None):
     """The answer of a goal by a fact, which is rewritten by some steps, one after another, and then taken from what
     an arm matched, as `matched` says."""
@@ -218,7 +232,7 @@ def write_answers(shape, arms):
         step = f"write_value-in-{name}" if place else "write_value"
         goal, steps = f"returns-in-{name}", options_of(case.taken, "lent_by", known, name)
         found += ["", f"pub {goal} : goal.{goal}",
-                  *rewritten(goal, steps, f"c.{step}.ensures", lambda fact, name=name: arms.write(name, fact))]
+                  *answered_by(goal, steps, f"c.{step}.ensures", lambda fact, name=name: arms.write(name, fact))]
     for case in shape.cases:
         if shape.item.writable and not case.taken.parts:
             name = case.variant.name

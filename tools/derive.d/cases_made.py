@@ -154,10 +154,12 @@ ANSWERED = [
     D { t0: u8, #[speedy(length_type = u8)] t1: Option<String> },
     E([u8; 4], #[speedy(length_type = u8)] Option<String>),
 }
-""", {"AWriteCases/write_case": ["let written = rw c.lent_option-t0.ensures at c.write_value.ensures in",
-                                 "appends _ _ _\n    c.in-C.is written",
-                                 "let written = rw c.lent_option-t1.ensures at",
-                                 "let written = rw c.lent_option-t1-in-E.ensures at c.write_value-in-E.ensures in"],
+""", {"AWriteCases/write_case": ["    let before = c.write_value.ensures in\n"
+                                 "    let answer = rw c.lent_option-t0.ensures at before.answer in\n",
+                                 "appends _ _ _\n    c.in-C.is (record { kept = before.kept; answer = answer })",
+                                 "let answer = rw c.lent_option-t1.ensures at",
+                                 "    let before = c.write_value-in-E.ensures in\n"
+                                 "    let answer = rw c.lent_option-t1-in-E.ensures at before.answer in\n"],
       "AReadCases/read_case": ["let read = read_of c.in-Ok.is c.read_value.ensures in",
                                "let answer = rw c.option_value-t0.ensures at read.answer in\n    read_arm cases g.C",
                                "state _ _ _\n    c.in-1.is (read.kept, answer)",

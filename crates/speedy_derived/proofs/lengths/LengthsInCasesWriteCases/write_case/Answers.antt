@@ -4,12 +4,14 @@ use Rattle.speedy_derived.proofs.lengths.LengthsInCasesWriteCases.write_case.Goa
 
 pub returns-in-B : goal.returns-in-B
 returns-in-B g c =
-    let written = rw c.lent_option-t0.ensures at c.write_value.ensures in
+    let before = c.write_value.ensures in
+    let answer = rw c.lent_option-t0.ensures at before.answer in
     write_arm cases g.C.Error.From.from_gives g.W.Writer.state g.W.Writer.appends _ _ _
-    c.in-B.is written
+    c.in-B.is (record { kept = before.kept; answer = answer })
 
 pub returns-in-C : goal.returns-in-C
 returns-in-C g c =
-    let written = rw c.lent_option-held.ensures at c.write_value-in-C.ensures in
+    let before = c.write_value-in-C.ensures in
+    let answer = rw c.lent_option-held.ensures at before.answer in
     write_arm cases g.C.Error.From.from_gives g.W.Writer.state g.W.Writer.appends _ _ _
-    c.in-C.is written
+    c.in-C.is (record { kept = before.kept; answer = answer })
