@@ -1,13 +1,14 @@
 """Proofs that the source determines: of the arms of enums, and of options behind a length. A search finds the same for
 few variants and parts."""
 import lengths
+import syntax
 from arms import CASES, Arms, LaterArms, wrapped
 from parts import has_other_form, is_nested, moves_array
 from rattle import names_in
 
 # What a search for a proof is given besides a fact.
 RULES = "use Rattle.std.proofs.Common.{rules}"
-# A search by itself clones variants of fewer parts.
+# A search by itself clones variants of fewer parts, and of more without a `SmallVec`.
 MANY_CLONED = 5
 
 
@@ -31,9 +32,9 @@ def answers(shape, place):
 
 
 def clone_answers(shape, place):
-    """The answers of the `clone` that the kit derives of an enum, for variants of many parts: what it makes of one is
-    found by a search once the variant stands in the goal. A goal is named by how many parts were cloned, in all arms
-    up to its own."""
+    """The answers of the `clone` that the kit derives of an enum, for variants of many parts with a `SmallVec`: what it
+    makes of one is found by a search once the variant stands in the goal. (Of arrays of what owns memory it is found
+    only before.) A goal is named by how many parts were cloned, in all arms up to its own."""
     kept = shape.scope.derives.kept[shape.item.name]
     if "Clone" not in kept or "Copy" in kept or len(shape.cases) == 1:
         return {}
@@ -42,7 +43,9 @@ def clone_answers(shape, place):
     for case in shape.cases:
         name, parts = case.variant.name, len(case.variant.fields)
         cloned += parts
-        if parts >= MANY_CLONED:
+        kinds = [*(part.type for part in case.taken.parts), *(kind for kind, _ in case.taken.skipped)]
+        named = set().union(*map(names_in, kinds)) if kinds else set()
+        if parts >= MANY_CLONED and "SmallVec" in named and not any(isinstance(it, syntax.Array) for it in kinds):
             goal = f"returns-in-Ok-{cloned}"
             lines += ["", f"pub {goal} : goal.{goal}",
                       f"{goal} {given} = record {{ cases = rw c.in-{name}.is (search rules) }}"]

@@ -212,12 +212,13 @@ ANSWERED = [
       "DWriteCases/write_case": ["returns-in-E g c = rw c.in-E.is c.write_value.ensures"],
       "DReadCases/read_case": ["rw c.in-0.is (read.kept, read.answer)"]}),
     ("variants of many parts that are cloned", DERIVES + """#[derive(Clone)] enum A {
-    B(u8, u16),
-    C(String, Box<[u8]>, Vec<u8>, #[speedy(skip)] Option<u64>, u32),
+    B(u8, u16, u8, u8, String),
+    C(String, Box<[u8]>, smallvec::SmallVec<[u8; 4]>, #[speedy(skip)] Option<u64>, u32),
+    J(smallvec::SmallVec<[u8; 4]>, [String; 2], u8, u8, u8),
 }
-""" + DERIVES + "#[derive(Clone)] enum D<T> { E(T, T, u8, u8, u8), F }\n" + DERIVES
+""" + DERIVES + "#[derive(Clone)] enum D<T> { E(T, T, u8, u8, smallvec::SmallVec<[u8; 4]>), F }\n" + DERIVES
      + "#[derive(Clone, Copy)] enum G { H(u8, u8, u8, u8, u8), I }\n",
-     {"AClone/clone": ["returns-in-Ok-7 c = record { cases = rw c.in-C.is (search rules) }"],
+     {"AClone/clone": ["returns-in-Ok-10 c = record { cases = rw c.in-C.is (search rules) }"],
       "AWriteCases/write_case": ["c.in-B.is c.write_value.ensures"],
       "AReadCases/read_case": ["c.in-0.is (read.kept, read.answer)"],
       "DClone/clone": ["returns-in-Ok-5 g c = record { cases = rw c.in-E.is (search rules) }"],
