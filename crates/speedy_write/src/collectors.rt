@@ -517,10 +517,11 @@ impl<'s, S: Sink, C: Context> Writer<C> for WritingCollector<'s, S, C> {
     /// Tells the sink of these bytes and of those that follow.
     #[inline]
     fn write_bytes_before(&mut self, slice: &[u8], following: usize) -> Result<(), C::Error> {
-        if following > 0 {
-            self.sink.reserve(following.saturating_add(slice.len()));
+        if following == 0 {
+            return self.write_bytes(slice);
         }
-        push_all(self.alloc, slice, &mut *self.sink)
+        self.sink.reserve(following.saturating_add(slice.len()));
+        self.write_bytes(slice)
     }
 
     #[inline(always)]

@@ -50,7 +50,9 @@ pub trait Writer<C: Context> {
     /// for all of them at once. This body is `write_bytes`.
     #[inline(always)]
     fn write_bytes_before(&mut self, slice: &[u8], _following: usize) -> Result<(), C::Error>
-        ensures { WritesSlice C.Error.from_gives state appends slice.now result self.old self.new }
+        ensures writes { WritesSlice C.Error.from_gives state appends slice.now
+            result self.old self.new }
+        ensures full { RefusesFull C.Error.from_gives state result self.old self.new }
     {
         self.write_bytes(slice)
     }

@@ -14,7 +14,7 @@ loop-rest-preserved g c =
       cut_off _ done _ c.split_at.ensures.front c.split_at.ensures.back c.loop-rest.invariant.1
           ∙ sym (append_assoc done some c.split_at.result.1.now),
       values_written g.T.Layout.layout.laws g.T.Layout.seen some c.endianness.ensures c.put_values.ensures
-          (g.met.W.Writer.additive _ _ _) done c.loop-rest.invariant.2 c.in_ok-write_bytes_before.ensures,
+          (g.met.W.Writer.additive _ _ _) done c.loop-rest.invariant.2 c.in_ok-write_bytes_before.ensures.writes,
     )
 
 pub returns-in_err-write_bytes_before : goal.returns-in_err-write_bytes_before
@@ -22,4 +22,4 @@ returns-in_err-write_bytes_before g c =
     values_refused g.T.Layout.layout.laws g.T.Layout.seen c.split_at.result.0.now c.endianness.ensures
     c.put_values.ensures (g.met.W.Writer.additive _ _ _) c.loop-rest.invariant.0 c.loop-rest.invariant.2
     _ (cut_off _ c.loop-rest.invariant.0 _ c.split_at.ensures.front c.split_at.ensures.back c.loop-rest.invariant.1)
-    c.from_residual.ensures.1 c.in_err-write_bytes_before.ensures
+    c.from_residual.ensures.1 c.in_err-write_bytes_before.ensures.writes
