@@ -114,16 +114,16 @@ def is_hashed(taken):
 def ranges_of(taken):
     """Where what is known of what was read, `held`, says the range of each signed number: what was read is the number
     again since it is within its range."""
-    return [f"held{place}" for part, place in places(taken.tree)
-            if any(it.is_signed() for it in lengths.leaf_parts([part]))]
+    return [f"held{place}" for part, at in places(taken.tree) for number, place in lengths.known_parts(part, at)
+            if number.is_signed()]
 
 
 def places(tree, place=""):
     """The parts of a tree of tuples, if there is one, each with where what is known of the tuple says what is known of
-    the part: behind its bytes and where they stand, each part in a pair with those behind it."""
+    the part."""
     if not isinstance(tree, list):
         return [] if tree is None else [(tree, place)]
-    return [it for at, below in enumerate(tree) for it in places(below, f"{place}.1.1{'.1' * at}.0")]
+    return [it for at, below in enumerate(tree) for it in places(below, lengths.known_at(place, at))]
 
 
 def lending(shape):

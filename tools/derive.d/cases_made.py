@@ -250,6 +250,17 @@ ANSWERED = [
     "AReadFrom/read_from": ["use Rattle.std.proofs.Common.{rules}\n",
                             "    let held = (rw c.in-Ok.is at c.read_value.type_inv).1.1.1.1.1.0 in\n"
                             "    record { kept = read.kept; answer = search (rules, read.answer, held.1.1.1.0) }"]}),
+    ("signed numbers between what has a length and the numbers that tell it", DERIVES + """struct A {
+    n: i8,
+    #[speedy(length = n)]
+    a: Vec<u16>,
+    b: u32,
+    c: i64,
+    #[speedy(length = n)]
+    d: String,
+}
+""", {"AReadFrom/read_from": ["answer = search (rules, read.answer, held.1.1.0.1.1.0.1.1.0,\n",
+                              "    held.1.1.0.1.1.1.0.1.1.0.1.1.1.0) }"]}),
 ]
 
 MADE += [

@@ -470,6 +470,30 @@ def leaves_of(tree_of_parts):
     return leaves_of(tree_of_parts.before) if isinstance(tree_of_parts, Behind) else [tree_of_parts]
 
 
+def known_at(place, at):
+    """Where what is known of a tuple or a struct says what is known of one of its parts: behind its bytes and where
+    they stand, each part in a pair with those behind it."""
+    return f"{place}.1.1{'.1' * at}.0"
+
+
+def known_parts(part, place):
+    """A part, or in place of a tree of parts those that stand in it, but for what has a length, each with where what is
+    known of the whole says what is known of it."""
+    return [(part, place)] if part.tree is None else known_in(part.tree, place)
+
+
+def known_in(tree_of_parts, place):
+    """The parts that stand in a tree, but for what has a length, each with where what is known of it says so."""
+    if isinstance(tree_of_parts, Pair):
+        return known_in(tree_of_parts.first, known_at(place, 0)) + known_in(tree_of_parts.second, known_at(place, 1))
+    if isinstance(tree_of_parts, Behind):
+        return known_in(tree_of_parts.before, known_at(place, 0))
+    if not isinstance(tree_of_parts, Others):
+        return [(tree_of_parts.item.part, place)]
+    held, items = known_at(place, 0), tree_of_parts.items
+    return [(item.part, held if len(items) == 1 else known_at(held, at)) for at, item in enumerate(items)]
+
+
 def depth_of(kind):
     """How deep a type nests."""
     return 1 + max((depth_of(part) for part in parts_of(kind)), default=0)
