@@ -7,26 +7,24 @@ use speedy::{Endianness, Error, LendingReader};
 use std::alloc::Global;
 use std::fs::{File, Files};
 
-/// The byte order in which the magic number was written, if it is one.
-fn order_of(magic_in_little_endian: u32) -> Option<Endianness> {
+/// The byte order in which the magic number was written.
+fn order_of(alloc: Global, magic_in_little_endian: u32) -> Result<Endianness, Error> {
     match magic_in_little_endian {
-        0xa1b2_c3d4 => Some(Endianness::LittleEndian),
-        0xd4c3_b2a1 => Some(Endianness::BigEndian),
-        _ => None,
+        0xa1b2_c3d4 => Ok(Endianness::LittleEndian),
+        0xd4c3_b2a1 => Ok(Endianness::BigEndian),
+        _ => Err(Error::custom(alloc, "no file of packets")),
     }
 }
 
 /// The packets of a file that is in memory.
 pub fn packets(alloc: Global, bytes: &[u8]) -> Result<Vec<Packet>, Error> {
     let mut reader = BufferReader::new(alloc, Endianness::LittleEndian, bytes);
-    let Some(order) = order_of(reader.peek_u32()?) else {
-        return Err(Error::custom(alloc, "no file of packets"));
-    };
+    let order = order_of(alloc, reader.peek_u32()?)?;
     *reader.context_mut() = order;
     let _: Capture = reader.read_value()?;
     let mut packets = Vec::new(alloc);
     for _i in 0..u64::MAX {
-        if reader.len() == 0 {
+        if reader.is_empty() {
             break;
         }
         packets.push(reader.read_value()?)?;
@@ -34,21 +32,26 @@ pub fn packets(alloc: Global, bytes: &[u8]) -> Result<Vec<Packet>, Error> {
     Ok(packets)
 }
 
+/// Whether a source has no byte left.
+fn is_ended<S: Source>(reader: &mut StreamReader<'_, S, Endianness>) -> Result<bool, Error> {
+    match reader.peek_u8() {
+        Ok(_) => Ok(false),
+        Err(error) => match get_error_kind(&error) {
+            ErrorKind::UnexpectedEndOfInput => Ok(true),
+            _ => Err(error),
+        },
+    }
+}
+
 /// How many packets a source has, one of them in memory at a time.
 pub fn count_packets<S: Source>(alloc: Global, source: &mut S) -> Result<u64, Error> {
     let mut reader = StreamReader::new(alloc, Endianness::LittleEndian, source, true)?;
-    let Some(order) = order_of(reader.peek_u32()?) else {
-        return Err(Error::custom(alloc, "no file of packets"));
-    };
+    let order = order_of(alloc, reader.peek_u32()?)?;
     *reader.context_mut() = order;
     let _: Capture = reader.read_value()?;
     for count in 0..u64::MAX {
-        match reader.peek_u8() {
-            Ok(_) => {}
-            Err(error) => match get_error_kind(&error) {
-                ErrorKind::UnexpectedEndOfInput => return Ok(count),
-                _ => return Err(error),
-            },
+        if is_ended(&mut reader)? {
+            return Ok(count);
         }
         let _: Packet = reader.read_value()?;
     }

@@ -1,4 +1,5 @@
-//! Texts and bytes that end with a NUL: what is written, borrowed and refused, and where a source stands behind one.
+//! Texts and bytes that end with a NUL: what is written, borrowed and refused, and where a source stands behind one. The
+//! rows of `speedy_derived` have the other holders.
 use crate::asserting::{
     assert_bytes, assert_encoding, assert_ok, assert_ok_items, assert_refused, make_text, make_vec,
     row,
@@ -10,9 +11,7 @@ use speedy::readable::{BufferReader, CopyingBufferReader, StreamReader};
 use speedy::reader::LendingReader;
 use speedy::writable::Writable;
 use std::alloc::Global;
-use std::borrow::{CowSlice, CowStr};
-use std::boxed::{BoxedSlice, BoxedStr};
-use std::process::Abort;
+use std::borrow::CowStr;
 
 /// The text "Hi" with its NUL, and a byte behind it.
 const HI: [u8; 4] = [72, 105, 0, 9];
@@ -52,18 +51,6 @@ fn a_text_is_borrowed_up_to_its_nul(rt: HostRuntime) {
 }
 
 #[test]
-fn bytes_are_borrowed_up_to_their_nul(rt: HostRuntime) {
-    let alloc = rt.alloc();
-    let bytes = [200, 255, 0, 7];
-    let mut reader = BufferReader::new(alloc, BigEndian {}, &bytes);
-    let read: CText<&[u8]> = reader.read_value().expect(&rt, "bytes");
-    assert_bytes(&rt, read.0, &bytes[..2]);
-    assert_ok(&rt, reader.read_u8(), 7);
-    let written = read.write_to_vec_with_ctx(alloc, BigEndian {});
-    assert_ok_items(&rt, written, &bytes[..3]);
-}
-
-#[test]
 fn a_reader_that_copies_lends_no_text(rt: HostRuntime) {
     let alloc = rt.alloc();
     let mut context = LittleEndian {};
@@ -75,22 +62,9 @@ fn a_reader_that_copies_lends_no_text(rt: HostRuntime) {
     assert_bytes(&rt, owned.0.as_ref().as_bytes(), &HI[..2]);
 }
 
-/// Asserts that a source is read up to the NUL, and stands behind it where nothing is read ahead.
-fn assert_streamed(rt: &impl Abort, alloc: Global, is_buffering: bool) {
-    let mut source = HI.as_slice();
-    let reader = StreamReader::new(alloc, LittleEndian {}, &mut source, is_buffering);
-    let mut reader = reader.expect(rt, "a reader");
-    let read: CText<BoxedStr> = reader.read_value().expect(rt, "a text");
-    assert_bytes(rt, read.0.as_str().as_bytes(), &HI[..2]);
-    let outcome: Result<CText<CowSlice<u8>>, Error> = reader.read_value();
-    assert!(rt; outcome.is_err());
-}
-
 #[test]
 fn a_source_is_read_up_to_the_nul(rt: HostRuntime) {
     let alloc = rt.alloc();
-    assert_streamed(&rt, alloc, true);
-    assert_streamed(&rt, alloc, false);
     let mut source = HI.as_slice();
     let reader = StreamReader::new(alloc, LittleEndian {}, &mut source, false);
     let mut reader = reader.expect(&rt, "a reader");
@@ -107,17 +81,4 @@ fn a_nul_within_is_not_written(rt: HostRuntime) {
     let bytes = CText(make_vec(&rt, alloc, &[0_u8]).into_boxed_slice());
     let written = bytes.write_to_vec_with_ctx(alloc, LittleEndian {});
     assert_refused(&rt, alloc, written, "OutOfRangeLength");
-}
-
-/// Reads owned bytes.
-fn read_boxed(alloc: Global, bytes: &[u8]) -> Result<CText<BoxedSlice<u8>>, Error> {
-    BufferReader::new(alloc, LittleEndian {}, bytes).read_value()
-}
-
-#[test]
-fn owned_bytes_end_before_their_nul(rt: HostRuntime) {
-    let alloc = rt.alloc();
-    let read = read_boxed(alloc, &HI).expect(&rt, "bytes");
-    assert_bytes(&rt, read.0.as_slice(), &HI[..2]);
-    assert_refused(&rt, alloc, read_boxed(alloc, &[]), "UnexpectedEndOfInput");
 }

@@ -1,4 +1,5 @@
-//! Values in frames whose length a number before them tells: what fills them, and what does not.
+//! Values in frames whose length a number before them tells: what fills them, and what does not. The rows of
+//! `speedy_derived` have maps in frames, and what takes the rest of one.
 ghost use Rattle.std.specs.Prelude.{codes};
 
 use crate::asserting::{assert_bytes, assert_refused};
@@ -7,10 +8,8 @@ use speedy::error::Error;
 use speedy::lengths::{Length, Other, WithFrame};
 use speedy::readable::{BufferReader, OwnedReader, StreamReader};
 use speedy::reader::LendingReader;
-use speedy::whole::{Followed, Rest};
 use speedy::writable::Writable;
 use std::alloc::Global;
-use std::collections::BTreeMap;
 use std::marker::PhantomData;
 
 /// The number of bytes of `inner`.
@@ -87,22 +86,6 @@ fn another_number_of_bytes_is_refused(rt: HostRuntime) {
     }
 }
 
-/// How many keys a map has that is read from the bytes.
-fn count_keys(alloc: Global, bytes: &[u8]) -> Result<usize, Error> {
-    let mut reader = BufferReader::new(alloc, BigEndian {}, bytes);
-    let read: InFrame<BTreeMap<u8, u8>> = reader.read_value()?;
-    Ok(read.value.len())
-}
-
-#[test]
-fn a_key_that_comes_twice_is_out_of_range(rt: HostRuntime) {
-    let alloc = rt.alloc();
-    let twice = [8, 1, 0, 0, 0, 2, 1, 3, 1, 4];
-    assert_refused(&rt, alloc, count_keys(alloc, &twice), "OutOfRangeLength");
-    let once = [6, 1, 0, 0, 0, 1, 1, 4];
-    assert!(rt; count_keys(alloc, &once).expect(&rt, "a map") == 1);
-}
-
 #[test]
 fn streams_and_owned_readers_read_the_same(rt: HostRuntime) {
     let alloc = rt.alloc();
@@ -118,15 +101,6 @@ fn streams_and_owned_readers_read_the_same(rt: HostRuntime) {
     let mut reader: OwnedReader<&[u8], BufferReader<BigEndian>> = OwnedReader::new(&mut below);
     let read: InFrame<u16> = reader.read_value().expect(&rt, "a number");
     assert!(rt; read.value == 258);
-}
-
-#[test]
-fn a_value_that_takes_the_rest_ends_with_its_frame(rt: HostRuntime) {
-    let alloc = rt.alloc();
-    let bytes = [3, 1, 7, 5, 6, 9];
-    let mut reader = BufferReader::new(alloc, BigEndian {}, &bytes);
-    let read: InFrame<Followed<u8, Rest<Vec<u8>>>> = reader.read_value().expect(&rt, "a value");
-    assert_bytes(&rt, read.value.1.0.as_slice(), &[5, 6]);
 }
 
 #[test]

@@ -1,11 +1,10 @@
-//! Lists up to a mark: what is read, written and refused, and where a source stands behind the mark.
-use crate::asserting::{assert_bytes, assert_encoding, assert_refused, make_text, make_vec, row};
+//! Lists up to a mark: what is read, written and refused, and where a source stands behind the mark. The rows of
+//! `speedy_derived` have other items and numbers, and lists that are cut.
+use crate::asserting::{assert_bytes, assert_encoding, assert_refused, make_text, row};
 use speedy::context::LittleEndian;
-use speedy::error::Error;
-use speedy::readable::{BufferReader, StreamReader};
+use speedy::readable::StreamReader;
 use speedy::reader::LendingReader;
 use speedy::until::ListUntil;
-use speedy::varint::VarInt64;
 use speedy::writable::Writable;
 use std::alloc::Global;
 use std::process::Abort;
@@ -40,49 +39,6 @@ fn entries_are_followed_by_the_mark(rt: HostRuntime) {
         ),
     ];
     assert_encoding(&rt, alloc, 2, &rows);
-}
-
-#[test]
-fn numbers_may_be_of_variable_length(rt: HostRuntime) {
-    let alloc = rt.alloc();
-    let bytes: [(ListUntil<VarInt64, u8, 128>, &[u8], &[u8]); 1] = [row!(
-        ListUntil::new(make_vec(&rt, alloc, &[(127, 7_u8), (0, 8)])),
-        [127, 7, 0, 8, 128, 128],
-        [127, 7, 0, 8, 128, 128]
-    )];
-    assert_encoding(&rt, alloc, 1, &bytes);
-}
-
-fn read_bytes(alloc: Global, bytes: &[u8]) -> Result<ListUntil<u8, u16, 9>, Error> {
-    BufferReader::new(alloc, LittleEndian {}, bytes).read_value()
-}
-
-#[test]
-fn a_list_without_its_mark_is_cut(rt: HostRuntime) {
-    let alloc = rt.alloc();
-    let whole = [1, 2, 3, 4, 5, 6, 9];
-    let read = read_bytes(alloc, &whole).expect(&rt, "a list");
-    assert!(rt; read.entries.as_slice() == [(1, 0x302), (4, 0x605)].as_slice());
-    for length in 0..whole.len() {
-        assert_refused(
-            &rt,
-            alloc,
-            read_bytes(alloc, &whole[..length]),
-            "UnexpectedEndOfInput",
-        );
-    }
-    let texts: Result<ListUntil<u8, bool, 9>, Error> = BufferReader::new(
-        alloc,
-        LittleEndian {},
-        &[1, 1, 9],
-    ).read_value();
-    assert!(rt; texts.expect(&rt, "flags").entries.as_slice() == [(1, true)].as_slice());
-    let refused: Result<ListUntil<u8, char, 9>, Error> = BufferReader::new(
-        alloc,
-        LittleEndian {},
-        &[1, 255, 255, 255, 255, 9],
-    ).read_value();
-    assert_refused(&rt, alloc, refused, "InvalidChar");
 }
 
 #[test]
