@@ -8,9 +8,8 @@ PREFIX, NONE_KEPT = "PYTHONPYCACHEPREFIX", "PYTHONDONTWRITEBYTECODE"
 
 @contextlib.contextmanager
 def compiled_once():
-    """Has the commands that are run meanwhile compile their modules once, which takes half the time of a short one: what
-    is compiled is kept in a folder that goes at the end, or where who calls this keeps it, and nothing in the checkout.
-    """
+    """Has the commands that are run meanwhile compile their modules once, which is half the time of a short one. These
+    are kept in a folder that goes at the end, or where who calls this keeps them, and never in the checkout."""
     if os.environ.get(PREFIX):
         yield
         return

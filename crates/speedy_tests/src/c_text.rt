@@ -1,5 +1,5 @@
-//! Texts and bytes that end with a NUL: what is written, borrowed and refused, and where a source stands behind one. The
-//! rows of `speedy_derived` have the other holders.
+//! Texts and bytes that end with a NUL: what is written, borrowed and refused, and where a source stands behind one.
+//! The rows of `speedy_derived` have the other holders.
 use crate::asserting::{
     assert_bytes, assert_encoding, assert_ok, assert_ok_items, assert_refused, make_text, make_vec,
     row,

@@ -1,5 +1,5 @@
-//! Values that have all of the bytes: what is left over, and what is the rest. The rows of `speedy_derived` have lists to
-//! the end of other items.
+//! Values that have all of the bytes: what is left over, and what is the rest. The rows of `speedy_derived` have lists
+//! of other items to the end.
 use crate::asserting::assert_bytes;
 use speedy::context::LittleEndian;
 use speedy::error::Error;
