@@ -76,7 +76,7 @@ def read_file(place, path, cases, arms):
     """The answers of a function that reads some cases."""
     has_parts, has_units = any(case.taken.parts for case in cases), any(not case.taken.parts for case in cases)
     lemmas = [arms.lemma, "read_of"] if has_parts else [arms.lemma]
-    uses = [RULES] if any(has_other_form(case.taken) for case in cases) else []
+    uses = [RULES] if any(has_other_form(case.taken) or copies(case.taken, arms.generics) for case in cases) else []
     uses += arms.uses(lemmas, *(["refl"] if has_units and arms.are_many else []))
     lines = read_answers(cases, arms)
     return file_of(place, path, arms.definition() + lines if lines else [], uses)
@@ -98,11 +98,17 @@ def answers_of_struct(shape, taken, place):
     is_long = ranges and (is_nested(taken.tree) or any(part.tree is not None for part in taken.parts)
                           or is_hashed(taken))
     if shape.item.readable and not shape.ends_with_input and (is_long or lent):
-        is_searched = bool(ranges) or moves_array(taken)
-        lines = answered("returns-in-Ok", "Ok", "read_value", read, None, is_searched, ranges)
+        is_copied = copies(taken, shape.generics)
+        is_searched = bool(ranges) or moves_array(taken) or is_copied
+        lines = answered("returns-in-Ok", "Ok", "read_value", read, None, is_searched, ranges, is_copied=is_copied)
         uses = [RULES] if is_searched else []
         found |= file_of(place, [shape.impl_name("speedy", "ReadFrom", lending(shape)), "read_from"], lines, uses)
     return found
+
+
+def copies(taken, generics):
+    """Whether a part beside others is of a parameter that is `Copy`: a search finds that its copy is what was read."""
+    return len(taken.parts) > 1 and any(generics.is_copied(part.type) for part in taken.parts)
 
 
 def is_hashed(taken):
@@ -136,20 +142,22 @@ def reading(shape):
     return shape.impl_name(CASES, "ReadCases", lending(shape))
 
 
-def answered(goal, arm, step, taken, tag, is_searched=False, ranges=(), arms=None):
+def answered(goal, arm, step, taken, tag, is_searched=False, ranges=(), arms=None, is_copied=False):
     """The answer of a goal by what was read, of which some options are taken: as the value of a tag, by the arms of its
     enum, or of a struct. Where the result has another form, a search finds what was read in it, by the ranges of signed
-    numbers. These lie deep in what is known of the result, and a search looks into so many records alone."""
+    numbers. These lie deep in what is known of the result, and a search looks into so many records alone. Where a part
+    is copied, it finds what the options are, too."""
     of_call = arms.read_of(arm, step) if arms else f"rw c.in-{arm}.is at c.{step}.ensures"
     found, answer = [f"    let read = {of_call} in"], "read.answer"
-    for place, ensured in enumerate(taken):
+    told = taken if is_copied else []
+    for place, ensured in enumerate([] if is_copied else taken):
         name = "answer" + "'" * place
         found.append(f"    let {name} = rw {ensured} at {answer} in")
         answer = name
     if is_searched and ranges:
         found.append(f"    let held = (rw c.in-{arm}.is at c.{step}.type_inv).1.1.1.1.1.0 in")
     if is_searched:
-        answer = f"search ({', '.join(['rules', answer, *ranges])})"
+        answer = f"search ({', '.join(['rules', answer, *told, *ranges])})"
     last = arms.read(tag, f"(read.kept, {answer})") if arms \
         else [f"record {{ kept = read.kept; answer = {answer} }}"]
     if is_searched or len(last) > 1:
@@ -251,8 +259,9 @@ def read_answers(cases, arms):
         end = "" if place == 0 else "-read_value" if place == 1 else f"-read_value-{place}"
         step = f"read_value-in-{tag}" if place else "read_value"
         taken = options_of(case.taken, "taken_by", known, f"Ok{end}")
-        how = (has_other_form(case.taken), ranges_of(case.taken))
-        found += answered(f"returns-in-Ok{end}", f"Ok{end}", step, taken, tag, *how, arms=arms)
+        is_copied = copies(case.taken, arms.generics)
+        how = (has_other_form(case.taken) or is_copied, ranges_of(case.taken), arms, is_copied)
+        found += answered(f"returns-in-Ok{end}", f"Ok{end}", step, taken, tag, *how)
         found += answered(f"returns-in-Err{end}", f"Err{end}", step, [], tag, arms=arms)
     for case in cases:
         if not case.taken.parts:

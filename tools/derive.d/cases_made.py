@@ -235,6 +235,14 @@ ANSWERED = [
       "read_a_cases_3": ["behind n = right_case (right_case (rest.choices.case_of n))\n",
                          "let read = read_of c.in-Ok.is c.read_value.ensures in\n    read_at behind cases.seen",
                          "    c.in-41.is (read.kept, read.answer)"]}),
+    ("parts of a parameter that is copied", DERIVES + "enum A<V> where V: Copy { B(V, u8), C(V) }\n" + DERIVES
+     + "struct D<V: Copy> { a: V, #[speedy(length_type = u8)] b: Option<String> }\n", {
+         "AWriteCases/write_case": ["c.in-B.is c.write_value.ensures"],
+         "AReadCases/read_case": ["use Rattle.std.proofs.Common.{rules}\n",
+                                  "rw c.in-0.is (read.kept, search (rules, read.answer))",
+                                  "rw c.in-1.is (read.kept, read.answer)"],
+         "DWritable/write_to": ["returns g c = rw c.lent_option-b.ensures at c.write_value.ensures"],
+         "DReadFrom/read_from": ["answer = search (rules, read.answer, c.option_value-b.ensures) }"]}),
     ("a signed number beside an option behind a length",
      DERIVES + "struct A(#[speedy(length_type = u8)] Option<String>, i16);\n", {
          "AWritable/write_to": ["returns g c = rw c.lent_option-t0.ensures at c.write_value.ensures"],

@@ -40,6 +40,12 @@ class Generics:
             self.bounds[name] += more
             self.added.setdefault(name, []).extend(more)
 
+    def is_copied(self, kind):
+        """Whether a type is a parameter that is `Copy`."""
+        name = type_text(kind)
+        bounds = [*self.bounds.get(name, ()), *(it for subject, its in self.wheres if subject == name for it in its)]
+        return name in self.bounds and any(it.rpartition("::")[2] == "Copy" for it in bounds)
+
     def subject(self, where):
         """What a line of a `where` is about."""
         if isinstance(where.subject, syntax.Lifetime):
