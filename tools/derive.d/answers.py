@@ -8,6 +8,8 @@ from rattle import names_in
 
 # What a search for a proof is given besides a fact.
 RULES = "use Rattle.std.proofs.Common.{rules}"
+# The most characters of a line within an answer.
+MOST_WIDE = 116
 # A search by itself clones variants of fewer parts, and of more without a `SmallVec`.
 MANY_CLONED = 5
 
@@ -156,15 +158,29 @@ def answered(goal, arm, step, taken, tag, is_searched=False, ranges=(), arms=Non
         answer = name
     if is_searched and ranges:
         found.append(f"    let held = (rw c.in-{arm}.is at c.{step}.type_inv).1.1.1.1.1.0 in")
+    facts = ["rules", answer, *told, *ranges]
     if is_searched:
-        answer = f"search ({', '.join(['rules', answer, *told, *ranges])})"
+        answer = f"search ({', '.join(facts)})"
     last = arms.read(tag, f"(read.kept, {answer})") if arms \
         else [f"record {{ kept = read.kept; answer = {answer} }}"]
-    if is_searched or len(last) > 1:
+    if is_searched and len(last[-1]) > MOST_WIDE:
+        found += [f"    {part}" for line in last[:-1] for part in wrapped(line)] + spread(last[-1], facts)
+    elif is_searched or len(last) > 1:
         found += [f"    {part}" for line in last for part in wrapped(line)]
     else:
         found[-1] += f" {last[0]}"
     return ["", f"pub {goal} : goal.{goal}", f"{goal} g c =", *found]
+
+
+def spread(line, facts):
+    """A line that ends with a search by many facts, as the formatter lays it out."""
+    is_record = line.startswith("record")
+    head, kept, before, end, tail = ("record {", "kept = read.kept;", "answer = ", ";", "}") if is_record else \
+        (line.partition("(read.kept, ")[0] + "(", "read.kept,", "", ",", ")")
+    searched = f"{before}search ({', '.join(facts)}){end}"
+    lines = [searched] if len(searched) <= MOST_WIDE - 2 else \
+        [f"{before}search (", *(f"  {fact}," for fact in facts), f"){end}"]
+    return [f"    {head}", *(f"      {it}" for it in [kept, *lines]), f"    {tail}"]
 
 
 def file_of(place, within, lines, uses=()):

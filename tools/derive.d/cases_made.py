@@ -267,8 +267,15 @@ ANSWERED = [
     #[speedy(length = n)]
     d: String,
 }
-""", {"AReadFrom/read_from": ["answer = search (rules, read.answer, held.1.1.0.1.1.0.1.1.0,\n",
-                              "    held.1.1.0.1.1.1.0.1.1.0.1.1.1.0) }"]}),
+""" + DERIVES + "struct B { n: i16, o: i32, p: u8, #[speedy(length = n)] a: Vec<u8>, b: u8, c: i64 }\n" + DERIVES
+     + "enum C { D { n: i16, o: i32, p: u8, #[speedy(length = n)] a: Vec<u8>, b: u8, c: i64 }, E(u8) }\n", {
+    "AReadFrom/read_from": ["    record {\n      kept = read.kept;\n      answer = search (rules, read.answer, "
+                            "held.1.1.0.1.1.0.1.1.0, held.1.1.0.1.1.1.0.1.1.0.1.1.1.0);\n    }\n"],
+    "BReadFrom/read_from": ["      answer = search (\n        rules,\n        read.answer,\n",
+                            "        held.1.1.1.1.0,\n      );\n    }\n"],
+    "CWriteCases/write_case": ["c.in-D.is c.write_value.ensures"],
+    "CReadCases/read_case": ["    c.in-0.is (\n      read.kept,\n      search (rules, read.answer, ",
+                             ", held.1.1.1.1.0),\n    )\n"]}),
 ]
 
 MADE += [
